@@ -1,0 +1,134 @@
+ghost use Rattle.std.specs.Prelude.{◌≡◌, ◌≤◌, ◌↔◌, ◌==◌, [], ◌∷◌, ◌++◌, length, IsNone, OnOk, OnErr, IfOk, slice_get, option_copied};
+
+use std::alloc::{AllocError, Global};
+use std::marker::{Model, PhantomData};
+
+/// A growing list of bytes of the kind `K`, an empty enum that tells paths, names and texts apart.
+/// Contracts see it as the list of its bytes.
+#[derive(Drop)]
+pub struct Bytes<K> {
+    bytes: Vec<u8>,
+    kind: PhantomData<K>,
+}
+
+impl<K> Model for Bytes<K> {
+    ghost use Rattle.std.specs.Prelude.{List, ℕ};
+
+    ghost Value = { List ℕ };
+
+    ghost view = { λ b. b.bytes.items };
+}
+
+/// The kind of bytes that are any text or the content of a file.
+#[derive(Drop)]
+pub enum BlobKind {}
+
+/// The kind of bytes that name a module, a symbol, a section or a key.
+#[derive(Drop)]
+pub enum NameKind {}
+
+/// The kind of bytes that are the path of a file or a folder.
+#[derive(Drop)]
+pub enum PathKind {}
+
+/// The kind of bytes that are a module alias in its normal form, maybe a pattern.
+#[derive(Drop)]
+pub enum AliasKind {}
+
+/// Any bytes: a text, or the content of a file.
+pub type Blob = Bytes<BlobKind>;
+
+/// The bytes of a name: of a module, a symbol, a section or a key.
+pub type Name = Bytes<NameKind>;
+
+/// The bytes of a path.
+pub type PathText = Bytes<PathKind>;
+
+/// The bytes of a module alias in its normal form, maybe a pattern.
+pub type Alias = Bytes<AliasKind>;
+
+impl<K> Bytes<K> {
+    /// The empty list of bytes. It takes no memory.
+    pub fn new(alloc: Global) -> Self
+        ensures { result ≡ [] }
+    {
+        Bytes {
+            bytes: Vec::new(alloc),
+            kind: PhantomData,
+        }
+    }
+
+    /// A copy of these bytes.
+    pub fn from_slice(alloc: Global, bytes: &[u8]) -> Result<Self, AllocError>
+        ensures { IfOk result (λ b. b ≡ bytes.now) }
+    {
+        Ok(Bytes {
+            bytes: Vec::from_slice(alloc, bytes)?,
+            kind: PhantomData,
+        })
+    }
+
+    /// The bytes of a vector. It takes no memory.
+    pub fn from_vec(bytes: Vec<u8>) -> Self
+        ensures { result ≡ bytes.items }
+    {
+        Bytes {
+            bytes,
+            kind: PhantomData,
+        }
+    }
+
+    /// The vector of the bytes. It takes no memory.
+    pub fn into_vec(self) -> Vec<u8>
+        ensures { result.items ≡ self }
+    {
+        let Bytes { bytes, kind: _ } = self;
+        bytes
+    }
+
+    /// Puts a byte at the end. After a refusal the list is as before.
+    pub fn push(&mut self, item: u8) -> Result<(), AllocError>
+        ensures ok { OnOk result (self.new ≡ self.old ++ item ∷ []) }
+        ensures err { OnErr result (self.new ≡ self.old) }
+    {
+        self.bytes.push(item)?;
+        Ok(())
+    }
+
+    /// Puts bytes at the end. After a refusal the list is as before.
+    pub fn extend(&mut self, bytes: &[u8]) -> Result<(), AllocError>
+        ensures ok { OnOk result (self.new ≡ self.old ++ bytes.now) }
+        ensures err { OnErr result (self.new ≡ self.old) }
+    {
+        self.bytes.extend_from_slice(bytes)
+    }
+
+    /// The byte at place `i`, from 0.
+    pub fn get(&self, i: usize) -> Option<&u8>
+        ensures item { option_copied result ≡ slice_get self.now i }
+        ensures past_end { IsNone result ↔ (length self.now ≤ i) }
+    {
+        self.bytes.get(i)
+    }
+
+    /// How many bytes there are.
+    pub fn len(&self) -> usize
+        ensures { result ≡ length self.now }
+    {
+        self.bytes.len()
+    }
+
+    /// Whether there is no byte.
+    pub fn is_empty(&self) -> bool
+        ensures { result ≡ (length self.now == 0) }
+    {
+        self.bytes.is_empty()
+    }
+
+    /// The bytes as a slice.
+    pub fn as_bytes(&self) -> &[u8]
+        ensures { result.now ≡ self.now }
+    {
+        self.bytes.as_slice()
+    }
+}

@@ -1,0 +1,14 @@
+//! The words that every crate above shares: lists that contracts see as the list of their items, and
+//! byte lists told apart by what they are for, so that a path can't be passed for a name.
+//!
+//! It stands on nothing but std. Each list keeps its allocator; only `push` and its kin can be refused,
+//! for want of memory, and then the list is as it was.
+#![tactic(auto)]
+
+mod bytes;
+mod list;
+mod word;
+
+pub use bytes::{Alias, AliasKind, Blob, BlobKind, Bytes, Name, NameKind, PathKind, PathText};
+pub use list::{List, Names, Paths, Texts};
+pub use word::Word;
