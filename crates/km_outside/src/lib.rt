@@ -1,0 +1,16 @@
+//! The world outside as traits: the files that the program reads and the outputs that it writes to.
+//!
+//! A contract sees of each object what it counted and what it tells. Objects in memory tell all; the
+//! real files and outputs tell nothing and only count, so what is proved over told contents speaks of
+//! the same code that runs over the real ones. It stands on `km_names`.
+#![tactic(auto)]
+
+mod files;
+mod mem_files;
+mod mem_out;
+mod out;
+
+pub use files::{FILE_LIMIT, FileAnswer, Files, Reads};
+pub use mem_files::{CallKind, MemFiles};
+pub use mem_out::MemOut;
+pub use out::{Out, OutFailed};

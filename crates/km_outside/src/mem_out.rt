@@ -1,0 +1,4 @@
+#[derive(Drop)]
+pub struct MemOut {
+    n: u8,
+}

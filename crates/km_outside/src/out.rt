@@ -1,0 +1,15 @@
+ghost use Rattle.km_outside.specs.OutSeen.{OutSeen, WriteAnswers};
+
+/// A write failed.
+#[derive(Clone, Copy, Debug, PartialEq, Eq)]
+pub struct OutFailed;
+
+/// An output that bytes are written to.
+pub trait Out {
+    /// What a contract sees of the output.
+    ghost seen: { Self → OutSeen };
+
+    /// Writes the piece after all that was written before. It takes no memory.
+    fn write(&mut self, bytes: &[u8]) -> Result<(), OutFailed>
+        ensures answers { WriteAnswers bytes.now (seen self.old) (seen self.new) result };
+}
