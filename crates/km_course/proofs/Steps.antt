@@ -1,0 +1,226 @@
+-- How calls that follow stages compose.
+use Rattle.std.proofs.Common.{◌≡◌, ℕ, ◌+◌, ◌≤◌, ◌<◌, List, [], ◌∷◌, ◌++◌, take, length, refl, sym, ◌∙◌, ap, subst, arith, append_assoc, append-nil}
+use Rattle.std.specs.Prelude.{Option, Some, None, Result, Ok, Err, is_some, ⊤, false}
+use Rattle.km_outside.specs.Counts.{Rose}
+use Rattle.km_outside.specs.FilesSeen.{Contents, FilesSeen}
+use Rattle.km_outside.specs.OutSeen.{OutSeen}
+use Rattle.km_course.specs.Course.{Act, Outcome, Run, Stage, after, continued, ◌>>=◌, given, acts_alone}
+use Rattle.km_course.specs.Course.Act.{read, list, say, warn, put}
+use Rattle.km_course.specs.Course.Outcome.{value, end}
+use Rattle.km_course.specs.Lines.{usage, no_file, too_large}
+use Rattle.km_course.specs.World.{World, Shown, Tells, Keeps, KeepsFiles, KeepsOut, Extends, NoFault, act_done, act_begun, done, begun}
+use Rattle.km_course.specs.Follows.{StopsAt, next_act, CallFailed, OutputFailed, WarningFailed, Free, Stopped, Told, StopCounts, Counts, Follows}
+use Rattle.km_course.specs.declared.stop.Stop.{Stop}
+use Rattle.km_course.specs.declared.stop.Stop.TheVariants.{Refused, NotUnderstood, NoFile, TooLarge, FileFault, OutputFault, WarningFault, Memory}
+
+pub done-append : (a b : List Act) (shown : Shown) → done (a ++ b) shown ≡ done b (done a shown)
+done-append [] b shown = refl
+done-append (x ∷ a) b shown = done-append a b (act_done x shown)
+
+pub files-done : (acts : List Act) (shown : Shown) → (done acts shown).files ≡ after acts shown.files
+files-done [] shown = refl
+files-done (read path ∷ acts) shown = files-done acts shown
+files-done (list path ∷ acts) shown = files-done acts shown
+files-done (say bytes ∷ acts) shown = files-done acts (act_done (say bytes) shown)
+files-done (warn bytes ∷ acts) shown = files-done acts (act_done (warn bytes) shown)
+files-done (put path bytes ∷ acts) shown = files-done acts (act_done (put path bytes) shown)
+
+pub Extends-same : (o : Option (List ℕ)) → Extends o o
+Extends-same None = refl
+Extends-same (Some bytes) = ([], ap Some (sym (append-nil bytes)))
+
+Extends-trans : (a b c : Option (List ℕ)) → Extends a b → Extends b c → Extends a c
+Extends-trans None b c h k = subst (λ o. Extends o c) h k
+Extends-trans (Some bytes) b c h k =
+    let l = subst (λ o. Extends o c) h.1 k in (h.0 ++ l.0, l.1 ∙ ap Some (append_assoc bytes h.0 l.0))
+
+pub KeepsFiles-same : (files : FilesSeen) → KeepsFiles files files
+KeepsFiles-same files = record { told = refl; sure = refl; faults = omega arith; absences = omega arith; excesses = omega arith }
+
+KeepsFiles-trans : {a b c : FilesSeen} → KeepsFiles a b → KeepsFiles b c → KeepsFiles a c
+KeepsFiles-trans k l = record {
+  told = l.told ∙ k.told; sure = l.sure ∙ k.sure; faults = omega arith; absences = omega arith; excesses = omega arith;
+}
+
+pub KeepsOut-same : (out : OutSeen) → KeepsOut out out
+KeepsOut-same out = record { told = Extends-same out.told; room = refl; faults = omega arith }
+
+KeepsOut-trans : {a b c : OutSeen} → KeepsOut a b → KeepsOut b c → KeepsOut a c
+KeepsOut-trans {a} {b} {c} k l = record {
+  told = Extends-trans a.told b.told c.told k.told l.told; room = l.room ∙ k.room; faults = omega arith;
+}
+
+pub Keeps-same : (w : World) → Keeps w w
+Keeps-same w = record { files = KeepsFiles-same w.files; out = KeepsOut-same w.out; err = KeepsOut-same w.err }
+
+pub Keeps-trans : {a b c : World} → Keeps a b → Keeps b c → Keeps a c
+Keeps-trans k l = record {
+  files = KeepsFiles-trans k.files l.files; out = KeepsOut-trans k.out l.out; err = KeepsOut-trans k.err l.err;
+}
+
+pub NoFault-same : (w : World) → NoFault w w
+NoFault-same w = record { files = refl; out = refl; err = refl }
+
+pub NoFault-trans : {a b c : World} → NoFault a b → NoFault b c → NoFault a c
+NoFault-trans k l = record { files = l.files ∙ k.files; out = l.out ∙ k.out; err = l.err ∙ k.err }
+
+Rose-later : (a b c : ℕ) → a ≤ b → Rose b c → Rose a c
+Rose-later a b c h r = omega arith
+
+-- where nothing failed first, the counts of the end are those of the whole
+StopCounts-after : (a b c : World) (stop : Stop) → Keeps a b → NoFault a b → StopCounts b c stop → StopCounts a c stop
+StopCounts-after a b c (Refused text) k n s = NoFault-trans n s
+StopCounts-after a b c NotUnderstood k n s = NoFault-trans n s
+StopCounts-after a b c (NoFile path) k n s = (NoFault-trans n s.0, Rose-later _ _ _ k.files.absences s.1)
+StopCounts-after a b c (TooLarge path) k n s = (NoFault-trans n s.0, Rose-later _ _ _ k.files.excesses s.1)
+StopCounts-after a b c (FileFault path) k n s = (Rose-later _ _ _ k.files.faults s.0, s.1 ∙ n.out, s.2 ∙ n.err)
+StopCounts-after a b c OutputFault k n s = (Rose-later _ _ _ k.out.faults s.0, s.1 ∙ n.files, s.2 ∙ n.err)
+StopCounts-after a b c WarningFault k n s = (Rose-later _ _ _ k.err.faults s.0, s.1 ∙ n.files, s.2 ∙ n.out)
+StopCounts-after a b c Memory k n s = NoFault-trans n s
+
+Counts-after : {T : Type 0} (a b c : World) (r : Result T Stop) → Keeps a b → NoFault a b → Counts b c r → Counts a c r
+Counts-after a b c (Ok x) k n s = NoFault-trans n s
+Counts-after a b c (Err stop) k n s = StopCounts-after a b c stop k n s
+
+-- acts that were done before belong to the part that was done
+StopsAt-after : {acts : List Act} {shown : Shown} {new : World} {cause : Shown → Option Act → Type 0} (first : List Act) → StopsAt acts (done first shown) new cause → StopsAt (first ++ acts) shown new cause
+StopsAt-after {acts} {shown} {new} {cause} first s = record {
+  before = first ++ s.before;
+  rest = s.rest;
+  count = s.count;
+  split = ap (λ l. first ++ l) s.split ∙ sym (append_assoc first s.before s.rest);
+  tells = subst (λ w. Tells new (begun s.count s.rest w)) (sym (done-append first s.before shown)) s.tells;
+  because = subst (λ w. cause w (next_act s.rest)) (sym (done-append first s.before shown)) s.because;
+}
+
+-- what acts more, done before, make of what is told after a call
+Told-after : {T X : Type 0} (view : T → X) (first : List Act) (run : Run X) (shown : Shown) (new : World) (r : Result T Stop) → Told view run (done first shown) new r → Told view (record { acts = first ++ run.acts; outcome = run.outcome }) shown new r
+Told-after view first run shown new (Ok x) t = (t.0, subst (Tells new) (sym (done-append first run.acts shown)) t.1)
+Told-after view first run shown new (Err (Refused text)) t = (t.0, subst (Tells new) (sym (done-append first run.acts shown)) t.1)
+Told-after view first run shown new (Err NotUnderstood) t = (t.0, subst (Tells new) (sym (done-append first run.acts shown)) t.1)
+Told-after view first run shown new (Err (NoFile path)) t = (t.0, subst (Tells new) (sym (done-append first run.acts shown)) t.1)
+Told-after view first run shown new (Err (TooLarge path)) t = (t.0, subst (Tells new) (sym (done-append first run.acts shown)) t.1)
+Told-after view first run shown new (Err (FileFault path)) t = StopsAt-after first t
+Told-after view first run shown new (Err OutputFault) t = StopsAt-after first t
+Told-after view first run shown new (Err WarningFault) t = StopsAt-after first t
+Told-after view first run shown new (Err Memory) t = StopsAt-after first t
+
+-- a run that gave a value goes on as what is made of the value
+continued-value : {X Y : Type 0} (acts : List Act) (o : Outcome X) (x : X) (f : X → Stage Y) (files : Contents) → o ≡ value x → continued acts o f files ≡ record { acts = acts ++ (f x (after acts files)).acts; outcome = (f x (after acts files)).outcome }
+unfolding continued
+continued-value acts o x f files e = subst (λ p. continued acts p f files ≡ record { acts = acts ++ (f x (after acts files)).acts; outcome = (f x (after acts files)).outcome }) (sym e) refl
+
+-- A stage gave its value, and then the rest was followed.
+pub next : {T U X Y : Type 0} {view : T → X} {look : U → Y} {stage : Stage X} {old mid new : World} {x : T} {r : Result U Stop} (f : X → Stage Y) → Follows view stage old mid (Ok x) → Follows look (f (view x)) mid new r → Follows look (stage >>= f) old new r
+unfolding ◌>>=◌
+next {T} {U} {X} {Y} {view} {look} {stage} {old} {mid} {new} {x} {r} f a b = record {
+  keeps = Keeps-trans a.keeps b.keeps;
+  counts = Counts-after old mid new r a.keeps a.counts b.counts;
+  told = λ shown h.
+    let first = a.told shown h in
+    let run = stage shown.files in
+    let rest = b.told (done run.acts shown) first.1 in
+    let at_files : Told look (f (view x) (after run.acts shown.files)) (done run.acts shown) new r
+          = subst (λ files. Told look (f (view x) files) (done run.acts shown) new r) (files-done run.acts shown) rest in
+    subst (λ w. Told look w shown new r) (sym (continued-value run.acts run.outcome (view x) f shown.files first.0))
+      (Told-after look run.acts (f (view x) (after run.acts shown.files)) shown new r at_files);
+}
+
+-- an end stays the end
+continued-end : {X Y : Type 0} (acts : List Act) (o : Outcome X) (status : ℕ) (text : List ℕ) (f : X → Stage Y) (files : Contents) → o ≡ end status text → continued acts o f files ≡ record { acts = acts; outcome = end status text }
+unfolding continued
+continued-end acts o status text f files e = subst (λ p. continued acts p f files ≡ record { acts = acts; outcome = end status text }) (sym e) refl
+
+-- a run that goes on begins with the acts so far
+continued-acts : {X Y : Type 0} (acts : List Act) (o : Outcome X) (f : X → Stage Y) (files : Contents) → (more : List Act) × ((continued acts o f files).acts ≡ acts ++ more)
+unfolding continued
+continued-acts acts (value x) f files = ((f x (after acts files)).acts, refl)
+continued-acts acts (end status text) f files = ([], sym (append-nil acts))
+
+-- a cause of a stop before any act is one before each act
+abbrev IsWide : (Shown → Option Act → Type 0) → Type 0
+IsWide cause = (shown : Shown) (act : Act) → cause shown None → cause shown (Some act)
+
+begun-none : (act : Act) (shown : Shown) → act_begun 0 act shown ≡ shown
+begun-none (read path) shown = refl
+begun-none (list path) shown = refl
+begun-none (say bytes) shown = ap (λ b. record shown { out = b }) (append-nil shown.out)
+begun-none (warn bytes) shown = ap (λ b. record shown { err = b }) (append-nil shown.err)
+begun-none (put path bytes) shown = refl
+
+-- a stop within the acts is one within the acts and more
+StopsAt-more : {acts : List Act} {shown : Shown} {new : World} {cause : Shown → Option Act → Type 0} (whole more : List Act) → whole ≡ acts ++ more → IsWide cause → StopsAt acts shown new cause → StopsAt whole shown new cause
+StopsAt-more {acts} {shown} {new} {cause} whole more same wide s =
+    by_rest s.rest more s.count (same ∙ ap (λ l. l ++ more) s.split ∙ append_assoc s.before s.rest more) s.tells s.because
+  where
+    by_rest : (rest more : List Act) (count : ℕ) → whole ≡ s.before ++ (rest ++ more) → Tells new (begun count rest (done s.before shown)) → cause (done s.before shown) (next_act rest) → StopsAt whole shown new cause
+    by_rest [] [] count split tells because = record { before = s.before; rest = []; count = 0; split = split; tells = tells; because = because }
+    by_rest [] (act ∷ more) count split tells because = record {
+      before = s.before; rest = act ∷ more; count = 0; split = split;
+      tells = subst (Tells new) (sym (begun-none act (done s.before shown))) tells;
+      because = wide (done s.before shown) act because;
+    }
+    by_rest (act ∷ rest) more count split tells because = record { before = s.before; rest = act ∷ (rest ++ more); count = count; split = split; tells = tells; because = because }
+
+wide-failed : (path : List ℕ) (new : World) → IsWide (CallFailed path new)
+wide-failed path new shown act h = absurd h
+
+wide-output : (new : World) → IsWide (OutputFailed new)
+wide-output new shown act h = absurd h
+
+wide-warning : (new : World) → IsWide (WarningFailed new)
+wide-warning new shown act h = absurd h
+
+wide-free : IsWide Free
+wide-free shown act h = tt
+
+ended : {X Y : Type 0} (run : Run X) (f : X → Stage Y) (files : Contents) (shown : Shown) (new : World) (status : ℕ) (text : List ℕ) → (run.outcome ≡ end status text) × Tells new (done run.acts shown) → ((continued run.acts run.outcome f files).outcome ≡ end status text) × Tells new (done (continued run.acts run.outcome f files).acts shown)
+ended {X} {Y} run f files shown new status text t =
+    subst (λ w. (w.outcome ≡ end status text) × Tells new (done w.acts shown)) (sym (continued-end run.acts run.outcome status text f files t.0)) (refl, t.1)
+
+-- what was told of a stop in a run is told of the run that would have gone on
+Stopped-more : {X Y : Type 0} (run : Run X) (f : X → Stage Y) (files : Contents) (shown : Shown) (new : World) (stop : Stop) → Stopped run shown new stop → Stopped (continued run.acts run.outcome f files) shown new stop
+Stopped-more run f files shown new (Refused text) t = ended run f files shown new 1 text t
+Stopped-more run f files shown new NotUnderstood t = ended run f files shown new 2 usage t
+Stopped-more run f files shown new (NoFile path) t = ended run f files shown new 1 (no_file path) t
+Stopped-more run f files shown new (TooLarge path) t = ended run f files shown new 1 (too_large path) t
+Stopped-more run f files shown new (FileFault path) t = let more = continued-acts run.acts run.outcome f files in StopsAt-more _ more.0 more.1 (wide-failed path new) t
+Stopped-more run f files shown new OutputFault t = let more = continued-acts run.acts run.outcome f files in StopsAt-more _ more.0 more.1 (wide-output new) t
+Stopped-more run f files shown new WarningFault t = let more = continued-acts run.acts run.outcome f files in StopsAt-more _ more.0 more.1 (wide-warning new) t
+Stopped-more run f files shown new Memory t = let more = continued-acts run.acts run.outcome f files in StopsAt-more _ more.0 more.1 wide-free t
+
+-- A stage stopped, so the whole did.
+pub stops : {T U X Y : Type 0} {view : T → X} (look : U → Y) {stage : Stage X} {old new : World} {stop : Stop} (f : X → Stage Y) → Follows view stage old new (Err stop) → Follows look (stage >>= f) old new (Err stop)
+unfolding ◌>>=◌
+stops {T} {U} {X} {Y} {view} look {stage} {old} {new} {stop} f a = record {
+  keeps = a.keeps;
+  counts = a.counts;
+  told = λ shown h. Stopped-more (stage shown.files) f shown.files shown new stop (a.told shown h);
+}
+
+-- Memory was wanting before the first act.
+pub no_memory : {T X : Type 0} (view : T → X) (stage : Stage X) (w : World) → Follows view stage w w (Err Memory)
+no_memory view stage w = record {
+  keeps = Keeps-same w;
+  counts = NoFault-same w;
+  told = λ shown h. record { before = []; rest = (stage shown.files).acts; count = 0; split = refl; tells = h-begun (stage shown.files).acts shown w h; because = tt };
+}
+  where
+    h-begun : (acts : List Act) (shown : Shown) (w : World) → Tells w shown → Tells w (begun 0 acts shown)
+    h-begun [] shown w h = h
+    h-begun (act ∷ acts) shown w h = subst (Tells w) (sym (begun-none act shown)) h
+
+-- A value that was given without an act.
+pub gave : {T X : Type 0} (view : T → X) (w : World) (x : T) → Follows view (given (value (view x))) w w (Ok x)
+unfolding given
+gave view w x = record { keeps = Keeps-same w; counts = NoFault-same w; told = λ shown h. (refl, h) }
+
+-- An end with status 1 that was given without an act.
+pub refused : {T X : Type 0} (view : T → X) (w : World) (text : List ℕ) → Follows view (given (end 1 text)) w w (Err (Refused text))
+unfolding given
+refused view w text = record { keeps = Keeps-same w; counts = NoFault-same w; told = λ shown h. (refl, h) }
+
+-- The words weren't understood.
+pub misunderstood : {T X : Type 0} (view : T → X) (w : World) → Follows view (given (end 2 usage)) w w (Err NotUnderstood)
+unfolding given
+misunderstood view w = record { keeps = Keeps-same w; counts = NoFault-same w; told = λ shown h. (refl, h) }

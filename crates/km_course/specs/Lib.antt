@@ -1,0 +1,5 @@
+pub mod Lines
+pub mod Course
+pub mod World
+pub mod Follows
+pub mod Carries
