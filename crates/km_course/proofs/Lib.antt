@@ -1,2 +1,4 @@
 pub mod Steps
 pub mod Primitives
+pub mod Writes
+pub mod Carried

@@ -1,25 +1,25 @@
 -- Each call of the traits follows its stage.
-use Rattle.std.proofs.Common.{◌≡◌, ℕ, ◌+◌, ◌-◌, ◌^◌, ◌≤◌, ◌<◌, nat_lt, List, [], ◌∷◌, ◌++◌, take, length, refl, sym, ◌∙◌, ap, subst, arith, min, if◌then◌else◌, true, false}
+use Rattle.std.proofs.Common.{◌≡◌, ℕ, ◌+◌, ◌≤◌, ◌<◌, List, [], ◌∷◌, ◌++◌, take, length, refl, sym, ◌∙◌, ap, subst, arith, min, if◌then◌else◌, true, false}
 use Rattle.std.specs.Prelude.{◌==◌}
-use Rattle.std.proofs.lemmas.Bool.{le-ltb, lt-ltb}
+use Rattle.std.proofs.lemmas.Bool.{le-ltb, lt-ltb, eqb-true}
 use Rattle.std.specs.Prelude.{Option, Some, None, Result, Ok, Err, is_some, IfSome, IsSomeAnd, ⊤}
 use Rattle.std.specs.Option.{option_map}
 use Rattle.std.specs.FinMap as map
-use Rattle.km_outside.specs.Counts.{Rose, count_end}
+use Rattle.km_outside.specs.Counts.{count_end}
 use Rattle.km_outside.specs.FilesSeen.{Contents, FilesSeen, ReadAnswers, file_limit}
-use Rattle.km_outside.specs.OutSeen.{OutSeen, WriteAnswers, LacksRoom, HasRoom, appended}
+use Rattle.km_outside.specs.OutSeen.{OutSeen, WriteAnswers, LacksRoom}
 use Rattle.km_outside.specs.declared.files.FileAnswer.{FileAnswer}
 use Rattle.km_outside.specs.declared.files.FileAnswer.TheVariants as answers
 use Rattle.km_outside.specs.declared.out.OutFailed.{OutFailed}
 use Rattle.km_course.specs.Lines.{no_file, too_large}
-use Rattle.km_course.specs.Course.{Act, Outcome, Run, Stage, reads, read_outcome, acts_alone, says, warns, says_any}
-use Rattle.km_course.specs.Course.Act.{read, list, say, warn, put}
+use Rattle.km_course.specs.Course.{reads, read_outcome, acts_alone, says, warns, says_any}
+use Rattle.km_course.specs.Course.Act.{read, say, warn}
 use Rattle.km_course.specs.Course.Outcome.{value, end}
-use Rattle.km_course.specs.World.{World, world, Shown, Tells, Keeps, KeepsFiles, KeepsOut, Extends, NoFault, done, begun}
-use Rattle.km_course.specs.Follows.{StopsAt, Stopped, Told, StopCounts, Counts, Follows, PassesRoom, stop_for}
+use Rattle.km_course.specs.World.{World, world, Shown, Tells, Keeps, KeepsOut, Extends}
+use Rattle.km_course.specs.Follows.{Follows, PassesRoom, stop_for}
 use Rattle.km_course.specs.declared.stop.Stop.{Stop}
-use Rattle.km_course.specs.declared.stop.Stop.TheVariants.{Refused, NotUnderstood, NoFile, TooLarge, FileFault, OutputFault, WarningFault, Memory}
-use Rattle.km_course.proofs.Steps.{Keeps-same, KeepsFiles-same, KeepsOut-same, NoFault-same, no_memory, gave}
+use Rattle.km_course.specs.declared.stop.Stop.TheVariants.{NoFile, TooLarge, FileFault, OutputFault, WarningFault, Memory}
+use Rattle.km_course.proofs.Steps.{KeepsFiles-same, KeepsOut-same, no_memory, gave}
 
 id : List ℕ → List ℕ
 id x = x
@@ -51,7 +51,8 @@ read_ok path bytes old new out err a =
       told = λ shown h. (
         ap (read_outcome path) (some_at (λ files. map.get files path ≡ Some bytes) old.contents shown.files h.files a.2)
             ∙ ap (λ b. if b then end 1 (too_large path) else value bytes) (le-ltb file_limit (length bytes) a.1),
-        tells_files old new out err shown contents h);
+        tells_files old new out err shown contents h,
+      );
     }
 
 pub read_absent : (path owned : List ℕ) (old new : FilesSeen) (out err : OutSeen) → owned ≡ path → ReadAnswers path old new (Err answers.Absent) → Follows (λ (x : List ℕ). x) (reads path) (world old out err) (world new out err) (Err (NoFile owned))
@@ -65,7 +66,8 @@ read_absent path owned old new out err same a =
       counts = (record { files = faults; out = refl; err = refl }, a.1);
       told = λ shown h. (
         ap (read_outcome path) (some_at (λ files. map.get files path ≡ None) old.contents shown.files h.files a.2) ∙ ap (λ p. end 1 (no_file p)) (sym same),
-        tells_files old new out err shown contents h);
+        tells_files old new out err shown contents h,
+      );
     }
 
 long : (bytes : List ℕ) (n : ℕ) → file_limit < n → n ≡ min (length bytes) count_end → file_limit < length bytes
@@ -86,7 +88,8 @@ read_too_large path owned n old new out err same a =
       counts = (record { files = faults; out = refl; err = refl }, a.1);
       told = λ shown h. (
         too_long path n (map.get shown.files path) a.2 (some_at (λ files. IsSomeAnd (map.get files path) (λ bytes. n ≡ min (length bytes) count_end)) old.contents shown.files h.files a.3) ∙ ap (λ p. end 1 (too_large p)) (sym same),
-        tells_files old new out err shown contents h);
+        tells_files old new out err shown contents h,
+      );
     }
 
 pub read_failed : (path owned : List ℕ) (old new : FilesSeen) (out err : OutSeen) → owned ≡ path → ReadAnswers path old new (Err answers.Failed) → Follows (λ (x : List ℕ). x) (reads path) (world old out err) (world new out err) (Err (FileFault owned))
@@ -100,7 +103,10 @@ read_failed path owned old new out err same a =
       keeps = keeps_files old new out err contents sure (omega (arith, a.1)) (omega arith) (omega arith);
       counts = (a.1, refl, refl);
       told = λ shown h. record {
-        before = []; rest = read path ∷ []; count = 0; split = refl;
+        before = [];
+        rest = read path ∷ [];
+        count = 0;
+        split = refl;
         tells = tells_files old new out err shown contents h;
         because = (same, sure ∙ a.2);
       };
@@ -122,13 +128,13 @@ extended None piece = refl
 extended (Some bytes) piece = (piece, refl)
 
 -- what a write keeps of its output
-keeps_written : (old new : OutSeen) (piece : List ℕ) → new.told ≡ option_map (λ bytes. bytes ++ piece) old.told → new.room ≡ old.room → old.faults ≤ new.faults → KeepsOut old new
+pub keeps_written : (old new : OutSeen) (piece : List ℕ) → new.told ≡ option_map (λ bytes. bytes ++ piece) old.told → new.room ≡ old.room → old.faults ≤ new.faults → KeepsOut old new
 keeps_written old new piece t r f = record { told = subst (Extends old.told) (sym t) (extended old.told piece); room = r; faults = f }
 
-told_more : (o : Option (List ℕ)) (written piece : List ℕ) → o ≡ Some written → option_map (λ bytes. bytes ++ piece) o ≡ Some (written ++ piece)
+pub told_more : (o : Option (List ℕ)) (written piece : List ℕ) → o ≡ Some written → option_map (λ bytes. bytes ++ piece) o ≡ Some (written ++ piece)
 told_more o written piece e = ap (option_map (λ bytes. bytes ++ piece)) e
 
-passes : (out : OutSeen) (room : Option ℕ) (written piece : List ℕ) → room ≡ out.room → out.told ≡ Some written → LacksRoom out piece → PassesRoom room written piece
+pub passes : (out : OutSeen) (room : Option ℕ) (written piece : List ℕ) → room ≡ out.room → out.told ≡ Some written → LacksRoom out piece → PassesRoom room written piece
 passes out room written piece same told lacks =
     subst (λ r. PassesRoom r written piece) (sym same) (subst (λ t. IfSome t (λ bytes. IfSome out.room (λ n. n < length bytes + length piece))) told lacks)
 
@@ -154,7 +160,10 @@ say_failed piece e files old new err a =
       keeps = record { files = KeepsFiles-same files; out = keeps_written old new part told room (omega (arith, a.1)); err = KeepsOut-same err };
       counts = (a.1, refl, refl);
       told = λ shown h. record {
-        before = []; rest = say piece ∷ []; count = a.0.0; split = refl;
+        before = [];
+        rest = say piece ∷ [];
+        count = a.0.0;
+        split = refl;
         tells = record { files = h.files; out = told ∙ told_more old.told shown.out part h.out; err = h.err };
         because = passes old new.room shown.out piece room h.out a.2;
       };
@@ -182,7 +191,10 @@ warn_failed piece e files out old new a =
       keeps = record { files = KeepsFiles-same files; out = KeepsOut-same out; err = keeps_written old new part told room (omega (arith, a.1)) };
       counts = (a.1, refl, refl);
       told = λ shown h. record {
-        before = []; rest = warn piece ∷ []; count = a.0.0; split = refl;
+        before = [];
+        rest = warn piece ∷ [];
+        count = a.0.0;
+        split = refl;
         tells = record { files = h.files; out = h.out; err = told ∙ told_more old.told shown.err part h.err };
         because = passes old new.room shown.err piece room h.err a.2;
       };
@@ -191,7 +203,7 @@ warn_failed piece e files out old new a =
 -- no bytes are no act
 pub say_none : (bytes : List ℕ) (w : World) → true ≡ (length bytes == 0) → Follows (λ (x : ⊤). x) (says_any bytes) w w (Ok tt)
 say_none [] w h = gave (λ (x : ⊤). x) w tt
-say_none (byte ∷ bytes) w h = cc
+say_none (byte ∷ bytes) w h = let none : length (byte ∷ bytes) ≡ 0 = eqb-true (length (byte ∷ bytes)) 0 (sym h) in absurd (omega arith)
 
 -- and some are one
 pub say_some : (bytes : List ℕ) (old new : World) (r : Result ⊤ Stop) → false ≡ (length bytes == 0) → Follows (λ (x : ⊤). x) (says bytes) old new r → Follows (λ (x : ⊤). x) (says_any bytes) old new r

@@ -1,10 +1,10 @@
 -- How calls that follow stages compose.
-use Rattle.std.proofs.Common.{◌≡◌, ℕ, ◌+◌, ◌≤◌, ◌<◌, List, [], ◌∷◌, ◌++◌, take, length, refl, sym, ◌∙◌, ap, subst, arith, append_assoc, append-nil}
-use Rattle.std.specs.Prelude.{Option, Some, None, Result, Ok, Err, is_some, ⊤, false}
+use Rattle.std.proofs.Common.{◌≡◌, ℕ, ◌≤◌, List, [], ◌∷◌, ◌++◌, refl, sym, ◌∙◌, ap, subst, arith, append_assoc, append-nil}
+use Rattle.std.specs.Prelude.{Option, Some, None, Result, Ok, Err}
 use Rattle.km_outside.specs.Counts.{Rose}
 use Rattle.km_outside.specs.FilesSeen.{Contents, FilesSeen}
 use Rattle.km_outside.specs.OutSeen.{OutSeen}
-use Rattle.km_course.specs.Course.{Act, Outcome, Run, Stage, after, continued, ◌>>=◌, given, acts_alone}
+use Rattle.km_course.specs.Course.{Act, Outcome, Run, Stage, after, continued, ◌>>=◌, given}
 use Rattle.km_course.specs.Course.Act.{read, list, say, warn, put}
 use Rattle.km_course.specs.Course.Outcome.{value, end}
 use Rattle.km_course.specs.Lines.{usage, no_file, too_large}
@@ -39,7 +39,11 @@ KeepsFiles-same files = record { told = refl; sure = refl; faults = omega arith;
 
 KeepsFiles-trans : {a b c : FilesSeen} → KeepsFiles a b → KeepsFiles b c → KeepsFiles a c
 KeepsFiles-trans k l = record {
-  told = l.told ∙ k.told; sure = l.sure ∙ k.sure; faults = omega arith; absences = omega arith; excesses = omega arith;
+  told = l.told ∙ k.told;
+  sure = l.sure ∙ k.sure;
+  faults = omega arith;
+  absences = omega arith;
+  excesses = omega arith;
 }
 
 pub KeepsOut-same : (out : OutSeen) → KeepsOut out out
@@ -47,7 +51,9 @@ KeepsOut-same out = record { told = Extends-same out.told; room = refl; faults =
 
 KeepsOut-trans : {a b c : OutSeen} → KeepsOut a b → KeepsOut b c → KeepsOut a c
 KeepsOut-trans {a} {b} {c} k l = record {
-  told = Extends-trans a.told b.told c.told k.told l.told; room = l.room ∙ k.room; faults = omega arith;
+  told = Extends-trans a.told b.told c.told k.told l.told;
+  room = l.room ∙ k.room;
+  faults = omega arith;
 }
 
 pub Keeps-same : (w : World) → Keeps w w
@@ -55,7 +61,9 @@ Keeps-same w = record { files = KeepsFiles-same w.files; out = KeepsOut-same w.o
 
 pub Keeps-trans : {a b c : World} → Keeps a b → Keeps b c → Keeps a c
 Keeps-trans k l = record {
-  files = KeepsFiles-trans k.files l.files; out = KeepsOut-trans k.out l.out; err = KeepsOut-trans k.err l.err;
+  files = KeepsFiles-trans k.files l.files;
+  out = KeepsOut-trans k.out l.out;
+  err = KeepsOut-trans k.err l.err;
 }
 
 pub NoFault-same : (w : World) → NoFault w w
@@ -117,12 +125,12 @@ next {T} {U} {X} {Y} {view} {look} {stage} {old} {mid} {new} {x} {r} f a b = rec
   keeps = Keeps-trans a.keeps b.keeps;
   counts = Counts-after old mid new r a.keeps a.counts b.counts;
   told = λ shown h.
-    let first = a.told shown h in
-    let run = stage shown.files in
-    let rest = b.told (done run.acts shown) first.1 in
-    let at_files : Told look (f (view x) (after run.acts shown.files)) (done run.acts shown) new r
-          = subst (λ files. Told look (f (view x) files) (done run.acts shown) new r) (files-done run.acts shown) rest in
-    subst (λ w. Told look w shown new r) (sym (continued-value run.acts run.outcome (view x) f shown.files first.0))
+      let first = a.told shown h in
+      let run = stage shown.files in
+      let rest = b.told (done run.acts shown) first.1 in
+      let at_files : Told look (f (view x) (after run.acts shown.files)) (done run.acts shown) new r
+      = subst (λ files. Told look (f (view x) files) (done run.acts shown) new r) (files-done run.acts shown) rest in
+      subst (λ w. Told look w shown new r) (sym (continued-value run.acts run.outcome (view x) f shown.files first.0))
       (Told-after look run.acts (f (view x) (after run.acts shown.files)) shown new r at_files);
 }
 
@@ -156,7 +164,10 @@ StopsAt-more {acts} {shown} {new} {cause} whole more same wide s =
     by_rest : (rest more : List Act) (count : ℕ) → whole ≡ s.before ++ (rest ++ more) → Tells new (begun count rest (done s.before shown)) → cause (done s.before shown) (next_act rest) → StopsAt whole shown new cause
     by_rest [] [] count split tells because = record { before = s.before; rest = []; count = 0; split = split; tells = tells; because = because }
     by_rest [] (act ∷ more) count split tells because = record {
-      before = s.before; rest = act ∷ more; count = 0; split = split;
+      before = s.before;
+      rest = act ∷ more;
+      count = 0;
+      split = split;
       tells = subst (Tells new) (sym (begun-none act (done s.before shown))) tells;
       because = wide (done s.before shown) act because;
     }

@@ -1,5 +1,5 @@
 -- What the program is to do: acts on the files and outputs, in order, and how they end.
-use Rattle.std.specs.Prelude.{ℕ, ◌<◌, nat_lt, if◌then◌else◌, List, [], ◌∷◌, ◌++◌, length, Option, Some, None, ⊤}
+use Rattle.std.specs.Prelude.{ℕ, nat_lt, if◌then◌else◌, List, [], ◌∷◌, ◌++◌, length, Option, Some, None, ⊤}
 use Rattle.std.specs.FinMap as map
 use Rattle.km_outside.specs.FilesSeen.{Contents, file_limit}
 use Rattle.km_course.specs.Lines.{no_file, too_large}
@@ -40,7 +40,6 @@ continued acts (value x) next files =
 continued acts (end status text) next files = record { acts = acts; outcome = end status text }
 
 infixl 10 ◌>>=◌
-
 -- a stage, and then the one that is made of its value
 unfoldable pub ◌>>=◌ : {X Y : Type 0} → Stage X → (X → Stage Y) → Stage Y
 (stage >>= next) files = continued (stage files).acts (stage files).outcome next files

@@ -4,7 +4,7 @@ use Rattle.km_outside.specs.Counts.{Rose}
 use Rattle.km_outside.specs.declared.files.FileAnswer.{FileAnswer}
 use Rattle.km_outside.specs.declared.files.FileAnswer.TheVariants as answers
 use Rattle.km_course.specs.Lines.{no_file, too_large, usage}
-use Rattle.km_course.specs.Course.{Act, Outcome, Run, Stage}
+use Rattle.km_course.specs.Course.{Act, Run, Stage}
 use Rattle.km_course.specs.Course.Act.{read, list, say, warn, put}
 use Rattle.km_course.specs.Course.Outcome.{value, end}
 use Rattle.km_course.specs.World.{World, Shown, Tells, Keeps, NoFault, done, begun}

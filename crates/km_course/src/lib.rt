@@ -3,10 +3,12 @@
 //! and the lemmas of this crate compose such functions. It stands on `km_outside`.
 #![tactic(auto)]
 
+mod conclusion;
 mod reading;
 mod stop;
 mod writing;
 
+pub use conclusion::{DONE, FAULT, NOT_UNDERSTOOD, OUT_OF_MEMORY, REFUSED, conclude};
 pub use reading::read_needed;
 pub use stop::Stop;
 pub use writing::{say, say_any, warn};

@@ -11,11 +11,7 @@ use std::alloc::Global;
 
 /// The bytes of the file at the path, which is needed: an absent file and one past the limit stop the
 /// command with status 1, and a failed read with status 3.
-pub fn read_needed<F: Reads>(
-    alloc: Global,
-    files: &mut F,
-    path: &PathText,
-) -> Result<Blob, Stop>
+pub fn read_needed<F: Reads>(alloc: Global, files: &mut F, path: &PathText) -> Result<Blob, Stop>
     ensures { (out err : OutSeen) → Follows (λ bytes. bytes) (reads path.now)
         (world (F.seen files.old) out err) (world (F.seen files.new) out err) result }
 {

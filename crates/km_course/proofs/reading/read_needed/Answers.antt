@@ -1,9 +1,5 @@
-use Rattle.std.proofs.Common.{◌≡◌, ◌∙◌, sym, ap, subst, refl}
-use Rattle.std.specs.Prelude.{Err}
+use Rattle.std.proofs.Common.{◌∙◌}
 use Rattle.std.proofs.lemmas.Result.{err_from_is_err_and}
-use Rattle.km_course.specs.World.{world}
-use Rattle.km_course.specs.Course.{reads}
-use Rattle.km_course.specs.Follows.{Follows}
 use Rattle.km_course.proofs.Steps.{no_memory}
 use Rattle.km_course.proofs.Primitives.{read_ok, read_refused}
 use Rattle.km_course.proofs.reading.read_needed.Goals as goal

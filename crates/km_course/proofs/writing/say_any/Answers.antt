@@ -1,5 +1,4 @@
 use Rattle.km_course.proofs.Primitives.{say_none, say_some}
-use Rattle.km_course.specs.World.{world}
 use Rattle.km_course.proofs.writing.say_any.Goals as goal
 
 pub returns-then-is_empty : goal.returns-then-is_empty
