@@ -1,0 +1,44 @@
+-- The sections of an object file. gABI 4, "Sections".
+use Rattle.std.specs.Prelude.{◌≡◌, ℕ, ◌+◌, ◌<◌, ◌≤◌, IsTrue, List, length, map, Some, slice_get}
+use Rattle.std.specs.List.{range_with_len}
+use Rattle.elf_object.specs.declared.section.Section.{Section}
+use Rattle.elf_object.specs.Shape.{content, has_content, is_kept, name_in, name_table, section_count, section_header, strings}
+
+-- The section i of the file.
+unfoldable pub section_of : List ℕ → ℕ → Section
+section_of b i =
+    let h = section_header b i in
+    let text = name_in (strings b (name_table b)) h.kind h.name in
+    record {
+      name = text;
+      kind = h.kind;
+      flags = h.flags;
+      offset = h.offset;
+      size = h.size;
+      link = h.link;
+      info = h.info;
+      align = h.align;
+      kept = is_kept h.kind h.flags text;
+    }
+
+-- The sections of the file, by rising number.
+unfoldable pub sections_of : List ℕ → List Section
+sections_of b = map (section_of b) (range_with_len 0 (section_count b))
+
+-- A file with its sections.
+pub record FileSections : Type 0 where
+  pub file : List ℕ
+  pub list : List Section
+
+-- The sections of a file, beside it.
+abbrev pub file_sections : List ℕ → FileSections
+file_sections b = record { file = b; list = sections_of b }
+
+-- The bytes of a section in its file.
+abbrev pub bytes_of : List ℕ → Section → List ℕ
+bytes_of file s = content file s.kind s.offset s.size
+
+-- Each section lies in the file, as far as it has bytes there, and none has a reserved number.
+pub record IsPlaced (file : List ℕ) (list : List Section) : Type 0 where
+  pub count : length list < 0xff00
+  pub within : (i : ℕ) (s : Section) → slice_get list i ≡ Some s → IsTrue (has_content s.kind) → s.offset + s.size ≤ length file

@@ -1,0 +1,22 @@
+// The numbers of the format, under the names of the standard.
+
+/// The type of a relocatable object file. gABI 4, "ELF Header", e_type.
+pub const ET_REL: u16 = 1;
+/// The machine x86-64. gABI 4, "ELF Header", e_machine.
+pub const EM_X86_64: u16 = 62;
+
+/// A section header that describes no section. gABI 4, "Sections", sh_type.
+pub const SHT_NULL: u32 = 0;
+/// A section that holds a symbol table.
+pub const SHT_SYMTAB: u32 = 2;
+/// A section that holds a string table.
+pub const SHT_STRTAB: u32 = 3;
+/// A section that holds relocations with addends.
+pub const SHT_RELA: u32 = 4;
+/// A section that takes no bytes of the file.
+pub const SHT_NOBITS: u32 = 8;
+/// A section that holds relocations without addends.
+pub const SHT_REL: u32 = 9;
+
+/// The flag of a section that takes memory when the module runs. gABI 4, "Sections", sh_flags.
+pub const SHF_ALLOC: u64 = 2;

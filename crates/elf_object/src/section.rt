@@ -1,0 +1,95 @@
+// One section.
+
+ghost use Rattle.std.specs.Prelude.{◌≡◌, ◌<◌, ◌⊎◌, None, Some, IfOk, IfErr};
+ghost use Rattle.std.specs.Result.{result_err};
+ghost use Rattle.elf_object.specs.Shape.{HasTable, is_kept, name_in, name_table, name_test, name_test_in, section_count, strings};
+ghost use Rattle.elf_object.specs.Sections.{section_of};
+
+use crate::SectionFault;
+use crate::format::{SHF_ALLOC, SHT_NULL};
+use crate::header::section_header;
+use crate::strings::text_at;
+use km_names::Name;
+use std::alloc::Global;
+
+/// A section of a file. gABI 4, "Sections", Elf64_Shdr.
+#[derive(Drop)]
+pub struct Section {
+    /// The text at `sh_name` of the names; empty for a section of type NULL.
+    pub name: Name,
+    /// The type, `sh_type`.
+    pub kind: u32,
+    /// The flags, `sh_flags`.
+    pub flags: u64,
+    /// Where its bytes begin in the file.
+    pub offset: u64,
+    /// How many bytes it has, in the file or when the module runs.
+    pub size: u64,
+    /// The section that belongs to it, `sh_link`.
+    pub link: u32,
+    /// The further number `sh_info`.
+    pub info: u32,
+    /// Its place in memory is a multiple of this; 0 counts as 1.
+    pub align: u64,
+    /// Whether it is in the memory of the running module: it is a section, has the flag ALLOC, and is
+    /// neither the module's texts nor the versions of its needs.
+    pub kept: bool,
+}
+
+#[tactic(auto, unfolding(crate::specs::Shape::is_kept))]
+/// Whether the section is in the memory of the running module.
+fn is_kept(kind: u32, flags: u64, name: &[u8]) -> bool
+    ensures { result ≡ is_kept kind flags name.now }
+{
+    kind != SHT_NULL
+        && flags & SHF_ALLOC != 0
+        && name != b".modinfo".as_slice()
+        && name != b"__versions".as_slice()
+}
+
+#[tactic(auto, unfolding(crate::specs::Shape::name_in, crate::specs::Shape::name_test_in))]
+/// The name of a section, by the table of names.
+fn section_name<'a>(names: &'a [u8], kind: u32, at: u32) -> Result<&'a [u8], SectionFault>
+    ensures name { IfOk result (λ name. name.now ≡ name_in names.now kind at) }
+    ensures fault { result_err result ≡ name_test_in names.now kind at }
+{
+    if kind == SHT_NULL {
+        return Ok(&[]);
+    }
+    match text_at(names, at) {
+        Some(name) => Ok(name),
+        None => Err(SectionFault::BadString {
+            offset: u64::from(at),
+        }),
+    }
+}
+
+#[tactic(auto, unfolding(crate::specs::Sections::section_of))]
+/// The section `index`, by the table of names.
+pub(crate) fn read_section(
+    alloc: Global,
+    bytes: &[u8],
+    names: &[u8],
+    index: u16,
+) -> Result<Section, SectionFault>
+    requires table { HasTable bytes.now }
+    requires index { index < section_count bytes.now }
+    requires names { names.now ≡ strings bytes.now (name_table bytes.now) }
+    ensures section { IfOk result (λ s. s ≡ section_of bytes.now index) }
+    ensures passed { IfOk result (λ _. name_test bytes.now index ≡ None) }
+    ensures fault { IfErr result (λ e. (e ≡ SectionFault.Memory) ⊎ (name_test bytes.now index ≡ Some e)) }
+{
+    let header = section_header(bytes, index);
+    let name = section_name(names, header.kind, header.name)?;
+    Ok(Section {
+        name: Name::from_slice(alloc, name)?,
+        kind: header.kind,
+        flags: header.flags,
+        offset: header.offset,
+        size: header.size,
+        link: header.link,
+        info: header.info,
+        align: header.align,
+        kept: is_kept(header.kind, header.flags, name),
+    })
+}

@@ -1,0 +1,88 @@
+// The sections of a file, with its bytes.
+
+ghost use Rattle.std.specs.Prelude.{◌≡◌, ◌<◌, ◌⊎◌, length, None, Some, IfOk, IfErr, IfSome, OnOk, slice_get};
+ghost use Rattle.std.specs.List.{position};
+ghost use Rattle.std.specs.Str.{bytes_eq};
+ghost use Rattle.elf_object.specs.Shape.{shape_fault};
+
+use crate::shape::{content, read_shape};
+use crate::{Section, SectionFault};
+use km_names::{Blob, List};
+use std::alloc::Global;
+use std::marker::Model;
+
+/// The sections of an object file, with its bytes. Contracts see both.
+#[derive(Drop)]
+pub struct Sections {
+    bytes: Blob,
+    sections: List<Section>,
+}
+
+impl Model for Sections {
+    ghost use Rattle.elf_object.specs.Sections.{FileSections, IsPlaced};
+
+    ghost Value = { FileSections };
+
+    ghost view = { λ s. record { file = s.bytes; list = s.sections } };
+
+    ghost invariant = { λ s. IsPlaced s.bytes s.sections };
+}
+
+impl Sections {
+    ghost use Rattle.elf_object.specs.Sections.{bytes_of, file_sections};
+
+    /// Reads the sections of a file, which it keeps. After a refusal the bytes are given up.
+    ///
+    /// # Errors
+    ///
+    /// The first test of the file that fails, or `Memory`.
+    pub fn read(alloc: Global, bytes: Blob) -> Result<Sections, SectionFault>
+        ensures sections { IfOk result (λ s. s ≡ file_sections bytes) }
+        ensures passed { OnOk result (shape_fault bytes ≡ None) }
+        ensures fault { IfErr result (λ e. (e ≡ SectionFault.Memory) ⊎ (shape_fault bytes ≡ Some e)) }
+    {
+        let sections = read_shape(alloc, bytes.as_bytes())?;
+        Ok(Sections { bytes, sections })
+    }
+
+    /// How many sections there are.
+    pub fn section_count(&self) -> u32
+        ensures { result ≡ length self.now.list }
+    {
+        self.sections.len() as u32
+    }
+
+    /// The section `i`.
+    pub fn section(&self, i: u32) -> &Section
+        requires { i < length self.now.list }
+        ensures { slice_get self.now.list i ≡ Some result.now }
+    {
+        &self.sections.as_slice()[i as usize]
+    }
+
+    /// The bytes of the section `i` in the file; a section of type NULL or NOBITS has none.
+    pub fn section_bytes(&self, i: u32) -> &[u8]
+        requires { i < length self.now.list }
+        ensures { IfSome (slice_get self.now.list i) (λ s. result.now ≡ bytes_of self.now.file s) }
+    {
+        let section = self.section(i);
+        content(
+            self.bytes.as_bytes(),
+            section.kind,
+            section.offset,
+            section.size,
+        )
+    }
+
+    /// The first section of this name.
+    pub fn section_named(&self, name: &[u8]) -> Option<u32>
+        ensures { result ≡ position (λ s. bytes_eq s.name name.now) self.now.list }
+    {
+        for i in 0..self.section_count() {
+            if self.section(i).name.as_bytes() == name {
+                return Some(i);
+            }
+        }
+        None
+    }
+}

@@ -1,0 +1,6 @@
+use Rattle.std.proofs.Common.{◌∙◌}
+use Rattle.km_names.proofs.NumberSums.{big_number-rest}
+use Rattle.km_names.proofs.numbers.be_u16_at.Goals as goal
+
+pub returns : goal.returns
+returns c = c.read_u16.ensures ∙ big_number-rest 2 c.args.at c.args.bytes.now

@@ -1,0 +1,6 @@
+use Rattle.std.proofs.Common.{◌∙◌}
+use Rattle.km_names.proofs.NumberSums.{little_number-rest}
+use Rattle.km_names.proofs.numbers.le_u32_at.Goals as goal
+
+pub returns : goal.returns
+returns c = c.read_u32.ensures ∙ little_number-rest 4 c.args.at c.args.bytes.now
