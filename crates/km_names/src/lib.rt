@@ -7,8 +7,10 @@
 
 mod bytes;
 mod list;
+mod path;
 mod word;
 
 pub use bytes::{Alias, AliasKind, Blob, BlobKind, Bytes, Name, NameKind, PathKind, PathText};
 pub use list::{List, Names, Paths, Texts};
+pub use path::{is_compressed, join, module_name, underscored};
 pub use word::Word;
