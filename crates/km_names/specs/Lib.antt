@@ -1,3 +1,4 @@
+pub mod AliasForm
 pub mod First
 pub mod Number
 pub mod Path

@@ -5,11 +5,13 @@
 //! for want of memory, and then the list is as it was.
 #![tactic(auto)]
 
+mod alias;
 mod bytes;
 mod list;
 mod path;
 mod word;
 
+pub use alias::normal_alias;
 pub use bytes::{Alias, AliasKind, Blob, BlobKind, Bytes, Name, NameKind, PathKind, PathText};
 pub use list::{List, Names, Paths, Texts};
 pub use path::{is_compressed, join, module_name, underscored};
