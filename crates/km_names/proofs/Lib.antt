@@ -1,2 +1,4 @@
-pub mod Ends
 pub mod AliasRun
+pub mod Ends
+pub mod LineSteps
+pub mod Trims

@@ -7,12 +7,18 @@
 
 mod alias;
 mod bytes;
+mod conf;
+mod lines;
 mod list;
 mod path;
+mod space;
 mod word;
 
 pub use alias::normal_alias;
 pub use bytes::{Alias, AliasKind, Blob, BlobKind, Bytes, Name, NameKind, PathKind, PathText};
+pub use conf::{ConfFault, ConfFile, ConfFiles, Line, Lines, TreeIndex};
+pub use lines::{conf_lines, first_line};
 pub use list::{List, Names, Paths, Texts};
 pub use path::{is_compressed, join, module_name, underscored};
+pub use space::{split_word, trimmed};
 pub use word::Word;
