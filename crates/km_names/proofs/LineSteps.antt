@@ -1,5 +1,5 @@
 -- One line more, from the front of a text or of its joined lines.
-use Rattle.std.proofs.Common.{◌≡◌, ℕ, ◌+◌, ◌-◌, ◌<◌, ◌≤◌, Bool, true, false, List, [], ◌∷◌, ◌++◌, length, take, drop, get_or, eqb, Some, None, cond, sym, refl, ap, ◌∙◌, arith}
+use Rattle.std.proofs.Common.{◌≡◌, ℕ, ◌+◌, ◌-◌, ◌<◌, true, false, List, [], ◌∷◌, ◌++◌, length, take, drop, eqb, Some, None, cond, sym, refl, ap, ◌∙◌, arith}
 use Rattle.std.specs.Prelude.{filter, map, not, slice_get}
 use Rattle.km_names.specs.Space.{trimmed}
 use Rattle.std.specs.List.{slice_split, onto_first, before_first, after_first, position_or_len, All}
@@ -17,8 +17,8 @@ split-nonempty [] = ([], [], refl)
 split-nonempty (b ∷ bs) =
     let ih = split-nonempty bs in
     elim (eqb b 10) as (λ v. (p : List ℕ) × (ps : List (List ℕ)) × (cond v ([] ∷ slice_split (λ c. eqb c 10) bs) (onto_first b (slice_split (λ c. eqb c 10) bs)) ≡ p ∷ ps)) [
-      true ↦ ([], slice_split (λ c. eqb c 10) bs, refl)
-    | false ↦ (b ∷ ih.0, ih.1, ap (onto_first b) ih.2)
+      | true ↦ ([], slice_split (λ c. eqb c 10) bs, refl)
+      | false ↦ (b ∷ ih.0, ih.1, ap (onto_first b) ih.2)
     ]
 
 not_last : (p q : List ℕ) (qs : List (List ℕ)) → without_empty_last (p ∷ q ∷ qs) ≡ p ∷ without_empty_last (q ∷ qs)
@@ -56,8 +56,8 @@ pub onto-nothing : (number : ℕ) (line : List ℕ) (lines : List (List ℕ)) �
 onto-nothing number line lines =
     let later = joined_lines (number + 1) lines in
     elim (goes_on line) as (λ v. cond v (onto_line number (take (length line - 1) line) later) (record { number = number; text = line } ∷ later) ≡ onto_line number [] (cond v (onto_line number (take (length line - 1) line) later) (record { number = number; text = line } ∷ later))) [
-      true ↦ twice number (take (length line - 1) line) later
-    | false ↦ refl
+      | true ↦ twice number (take (length line - 1) line) later
+      | false ↦ refl
     ]
   where
     twice : (n : ℕ) (front : List ℕ) (later : List Line) → onto_line n front later ≡ onto_line n [] (onto_line n front later)
@@ -88,8 +88,8 @@ pub statements-cons : (line : Line) (lines : List Line) → statements (line ∷
 unfolding statements
 statements-cons line lines =
     elim (is_statement (trimmed_line line).text) as (λ v. cond v (trimmed_line line ∷ filter (λ l. is_statement l.text) (map trimmed_line lines)) (filter (λ l. is_statement l.text) (map trimmed_line lines)) ≡ cond v (trimmed_line line ∷ []) [] ++ filter (λ l. is_statement l.text) (map trimmed_line lines)) [
-      true ↦ refl
-    | false ↦ refl
+      | true ↦ refl
+      | false ↦ refl
     ]
 
 pub lines-some : (text : List ℕ) → 0 < length text → (line : List ℕ) × (lines : List (List ℕ)) × (lines_of text ≡ line ∷ lines)
@@ -99,8 +99,8 @@ lines-some (b ∷ bs) l =
     let some = split-nonempty bs in
     let parts : List (List ℕ) = slice_split (λ c. eqb c 10) bs in
     elim (eqb b 10) as (λ v. (line : List ℕ) × (lines : List (List ℕ)) × (without_empty_last (cond v ([] ∷ parts) (onto_first b parts)) ≡ line ∷ lines)) [
-      true ↦ ([], without_empty_last (some.0 ∷ some.1), ap (λ ps. without_empty_last ([] ∷ ps)) some.2)
-    | false ↦ (b ∷ some.0, without_empty_last some.1, ap (λ ps. without_empty_last (onto_first b ps)) some.2)
+      | true ↦ ([], without_empty_last (some.0 ∷ some.1), ap (λ ps. without_empty_last ([] ∷ ps)) some.2)
+      | false ↦ (b ∷ some.0, without_empty_last some.1, ap (λ ps. without_empty_last (onto_first b ps)) some.2)
     ]
 
 -- before the first line was read

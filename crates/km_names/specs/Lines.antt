@@ -1,5 +1,5 @@
 -- The lines of text files, and the joined lines of configuration files. modprobe.d(5), depmod.d(5).
-use Rattle.std.specs.Prelude.{ℕ, ◌+◌, ◌-◌, List, [], ◌∷◌, ◌++◌, Bool, true, false, not, ◌==◌, if◌then◌else◌, nat_eq, length, take, map, filter, codes}
+use Rattle.std.specs.Prelude.{ℕ, ◌+◌, ◌-◌, List, [], ◌∷◌, ◌++◌, Bool, false, not, ◌==◌, if◌then◌else◌, nat_eq, length, take, map, filter}
 use Rattle.std.specs.List.{slice_split, ends_with}
 use Rattle.km_names.specs.declared.conf.Line.{Line}
 use Rattle.km_names.specs.Space.{trimmed}

@@ -67,7 +67,11 @@ fn first_joined(alloc: Global, text: &[u8]) -> Result<Joined<'_>, AllocError>
         }
         joined.extend(&line[..line.len() - 1])?;
     }
-    Ok(Joined { text: joined, count, rest })
+    Ok(Joined {
+        text: joined,
+        count,
+        rest,
+    })
 }
 
 fn goes_on(line: &[u8]) -> bool

@@ -1,6 +1,4 @@
-use Rattle.std.proofs.Common.{◌≡◌, ◌+◌, ◌++◌, ◌∷◌, [], List, ℕ, length, sym, ap, ◌∙◌, arith, eqb-true}
-use Rattle.std.proofs.lemmas.List.{append-nil, append_assoc, nil_from_length}
-use Rattle.km_names.specs.declared.conf.Line.{Line}
+use Rattle.std.proofs.Common.{◌+◌, ◌++◌, ◌∷◌, sym, ap, ◌∙◌, arith, eqb-true}
 use Rattle.km_names.specs.Lines.{lines_of, joined_lines, statements, conf_lines}
 use Rattle.km_names.proofs.LineSteps.{statements-more, statements-end}
 use Rattle.km_names.proofs.lines.conf_lines.Goals as goal
@@ -17,8 +15,8 @@ loop-rest-preserved c =
     let i = c.loop-rest.invariant in
     let j = c.in_ok-joined.joined in (
       ap (λ ls. ls ++ statements (joined_lines (c.loop-rest.number + j.count) (lines_of j.rest.now))) c.in_ok-push_statement.ensures.ok
-      ∙ statements-more c.loop-rest.lines (record { number = c.loop-rest.number; text = c.as_bytes.result.now }) _ _ (c.in_ok-joined.ensures.lines c.loop-rest.number ∙ ap (λ t. record { number = c.loop-rest.number; text = t } ∷ joined_lines (c.loop-rest.number + j.count) (lines_of j.rest.now)) (sym c.as_bytes.ensures))
-      ∙ i.0,
+          ∙ statements-more c.loop-rest.lines (record { number = c.loop-rest.number; text = c.as_bytes.result.now }) _ _ (c.in_ok-joined.ensures.lines c.loop-rest.number ∙ ap (λ t. record { number = c.loop-rest.number; text = t } ∷ joined_lines (c.loop-rest.number + j.count) (lines_of j.rest.now)) (sym c.as_bytes.ensures))
+          ∙ i.0,
       omega (arith, c.in_ok-joined.ensures.count),
       omega arith,
     )

@@ -1,4 +1,4 @@
-use Rattle.std.proofs.Common.{◌≡◌, ◌+◌, ◌≤◌, ◌++◌, ℕ, length}
+use Rattle.std.proofs.Common.{◌≡◌, ◌+◌, ◌≤◌, ◌++◌, length}
 use Rattle.km_names.specs.Lines.{lines_of, joined_lines, statements, conf_lines}
 use Rattle.km_names.proofs.lines.conf_lines.Given as goal
 

@@ -1,4 +1,4 @@
-use Rattle.std.proofs.Common.{◌≡◌, ◌∙◌, ap, drop, take, List, [], ℕ, ◌-◌, length, arith}
+use Rattle.std.proofs.Common.{◌∙◌, length, arith}
 use Rattle.std.proofs.lemmas.List.{take_rest, drop_all}
 use Rattle.km_names.proofs.LineSteps.{lines-found, lines-none}
 use Rattle.km_names.proofs.lines.first_line.Goals as goal

@@ -1,6 +1,5 @@
-use Rattle.std.proofs.Common.{◌≡◌, rules, sym, ap, ◌∙◌, ◌++◌, ◌∷◌, [], List, Some, None, false, true}
+use Rattle.std.proofs.Common.{◌≡◌, ◌∙◌, true}
 use Rattle.std.proofs.lemmas.Result.{on_ok_weaker}
-use Rattle.std.proofs.lemmas.List.{append-nil}
 use Rattle.km_names.specs.Lines.{is_statement}
 use Rattle.km_names.proofs.LineSteps.{nothing-pushed, something-pushed, nothing-first, comment-first, other-first}
 use Rattle.km_names.proofs.lines.push_statement.Goals as goal
@@ -14,4 +13,4 @@ returns-in-Some-eq35 c = record { ok = nothing-pushed _ _ _ _ c.trimmed-text.ens
 pub returns-in_ok-from_slice-in-Some : goal.returns-in_ok-from_slice-in-Some
 returns-in_ok-from_slice-in-Some c =
     let on : is_statement c.trimmed-text.result.now ≡ true = other-first _ _ c.in-Some.ensures.value c.in-Some.field-0-test.1 in
-    record { ok = on_ok_weaker _ (λ pushed. pushed ∙ something-pushed _ _ _ _ _ c.trimmed-text.ensures on c.in_ok-from_slice-in-Some.ensures) c.push.ensures.ok }
+    record { ok = on_ok_weaker c.push.result (λ pushed. pushed ∙ something-pushed _ _ _ _ _ c.trimmed-text.ensures on c.in_ok-from_slice-in-Some.ensures) c.push.ensures.ok }
