@@ -1,1 +1,5 @@
 pub mod NumberSums
+pub mod AliasRun
+pub mod Ends
+pub mod LineSteps
+pub mod Trims

@@ -1,2 +1,6 @@
+pub mod AliasForm
 pub mod First
+pub mod Lines
 pub mod Number
+pub mod Path
+pub mod Space

@@ -2,16 +2,26 @@
 //! lists told apart by what they are for, so that a path can't be passed for a name, and numbers as they
 //! stand in files.
 //!
-//! It stands on std, and on `byteorder` for the numbers. Each list keeps its allocator; only `push` and
+//! It stands on std, on `byteorder` for the numbers and on `memchr` for the ends of lines. Each list keeps its allocator; only `push` and
 //! its kin can be refused, for want of memory, and then the list is as it was.
 #![tactic(auto)]
 
+mod alias;
 mod bytes;
+mod conf;
+mod lines;
 mod list;
 mod numbers;
+mod path;
+mod space;
 mod word;
 
+pub use alias::normal_alias;
 pub use bytes::{Alias, AliasKind, Blob, BlobKind, Bytes, Name, NameKind, PathKind, PathText};
+pub use conf::{ConfFault, ConfFile, ConfFiles, Line, Lines, TreeIndex};
+pub use lines::{conf_lines, first_line};
 pub use list::{List, Names, Paths, Texts};
 pub use numbers::{be_u16_at, be_u32_at, le_u16_at, le_u32_at, le_u64_at};
+pub use path::{is_compressed, join, module_name, underscored};
+pub use space::{split_word, trimmed};
 pub use word::Word;

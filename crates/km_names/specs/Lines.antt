@@ -1,0 +1,49 @@
+-- The lines of text files, and the joined lines of configuration files. modprobe.d(5), depmod.d(5).
+use Rattle.std.specs.Prelude.{ℕ, ◌+◌, ◌-◌, List, [], ◌∷◌, ◌++◌, Bool, false, not, ◌==◌, if◌then◌else◌, nat_eq, length, take, map, filter}
+use Rattle.std.specs.List.{slice_split, ends_with}
+use Rattle.km_names.specs.declared.conf.Line.{Line}
+use Rattle.km_names.specs.Space.{trimmed}
+
+-- The pieces, without the last where it is empty.
+abbrev pub without_empty_last : List (List ℕ) → List (List ℕ)
+without_empty_last [] = []
+without_empty_last ([] ∷ []) = []
+without_empty_last (piece ∷ pieces) = piece ∷ without_empty_last pieces
+
+-- The lines of a text: what stands between its line ends, and after the last one where anything does.
+unfoldable pub lines_of : List ℕ → List (List ℕ)
+lines_of text = without_empty_last (slice_split (λ b. b == 10) text)
+
+-- Whether a line goes on in the next: its last byte is `\`.
+abbrev pub goes_on : List ℕ → Bool
+goes_on line = ends_with nat_eq line (92 ∷ [])
+
+-- The lines with a text put before the first of them, under the number that the text has.
+abbrev pub onto_line : ℕ → List ℕ → List Line → List Line
+onto_line number front [] = record { number = number; text = front } ∷ []
+onto_line number front (line ∷ lines) = record { number = number; text = front ++ line.text } ∷ lines
+
+-- The joined lines, where the first has this number: one that goes on stands before the text of the
+-- next without its mark, and keeps its own number.
+abbrev pub joined_lines : ℕ → List (List ℕ) → List Line
+joined_lines number [] = []
+joined_lines number (line ∷ lines) =
+    if goes_on line then onto_line number (take (length line - 1) line) (joined_lines (number + 1) lines)
+    else record { number = number; text = line } ∷ joined_lines (number + 1) lines
+
+-- Whether a text states something: it isn't empty, and it isn't a comment, which begins with `#`.
+abbrev pub is_statement : List ℕ → Bool
+is_statement [] = false
+is_statement (b ∷ bs) = not (b == 35)
+
+-- The line with its text without white space at either end.
+abbrev pub trimmed_line : Line → Line
+trimmed_line line = record { number = line.number; text = trimmed line.text }
+
+-- The lines without white space at either end, less those that state nothing.
+unfoldable pub statements : List Line → List Line
+statements lines = filter (λ line. is_statement line.text) (map trimmed_line lines)
+
+-- The lines of a configuration file that state something, joined, each with the number of its first part, from 1.
+unfoldable pub conf_lines : List ℕ → List Line
+conf_lines bytes = statements (joined_lines 1 (lines_of bytes))

@@ -1,0 +1,30 @@
+ghost use Rattle.std.specs.Prelude.{◌≡◌, IfOk};
+ghost use Rattle.km_names.specs.AliasForm.{normal_alias as normal_form};
+
+use crate::Alias;
+use std::alloc::{AllocError, Global};
+
+/// The normal form of an alias or of a pattern of aliases: each `-` outside brackets becomes `_`. A `[`
+/// opens a bracket up to the next `]`. It is `None` exactly where a `[` has no `]` after it, or a `]`
+/// stands outside a bracket. modprobe.d(5), "alias".
+pub fn normal_alias(alloc: Global, text: &[u8]) -> Result<Option<Alias>, AllocError>
+    ensures { IfOk result (λ normal. normal ≡ normal_form text.now) }
+{
+    let mut normal = Vec::with_capacity(alloc, text.len())?;
+    let mut bracket = false;
+    for byte in text {
+        if *byte == b']' && !bracket {
+            return Ok(None);
+        }
+        normal.push(if *byte == b'-' && !bracket {
+            b'_'
+        } else {
+            *byte
+        })?;
+        bracket = *byte == b'[' || (bracket && *byte != b']');
+    }
+    if bracket {
+        return Ok(None);
+    }
+    Ok(Some(Alias::from_vec(normal)))
+}

@@ -1,0 +1,57 @@
+ghost use Rattle.std.specs.Prelude.{◌≡◌, ◌≤◌, length, take};
+ghost use Rattle.km_names.specs.Space.{is_space as is_space_byte, trimmed as trimmed_text, trimmed_start as trimmed_at_start, trimmed_end as trimmed_at_end, first_word, rest_after_word};
+
+/// A text without the white space at either end: space, tab and carriage return. modprobe.d(5).
+pub fn trimmed(text: &[u8]) -> &[u8]
+    ensures { result.now ≡ trimmed_text text.now }
+{
+    trimmed_end(trimmed_start(text))
+}
+
+/// The word that a text begins with, up to its first white space, and what follows it, without white
+/// space at either end. modprobe.d(5).
+pub fn split_word(text: &[u8]) -> (&[u8], &[u8])
+    ensures word { result.0.now ≡ first_word text.now }
+    ensures rest { result.1.now ≡ rest_after_word text.now }
+{
+    let end = word_length(text);
+    (&text[..end], trimmed(&text[end..]))
+}
+
+fn is_space(byte: u8) -> bool
+    ensures { result ≡ is_space_byte byte }
+{
+    byte == b' ' || byte == b'\t' || byte == b'\r'
+}
+
+// How many bytes stand before the first white space.
+fn word_length(text: &[u8]) -> usize
+    ensures within { result ≤ length text.now }
+    ensures word { take result text.now ≡ first_word text.now }
+{
+    let mut end = 0;
+    while end < text.len() && !is_space(text[end]) {
+        end += 1;
+    }
+    end
+}
+
+fn trimmed_start(text: &[u8]) -> &[u8]
+    ensures { result.now ≡ trimmed_at_start text.now }
+{
+    let mut start = 0;
+    while start < text.len() && is_space(text[start]) {
+        start += 1;
+    }
+    &text[start..]
+}
+
+fn trimmed_end(text: &[u8]) -> &[u8]
+    ensures { result.now ≡ trimmed_at_end text.now }
+{
+    let mut end = text.len();
+    while end > 0 && is_space(text[end - 1]) {
+        end -= 1;
+    }
+    &text[..end]
+}
