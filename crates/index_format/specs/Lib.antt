@@ -1,0 +1,9 @@
+pub mod Map
+pub mod Link
+pub mod Node
+pub mod Walk
+pub mod Check
+pub mod Tree
+pub mod File
+pub mod Holds
+pub mod Worked

@@ -1,0 +1,27 @@
+-- The offsets of an index, which lead to nodes. kmod's index format 2.1, "node offset".
+use Rattle.std.specs.Prelude.{ℕ, ◌+◌, ◌*◌, ◌^◌, ◌%◌, ◌==◌, Bool, List, [], ◌∷◌}
+use Rattle.std.specs.Int.{bit_at}
+
+-- The place of the node in the file, in bytes: the low 28 bits.
+abbrev pub place_of : ℕ → ℕ
+place_of link = link % 2 ^ 28
+
+-- Whether the node has a prefix, values or children: bits 31, 30 and 29. Bit 28 says nothing.
+abbrev pub has_prefix : ℕ → Bool
+has_prefix link = bit_at link 31 == 1
+
+abbrev pub has_values : ℕ → Bool
+has_values link = bit_at link 30 == 1
+
+abbrev pub has_children : ℕ → Bool
+has_children link = bit_at link 29 == 1
+
+-- 1 for a field that has content, and 0 for an empty one, which is left out.
+abbrev pub flag : {A : Type 0} → List A → ℕ
+flag [] = 0
+flag (x ∷ xs) = 1
+
+-- The offset of the node at a place with this prefix, these children and these values.
+abbrev pub link_to : {A B : Type 0} → ℕ → List ℕ → List A → List B → ℕ
+link_to at prefix children values =
+    flag prefix * 2 ^ 31 + flag values * 2 ^ 30 + flag children * 2 ^ 29 + at

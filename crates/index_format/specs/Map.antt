@@ -1,0 +1,28 @@
+-- The map that an index stands for: from a key to the values of that key, in the order in which they stand.
+use Rattle.std.specs.Prelude.{ℕ, List, [], ◌∷◌, nat_lt, if◌then◌else◌, unwrap_or}
+use Rattle.std.specs.List.{list_all}
+use Rattle.std.specs.Ordering.{nat_cmp}
+use Rattle.std.specs.Cmp.Lexicographic.{slice_cmp}
+use Rattle.std.specs.FinMap.{FinMap, get, insert}
+
+-- A value: its priority and the bytes of its text.
+abbrev pub Value : Type 0
+Value = ℕ × List ℕ
+
+-- A finite map from keys, in the order of their bytes, to lists of values.
+abbrev pub KeyValues : Type 0
+KeyValues = FinMap (slice_cmp nat_cmp) (List Value)
+
+-- The values of a key, none where the map doesn't have it.
+abbrev pub values_of : KeyValues → List ℕ → List Value
+values_of m key = unwrap_or (get m key) []
+
+-- The values with one more, which stands after the last one whose priority isn't greater: before the
+-- longest rest of the list in which each priority is greater.
+abbrev pub place : List Value → Value → List Value
+place [] v = v ∷ []
+place (x ∷ xs) v = if list_all (λ y. nat_lt v.0 y.0) (x ∷ xs) then v ∷ x ∷ xs else x ∷ place xs v
+
+-- The map with one more value of a key.
+abbrev pub with_value : KeyValues → List ℕ → Value → KeyValues
+with_value m key v = insert m key (place (values_of m key) v)

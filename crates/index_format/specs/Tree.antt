@@ -1,0 +1,70 @@
+-- The tree of an index, as kmod's depmod writes it: each node but the root has the longest prefix that is
+-- common to all keys below it.
+use Rattle.std.specs.Prelude.{ℕ, zero, suc, ◌==◌, List, [], ◌∷◌, ◌++◌, length, drop, map, max, if◌then◌else◌}
+use Rattle.index_format.specs.Map.{Value}
+
+-- A key, or what is left of it below a node, with its values.
+abbrev pub Entry : Type 0
+Entry = List ℕ × List Value
+
+-- Nodes that stand side by side: the first one, with the byte that leads to it, its prefix, its values and
+-- the nodes below it, and then the nodes beside it.
+pub data Nodes : Type 0 where
+  End : Nodes
+  Node : (byte : ℕ) (prefix : List ℕ) (values : List Value) (below : Nodes) (beside : Nodes) → Nodes
+
+-- What two keys have in common at their front.
+abbrev pub common : List ℕ → List ℕ → List ℕ
+common [] ys = []
+common (x ∷ xs) [] = []
+common (x ∷ xs) (y ∷ ys) = if x == y then x ∷ common xs ys else []
+
+-- The longest prefix that is common to all keys.
+abbrev pub common_prefix : List Entry → List ℕ
+common_prefix [] = []
+common_prefix (e ∷ []) = e.0
+common_prefix (e ∷ f ∷ es) = common e.0 (common_prefix (f ∷ es))
+
+-- The entries with so many bytes taken off each key.
+abbrev pub cut : ℕ → List Entry → List Entry
+cut n es = map (λ e. (drop n e.0, e.1)) es
+
+-- The values of the entries whose key ends here.
+abbrev pub ending : List Entry → List Value
+ending [] = []
+ending (([], values) ∷ es) = values ++ ending es
+ending ((byte ∷ key, values) ∷ es) = ending es
+
+-- Puts an entry in front of the first group, if that one is for the same byte, and else before it.
+abbrev pub grouped : ℕ → Entry → List (ℕ × List Entry) → List (ℕ × List Entry)
+grouped byte e [] = (byte, e ∷ []) ∷ []
+grouped byte e ((c, es) ∷ groups) = if byte == c then (c, e ∷ es) ∷ groups else (byte, e ∷ []) ∷ (c, es) ∷ groups
+
+-- The entries whose key doesn't end here, by the byte with which it goes on, which is taken off. The entries
+-- are in the order of their keys, so those with one byte stand together.
+abbrev pub groups : List Entry → List (ℕ × List Entry)
+groups [] = []
+groups (([], values) ∷ es) = groups es
+groups ((byte ∷ key, values) ∷ es) = grouped byte (key, values) (groups es)
+
+-- A node for each group. Below is what stands below a node, by the entries with its prefix taken off.
+abbrev pub siblings : (List Entry → Nodes) → List (ℕ × List Entry) → Nodes
+siblings below [] = End
+siblings below ((byte, es) ∷ more) =
+    let prefix = common_prefix es in
+    let rest = cut (length prefix) es in
+    Node byte prefix (ending rest) (below rest) (siblings below more)
+
+-- The nodes below a node, by the entries with its prefix taken off, down to a depth.
+unfoldable pub nodes_below : ℕ → List Entry → Nodes
+nodes_below zero es = End
+nodes_below (suc depth) es = siblings (nodes_below depth) (groups es)
+
+-- The bytes of the longest key. No node stands deeper, since each takes a byte of the keys below it.
+abbrev pub longest : List Entry → ℕ
+longest [] = 0
+longest (e ∷ es) = max (length e.0) (longest es)
+
+-- The root, with an empty prefix. No byte leads to it.
+unfoldable pub tree : List Entry → Nodes
+tree es = Node 0 [] (ending es) (nodes_below (longest es) es) End

@@ -1,0 +1,54 @@
+-- The walk of a key through an index: at a node the prefix is taken off the key; where nothing is left the
+-- walk ends there, and else the first byte that is left picks a child and is taken off.
+-- kmod's index format 2.1, "searching".
+use Rattle.std.specs.Prelude.{ℕ, zero, suc, ◌+◌, nat_eq, List, [], ◌∷◌, length, drop, Option, Some, None, if◌then◌else◌}
+use Rattle.std.specs.List.{starts_with}
+use Rattle.index_format.specs.Map.{Value}
+use Rattle.index_format.specs.Node.{root, prefix, child, values}
+
+-- Where the walk goes from a node: it ends there, or goes on to a child with the rest of the key, or has
+-- nowhere to go.
+pub data Step : Type 0 where
+  Ends : Step
+  Enters : ℕ → List ℕ → Step
+  Lost : Step
+
+-- The child, if there is one.
+abbrev pub enters : Option ℕ → List ℕ → Step
+enters (Some link) rest = Enters link rest
+enters None rest = Lost
+
+-- The step after the prefix was taken off.
+abbrev pub onward : List ℕ → ℕ → List ℕ → Step
+onward b link [] = Ends
+onward b link (byte ∷ rest) = enters (child b link byte) rest
+
+unfoldable pub step : List ℕ → ℕ → List ℕ → Step
+step b link key =
+    if starts_with nat_eq key (prefix b link) then onward b link (drop (length (prefix b link)) key) else Lost
+
+-- By cases on a step.
+abbrev pub by_step : {A : Type 0} → Step → A → (ℕ → List ℕ → A) → A → A
+by_step Ends ends enters lost = ends
+by_step (Enters link rest) ends enters lost = enters link rest
+by_step Lost ends enters lost = lost
+
+-- The values that a key reaches from a node by at most so many nodes.
+unfoldable pub at_within : List ℕ → ℕ → ℕ → List ℕ → List Value
+at_within b zero link key = []
+at_within b (suc n) link key = by_step (step b link key) (values b link) (at_within b n) []
+
+-- The values that a key reaches from a node, none where its walk is lost. Each child takes a byte of the
+-- key, so a walk has at most one node more than the key has bytes.
+unfoldable pub at : List ℕ → ℕ → List ℕ → List Value
+at b link key = at_within b (length key + 1) link key
+
+-- How many nodes the walk of a key has, from a node and by at most so many nodes. A node whose prefix
+-- doesn't fit is one of them.
+unfoldable pub visits_within : List ℕ → ℕ → ℕ → List ℕ → ℕ
+visits_within b zero link key = 0
+visits_within b (suc n) link key = by_step (step b link key) 1 (λ next rest. 1 + visits_within b n next rest) 1
+
+-- How many nodes the walk of a key from the root has.
+unfoldable pub visits : List ℕ → List ℕ → ℕ
+visits b key = visits_within b (length key + 1) (root b) key

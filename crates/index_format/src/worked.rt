@@ -1,0 +1,48 @@
+ghost use Rattle.std.specs.Prelude.{◌≡◌, Some, None, [], ◌∷◌, codes};
+ghost use Rattle.index_format.specs.Node.{root};
+ghost use Rattle.index_format.specs.Walk.{at, visits};
+ghost use Rattle.index_format.specs.Check.{index_fault, BadNode, Revisited, BadMagic, BadVersion};
+ghost use Rattle.index_format.specs.File.{file};
+ghost use Rattle.index_format.specs.Worked.{head, no_keys, no_keys_file, five_keys, five_keys_file, two_modules, two_modules_file, child_after_parent, node_reached_twice, value_cut_off};
+
+/// The files of three small maps: without keys, with five keys of which one begins others, and with the
+/// dependencies of two modules.
+pub fn small_files()
+    ensures no_keys { file no_keys ≡ no_keys_file }
+    ensures five_keys { file five_keys ≡ five_keys_file }
+    ensures two_modules { file two_modules ≡ two_modules_file }
+{}
+
+/// What keys reach in the file of the five keys: a key that is there, one that begins others, one that only
+/// begins one, one whose last bytes are no prefix, and the empty key.
+pub fn small_lookups()
+    ensures key { at five_keys_file (root five_keys_file) (codes "once") ≡ (3, codes "x") ∷ [] }
+    ensures begins { at five_keys_file (root five_keys_file) (codes "on") ≡ (2, codes "x") ∷ [] }
+    ensures part { at five_keys_file (root five_keys_file) (codes "onc") ≡ [] }
+    ensures absent { at five_keys_file (root five_keys_file) (codes "asp") ≡ [] }
+    ensures empty { at five_keys_file (root five_keys_file) [] ≡ [] }
+    ensures module { at two_modules_file (root two_modules_file) (codes "b")
+        ≡ (1, codes "kernel/b.ko: kernel/a.ko") ∷ [] }
+{}
+
+/// How many nodes the walks of keys through the file of the five keys have.
+pub fn small_walks()
+    ensures key { visits five_keys_file (codes "once") ≡ 3 }
+    ensures begins { visits five_keys_file (codes "on") ≡ 2 }
+    ensures part { visits five_keys_file (codes "onc") ≡ 3 }
+    ensures absent { visits five_keys_file (codes "b") ≡ 1 }
+{}
+
+/// The small files are accepted, and these are refused.
+pub fn refused_files()
+    ensures no_keys { index_fault no_keys_file ≡ None }
+    ensures five_keys { index_fault five_keys_file ≡ None }
+    ensures two_modules { index_fault two_modules_file ≡ None }
+    ensures empty { index_fault [] ≡ Some BadMagic }
+    ensures magic { index_fault (codes "kernel/a.ko:") ≡ Some BadMagic }
+    ensures version { index_fault (0xb0 ∷ 0x07 ∷ 0xf4 ∷ 0x57 ∷ []) ≡ Some BadVersion }
+    ensures short { index_fault head ≡ Some (BadNode 8) }
+    ensures after { index_fault child_after_parent ≡ Some (BadNode 18) }
+    ensures twice { index_fault node_reached_twice ≡ Some (Revisited 12) }
+    ensures cut_off { index_fault value_cut_off ≡ Some (BadNode 12) }
+{}
