@@ -1,3 +1,5 @@
+pub mod CallsSeen
 pub mod Counts
 pub mod FilesSeen
+pub mod MemOutSeen
 pub mod OutSeen

@@ -5,6 +5,7 @@
 //! the same code that runs over the real ones. It stands on `km_names`.
 #![tactic(auto)]
 
+mod calls;
 mod files;
 mod mem_files;
 mod mem_out;
