@@ -1,5 +1,5 @@
 -- What a contract sees of an output that is kept in memory.
-use Rattle.std.specs.Prelude.{ℕ, ◌+◌, Bool, ◌||◌, nat_lt, List, ◌++◌, length, Option, Some, None, if◌then◌else◌}
+use Rattle.std.specs.Prelude.{ℕ, ◌+◌, Bool, ◌||◌, nat_lt, List, ◌++◌, length, Some, None, if◌then◌else◌}
 use Rattle.km_outside.specs.Counts.{one_more}
 use Rattle.km_outside.specs.CallsSeen.{CallsSeen, next_fails, called, with_failing, none_listed}
 use Rattle.km_outside.specs.OutSeen.{OutSeen}
