@@ -6,3 +6,4 @@ pub mod FilesSeen
 pub mod MemFilesSeen
 pub mod MemOutSeen
 pub mod OutSeen
+pub mod StreamSeen

@@ -10,8 +10,11 @@ mod files;
 mod mem_files;
 mod mem_out;
 mod out;
+mod stream;
+mod write_loop;
 
 pub use files::{FILE_LIMIT, FileAnswer, Files, Reads};
 pub use mem_files::{CallKind, MemFiles};
 pub use mem_out::MemOut;
 pub use out::{Out, OutFailed};
+pub use stream::{StdErr, StdOut, Stream};
