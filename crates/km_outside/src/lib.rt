@@ -10,6 +10,8 @@ mod files;
 mod mem_files;
 mod mem_out;
 mod out;
+mod read_loop;
+mod retries;
 mod stream;
 mod write_loop;
 
