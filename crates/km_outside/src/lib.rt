@@ -5,12 +5,18 @@
 //! the same code that runs over the real ones. It stands on `km_names`.
 #![tactic(auto)]
 
+mod calls;
 mod files;
 mod mem_files;
 mod mem_out;
 mod out;
+mod read_loop;
+mod retries;
+mod stream;
+mod write_loop;
 
 pub use files::{FILE_LIMIT, FileAnswer, Files, Reads};
 pub use mem_files::{CallKind, MemFiles};
 pub use mem_out::MemOut;
 pub use out::{Out, OutFailed};
+pub use stream::{StdErr, StdOut, Stream};

@@ -1,0 +1,87 @@
+ghost use Rattle.std.specs.Prelude.{◌≡◌, ◌+◌, ◌<◌, ◌≤◌, length, take, drop, vec_len, IfOk, OnOk, IfSome};
+ghost use Rattle.std.specs.Io.{ReadsAtMost};
+ghost use Rattle.std.specs.Io.KnownBytes.{Consumes, ReadConsumes, IsAtEnd};
+ghost use Rattle.km_outside.specs.FilesSeen.{file_limit};
+
+use crate::FILE_LIMIT;
+use crate::retries::RETRIES;
+use std::alloc::{AllocError, Global};
+use std::io;
+use std::io::{ErrorKind, Read};
+
+/// Reads to the end, and at most to one byte past [`FILE_LIMIT`], into one buffer. Where about `expected`
+/// bytes are there, the buffer is made once.
+pub(crate) fn read_limited<R: Read>(
+    alloc: Global,
+    reader: &mut R,
+    expected: usize,
+) -> io::Result<Vec<u8>>
+    ensures limit { IfOk result (λ bytes. length bytes.items ≤ file_limit + 1) }
+    ensures bytes { IfOk result (λ bytes. IfSome (R.remaining reader.old) (λ left. bytes.items ≡ take (file_limit + 1) left)) }
+{
+    let mut buffer = Vec::from_elem(alloc, 0, expected.min(FILE_LIMIT) + 1)?;
+    let mut filled = 0;
+    while filled <= FILE_LIMIT {
+        match read_more(reader, &mut buffer, filled)? {
+            0 => break,
+            count => filled += count,
+        }
+    }
+    buffer.truncate(filled);
+    Ok(buffer)
+}
+
+/// One turn: makes room after the filled part, and reads some bytes there, none only at the end.
+fn read_more<R: Read>(reader: &mut R, buffer: &mut Vec<u8>, filled: usize) -> io::Result<usize>
+    requires within { filled ≤ vec_len buffer.old }
+    requires below_limit { filled ≤ file_limit }
+    requires limit { vec_len buffer.old ≤ file_limit + 1 }
+    ensures limit { OnOk result (vec_len buffer.new ≤ file_limit + 1) }
+    ensures front { OnOk result (take filled buffer.new.items ≡ take filled buffer.old.items) }
+    ensures fits { IfOk result (λ n. filled + n ≤ vec_len buffer.new) }
+    ensures bytes { IfOk result (λ n. Consumes (R.remaining reader.old) (R.remaining reader.new) (take n (drop filled buffer.new.items))) }
+    ensures end { IfOk result (λ n. n ≡ 0 → IsAtEnd (R.remaining reader.new)) }
+{
+    make_room(buffer, filled)?;
+    read_at(reader, buffer.as_mut_slice(), filled)
+}
+
+/// Makes the buffer longer than its filled part, by as much again where it is full.
+fn make_room(buffer: &mut Vec<u8>, filled: usize) -> Result<(), AllocError>
+    requires within { filled ≤ vec_len buffer.old }
+    requires below_limit { filled ≤ file_limit }
+    requires limit { vec_len buffer.old ≤ file_limit + 1 }
+    ensures room { OnOk result (filled < vec_len buffer.new) }
+    ensures limit { OnOk result (vec_len buffer.new ≤ file_limit + 1) }
+    ensures front { OnOk result (take filled buffer.new.items ≡ take filled buffer.old.items) }
+{
+    if filled < buffer.len() {
+        return Ok(());
+    }
+    buffer.resize((filled * 2).clamp(1, FILE_LIMIT) + 1, 0)
+}
+
+/// Reads some bytes into the buffer after its filled part, none only at the end.
+fn read_at<R: Read>(reader: &mut R, buffer: &mut [u8], filled: usize) -> io::Result<usize>
+    requires { filled < length buffer.old }
+    ensures front { take filled buffer.new ≡ take filled buffer.old }
+    ensures fits { IfOk result (λ n. filled + n ≤ length buffer.new) }
+    ensures bytes { IfOk result (λ n. Consumes (R.remaining reader.old) (R.remaining reader.new) (take n (drop filled buffer.new))) }
+    ensures end { IfOk result (λ n. n ≡ 0 → IsAtEnd (R.remaining reader.new)) }
+{
+    read_some(reader, &mut buffer[filled..])
+}
+
+/// One read, which is made again where a signal interrupted it.
+fn read_some<R: Read>(reader: &mut R, room: &mut [u8]) -> io::Result<usize>
+    ensures bound { ReadsAtMost result room.new }
+    ensures bytes { ReadConsumes (R.remaining reader.old) (R.remaining reader.new) result room.new }
+{
+    for _ in 0..RETRIES {
+        match reader.read(room) {
+            Err(error) if error.kind() == ErrorKind::Interrupted => {}
+            answer => return answer,
+        }
+    }
+    reader.read(room)
+}

@@ -1,0 +1,56 @@
+ghost use Rattle.std.specs.Prelude.{◌≡◌, OnOk};
+ghost use Rattle.std.specs.Io.KnownBytes.{Appends};
+ghost use Rattle.km_outside.specs.OutSeen.{WriteAnswers};
+ghost use Rattle.km_outside.specs.StreamSeen.{stream_seen};
+
+use crate::write_loop::write_whole;
+use crate::{Out, OutFailed};
+use std::io::Write;
+use std::marker::Model;
+use std::rt::{Stderr, Stdout};
+
+/// An output over a writer of the library. It tells neither its bytes nor a room.
+#[derive(Drop)]
+pub struct Stream<W: Write> {
+    writer: W,
+    faults: u64,
+}
+
+/// The standard output.
+pub type StdOut = Stream<Stdout>;
+
+/// The standard error output.
+pub type StdErr = Stream<Stderr>;
+
+impl<W: Write> Model for Stream<W> {
+    ghost use Rattle.km_outside.specs.StreamSeen.{StreamSeen};
+
+    ghost Value = { StreamSeen };
+
+    ghost view = { λ s. record { faults = s.faults; contents = W.contents s.writer } };
+}
+
+impl<W: Write> Stream<W> {
+    /// An output over the writer, with no fault counted.
+    pub fn new(writer: W) -> Self
+        ensures { result ≡ record { faults = 0; contents = W.contents writer } }
+    {
+        Stream { writer, faults: 0 }
+    }
+}
+
+impl<W: Write> Out for Stream<W> {
+    ghost seen = { stream_seen };
+
+    /// Writes the piece in as many turns as the writer needs, each of which takes at least one byte.
+    fn write(&mut self, bytes: &[u8]) -> Result<(), OutFailed>
+        ensures answers { WriteAnswers bytes.now (stream_seen self.old) (stream_seen self.new) result }
+        ensures contents { OnOk result (Appends self.old.contents self.new.contents bytes.now) }
+    {
+        let answer = write_whole(&mut self.writer, bytes);
+        if answer.is_err() {
+            self.faults = self.faults.saturating_add(1);
+        }
+        answer
+    }
+}
