@@ -1,9 +1,9 @@
 -- What a search for a byte says of the parts of a text before and after it.
-use Rattle.std.proofs.Common.{◌≡◌, ℕ, ◌+◌, ◌-◌, ◌<◌, ◌≤◌, Bool, true, false, List, length, take, drop, get_or, eqb, Some, None, sym, ap, ◌∙◌, arith}
+use Rattle.std.proofs.Common.{◌≡◌, ℕ, ◌+◌, ◌-◌, ◌<◌, ◌≤◌, Bool, true, false, List, [], length, take, drop, get_or, eqb, Some, None, sym, ap, ◌∙◌, arith}
 use Rattle.std.specs.Prelude.{not}
-use Rattle.std.specs.List.{before_first, after_last, suffix_len, position_or_len}
+use Rattle.std.specs.List.{before_first, after_first, after_last, suffix_len, position_or_len}
 use Rattle.std.proofs.lemmas.Bool.{false_from_ne_true, not_from_true, not_from_false}
-use Rattle.std.proofs.lemmas.List.{take_all, length-drop}
+use Rattle.std.proofs.lemmas.List.{take_all, drop_all, length-drop}
 use Rattle.std.proofs.lemmas.List.Sums.{position_or_len_is, suffix_len_is}
 use Rattle.memchr.specs.Find.{IsFirstByte, IsLastByte, is_byte}
 use Rattle.km_names.specs.Path.{without_end_slashes}
@@ -44,3 +44,13 @@ without_end_at path n l slashes here =
     let e : suffix_len (λ b. eqb b 47) path ≡ length path - n = suffix_len_is (λ b. eqb b 47) path n 0 l slashes here in
     let p : length path - suffix_len (λ b. eqb b 47) path ≡ n = omega (arith, e) in
     ap (λ m. take m path) (sym p)
+
+pub after_first-found : (a : ℕ) (hay : List ℕ) (k : ℕ) → IsFirstByte (is_byte a) hay (Some k) → drop (k + 1) hay ≡ after_first (λ b. eqb b a) hay
+after_first-found a hay k h =
+    let e : position_or_len (λ b. eqb b a) hay ≡ k = position_or_len_is (λ b. eqb b a) hay k 0 (omega (arith, h.0.high)) (λ j l. false_from_ne_true _ (h.0.before j (omega arith) l)) (λ _. h.1) in
+    ap (λ n. drop (n + 1) hay) (sym e)
+
+pub after_first-none : (a : ℕ) (hay : List ℕ) → IsFirstByte (is_byte a) hay None → [] ≡ after_first (λ b. eqb b a) hay
+after_first-none a hay h =
+    let e : position_or_len (λ b. eqb b a) hay ≡ length hay = position_or_len_is (λ b. eqb b a) hay (length hay) 0 (omega arith) (λ j l. false_from_ne_true _ (h j (omega arith) l)) (λ l. absurd (omega (arith, l))) in
+    sym (drop_all (position_or_len (λ b. eqb b a) hay + 1) hay (omega (arith, e)))

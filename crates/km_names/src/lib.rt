@@ -14,6 +14,7 @@ mod list;
 mod numbers;
 mod path;
 mod space;
+mod split;
 mod word;
 
 pub use alias::normal_alias;
@@ -24,4 +25,5 @@ pub use list::{List, Names, Paths, Texts};
 pub use numbers::{be_u16_at, be_u32_at, le_u16_at, le_u32_at, le_u64_at};
 pub use path::{is_compressed, join, module_name, underscored};
 pub use space::{split_word, trimmed};
+pub use split::split_at_byte;
 pub use word::Word;

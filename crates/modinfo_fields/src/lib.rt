@@ -1,0 +1,10 @@
+//! The fields of a module's `.modinfo` section: texts of the form `key=value`, each ended by a NUL.
+//!
+//! It stands on `km_names`.
+#![tactic(auto)]
+
+mod list;
+mod piece;
+
+pub use list::{FieldList, fields};
+pub use piece::Field;

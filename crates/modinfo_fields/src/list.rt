@@ -1,0 +1,96 @@
+ghost use Rattle.std.specs.Prelude.{◌≡◌, ◌≤◌, ◌<◌, ◌↔◌, ◌==◌, [], ◌∷◌, ◌++◌, length, map, filter, IsNone, OnOk, OnErr, IfOk, slice_get, option_copied};
+ghost use Rattle.std.specs.List.{slice_split};
+ghost use Rattle.modinfo_fields.specs.Fields.{fields_of, field_of, is_text, values_of_key};
+
+use crate::Field;
+use crate::piece::read_field;
+use km_names::{Blob, List, Texts, split_at_byte};
+use std::alloc::{AllocError, Global};
+use std::marker::Model;
+
+/// The fields of a section, in order. Contracts see it as the list of its fields.
+#[derive(Drop)]
+pub struct FieldList {
+    list: List<Field>,
+}
+
+impl Model for FieldList {
+    ghost use Rattle.std.specs.Prelude.{List};
+    ghost use Rattle.modinfo_fields.specs.declared.piece.Field.{Field};
+
+    ghost Value = { List Field };
+
+    ghost view = { λ l. l.list };
+}
+
+impl FieldList {
+    /// The empty list. It takes no memory.
+    pub fn new(alloc: Global) -> Self
+        ensures { result ≡ [] }
+    {
+        FieldList {
+            list: List::new(alloc),
+        }
+    }
+
+    /// Puts a field at the end. After a refusal the list is as before.
+    pub fn push(&mut self, item: Field) -> Result<(), AllocError>
+        ensures ok { OnOk result (self.new ≡ self.old ++ item ∷ []) }
+        ensures err { OnErr result (self.new ≡ self.old) }
+    {
+        self.list.push(item)
+    }
+
+    /// The field at place `i`, from 0.
+    pub fn get(&self, i: usize) -> Option<&Field>
+        ensures item { option_copied result ≡ slice_get self.now i }
+        ensures past_end { IsNone result ↔ (length self.now ≤ i) }
+    {
+        self.list.get(i)
+    }
+
+    /// How many fields there are.
+    pub fn len(&self) -> usize
+        ensures { result ≡ length self.now }
+    {
+        self.list.len()
+    }
+
+    /// Whether there is no field.
+    pub fn is_empty(&self) -> bool
+        ensures { result ≡ (length self.now == 0) }
+    {
+        self.list.is_empty()
+    }
+
+    #[tactic(auto, unfolding(crate::specs::Fields::values_of_key))]
+    /// The values of the fields with this key, in order.
+    pub fn values_of(&self, alloc: Global, key: &[u8]) -> Result<Texts, AllocError>
+        ensures { IfOk result (λ values. values ≡ values_of_key key.now self.now) }
+    {
+        let mut values = Texts::new(alloc);
+        for field in self.list.as_slice() {
+            if field.key.as_bytes() == key {
+                values.push(Blob::from_slice(alloc, field.value.as_bytes())?)?;
+            }
+        }
+        Ok(values)
+    }
+}
+
+/// The fields of a `.modinfo` section's bytes: its texts between NULs that aren't empty, in order. The last
+/// text needs no NUL.
+pub fn fields(alloc: Global, bytes: &[u8]) -> Result<FieldList, AllocError>
+    ensures { IfOk result (λ list. list ≡ fields_of bytes.now) }
+{
+    let mut list = FieldList::new(alloc);
+    let mut rest = bytes;
+    while !rest.is_empty() {
+        let (piece, after) = split_at_byte(rest, 0);
+        if !piece.is_empty() {
+            list.push(read_field(alloc, piece)?)?;
+        }
+        rest = after;
+    }
+    Ok(list)
+}
