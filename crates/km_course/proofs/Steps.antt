@@ -235,3 +235,11 @@ refused view w text = record { keeps = Keeps-same w; counts = NoFault-same w; to
 pub misunderstood : {T X : Type 0} (view : T → X) (w : World) → Follows view (given (end 2 usage)) w w (Err NotUnderstood)
 unfolding given
 misunderstood view w = record { keeps = Keeps-same w; counts = NoFault-same w; told = λ shown h. (refl, h) }
+
+-- The exit of a `?` on a call that stopped.
+pub exits : {T U X Y : Type 0} {view : T → X} (look : U → Y) {stage : Stage X} {old new : World} {e d : Stop} (r : Result U Stop) (f : X → Stage Y) → r ≡ Err d → d ≡ e → Follows view stage old new (Err e) → Follows look (stage >>= f) old new r
+exits look {stage} {old} {new} r f is same a = subst (λ q. Follows look (stage >>= f) old new q) (sym (is ∙ ap Err same)) (stops look f a)
+
+-- The exit of a `?` on a call that wanted memory, before the first act.
+pub wants : {T X : Type 0} (view : T → X) (stage : Stage X) (w : World) {d : Stop} (r : Result T Stop) → r ≡ Err d → d ≡ Memory → Follows view stage w w r
+wants view stage w r is same = subst (λ q. Follows view stage w w q) (sym (is ∙ ap Err same)) (no_memory view stage w)

@@ -103,3 +103,8 @@ pub record Follows {T X : Type 0} (view : T → X) (stage : Stage X) (old new : 
   pub keeps : Keeps old new
   pub counts : Counts old new result
   pub told : (shown : Shown) → Tells old shown → Told view (stage shown.files) shown new result
+
+-- The stop isn't a refusal with a line of a command's own: it comes from the objects, or from want of memory.
+abbrev pub IsUnrefused : Stop → Type 0
+IsUnrefused (Refused text) = ⊥
+IsUnrefused _ = ⊤

@@ -1,8 +1,9 @@
-ghost use Rattle.std.specs.Prelude.{◌≡◌};
+ghost use Rattle.std.specs.Prelude.{◌≡◌, ◌≤◌, length, IfOk, IfErr};
+ghost use Rattle.km_outside.specs.FilesSeen.{file_limit};
 ghost use Rattle.km_outside.specs.OutSeen.{OutSeen};
 ghost use Rattle.km_course.specs.Course.{reads};
 ghost use Rattle.km_course.specs.World.{world};
-ghost use Rattle.km_course.specs.Follows.{Follows, stop_for};
+ghost use Rattle.km_course.specs.Follows.{Follows, IsUnrefused, stop_for};
 
 use crate::Stop;
 use km_names::{Blob, PathText};
@@ -12,8 +13,10 @@ use std::alloc::Global;
 /// The bytes of the file at the path, which is needed: an absent file and one past the limit stop the
 /// command with status 1, and a failed read with status 3.
 pub fn read_needed<F: Reads>(alloc: Global, files: &mut F, path: &PathText) -> Result<Blob, Stop>
-    ensures { (out err : OutSeen) → Follows (λ bytes. bytes) (reads path.now)
+    ensures follows { (out err : OutSeen) → Follows (λ bytes. bytes) (reads path.now)
         (world (F.seen files.old) out err) (world (F.seen files.new) out err) result }
+    ensures limit { IfOk result (λ bytes. length bytes ≤ file_limit) }
+    ensures unrefused { IfErr result IsUnrefused }
 {
     // The stop owns the path, and its line is to take no memory.
     let owned = PathText::from_slice(alloc, path.as_bytes())?;
