@@ -1,6 +1,7 @@
 pub mod CallsSeen
 pub mod Codes
 pub mod Counts
+pub mod DiskSeen
 pub mod Entries
 pub mod FilesSeen
 pub mod MemFilesSeen

@@ -3,7 +3,7 @@ ghost use Rattle.std.specs.Io.KnownBytes.{Appends};
 ghost use Rattle.km_outside.specs.OutSeen.{WriteAnswers};
 ghost use Rattle.km_outside.specs.StreamSeen.{stream_seen};
 
-use crate::write_loop::write_whole;
+use crate::transfer::write_whole;
 use crate::{Out, OutFailed};
 use std::io::Write;
 use std::marker::Model;
