@@ -13,6 +13,8 @@ mod mem_files;
 mod mem_out;
 mod out;
 mod stream;
+#[cfg(test)]
+mod tests;
 mod transfer;
 
 pub use disk_files::DiskFiles;
