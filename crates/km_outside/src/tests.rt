@@ -98,6 +98,7 @@ fn real_files_are_read_up_to_the_limit(rt: HostRuntime) -> Result<(), Fail> {
     for (path, want) in refused {
         assert_eq!(rt; read(&mut files, alloc, path).err(), Some(want));
     }
+    fs::remove_file(&rt, "file")?;
     Ok(())
 }
 
