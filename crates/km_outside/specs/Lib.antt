@@ -1,4 +1,5 @@
 pub mod CallsSeen
+pub mod CausesSeen
 pub mod Codes
 pub mod Counts
 pub mod DiskSeen

@@ -7,6 +7,7 @@
 #![tactic(auto)]
 
 mod calls;
+mod causes;
 mod disk_files;
 mod files;
 mod mem_files;
