@@ -1,6 +1,8 @@
 pub mod CallsSeen
+pub mod CausesSeen
 pub mod Codes
 pub mod Counts
+pub mod DiskSeen
 pub mod Entries
 pub mod FilesSeen
 pub mod MemFilesSeen

@@ -1,35 +1,34 @@
 -- What a contract sees of files that are kept in memory.
 use Rattle.std.specs.Prelude.{ℕ, nat_lt, List, length, min, Option, Some, None, Result, Ok, Err, if◌then◌else◌}
 use Rattle.std.specs.FinMap as map
-use Rattle.km_outside.specs.Counts.{one_more, count_end}
+use Rattle.km_outside.specs.CausesSeen.{CausesSeen, no_causes, answered}
+use Rattle.km_outside.specs.Counts.{count_end}
 use Rattle.km_outside.specs.CallsSeen.{CallsSeen, no_calls, next_fails, called, with_failing, none_listed}
 use Rattle.km_outside.specs.FilesSeen.{FilesSeen, Contents, file_limit}
 use Rattle.km_outside.specs.declared.files.FileAnswer.{FileAnswer}
-use Rattle.km_outside.specs.declared.files.FileAnswer.TheVariants.{Absent, Failed, TooLarge, Memory}
+use Rattle.km_outside.specs.declared.files.FileAnswer.TheVariants.{Absent, Failed, TooLarge}
 use Rattle.km_outside.specs.declared.mem_files.CallKind.{CallKind}
 use Rattle.km_outside.specs.declared.mem_files.CallKind.TheVariants.{Read}
 
--- The files, the reads by number, and how often a call failed, found nothing and met too much.
+-- The files, the reads by number, and how often calls were refused.
 pub record MemFilesSeen : Type 0 where
   pub contents : Contents
   pub reads : CallsSeen
-  pub faults : ℕ
-  pub absences : ℕ
-  pub excesses : ℕ
+  pub causes : CausesSeen
 
 -- What is seen of them as files. They tell their contents, and are sure where no call is listed to fail.
 abbrev pub mem_files_seen : MemFilesSeen → FilesSeen
 mem_files_seen files = record {
-  faults = files.faults;
-  absences = files.absences;
-  excesses = files.excesses;
+  faults = files.causes.faults;
+  absences = files.causes.absences;
+  excesses = files.causes.excesses;
   contents = Some files.contents;
   sure = none_listed files.reads;
 }
 
 -- no files, no calls, and none that is to fail
 abbrev pub no_files : MemFilesSeen
-no_files = record { contents = map.empty; reads = no_calls; faults = 0; absences = 0; excesses = 0 }
+no_files = record { contents = map.empty; reads = no_calls; causes = no_causes }
 
 -- with these bytes at the path, in place of what was there
 abbrev pub with_file : MemFilesSeen → List ℕ → List ℕ → MemFilesSeen
@@ -48,14 +47,6 @@ found (Some bytes) = if nat_lt file_limit (length bytes) then Err (TooLarge (min
 abbrev pub mem_read : MemFilesSeen → List ℕ → Result (List ℕ) FileAnswer
 mem_read files path = if next_fails files.reads then Err Failed else found (map.get files.contents path)
 
--- with the count of the answer's cause one higher
-abbrev pub counted : MemFilesSeen → Result (List ℕ) FileAnswer → MemFilesSeen
-counted files (Ok _) = files
-counted files (Err Absent) = record files { absences = one_more files.absences }
-counted files (Err Failed) = record files { faults = one_more files.faults }
-counted files (Err (TooLarge _)) = record files { excesses = one_more files.excesses }
-counted files (Err Memory) = files
-
 -- after the next read, which had this answer
 abbrev pub after_read : MemFilesSeen → Result (List ℕ) FileAnswer → MemFilesSeen
-after_read files answer = counted (record files { reads = called files.reads }) answer
+after_read files answer = record files { reads = called files.reads; causes = answered files.causes answer }

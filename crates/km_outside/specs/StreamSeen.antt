@@ -1,6 +1,9 @@
 -- What a contract sees of an output over a writer of the library.
-use Rattle.std.specs.Prelude.{ℕ, List, Option, None}
+use Rattle.std.specs.Prelude.{◌≡◌, ℕ, ◌≤◌, List, length, take, Option, None, Result, Ok, Err, ⊤}
+use Rattle.std.specs.Io.KnownBytes.{Appends}
+use Rattle.km_outside.specs.Counts.{one_more}
 use Rattle.km_outside.specs.OutSeen.{OutSeen}
+use Rattle.km_outside.specs.declared.out.OutFailed.{OutFailed}
 
 -- How often a write failed, and the bytes that the writer holds where it tells them, as one over memory does.
 pub record StreamSeen : Type 0 where
@@ -10,3 +13,11 @@ pub record StreamSeen : Type 0 where
 -- What is seen of it as an output: it tells neither its bytes nor a room, since the writer may be a terminal.
 abbrev pub stream_seen : StreamSeen → OutSeen
 stream_seen stream = record { faults = stream.faults; told = None; room = None }
+
+-- What a write of the piece leaves: where the writer tells its bytes, these and then the piece. A failed
+-- one leaves a first part of the piece, and one fault more.
+abbrev pub StreamWrites : List ℕ → StreamSeen → StreamSeen → Result ⊤ OutFailed → Type 0
+StreamWrites piece old new (Ok _) = (new.faults ≡ old.faults) × Appends old.contents new.contents piece
+StreamWrites piece old new (Err _) =
+    (new.faults ≡ one_more old.faults)
+    × ((n : ℕ) × (n ≤ length piece) × Appends old.contents new.contents (take n piece))

@@ -2,19 +2,23 @@
 //!
 //! A contract sees of each object what it counted and what it tells. Objects in memory tell all; the
 //! real files and outputs tell nothing and only count, so what is proved over told contents speaks of
-//! the same code that runs over the real ones. It stands on `km_names`.
+//! the same code that runs over the real ones. What a real file holds and what becomes of the bytes
+//! written is trusted. It stands on `km_names`.
 #![tactic(auto)]
 
 mod calls;
+mod causes;
+mod disk_files;
 mod files;
 mod mem_files;
 mod mem_out;
 mod out;
-mod read_loop;
-mod retries;
 mod stream;
-mod write_loop;
+#[cfg(test)]
+mod tests;
+mod transfer;
 
+pub use disk_files::DiskFiles;
 pub use files::{FILE_LIMIT, FileAnswer, Files, Reads};
 pub use mem_files::{CallKind, MemFiles};
 pub use mem_out::MemOut;

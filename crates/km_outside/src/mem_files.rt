@@ -7,6 +7,7 @@ ghost use Rattle.km_outside.specs.MemFilesSeen.{mem_files_seen, no_files, with_f
 ghost use Rattle.km_outside.specs.declared.files.FileAnswer.TheVariants.{Memory};
 
 use crate::calls::Calls;
+use crate::causes::Causes;
 use crate::{FILE_LIMIT, FileAnswer, Files, Reads};
 use km_names::{Blob, PathText};
 use std::alloc::{AllocError, Global};
@@ -26,9 +27,7 @@ pub struct MemFiles {
     alloc: Global,
     files: BTreeMap<Vec<u8>, Blob>,
     reads: Calls,
-    faults: u64,
-    absences: u64,
-    excesses: u64,
+    causes: Causes,
 }
 
 impl Model for MemFiles {
@@ -41,7 +40,7 @@ impl Model for MemFiles {
 
     ghost coded = { mem_files_code };
 
-    ghost view = { λ f. record { contents = files_of f.files.entries; reads = f.reads; faults = f.faults; absences = f.absences; excesses = f.excesses } };
+    ghost view = { λ f. record { contents = files_of f.files.entries; reads = f.reads; causes = f.causes } };
 }
 
 impl MemFiles {
@@ -53,9 +52,7 @@ impl MemFiles {
             alloc,
             files: BTreeMap::new(alloc),
             reads: Calls::new(alloc),
-            faults: 0,
-            absences: 0,
-            excesses: 0,
+            causes: Causes::new(),
         }
     }
 
@@ -104,17 +101,14 @@ impl Reads for MemFiles {
         ensures after { self.new ≡ after_read self.old result }
     {
         if self.reads.make() {
-            self.faults = self.faults.saturating_add(1);
-            return Err(FileAnswer::Failed);
+            return Err(self.causes.refuse(FileAnswer::Failed));
         }
         let Some(bytes) = self.get(path) else {
-            self.absences = self.absences.saturating_add(1);
-            return Err(FileAnswer::Absent);
+            return Err(self.causes.refuse(FileAnswer::Absent));
         };
         if bytes.len() > FILE_LIMIT {
             let length = bytes.len() as u64;
-            self.excesses = self.excesses.saturating_add(1);
-            return Err(FileAnswer::TooLarge { length });
+            return Err(self.causes.refuse(FileAnswer::TooLarge { length }));
         }
         Ok(Blob::from_slice(alloc, bytes)?)
     }

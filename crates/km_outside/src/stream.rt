@@ -1,9 +1,8 @@
-ghost use Rattle.std.specs.Prelude.{◌≡◌, OnOk};
-ghost use Rattle.std.specs.Io.KnownBytes.{Appends};
+ghost use Rattle.std.specs.Prelude.{◌≡◌};
 ghost use Rattle.km_outside.specs.OutSeen.{WriteAnswers};
-ghost use Rattle.km_outside.specs.StreamSeen.{stream_seen};
+ghost use Rattle.km_outside.specs.StreamSeen.{stream_seen, StreamWrites};
 
-use crate::write_loop::write_whole;
+use crate::transfer::write_whole;
 use crate::{Out, OutFailed};
 use std::io::Write;
 use std::marker::Model;
@@ -45,7 +44,7 @@ impl<W: Write> Out for Stream<W> {
     /// Writes the piece in as many turns as the writer needs, each of which takes at least one byte.
     fn write(&mut self, bytes: &[u8]) -> Result<(), OutFailed>
         ensures answers { WriteAnswers bytes.now (stream_seen self.old) (stream_seen self.new) result }
-        ensures contents { OnOk result (Appends self.old.contents self.new.contents bytes.now) }
+        ensures writes { StreamWrites bytes.now self.old self.new result }
     {
         let answer = write_whole(&mut self.writer, bytes);
         if answer.is_err() {

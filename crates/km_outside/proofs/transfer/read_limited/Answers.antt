@@ -3,8 +3,8 @@ use Rattle.std.proofs.lemmas.List.{places}
 use Rattle.std.specs.Io.KnownBytes.{Consumes}
 use Rattle.km_outside.specs.FilesSeen.{file_limit}
 use Rattle.km_outside.proofs.Reading.{read_added, read_whole}
-use Rattle.km_outside.proofs.read_loop.read_limited.Goals as goal
-use Rattle.km_outside.proofs.read_loop.read_limited.Goals.{else-loop-filled-test, then-loop-filled-test+in_ok-count+in-0}
+use Rattle.km_outside.proofs.transfer.read_limited.Goals as goal
+use Rattle.km_outside.proofs.transfer.read_limited.Goals.{else-loop-filled-test, then-loop-filled-test+in_ok-count+in-0}
 
 pub loop-filled-preserved : goal.loop-filled-preserved
 loop-filled-preserved g c =

@@ -1,13 +1,20 @@
-ghost use Rattle.std.specs.Prelude.{◌≡◌, ◌+◌, ◌<◌, ◌≤◌, length, take, drop, vec_len, IfOk, OnOk, IfSome};
-ghost use Rattle.std.specs.Io.{ReadsAtMost};
-ghost use Rattle.std.specs.Io.KnownBytes.{Consumes, ReadConsumes, IsAtEnd};
+//! The loops over the library's `read` and `write`. Each turn moves at least one byte, so each ends.
+
+ghost use Rattle.std.specs.Prelude.{◌≡◌, ◌+◌, ◌<◌, ◌≤◌, ℕ, length, take, drop, vec_len, IfOk, OnOk, IfSome, MatchResult};
+ghost use Rattle.std.specs.Io.{ReadsAtMost, WritesAtMost};
+ghost use Rattle.std.specs.Io.KnownBytes.{Appends, Consumes, IsAtEnd, ReadConsumes, WriteAppends};
 ghost use Rattle.km_outside.specs.FilesSeen.{file_limit};
 
-use crate::FILE_LIMIT;
-use crate::retries::RETRIES;
+use crate::{FILE_LIMIT, OutFailed};
 use std::alloc::{AllocError, Global};
 use std::io;
-use std::io::{ErrorKind, Read};
+use std::io::{ErrorKind, Read, Write};
+
+/// How many times in a row a call that a signal interrupted is made again.
+const RETRIES: u32 = 1000;
+
+/// The least number of bytes that room is made for, since some files don't tell their length.
+const LEAST_ROOM: usize = 4096;
 
 /// Reads to the end, and at most to one byte past [`FILE_LIMIT`], into one buffer. Where about `expected`
 /// bytes are there, the buffer is made once.
@@ -19,7 +26,7 @@ pub(crate) fn read_limited<R: Read>(
     ensures limit { IfOk result (λ bytes. length bytes.items ≤ file_limit + 1) }
     ensures bytes { IfOk result (λ bytes. IfSome (R.remaining reader.old) (λ left. bytes.items ≡ take (file_limit + 1) left)) }
 {
-    let mut buffer = Vec::from_elem(alloc, 0, expected.min(FILE_LIMIT) + 1)?;
+    let mut buffer = Vec::from_elem(alloc, 0, expected.clamp(LEAST_ROOM, FILE_LIMIT) + 1)?;
     let mut filled = 0;
     while filled <= FILE_LIMIT {
         match read_more(reader, &mut buffer, filled)? {
@@ -58,7 +65,7 @@ fn make_room(buffer: &mut Vec<u8>, filled: usize) -> Result<(), AllocError>
     if filled < buffer.len() {
         return Ok(());
     }
-    buffer.resize((filled * 2).clamp(1, FILE_LIMIT) + 1, 0)
+    buffer.resize((filled * 2).min(FILE_LIMIT) + 1, 0)
 }
 
 /// Reads some bytes into the buffer after its filled part, none only at the end.
@@ -84,4 +91,35 @@ fn read_some<R: Read>(reader: &mut R, room: &mut [u8]) -> io::Result<usize>
         }
     }
     reader.read(room)
+}
+
+/// Writes all of the bytes. Each turn takes at least one byte, or the write fails; then a first part of
+/// the bytes has been written.
+pub(crate) fn write_whole<W: Write>(writer: &mut W, bytes: &[u8]) -> Result<(), OutFailed>
+    ensures { MatchResult result
+        (λ _. Appends (W.contents writer.old) (W.contents writer.new) bytes.now)
+        (λ _. (n : ℕ) × (n ≤ length bytes.now) × Appends (W.contents writer.old) (W.contents writer.new) (take n bytes.now)) }
+{
+    let mut written = 0;
+    while written < bytes.len() {
+        match write_some(writer, &bytes[written..]) {
+            Ok(0) | Err(_) => return Err(OutFailed),
+            Ok(count) => written += count,
+        }
+    }
+    Ok(())
+}
+
+/// One write, which is made again where a signal interrupted it.
+fn write_some<W: Write>(writer: &mut W, bytes: &[u8]) -> io::Result<usize>
+    ensures bound { WritesAtMost result bytes.now }
+    ensures bytes { WriteAppends (W.contents writer.old) (W.contents writer.new) result bytes.now }
+{
+    for _ in 0..RETRIES {
+        match writer.write(bytes) {
+            Err(error) if error.kind() == ErrorKind::Interrupted => {}
+            answer => return answer,
+        }
+    }
+    writer.write(bytes)
 }

@@ -1,6 +1,6 @@
 use Rattle.std.proofs.Common.{◌≤◌, ◌-◌, length, take}
 use Rattle.std.specs.Io.KnownBytes.{Appends}
-use Rattle.km_outside.proofs.write_loop.write_whole.Given as goal
+use Rattle.km_outside.proofs.transfer.write_whole.Given as goal
 
 -- the bytes before `written` are written
 abbrev pub invariant-loop-written : goal.invariant-loop-written

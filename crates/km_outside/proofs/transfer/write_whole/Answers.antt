@@ -3,7 +3,7 @@ use Rattle.std.proofs.lemmas.List.{take_rest}
 use Rattle.std.proofs.Math.Seq.{take-add}
 use Rattle.std.specs.Io.KnownBytes.{Appends}
 use Rattle.std.proofs.KnownBytes.{Appends-trans}
-use Rattle.km_outside.proofs.write_loop.write_whole.Goals as goal
+use Rattle.km_outside.proofs.transfer.write_whole.Goals as goal
 
 -- what one more write took is added to what was written
 pub loop-written-preserved : goal.loop-written-preserved

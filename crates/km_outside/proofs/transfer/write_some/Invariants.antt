@@ -1,5 +1,5 @@
 use Rattle.std.specs.Io.KnownBytes.{Keeps}
-use Rattle.km_outside.proofs.write_loop.write_some.Given as goal
+use Rattle.km_outside.proofs.transfer.write_some.Given as goal
 
 -- an interrupted write leaves what the writer holds
 abbrev pub invariant-loop : goal.invariant-loop

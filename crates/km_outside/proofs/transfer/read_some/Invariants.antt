@@ -1,5 +1,5 @@
 use Rattle.std.specs.Io.KnownBytes.{Keeps}
-use Rattle.km_outside.proofs.read_loop.read_some.Given as goal
+use Rattle.km_outside.proofs.transfer.read_some.Given as goal
 
 -- an interrupted read leaves what the reader has left
 abbrev pub invariant-loop : goal.invariant-loop
