@@ -1,0 +1,10 @@
+//! Tests of whole commands over files and outputs in memory: the words that go in, and the status, the
+//! output and the lines on err that come out.
+#![tactic(auto)]
+
+#[cfg(test)]
+mod modinfo;
+#[cfg(test)]
+mod object;
+#[cfg(test)]
+mod row;
