@@ -1,0 +1,13 @@
+//! Object files made from sheets: a sheet says which texts, versions, exports, needs and relocated words a
+//! module has, and `object` writes the relocatable object that has just these. Tests and trials read them
+//! back.
+//!
+//! It stands on `km_names`.
+#![tactic(auto)]
+
+mod sheet;
+
+pub use sheet::{
+    Sheet, SheetExport, SheetExports, SheetNeed, SheetNeeds, SheetPlace, SheetPlaces, SheetVersion,
+    SheetVersions,
+};
