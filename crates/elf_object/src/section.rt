@@ -2,7 +2,7 @@
 
 ghost use Rattle.std.specs.Prelude.{◌≡◌, ◌<◌, ◌⊎◌, None, Some, IfOk, IfErr};
 ghost use Rattle.std.specs.Result.{result_err};
-ghost use Rattle.elf_object.specs.Shape.{HasTable, is_kept, name_in, name_table, name_test, name_test_in, section_count, strings};
+ghost use Rattle.elf_object.specs.Shape.{HasTable, is_kept, name_in, name_table, name_test, name_test_in, section_count, contents};
 ghost use Rattle.elf_object.specs.Sections.{section_of};
 
 use crate::SectionFault;
@@ -74,7 +74,7 @@ pub(crate) fn read_section(
 ) -> Result<Section, SectionFault>
     requires table { HasTable bytes.now }
     requires index { index < section_count bytes.now }
-    requires names { names.now ≡ strings bytes.now (name_table bytes.now) }
+    requires names { names.now ≡ contents bytes.now (name_table bytes.now) }
     ensures section { IfOk result (λ s. s ≡ section_of bytes.now index) }
     ensures passed { IfOk result (λ _. name_test bytes.now index ≡ None) }
     ensures fault { IfErr result (λ e. (e ≡ SectionFault.Memory) ⊎ (name_test bytes.now index ≡ Some e)) }
