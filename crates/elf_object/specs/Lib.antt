@@ -1,3 +1,4 @@
 pub mod FaultText
 pub mod Sections
 pub mod Shape
+pub mod Symbols

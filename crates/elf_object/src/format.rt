@@ -20,3 +20,21 @@ pub const SHT_REL: u32 = 9;
 
 /// The flag of a section that takes memory when the module runs. gABI 4, "Sections", sh_flags.
 pub const SHF_ALLOC: u64 = 2;
+
+/// The section number of an undefined symbol. gABI 4, "Sections", special section indexes.
+pub const SHN_UNDEF: u16 = 0;
+/// Section numbers from here on are reserved.
+pub const SHN_LORESERVE: u16 = 0xff00;
+/// The section number of a symbol whose value is absolute.
+pub const SHN_ABS: u16 = 0xfff1;
+/// The section number of a symbol that wants memory of its own.
+pub const SHN_COMMON: u16 = 0xfff2;
+/// The section number that says that the true one stands elsewhere.
+pub const SHN_XINDEX: u16 = 0xffff;
+
+/// The binding of a symbol that other files don't see. gABI 4, "Symbol Table", st_info.
+pub const STB_LOCAL: u8 = 0;
+/// The binding of a symbol that other files see.
+pub const STB_GLOBAL: u8 = 1;
+/// The binding of a symbol that other files see, and that may stay undefined.
+pub const STB_WEAK: u8 = 2;

@@ -13,7 +13,10 @@ mod section;
 mod sections;
 mod shape;
 mod strings;
+mod symbol;
+mod tables;
 
-pub use fault::SectionFault;
+pub use fault::{ObjectFault, SectionFault};
 pub use section::Section;
 pub use sections::Sections;
+pub use symbol::Symbol;
