@@ -2,3 +2,4 @@ pub mod Positions
 pub mod ShapeLemmas
 pub mod StringLemmas
 pub mod TestLemmas
+pub mod TableLemmas
