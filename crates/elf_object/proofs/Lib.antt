@@ -3,3 +3,4 @@ pub mod ShapeLemmas
 pub mod StringLemmas
 pub mod TestLemmas
 pub mod TableLemmas
+pub mod PlaceLemmas

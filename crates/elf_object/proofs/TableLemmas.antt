@@ -1,12 +1,10 @@
 -- What the tests of tables say.
-use Rattle.std.proofs.Common.{◌≡◌, ℕ, ◌<◌, ◌==◌, ◌&&◌, nat_lt, Bool, true, false, List, [], Option, Some, None, refl, sym, ◌∙◌, ap, arith}
+use Rattle.std.proofs.Common.{◌≡◌, ℕ, ◌<◌, ◌==◌, ◌&&◌, nat_lt, Bool, true, false, List, [], Some, None, refl, arith}
 use Rattle.std.proofs.Math.Nat.{zero-add}
 use Rattle.std.proofs.lemmas.List.Quantifiers.{position-Some}
-use Rattle.std.proofs.lemmas.Bool.{and_parts, eq-eqb, eqb-true, ltb-true, ne_eqb}
-use Rattle.std.proofs.lemmas.Bool.Decides.{nat_tests}
+use Rattle.std.proofs.lemmas.Bool.{and_parts, eq-eqb, eqb-true, ltb-true}
 use Rattle.std.proofs.lemmas.List.FromFn.{get_or-range_with_len, length-range_with_len}
 use Rattle.std.specs.List.{position, range_with_len}
-use Rattle.std.specs.Option.{option_map_or}
 use Rattle.elf_object.specs.declared.format.TheConstants.{SHT_REL, SHT_STRTAB, SHT_SYMTAB, SHT_RELA}
 use Rattle.elf_object.specs.declared.fault.ObjectFault.TheVariants.{RelSection, BadTable}
 use Rattle.elf_object.specs.Shape.{contents, section_count}
@@ -19,15 +17,15 @@ pub position-number : (p : ℕ → Bool) (n i : ℕ) → i < n → ((k : ℕ) �
 position-number p n i less before here =
     let length_is = length-range_with_len 0 n in
     position-found p (range_with_len 0 n) i 0 (omega arith)
-      (λ k below. rw (get_or-range_with_len 0 n k 0 (omega arith), zero-add k) (before k below))
-      (rw (get_or-range_with_len 0 n i 0 less, zero-add i) here)
+    (λ k below. rw (get_or-range_with_len 0 n k 0 (omega arith), zero-add k) (before k below))
+    (rw (get_or-range_with_len 0 n i 0 less, zero-add i) here)
 
 -- no number below n passes
 pub position-no_number : (p : ℕ → Bool) (n : ℕ) → ((k : ℕ) → k < n → p k ≡ false) → position p (range_with_len 0 n) ≡ None
 position-no_number p n before =
     let length_is = length-range_with_len 0 n in
     position-none p (range_with_len 0 n) 0
-      (λ k below. let less : k < n = omega arith in rw (get_or-range_with_len 0 n k 0 less, zero-add k) (before k less))
+    (λ k below. let less : k < n = omega arith in rw (get_or-range_with_len 0 n k 0 less, zero-add k) (before k less))
 
 -- the test of a section of relocations without addends
 pub rel_test-failed : (b : List ℕ) (i : ℕ) → (section_of b i).kind ≡ SHT_REL → rel_test b i ≡ Some (RelSection i)

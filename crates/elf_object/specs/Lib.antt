@@ -2,3 +2,4 @@ pub mod FaultText
 pub mod Sections
 pub mod Shape
 pub mod Symbols
+pub mod Places

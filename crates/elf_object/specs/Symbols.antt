@@ -10,7 +10,7 @@ use Rattle.elf_object.specs.declared.symbol.SymbolEntry.{SymbolEntry}
 use Rattle.elf_object.specs.declared.fault.ObjectFault.{ObjectFault}
 use Rattle.elf_object.specs.declared.fault.ObjectFault.TheVariants.{Shape, RelSection, BadTable, ExtendedIndex, CommonSymbol, BadSymbol}
 use Rattle.elf_object.specs.declared.fault.SectionFault.TheVariants.{BadString}
-use Rattle.elf_object.specs.Shape.{contents, each, fault_if, section_count, text_at}
+use Rattle.elf_object.specs.Shape.{contents, fault_if, section_count, text_at}
 use Rattle.elf_object.specs.Sections.{entry_size, section_of}
 
 -- The test that the section i holds no relocations without addends.
@@ -78,10 +78,10 @@ is_bad_symbol count name e =
 unfoldable pub kind_test : ℕ → List ℕ → ℕ → SymbolEntry → Option ObjectFault
 kind_test count name j e =
     first (
-      fault_if (e.section == SHN_XINDEX) (ExtendedIndex j)
-      ∷ fault_if (e.section == SHN_COMMON) (CommonSymbol j)
-      ∷ fault_if (is_bad_symbol count name e) (BadSymbol j)
-      ∷ [])
+    fault_if (e.section == SHN_XINDEX) (ExtendedIndex j)
+    ∷ fault_if (e.section == SHN_COMMON) (CommonSymbol j)
+    ∷ fault_if (is_bad_symbol count name e) (BadSymbol j)
+    ∷ [])
 
 -- The tests of the symbol j of a table, by its string table and the count of sections. Symbol 0 isn't looked at.
 unfoldable pub symbol_test_in : List ℕ → List ℕ → ℕ → ℕ → Option ObjectFault
@@ -89,9 +89,9 @@ symbol_test_in table names count j =
     let e = symbol_entry table j in
     if j == 0 then None
     else first (
-      fault_if (is_none (text_at names e.name)) (Shape (BadString e.name))
-      ∷ kind_test count (unwrap_or (text_at names e.name) []) j e
-      ∷ [])
+    fault_if (is_none (text_at names e.name)) (Shape (BadString e.name))
+    ∷ kind_test count (unwrap_or (text_at names e.name) []) j e
+    ∷ [])
 
 -- The symbol j of a table, by its string table. Symbol 0 has no name, and zeros, whatever the file has there.
 unfoldable pub symbol_in : List ℕ → List ℕ → ℕ → Symbol

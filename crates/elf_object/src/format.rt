@@ -38,3 +38,21 @@ pub const STB_LOCAL: u8 = 0;
 pub const STB_GLOBAL: u8 = 1;
 /// The binding of a symbol that other files see, and that may stay undefined.
 pub const STB_WEAK: u8 = 2;
+
+/// A relocation that changes nothing. x86-64 psABI, "Relocation Types".
+pub const R_X86_64_NONE: u32 = 0;
+/// The address in 8 bytes.
+pub const R_X86_64_64: u32 = 1;
+/// The distance to the address in 4 bytes.
+pub const R_X86_64_PC32: u32 = 2;
+/// The distance to the address in 4 bytes, for a call.
+pub const R_X86_64_PLT32: u32 = 4;
+/// The address in 4 bytes, extended by zeros.
+pub const R_X86_64_32: u32 = 10;
+/// The address in 4 bytes, extended by its sign.
+pub const R_X86_64_32S: u32 = 11;
+/// The distance to the address in 8 bytes.
+pub const R_X86_64_PC64: u32 = 24;
+
+/// The bytes of a page, the greatest alignment of a section.
+pub const PAGE: u64 = 4096;

@@ -9,6 +9,8 @@
 mod fault;
 mod format;
 mod header;
+mod place;
+mod places;
 mod section;
 mod sections;
 mod shape;
@@ -17,6 +19,7 @@ mod symbol;
 mod tables;
 
 pub use fault::{ObjectFault, SectionFault};
+pub use place::RelaPlace;
 pub use section::Section;
 pub use sections::Sections;
 pub use symbol::Symbol;

@@ -30,7 +30,7 @@ impl Model for Sections {
 }
 
 impl Sections {
-    ghost use Rattle.elf_object.specs.Sections.{bytes_of, entry_size, file_sections, section_of};
+    ghost use Rattle.elf_object.specs.Sections.{bytes_of, entry_size, file_sections, section_of, sections_of};
 
     /// Reads the sections of a file, which it keeps. After a refusal the bytes are given up.
     ///
@@ -88,6 +88,13 @@ impl Sections {
         ensures read { self.now ≡ file_sections self.now.file }
     {
         self.sections.len() as u32
+    }
+
+    /// The sections, as the file has them.
+    pub(crate) fn list(&self) -> &[Section]
+        ensures { result.now ≡ sections_of self.now.file }
+    {
+        self.sections.as_slice()
     }
 
     /// The section `i`, as the file has it.

@@ -6,7 +6,9 @@ ghost use Rattle.km_names.specs.First.{first};
 ghost use Rattle.elf_object.specs.Shape.{each};
 ghost use Rattle.elf_object.specs.Symbols.{entries, is_bad_symbol, kind_test, symbol_entry, symbol_in, symbol_test_in, symbols_in};
 
-use crate::format::{SHN_ABS, SHN_COMMON, SHN_LORESERVE, SHN_UNDEF, SHN_XINDEX, STB_LOCAL, STB_WEAK};
+use crate::format::{
+    SHN_ABS, SHN_COMMON, SHN_LORESERVE, SHN_UNDEF, SHN_XINDEX, STB_LOCAL, STB_WEAK,
+};
 use crate::strings::text_at;
 use crate::{ObjectFault, SectionFault};
 use km_names::{List, Name, le_u16_at, le_u32_at, le_u64_at};

@@ -10,8 +10,8 @@ use crate::format::{SHT_REL, SHT_RELA, SHT_STRTAB, SHT_SYMTAB};
 use crate::symbol::ENTRY;
 use crate::{ObjectFault, Sections};
 
-#[tactic(auto, unfolding(crate::specs::Symbols::rel_test))]
 /// Tests that no section holds relocations without addends.
+#[tactic(auto, unfolding(crate::specs::Symbols::rel_test))]
 pub(crate) fn check_rel(sections: &Sections) -> Result<(), ObjectFault>
     ensures { result_err result ≡ first (each (section_count sections.now.file) (rel_test sections.now.file)) }
 {

@@ -10,10 +10,10 @@ returns-in_err-read_symbol-clause-fault c =
     let test = symbol_test_in c.args.table.now c.args.names.now c.args.count in
     let p = err_from_is_err_and c.from_residual-in_err-read_symbol.result c.from_residual-in_err-read_symbol.ensures.1 in
     rw (p.1, p.2)
-      (elim c.in_err-read_symbol.ensures.fault [
-        inl memory ↦ inl memory
+    (elim c.in_err-read_symbol.ensures.fault [
+      | inl memory ↦ inl memory
       | inr failed ↦ inr (each-failed (entries c.args.table.now) test c.loop-index.index _ (omega arith) c.loop-index.invariant.tests failed)
-      ])
+    ])
 
 pub loop-index-preserved : goal.loop-index-preserved
 loop-index-preserved c =
@@ -21,8 +21,8 @@ loop-index-preserved c =
     record {
       tests = below_more _ _ c.loop-index.invariant.tests c.in_ok-read_symbol.ensures.passed;
       symbols_are =
-        c.in_ok-push.ensures.items
-        ∙ rw (c.loop-index.invariant.symbols_are, c.in_ok-read_symbol.ensures.symbol)
+          c.in_ok-push.ensures.items
+          ∙ rw (c.loop-index.invariant.symbols_are, c.in_ok-read_symbol.ensures.symbol)
           (sym (map-range_with_len_more (symbol_in c.args.table.now c.args.names.now) 0 i i (omega arith)));
     }
 
@@ -35,4 +35,4 @@ returns-clause-symbols c =
 pub returns-clause-passed : goal.returns-clause-passed
 returns-clause-passed c =
     each-passed (entries c.args.table.now) (symbol_test_in c.args.table.now c.args.names.now c.args.count)
-      (λ k less. c.loop-index.invariant.tests k (omega arith))
+    (λ k less. c.loop-index.invariant.tests k (omega arith))

@@ -1,9 +1,8 @@
-use Rattle.std.proofs.Common.{sym, ◌∙◌, arith}
+use Rattle.std.proofs.Common.{sym, arith}
 use Rattle.elf_object.specs.Shape.{section_count}
-use Rattle.elf_object.specs.Symbols.{rel_test, table_test}
+use Rattle.elf_object.specs.Symbols.{rel_test}
 use Rattle.elf_object.proofs.TestLemmas.{each-failed, each-passed}
-use Rattle.elf_object.proofs.TableLemmas.{TablesFit-good, rel_test-failed, symbol_table-found, symbol_table-none, table_test-failed, table_test-passed}
-use Rattle.std.proofs.lemmas.Bool.{ne_eqb}
+use Rattle.elf_object.proofs.TableLemmas.{rel_test-failed}
 use Rattle.elf_object.proofs.tables.check_rel.Goals as goal
 
 pub returns-then-section_of-eq-SHT_REL : goal.returns-then-section_of-eq-SHT_REL
@@ -11,7 +10,7 @@ returns-then-section_of-eq-SHT_REL c =
     let b = c.args.sections.now.file in
     let i = c.loop-index.index in
     sym (each-failed (section_count b) (rel_test b) i _ (omega arith) c.loop-index.invariant
-      (rel_test-failed b i (rw c.section_of.ensures at c.if-section_of-eq-SHT_REL.true)))
+    (rel_test-failed b i (rw c.section_of.ensures at c.if-section_of-eq-SHT_REL.true)))
 
 pub returns : goal.returns
 returns c =
