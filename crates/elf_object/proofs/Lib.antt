@@ -4,3 +4,4 @@ pub mod StringLemmas
 pub mod TestLemmas
 pub mod TableLemmas
 pub mod PlaceLemmas
+pub mod SpanLemmas

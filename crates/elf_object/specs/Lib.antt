@@ -3,3 +3,4 @@ pub mod Sections
 pub mod Shape
 pub mod Symbols
 pub mod Places
+pub mod Overlap

@@ -9,6 +9,7 @@
 mod fault;
 mod format;
 mod header;
+mod overlap;
 mod place;
 mod places;
 mod section;
