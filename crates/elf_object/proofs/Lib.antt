@@ -5,3 +5,4 @@ pub mod TestLemmas
 pub mod TableLemmas
 pub mod PlaceLemmas
 pub mod SpanLemmas
+pub mod OverlapLemmas

@@ -1,6 +1,6 @@
 -- The places that relocations change, and the tests that they pass.
 -- gABI 4, "Relocation"; x86-64 psABI, "Relocation Types".
-use Rattle.std.specs.Prelude.{ℕ, ◌+◌, ◌*◌, ◌/◌, ◌%◌, ◌^◌, ◌==◌, ◌&&◌, ◌||◌, nat_lt, nat_le, not, Bool, false, if◌then◌else◌, List, [], ◌∷◌, length, map, Option, Some, None, is_none, option_map, slice_get, unwrap_or}
+use Rattle.std.specs.Prelude.{ℕ, ◌+◌, ◌*◌, ◌/◌, ◌%◌, ◌^◌, ◌<◌, ◌≤◌, ◌==◌, ◌&&◌, ◌||◌, nat_lt, nat_le, not, Bool, false, if◌then◌else◌, List, [], ◌∷◌, length, map, Option, Some, None, is_none, option_map, slice_get, unwrap_or}
 use Rattle.std.specs.Int.{is_power_of_two}
 use Rattle.std.specs.List.{count_by, flat_map, position, range_with_len}
 use Rattle.std.specs.Option.{option_map_or}
@@ -72,6 +72,11 @@ place_test sections symbols target p =
     ∷ fault_if (is_none (width p.kind)) (UnknownType p.section p.entry p.kind)
     ∷ fault_if (not (p.kind == R_X86_64_NONE) && is_bad_place sections symbols target p) (BadRela p.section p.entry)
     ∷ [])
+
+-- A place lies in a section of the file, and where it changes bytes it does so in the file's.
+pub record IsInSection (b : List ℕ) (p : RelaPlace) : Type 0 where
+  pub target : p.target < section_count b
+  pub within : 0 < place_width p → (p.offset + place_width p ≤ (section_of b p.target).size) × ((section_of b p.target).size ≤ length b)
 
 -- The section i holds relocations of a section that is kept.
 unfoldable pub is_applied : List ℕ → ℕ → Bool

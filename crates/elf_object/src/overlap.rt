@@ -10,7 +10,7 @@ use crate::place::width;
 use std::alloc::{AllocError, Global};
 
 /// How many bytes each section has where the bytes of all stand in one line.
-const SECTION: u64 = 1 << 32;
+pub(crate) const SECTION: u64 = 1 << 32;
 
 /// The bytes from `start` up to `end`, in the line of all sections' bytes.
 #[derive(Clone, Copy)]

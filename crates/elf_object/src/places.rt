@@ -1,13 +1,14 @@
 // The places of an object file, and the tests of its sections' alignments.
 
-ghost use Rattle.std.specs.Prelude.{◌≡◌, ◌<◌, ◌≤◌, ◌⊎◌, ◌++◌, length, None, Some, IfOk, IfErr, OnOk};
+ghost use Rattle.std.specs.Prelude.{◌≡◌, ◌<◌, ◌≤◌, ◌⊎◌, ◌++◌, length, All, None, Some, IfOk, IfErr, OnOk};
 ghost use Rattle.std.specs.Result.{result_err};
 ghost use Rattle.km_names.specs.First.{first};
 ghost use Rattle.elf_object.specs.Shape.{each, section_count};
 ghost use Rattle.elf_object.specs.Symbols.{TablesFit, symbols_of};
-ghost use Rattle.elf_object.specs.Places.{align_test, is_alignment, is_applied, places_of, rela_test, section_places};
+ghost use Rattle.elf_object.specs.Places.{IsInSection, align_test, is_alignment, is_applied, overlap_test, places_of, rela_test, section_places};
 
 use crate::format::{PAGE, SHT_RELA};
+use crate::overlap::{SECTION, find_shared};
 use crate::place::{check_place, place_at};
 use crate::symbol::ENTRY;
 use crate::{ObjectFault, RelaPlace, Sections, Symbol};
@@ -58,6 +59,8 @@ fn read_section_places(
     requires fit { TablesFit sections.now.file }
     requires index { index < section_count sections.now.file }
     requires symbols { symbols.now ≡ symbols_of sections.now.file }
+    requires inside { All (IsInSection sections.now.file) places.old.items }
+    ensures inside { OnOk result (All (IsInSection sections.now.file) places.new.items) }
     ensures places { OnOk result (places.new.items ≡ places.old.items ++ section_places sections.now.file index) }
     ensures passed { OnOk result (rela_test sections.now.file index ≡ None) }
     ensures fault { IfErr result (λ e. (e ≡ ObjectFault.Memory) ⊎ (rela_test sections.now.file index ≡ Some e)) }
@@ -85,6 +88,7 @@ pub(crate) fn read_places(
     requires small { length sections.now.file ≤ 67108864 }
     requires fit { TablesFit sections.now.file }
     requires symbols { symbols.now ≡ symbols_of sections.now.file }
+    ensures inside { IfOk result (All (IsInSection sections.now.file)) }
     ensures places { IfOk result (λ l. l ≡ places_of sections.now.file) }
     ensures passed { OnOk result (first (each (section_count sections.now.file) (rela_test sections.now.file)) ≡ None) }
     ensures fault { IfErr result
@@ -95,4 +99,27 @@ pub(crate) fn read_places(
         read_section_places(sections, symbols, index, &mut places)?;
     }
     Ok(List::from_vec(places))
+}
+
+/// Tests that no byte is changed by two places.
+pub(crate) fn check_overlaps(
+    alloc: Global,
+    sections: &Sections,
+    places: &[RelaPlace],
+) -> Result<(), ObjectFault>
+    requires small { length sections.now.file ≤ 67108864 }
+    requires few { section_count sections.now.file < 0xff00 }
+    requires places { places.now ≡ places_of sections.now.file }
+    requires inside { All (IsInSection sections.now.file) places.now }
+    ensures passed { OnOk result (first (each (section_count sections.now.file) (overlap_test sections.now.file)) ≡ None) }
+    ensures fault { IfErr result
+        (λ e. (e ≡ ObjectFault.Memory) ⊎ (first (each (section_count sections.now.file) (overlap_test sections.now.file)) ≡ Some e)) }
+{
+    match find_shared(alloc, places)? {
+        None => Ok(()),
+        Some(byte) => Err(ObjectFault::OverlappingPlaces {
+            section: (byte / SECTION) as u32,
+            offset: byte % SECTION,
+        }),
+    }
 }

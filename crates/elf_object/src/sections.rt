@@ -1,9 +1,9 @@
 // The sections of a file, with its bytes.
 
-ghost use Rattle.std.specs.Prelude.{◌≡◌, ◌<◌, ◌≤◌, ◌⊎◌, length, None, Some, IfOk, IfErr, IfSome, OnOk, slice_get};
+ghost use Rattle.std.specs.Prelude.{◌≡◌, ◌+◌, ◌<◌, ◌≤◌, ◌⊎◌, length, None, Some, IfOk, IfErr, IfSome, IsTrue, OnOk, slice_get};
 ghost use Rattle.std.specs.List.{position};
 ghost use Rattle.std.specs.Str.{bytes_eq};
-ghost use Rattle.elf_object.specs.Shape.{contents, section_count, shape_fault};
+ghost use Rattle.elf_object.specs.Shape.{contents, has_content, section_count, shape_fault};
 
 use crate::header::section_header;
 use crate::shape::{contents, read_shape};
@@ -100,7 +100,8 @@ impl Sections {
     /// The section `i`, as the file has it.
     pub(crate) fn section_of(&self, i: u32) -> &Section
         requires { i < section_count self.now.file }
-        ensures { result.now ≡ section_of self.now.file i }
+        ensures section { result.now ≡ section_of self.now.file i }
+        ensures within { IsTrue (has_content result.now.kind) → result.now.offset + result.now.size ≤ length self.now.file }
     {
         &self.sections.as_slice()[i as usize]
     }

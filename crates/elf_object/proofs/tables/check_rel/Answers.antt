@@ -10,7 +10,7 @@ returns-then-section_of-eq-SHT_REL c =
     let b = c.args.sections.now.file in
     let i = c.loop-index.index in
     sym (each-failed (section_count b) (rel_test b) i _ (omega arith) c.loop-index.invariant
-    (rel_test-failed b i (rw c.section_of.ensures at c.if-section_of-eq-SHT_REL.true)))
+    (rel_test-failed b i (rw c.section_of.ensures.section at c.if-section_of-eq-SHT_REL.true)))
 
 pub returns : goal.returns
 returns c =

@@ -6,7 +6,7 @@ pub returns-then-section_of-eq-SHT_SYMTAB : goal.returns-then-section_of-eq-SHT_
 returns-then-section_of-eq-SHT_SYMTAB c =
     let b = c.args.sections.now.file in
     sym (symbol_table-found b c.loop-index.index (omega arith) c.loop-index.invariant
-    (rw c.section_of.ensures at c.if-section_of-eq-SHT_SYMTAB.true))
+    (rw c.section_of.ensures.section at c.if-section_of-eq-SHT_SYMTAB.true))
 
 pub returns : goal.returns
 returns c =

@@ -8,7 +8,7 @@ returns-in-Some-clause-bytes c =
 
 pub returns-in-Some-clause-names : goal.returns-in-Some-clause-names
 returns-in-Some-clause-names c =
-    rw c.section_of.ensures at c.contents-in-Some.ensures.contents
+    rw c.section_of.ensures.section at c.contents-in-Some.ensures.contents
     ∙ sym (symbol_names-at c.args.sections.now.file c.in-Some.table (sym c.requires.symbols ∙ c.in-Some.is))
 
 pub returns-in-None-clause-bytes : goal.returns-in-None-clause-bytes
