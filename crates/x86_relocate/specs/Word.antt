@@ -53,7 +53,8 @@ sign_extended value =
 
 -- What a relocation writes: S + A, or S + A - P, in the field of its type. The table computes R_X86_64_PLT32 from
 -- the entry of a procedure linkage table; there is none here, and as in Linux's loader the symbol itself
--- stands for it. That R_X86_64_PC32 may be too wide is this project's rule; Linux doesn't ask.
+-- stands for it. That R_X86_64_PC32 may be too wide is this project's rule; Linux doesn't ask. Of the known types
+-- the one that no test names is R_X86_64_PC64.
 unfoldable pub word : ℕ → ℕ → ℤ → ℕ → Result Written TooWide
 word kind s a p =
     let absolute = modulo (pos s +ℤ a) in
