@@ -32,7 +32,8 @@ impl Image {
     /// Puts the bytes at place `at`. Every other byte is as before.
     pub fn copy_in(&mut self, at: usize, bytes: &[u8])
         requires { at + length bytes.now ≤ length self.old }
-        ensures { self.new ≡ with_bytes self.old at bytes.now }
+        ensures bytes { self.new ≡ with_bytes self.old at bytes.now }
+        ensures len { length self.new ≡ length self.old }
     {
         self.bytes[at..at + bytes.len()].copy_from_slice(bytes);
     }
@@ -40,7 +41,8 @@ impl Image {
     /// Puts the four bytes of `v`, the lowest first, at place `at`. Every other byte is as before.
     pub fn put_u32(&mut self, at: usize, v: u32)
         requires { at + 4 ≤ length self.old }
-        ensures { self.new ≡ with_bytes self.old at (to_le_bytes w32 v) }
+        ensures bytes { self.new ≡ with_bytes self.old at (to_le_bytes w32 v) }
+        ensures len { length self.new ≡ length self.old }
     {
         let four = v.to_le_bytes();
         self.copy_in(at, &four);
@@ -49,7 +51,8 @@ impl Image {
     /// Puts the eight bytes of `v`, the lowest first, at place `at`. Every other byte is as before.
     pub fn put_u64(&mut self, at: usize, v: u64)
         requires { at + 8 ≤ length self.old }
-        ensures { self.new ≡ with_bytes self.old at (to_le_bytes w64 v) }
+        ensures bytes { self.new ≡ with_bytes self.old at (to_le_bytes w64 v) }
+        ensures len { length self.new ≡ length self.old }
     {
         let eight = v.to_le_bytes();
         self.copy_in(at, &eight);

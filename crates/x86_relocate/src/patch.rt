@@ -47,6 +47,7 @@ fn put(image: &mut Image, patch: &Patch) -> Result<(), TooWide>
     requires within { IsWithin (length image.old) patch.now }
     ensures outcome { is_ok result ≡ fits patch.now }
     ensures image { image.new ≡ with_bytes image.old patch.now.at (bytes_of (word_of patch.now)) }
+    ensures len { length image.new ≡ length image.old }
 {
     match value(patch.kind, patch.s, patch.a, patch.p)? {
         Written::Nothing => {}
@@ -68,6 +69,7 @@ pub fn apply(image: &mut Image, patches: &Patches) -> Result<(), Overflow>
     requires apart { AllPairs IsApart patches.now }
     ensures overflow { result_err result ≡ option_map overflow_of (first_too_wide patches.now) }
     ensures image { image.new ≡ patched image.old (take_while fits patches.now) }
+    ensures len { length image.new ≡ length image.old }
 {
     for patch in patches.as_slice() {
         if put(image, patch).is_err() {

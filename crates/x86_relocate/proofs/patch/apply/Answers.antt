@@ -26,3 +26,9 @@ loop-patch-preserved c =
     let inside : i < length c.args.patches.now = rw (← items) c.loop-patch-test.true in
     let fit : fits (slice_index_or c.args.patches.now i past) ≡ true = sym (rw items at c.put.ensures.outcome) ∙ c.if-is_err.ensures.negation in
     so_far_more c.args.image.now c.loop-patch.image c.put.new.image c.args.patches.now i past c.loop-patch.invariant inside (c.requires.known i past inside) (c.requires.within i past inside) c.requires.apart fit (rw items at c.put.ensures.image)
+
+pub returns-then-is_err-clause-len : goal.returns-then-is_err-clause-len
+returns-then-is_err-clause-len c = c.put.ensures.len ∙ length_so_far c.loop-patch.invariant
+
+pub returns-clause-len : goal.returns-clause-len
+returns-clause-len c = length_so_far c.loop-patch.invariant
