@@ -1,0 +1,129 @@
+ghost use Rattle.std.specs.Prelude.{◌≡◌, All, AllPairs, length, is_ok, take_while};
+ghost use Rattle.std.specs.Option.{option_map};
+ghost use Rattle.std.specs.Result.{result_err};
+ghost use Rattle.raw_image.specs.Bytes.{with_bytes};
+ghost use Rattle.x86_relocate.specs.Word.{IsKnown};
+ghost use Rattle.x86_relocate.specs.Patched.{IsApart, IsWithin, bytes_of, fits, first_too_wide, overflow_of, patched, word_of};
+
+use crate::{TooWide, Written, value};
+use km_names::List;
+use raw_image::Image;
+
+/// A word to be written into an image: what one relocation asks for.
+#[derive(Clone, Copy, PartialEq, Eq, Debug)]
+pub struct Patch {
+    /// The index of the relocation section.
+    pub section: u32,
+    /// The index of the relocation in its section.
+    pub entry: u32,
+    /// Where in the image its first byte is.
+    pub at: usize,
+    /// The type of the relocation.
+    pub kind: u32,
+    /// The address of the symbol.
+    pub s: u64,
+    /// The addend.
+    pub a: i64,
+    /// The address of the place.
+    pub p: u64,
+}
+
+/// Patches in the order in which they are applied.
+pub type Patches = List<Patch>;
+
+/// The first patch whose word doesn't fit its field.
+#[derive(Clone, Copy, PartialEq, Eq, Debug)]
+pub struct Overflow {
+    /// The index of its relocation section.
+    pub section: u32,
+    /// The index of the relocation in that section.
+    pub entry: u32,
+}
+
+/// Puts the word of one patch into the image, nothing where it is too wide.
+#[tactic(auto, using(crate::proofs::Applied::with_no_bytes))]
+fn put(image: &mut Image, patch: &Patch) -> Result<(), TooWide>
+    requires known { IsKnown patch.now.kind }
+    requires within { IsWithin (length image.old) patch.now }
+    ensures outcome { is_ok result ≡ fits patch.now }
+    ensures image { image.new ≡ with_bytes image.old patch.now.at (bytes_of (word_of patch.now)) }
+    ensures len { length image.new ≡ length image.old }
+{
+    match value(patch.kind, patch.s, patch.a, patch.p)? {
+        Written::Nothing => {}
+        Written::Four(word) => image.put_u32(patch.at, word),
+        Written::Eight(word) => image.put_u64(patch.at, word),
+    }
+    Ok(())
+}
+
+/// Puts the words of the patches into the image, in one pass and with no memory. What stood at a place
+/// isn't looked at.
+///
+/// # Errors
+///
+/// [`Overflow`] names the first patch whose word is too wide; those before it are then applied, and no other.
+pub fn apply(image: &mut Image, patches: &Patches) -> Result<(), Overflow>
+    requires known { All (λ patch. IsKnown patch.kind) patches.now }
+    requires within { All (IsWithin (length image.old)) patches.now }
+    requires apart { AllPairs IsApart patches.now }
+    ensures overflow { result_err result ≡ option_map overflow_of (first_too_wide patches.now) }
+    ensures image { image.new ≡ patched image.old (take_while fits patches.now) }
+    ensures len { length image.new ≡ length image.old }
+{
+    for patch in patches.as_slice() {
+        if put(image, patch).is_err() {
+            return Err(Overflow {
+                section: patch.section,
+                entry: patch.entry,
+            });
+        }
+    }
+    Ok(())
+}
+
+#[cfg(test)]
+mod tests {
+    use super::*;
+    use std::test::Fail;
+
+    fn patch(entry: u32, at: usize, kind: u32, s: u64) -> Patch
+        ensures place { result.at ≡ at }
+        ensures kind { result.kind ≡ kind }
+    {
+        Patch {
+            section: 3,
+            entry,
+            at,
+            kind,
+            s,
+            a: 0,
+            p: 0,
+        }
+    }
+
+    /// Patches before one that is too wide are applied, and no other.
+    #[test]
+    fn a_patch_that_is_too_wide_stops_the_pass(rt: HostRuntime) -> Result<(), Fail> {
+        let words = [
+            patch(0, 4, 1, 0x0102_0304_0506_0708),
+            patch(1, 0, 10, 0x0a0b_0c0d),
+            patch(2, 12, 10, 0x1_0000_0000),
+        ];
+        let mut image = Image::zeroed(rt.alloc(), 16)?;
+        let first = List::from_vec(words[..2].to_vec(rt.alloc())?);
+        assert!(rt; apply(&mut image, &first).is_ok());
+        let want = [0x0d, 0x0c, 0x0b, 0x0a, 8, 7, 6, 5, 4, 3, 2, 1, 0, 0, 0, 0];
+        assert_eq!(rt; image.as_bytes(), want.as_slice());
+
+        let mut image = Image::zeroed(rt.alloc(), 16)?;
+        let all = List::from_vec(words.to_vec(rt.alloc())?);
+        let overflow = Overflow {
+            section: 3,
+            entry: 2,
+        };
+        assert_eq!(rt; apply(&mut image, &all), Err(overflow));
+        assert_eq!(rt; image.as_bytes(), want.as_slice());
+        Ok(())
+    }
+}

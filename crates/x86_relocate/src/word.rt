@@ -1,0 +1,158 @@
+ghost use Rattle.std.specs.Prelude.{◌≡◌};
+ghost use Rattle.x86_relocate.specs.Word.{IsKnown, sign_extended, word, zero_extended};
+
+const R_X86_64_NONE: u32 = 0;
+
+const R_X86_64_64: u32 = 1;
+
+const R_X86_64_PC32: u32 = 2;
+
+const R_X86_64_PLT32: u32 = 4;
+
+const R_X86_64_32: u32 = 10;
+
+const R_X86_64_32S: u32 = 11;
+
+const R_X86_64_PC64: u32 = 24;
+
+/// The least and the greatest value that four bytes with a sign hold.
+const LEAST: i64 = i32::MIN as i64;
+
+const GREATEST: i64 = i32::MAX as i64;
+
+/// What a relocation writes at its place, the lowest byte first.
+#[derive(Clone, Copy, PartialEq, Eq, Debug)]
+pub enum Written {
+    /// Nothing at all.
+    Nothing,
+    /// Four bytes.
+    Four(u32),
+    /// Eight bytes.
+    Eight(u64),
+}
+
+/// The value doesn't fit the field of its type.
+#[derive(Clone, Copy, PartialEq, Eq, Debug)]
+pub struct TooWide;
+
+/// The four bytes whose zero extension is the value.
+fn unsigned_four(value: u64) -> Result<Written, TooWide>
+    ensures { result ≡ zero_extended value }
+{
+    if value >= 1 << 32 {
+        return Err(TooWide);
+    }
+    Ok(Written::Four(value as u32))
+}
+
+/// The four bytes whose sign extension is the value.
+fn signed_four(value: u64) -> Result<Written, TooWide>
+    ensures { result ≡ sign_extended value }
+{
+    let signed = value.cast_signed();
+    if signed < LEAST || signed > GREATEST {
+        return Err(TooWide);
+    }
+    Ok(Written::Four((value % (1 << 32)) as u32))
+}
+
+/// The word of a relocation of the type `kind`: from the address `s` of its symbol, the addend `a` and the
+/// address `p` of its place, as the x86-64 psABI's "Relocation" has it, with sums modulo 2^64. A
+/// R_X86_64_PLT32 is computed as a R_X86_64_PC32, since there is no procedure linkage table.
+///
+/// # Errors
+///
+/// [`TooWide`] exactly where the field's zero or sign extension, as its type has it, isn't the value.
+#[tactic(auto, using(crate::proofs::Words::relative_is), unfolding(crate::specs::Word::word))]
+pub fn value(kind: u32, s: u64, a: i64, p: u64) -> Result<Written, TooWide>
+    requires { IsKnown kind }
+    ensures { result ≡ word kind s a p }
+{
+    let absolute = s.wrapping_add_signed(a);
+    let relative = absolute.wrapping_sub(p);
+    match kind {
+        R_X86_64_NONE => Ok(Written::Nothing),
+        R_X86_64_64 => Ok(Written::Eight(absolute)),
+        R_X86_64_PC32 | R_X86_64_PLT32 => signed_four(relative),
+        R_X86_64_32 => unsigned_four(absolute),
+        R_X86_64_32S => signed_four(absolute),
+        R_X86_64_PC64 => Ok(Written::Eight(relative)),
+        _ => unreachable!(),
+    }
+}
+
+#[cfg(test)]
+mod tests {
+    use super::*;
+
+    /// The table's formulas at the edges of their fields, worked by hand.
+    #[test]
+    fn words_are_the_tables(rt: HostRuntime) {
+        let rows = [
+            (
+                R_X86_64_32S,
+                0xffff_ffff_8000_0000,
+                0,
+                0,
+                Ok(Written::Four(0x8000_0000)),
+            ),
+            (R_X86_64_32S, 0x8000_0000, 0, 0, Err(TooWide)),
+            (
+                R_X86_64_32,
+                0xffff_ffff,
+                0,
+                0,
+                Ok(Written::Four(0xffff_ffff)),
+            ),
+            (R_X86_64_32, 0x1_0000_0000, 0, 0, Err(TooWide)),
+            (R_X86_64_32, 0, -1, 0, Err(TooWide)),
+            (
+                R_X86_64_PC32,
+                0x8000_0000,
+                -1,
+                0,
+                Ok(Written::Four(0x7fff_ffff)),
+            ),
+            (R_X86_64_PC32, 0x8000_0000, 0, 0, Err(TooWide)),
+            (
+                R_X86_64_PC32,
+                0,
+                0,
+                0x8000_0000,
+                Ok(Written::Four(0x8000_0000)),
+            ),
+            (R_X86_64_PC32, 0, 0, 0x8000_0001, Err(TooWide)),
+            (
+                R_X86_64_PLT32,
+                0x1000,
+                -4,
+                0x2000,
+                Ok(Written::Four(0xffff_effc)),
+            ),
+            (
+                R_X86_64_PC64,
+                0,
+                0,
+                1,
+                Ok(Written::Eight(0xffff_ffff_ffff_ffff)),
+            ),
+            (
+                R_X86_64_64,
+                0xffff_ffff_ffff_ffff,
+                1,
+                0,
+                Ok(Written::Eight(0)),
+            ),
+            (R_X86_64_NONE, 5, 5, 5, Ok(Written::Nothing)),
+        ];
+        for (kind, s, a, p, want) in rows {
+            let known = matches!(kind, 0 | 1 | 2 | 4 | 10 | 11 | 24);
+            assert!(rt; known);
+            assert_eq!(rt;
+                value(kind, s, a, p),
+                want,
+                "type {kind} of {s:x} {a} {p:x}"
+            );
+        }
+    }
+}
