@@ -14,10 +14,10 @@ use Rattle.std.proofs.Math.Seq.{drop-cons}
 use Rattle.std.specs.Cmp.Lexicographic.{slice_cmp}
 use Rattle.std.specs.BTreeMap.{insert_entry}
 use Rattle.std.specs.Map.{lookup, set_value, keys_of}
-use Rattle.std.specs.FinMap.{empty, from_sorted, find, put, insert, entries-from_sorted, entries-insert, same_entries_map, get-from_sorted}
-use Rattle.std.specs.FinMap.Entries.{by_order, below_all, is_sorted-put}
+use Rattle.std.specs.FinMap.{entries, empty, from_sorted, find, put, insert, entries-from_sorted, entries-insert, same_entries_map, get-from_sorted}
+use Rattle.std.specs.FinMap.Entries.{is_sorted, by_order, below_all, is_sorted-put}
 use Rattle.index_format.specs.Map.{Value, place, with_value, IsKey}
-use Rattle.index_format.specs.Tree.{Entry}
+use Rattle.index_format.specs.Tree.{Entry, Above, Rises}
 use Rattle.index_format.proofs.Maps.{entries-empty}
 use Rattle.index_write.specs.declared.key_map.Value.{Value as Held}
 use Rattle.index_write.specs.Lists.{KeyLists, value_of, values_in, entry_of, entries_of, map_of, found, with_one, IsStorable, IsSound, AreSound, AreOrdered}
@@ -242,3 +242,16 @@ on_err_weaker (Err x) f h = f h
 pub place_front : (xs : List Held) (n : ℕ) (v : Value) → n ≤ 0 → list_all (greater v.0) (drop n (values_in xs)) ≡ true → insert_at (values_in xs) n v ≡ place (values_in xs) v
 place_front xs zero v le h = sym (place_first (values_in xs) v h)
 place_front xs (suc n) v le h = absurd (omega arith)
+
+-- ---- the entries in their order
+
+above_all : (key : List ℕ) (es : List Entry) → T (below_all R key es) → Above key es
+above_all key [] h = tt
+above_all key (e ∷ es) h = (is_less _ (left _ _ h), above_all key es (right _ _ h))
+
+pub rises : (es : List Entry) → T (is_sorted R es) → Rises es
+rises [] h = tt
+rises (e ∷ es) h = (above_all e.0 es (left _ _ h), rises es (right _ _ h))
+
+pub entries-map_of : (es : KeyLists) → AreOrdered es → entries (map_of es) ≡ entries_of es
+entries-map_of es h = entries-from_sorted R (entries_of es) h

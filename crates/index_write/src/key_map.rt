@@ -1,8 +1,10 @@
-ghost use Rattle.std.specs.Prelude.{◌≡◌, OnOk, OnErr};
+ghost use Rattle.std.specs.Prelude.{◌≡◌, OnOk, OnErr, IfOk};
+ghost use Rattle.std.specs.List.{AllByRecursion};
 ghost use Rattle.std.specs.FinMap as map;
 ghost use Rattle.index_format.specs.Map.{IsKey, IsText, with_value};
 
 use crate::lists::add_value;
+use crate::node::KeyEntry;
 use km_names::Blob;
 use std::alloc::{AllocError, Global};
 use std::collections::BTreeMap;
@@ -38,6 +40,10 @@ impl Model for KeyMap {
 }
 
 impl KeyMap {
+    ghost use Rattle.index_format.specs.Tree.{Rises};
+    ghost use Rattle.index_write.specs.Lists.{IsSound};
+    ghost use Rattle.index_write.specs.Groups.{shown};
+
     /// The map without keys. It takes no memory.
     pub fn new(alloc: Global) -> KeyMap
         ensures { result ≡ map.empty }
@@ -61,5 +67,21 @@ impl KeyMap {
             text: Blob::from_slice(self.alloc, text)?,
         };
         add_value(self.alloc, &mut self.lists, key, value)
+    }
+
+    /// The keys in their order, each with its values.
+    pub(crate) fn entries(&self, alloc: Global) -> Result<Vec<KeyEntry<'_>>, AllocError>
+        ensures shown { IfOk result (λ v. shown v.items ≡ map.entries self.now) }
+        ensures rises { OnOk result (Rises (map.entries self.now)) }
+        ensures sound { OnOk result (AllByRecursion IsSound (map.entries self.now)) }
+    {
+        let mut entries = Vec::new(alloc);
+        for (key, list) in &self.lists {
+            entries.push(KeyEntry {
+                key: key.as_slice(),
+                values: list.as_slice(),
+            })?;
+        }
+        Ok(entries)
     }
 }

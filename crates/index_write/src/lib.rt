@@ -4,7 +4,14 @@
 //! of the map by that format, and a reader of the format finds in them each key's values and nothing else.
 #![tactic(auto)]
 
+mod bytes;
+mod fault;
+mod file;
 mod key_map;
 mod lists;
+mod node;
+mod size;
 
+pub use fault::WriteFault;
+pub use file::encode;
 pub use key_map::KeyMap;
