@@ -11,6 +11,8 @@ mod key_map;
 mod lists;
 mod node;
 mod size;
+#[cfg(test)]
+mod tests;
 
 pub use fault::WriteFault;
 pub use file::encode;
