@@ -1,9 +1,10 @@
 -- The map that an index stands for: from a key to the values of that key, in the order in which they stand.
-use Rattle.std.specs.Prelude.{ℕ, List, [], ◌∷◌, nat_lt, if◌then◌else◌, unwrap_or}
+use Rattle.std.specs.Prelude.{ℕ, ◌<◌, All, List, [], ◌∷◌, nat_lt, if◌then◌else◌, unwrap_or}
 use Rattle.std.specs.List.{list_all}
 use Rattle.std.specs.Ordering.{nat_cmp}
 use Rattle.std.specs.Cmp.Lexicographic.{slice_cmp}
-use Rattle.std.specs.FinMap.{FinMap, get, insert}
+use Rattle.std.specs.FinMap.{FinMap, code, get, insert}
+use Rattle.std.specs.Coded.{Coded, coded×, coded_ℕ, coded_list}
 
 -- A value: its priority and the bytes of its text.
 abbrev pub Value : Type 0
@@ -26,3 +27,14 @@ place (x ∷ xs) v = if list_all (λ y. nat_lt v.0 y.0) (x ∷ xs) then v ∷ x 
 -- The map with one more value of a key.
 abbrev pub with_value : KeyValues → List ℕ → Value → KeyValues
 with_value m key v = insert m key (place (values_of m key) v)
+
+-- Its code, by which a struct can be seen as such a map.
+abbrev pub key_values_code : Coded KeyValues
+key_values_code = code (coded_list coded_ℕ) (coded_list (coded× coded_ℕ (coded_list coded_ℕ)))
+
+-- A key has bytes from 1 to 127, and a text has no NUL.
+abbrev pub IsKey : List ℕ → Type 0
+IsKey key = All (λ byte. (0 < byte) × (byte < 128)) key
+
+abbrev pub IsText : List ℕ → Type 0
+IsText text = All (λ byte. 0 < byte) text

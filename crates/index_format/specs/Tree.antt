@@ -1,6 +1,9 @@
 -- The tree of an index, as kmod's depmod writes it: each node but the root has the longest prefix that is
 -- common to all keys below it.
-use Rattle.std.specs.Prelude.{ℕ, zero, suc, ◌==◌, List, [], ◌∷◌, ◌++◌, length, drop, map, max, if◌then◌else◌}
+use Rattle.std.specs.Prelude.{◌≡◌, ℕ, zero, suc, ◌==◌, List, [], ◌∷◌, length, drop, map, max, if◌then◌else◌}
+use Rattle.std.specs.Ordering.{nat_cmp}
+use Rattle.std.specs.Cmp.Lexicographic.{slice_cmp}
+use Rattle.std.specs.declared.cmp.Ordering.TheVariants.{Less}
 use Rattle.index_format.specs.Map.{Value}
 
 -- A key, or what is left of it below a node, with its values.
@@ -19,21 +22,25 @@ common [] ys = []
 common (x ∷ xs) [] = []
 common (x ∷ xs) (y ∷ ys) = if x == y then x ∷ common xs ys else []
 
+-- What is common to a prefix and to the keys of all entries.
+abbrev pub narrowed : List ℕ → List Entry → List ℕ
+narrowed prefix [] = prefix
+narrowed prefix (e ∷ es) = narrowed (common prefix e.0) es
+
 -- The longest prefix that is common to all keys.
 abbrev pub common_prefix : List Entry → List ℕ
 common_prefix [] = []
-common_prefix (e ∷ []) = e.0
-common_prefix (e ∷ f ∷ es) = common e.0 (common_prefix (f ∷ es))
+common_prefix (e ∷ es) = narrowed e.0 es
 
 -- The entries with so many bytes taken off each key.
 abbrev pub cut : ℕ → List Entry → List Entry
 cut n es = map (λ e. (drop n e.0, e.1)) es
 
--- The values of the entries whose key ends here.
+-- The values of the key that ends here. It is the first one, since the entries are in the order of their keys.
 abbrev pub ending : List Entry → List Value
 ending [] = []
-ending (([], values) ∷ es) = values ++ ending es
-ending ((byte ∷ key, values) ∷ es) = ending es
+ending (([], values) ∷ es) = values
+ending ((byte ∷ key, values) ∷ es) = []
 
 -- Puts an entry in front of the first group, if that one is for the same byte, and else before it.
 abbrev pub grouped : ℕ → Entry → List (ℕ × List Entry) → List (ℕ × List Entry)
@@ -68,3 +75,12 @@ longest (e ∷ es) = max (length e.0) (longest es)
 -- The root, with an empty prefix. No byte leads to it.
 unfoldable pub tree : List Entry → Nodes
 tree es = Node 0 [] (ending es) (nodes_below (longest es) es) End
+
+-- The keys of the entries rise, each above all before it, as those of a map do.
+abbrev pub Above : List ℕ → List Entry → Type 0
+Above key [] = Unit {0}
+Above key (e ∷ es) = (slice_cmp nat_cmp key e.0 ≡ Less) × Above key es
+
+abbrev pub Rises : List Entry → Type 0
+Rises [] = Unit {0}
+Rises (e ∷ es) = Above e.0 es × Rises es

@@ -1,0 +1,4 @@
+pub mod KeyLemmas
+pub mod NodeLemmas
+pub mod SizeLemmas
+pub mod WriteLemmas

@@ -1,0 +1,66 @@
+-- What the entries, groups and nodes of the writer are in the tree of an index.
+use Rattle.std.specs.Prelude.{ℕ, suc, ◌≤◌, ◌<◌, ◌==◌, List, [], ◌∷◌, length, map, if◌then◌else◌}
+use Rattle.std.specs.List.{AllByRecursion}
+use Rattle.index_format.specs.Tree.{Entry, common_prefix, cut, ending, groups, Rises}
+use Rattle.index_write.specs.declared.node.KeyEntry.{KeyEntry}
+use Rattle.index_write.specs.declared.node.Group.{Group}
+use Rattle.index_write.specs.declared.node.Node.{Node}
+use Rattle.index_write.specs.Lists.{values_in}
+use Rattle.index_write.specs.Parts.{Part, span_of}
+
+abbrev pub entry_of : KeyEntry → Entry
+entry_of e = (e.key.now, values_in e.values.now)
+
+-- The entries, and what is left of them at a depth.
+abbrev pub shown : List KeyEntry → List Entry
+shown es = map entry_of es
+
+abbrev pub at_depth : ℕ → List KeyEntry → List Entry
+at_depth depth es = cut depth (shown es)
+
+-- A group as the tree has it.
+abbrev pub group_of : Group → ℕ × List Entry
+group_of g = (g.byte, at_depth g.depth g.entries.now)
+
+abbrev pub groups_of : List Group → List (ℕ × List Entry)
+groups_of gs = map group_of gs
+
+-- How many entries end here, where only the first one may.
+abbrev pub ended : List Entry → ℕ
+ended [] = 0
+ended (([], values) ∷ es) = 1
+ended ((c ∷ key, values) ∷ es) = 0
+
+-- Each key goes on.
+abbrev pub AllGoOn : List Entry → Type 0
+AllGoOn es = AllByRecursion (λ e. 0 < length e.0) es
+
+-- How many entries at the front go on with a byte.
+abbrev pub leading : ℕ → List Entry → ℕ
+leading byte [] = 0
+leading byte (([], values) ∷ es) = 0
+leading byte ((c ∷ key, values) ∷ es) = if byte == c then suc (leading byte es) else 0
+
+abbrev pub part_of : Node → Part
+part_of n = record { byte = n.byte; prefix = n.prefix.now; values = values_in n.values.now; children = n.children }
+
+-- The entries of a group with the prefix of its node taken off, and that node.
+abbrev pub below : List Entry → List Entry
+below es = cut (length (common_prefix es)) es
+
+abbrev pub part_for : ℕ → List Entry → Part
+part_for byte es =
+    record { byte = byte; prefix = common_prefix es; values = ending (below es); children = span_of (map (λ g. g.0) (groups (below es))) }
+
+-- A group of which a node can be made: its keys rise, and have at most so many bytes.
+pub record IsReady (most : ℕ) (g : ℕ × List Entry) : Type 0 where
+  pub rises : Rises g.1
+  pub within : AllByRecursion (λ e. length e.0 ≤ most) g.1
+
+abbrev pub AreReady : ℕ → List (ℕ × List Entry) → Type 0
+AreReady most gs = AllByRecursion (IsReady most) gs
+
+-- The root of the tree of entries.
+abbrev pub root_part : List Entry → Part
+root_part es =
+    record { byte = 0; prefix = []; values = ending es; children = span_of (map (λ g. g.0) (groups es)) }

@@ -1,0 +1,56 @@
+-- What the map from keys to lists of values is as a map of an index.
+use Rattle.std.specs.Prelude.{ℕ, ◌<◌, ◌^◌, List, [], length, map, unwrap_or, T, Vec}
+use Rattle.std.specs.List.{AllByRecursion}
+use Rattle.std.specs.declared.alloc.Global.{Global}
+use Rattle.std.specs.Ordering.{nat_cmp}
+use Rattle.std.specs.Cmp.Lexicographic.{slice_cmp}
+use Rattle.std.specs.FinMap.{from_sorted, find, put, is_sorted}
+use Rattle.index_format.specs.Map.{Value, KeyValues, place, IsKey, IsText}
+use Rattle.index_format.specs.Tree.{Entry}
+use Rattle.index_write.specs.declared.key_map.Value.{Value as Held}
+
+-- A value, and the values of a list.
+abbrev pub value_of : Held → Value
+value_of v = (v.priority, v.text)
+
+abbrev pub values_in : List Held → List Value
+values_in vs = map value_of vs
+
+abbrev pub KeyLists : Type 0
+KeyLists = List (Vec ℕ Global × Vec Held Global)
+
+-- The entries of the lists.
+abbrev pub entry_of : Vec ℕ Global × Vec Held Global → Entry
+entry_of e = (e.0.items, values_in e.1.items)
+
+abbrev pub entries_of : KeyLists → List Entry
+entries_of es = map entry_of es
+
+-- The map of the lists, whose keys rise.
+abbrev pub map_of : KeyLists → KeyValues
+map_of es = from_sorted (entries_of es)
+
+-- Whether the keys of the lists rise.
+abbrev pub AreOrdered : KeyLists → Type 0
+AreOrdered es = T (is_sorted (slice_cmp nat_cmp) (entries_of es))
+
+-- The values of a key among entries.
+abbrev pub found : List Entry → List ℕ → List Value
+found es key = unwrap_or (find (slice_cmp nat_cmp) key es) []
+
+-- The entries with one more value of a key.
+abbrev pub with_one : List Entry → List ℕ → Value → List Entry
+with_one es key v = put (slice_cmp nat_cmp) key (place (found es key) v) es
+
+-- A value that a file can have: a priority of 32 bits, and a text without NUL.
+abbrev pub IsStorable : Value → Type 0
+IsStorable v = (v.0 < 2 ^ 32) × IsText v.1
+
+-- What the lists keep: each has a key of the allowed bytes, and values, each of which a file can have.
+pub record IsSound (e : Entry) : Type 0 where
+  pub key : IsKey e.0
+  pub some : 0 < length e.1
+  pub values : AllByRecursion IsStorable e.1
+
+abbrev pub AreSound : KeyLists → Type 0
+AreSound es = AllByRecursion IsSound (entries_of es)

@@ -1,0 +1,182 @@
+ghost use Rattle.std.specs.Prelude.{◌≡◌, ◌≤◌, ◌<◌, ◌+◌, ◌*◌, ◌^◌, ◌++◌, length, take, drop, map, OnOk, IfOk};
+ghost use Rattle.index_format.specs.Check.{first_place};
+ghost use Rattle.index_format.specs.File.{number, offset, prefix_field, children_field, values_field, value_bytes, largest_file};
+ghost use Rattle.index_write.specs.Lists.{value_of, values_in};
+ghost use Rattle.index_write.specs.Parts.{with_part, with_parts, headed, rooted, offsets_bytes};
+ghost use Rattle.index_write.specs.Groups.{part_of};
+ghost use Rattle.index_write.specs.Links.{links_of, state, bit};
+
+use crate::key_map::Value;
+use crate::node::Node;
+use byteorder::{BigEndian, ByteOrder};
+use std::alloc::{AllocError, Global};
+
+/// With what a file begins, and the version of its format.
+const MAGIC: u32 = 0xb007_f457;
+
+const VERSION: u32 = 0x0002_0001;
+
+/// The bits of an offset that say which fields its node has.
+const HAS_PREFIX: u32 = 0x8000_0000;
+
+const HAS_VALUES: u32 = 0x4000_0000;
+
+const HAS_CHILDREN: u32 = 0x2000_0000;
+
+/// The offset of a node that waits for its parent, with the byte that leads to it.
+#[derive(Clone, Copy)]
+pub(crate) struct Link {
+    byte: u8,
+    offset: u32,
+}
+
+/// Puts a number at the end.
+fn push_number(out: &mut Vec<u8>, n: u32) -> Result<(), AllocError>
+    ensures { OnOk result (out.new.items ≡ out.old.items ++ number n) }
+{
+    let mut bytes = [0; 4];
+    BigEndian::write_u32(&mut bytes, n);
+    out.extend_from_slice(&bytes)
+}
+
+/// Puts a prefix at the end, with its NUL.
+fn push_prefix(out: &mut Vec<u8>, prefix: &[u8]) -> Result<(), AllocError>
+    ensures { OnOk result (out.new.items ≡ out.old.items ++ prefix_field prefix.now) }
+{
+    if prefix.is_empty() {
+        return Ok(());
+    }
+    out.extend_from_slice(prefix)?;
+    out.push(0)?;
+    Ok(())
+}
+
+/// The offset for a byte, 0 where no child has it.
+fn offset_of(links: &[Link], byte: usize) -> u32
+    ensures { result ≡ offset (links_of links.now) byte }
+{
+    for link in links {
+        if usize::from(link.byte) == byte {
+            return link.offset;
+        }
+    }
+    0
+}
+
+/// Puts the offsets for so many bytes at the end.
+fn push_offsets(
+    out: &mut Vec<u8>,
+    links: &[Link],
+    first: usize,
+    count: usize,
+) -> Result<(), AllocError>
+    requires { first + count < 2 ^ 64 }
+    ensures { OnOk result (out.new.items ≡ out.old.items ++ offsets_bytes (links_of links.now) first count) }
+{
+    for n in 0..count {
+        push_number(out, offset_of(links, first + n))?;
+    }
+    Ok(())
+}
+
+/// Puts the range of children at the end, with their offsets.
+fn push_children(out: &mut Vec<u8>, links: &[Link]) -> Result<(), AllocError>
+    ensures { OnOk result (out.new.items ≡ out.old.items ++ children_field (links_of links.now)) }
+{
+    let (Some(first), Some(last)) = (links.first(), links.last()) else {
+        return Ok(());
+    };
+    out.push(first.byte)?;
+    out.push(last.byte)?;
+    let start = usize::from(first.byte);
+    let count = usize::from(last.byte).saturating_sub(start) + 1;
+    push_offsets(out, links, start, count)
+}
+
+/// Puts a value at the end.
+fn push_value(out: &mut Vec<u8>, value: &Value) -> Result<(), AllocError>
+    ensures { OnOk result (out.new.items ≡ out.old.items ++ value_bytes (value_of value.now)) }
+{
+    push_number(out, value.priority)?;
+    out.extend_from_slice(value.text.as_bytes())?;
+    out.push(0)?;
+    Ok(())
+}
+
+/// Puts values at the end, with their count.
+fn push_values(out: &mut Vec<u8>, values: &[Value]) -> Result<(), AllocError>
+    requires { length values.now < 2 ^ 32 }
+    ensures { OnOk result (out.new.items ≡ out.old.items ++ values_field (values_in values.now)) }
+{
+    if values.is_empty() {
+        return Ok(());
+    }
+    push_number(out, values.len() as u32)?;
+    for value in values {
+        push_value(out, value)?;
+    }
+    Ok(())
+}
+
+/// The offset of the node at a place, by whether it has a prefix, children and values.
+fn link_to(place: u32, has_prefix: bool, has_children: bool, has_values: bool) -> u32
+    requires { place < 2 ^ 28 }
+    ensures { result ≡ bit has_prefix * 2 ^ 31 + bit has_values * 2 ^ 30 + bit has_children * 2 ^ 29 + place }
+{
+    let prefix = if has_prefix { HAS_PREFIX } else { 0 };
+    let values = if has_values { HAS_VALUES } else { 0 };
+    let children = if has_children { HAS_CHILDREN } else { 0 };
+    prefix + values + children + place
+}
+
+/// Writes a node. It takes the links to its children from the end of those that wait, and its own link waits
+/// in their place.
+fn write_node(out: &mut Vec<u8>, links: &mut Vec<Link>, node: &Node) -> Result<(), AllocError>
+    requires { length (with_part (part_of node.now) (state out.old.items links.old.items)).bytes ≤ largest_file }
+    ensures { OnOk result (state out.new.items links.new.items ≡ with_part (part_of node.now) (state out.old.items links.old.items)) }
+{
+    let start = links.len().saturating_sub(node.children.count);
+    let place = out.len() as u32;
+    let children = &links[start..];
+    let offset = link_to(
+        place,
+        !node.prefix.is_empty(),
+        !children.is_empty(),
+        !node.values.is_empty(),
+    );
+    push_prefix(out, node.prefix)?;
+    push_children(out, children)?;
+    push_values(out, node.values)?;
+    links.truncate(start);
+    links.push(Link {
+        byte: node.byte,
+        offset,
+    })?;
+    Ok(())
+}
+
+/// Puts the offset of the root into its place.
+fn put_root(out: &mut [u8], root: u32)
+    requires { first_place ≤ length out.old }
+    ensures { out.new ≡ take 8 out.old ++ number root ++ drop first_place out.old }
+{
+    BigEndian::write_u32(&mut out[8..], root);
+}
+
+/// The file of these nodes, which take so many bytes.
+pub(crate) fn write(alloc: Global, nodes: &[Node], capacity: usize) -> Result<Vec<u8>, AllocError>
+    requires { length (with_parts (map part_of nodes.now) headed).bytes ≤ largest_file }
+    ensures { IfOk result (λ v. v.items ≡ rooted (with_parts (map part_of nodes.now) headed)) }
+{
+    let mut out = Vec::with_capacity(alloc, capacity)?;
+    push_number(&mut out, MAGIC)?;
+    push_number(&mut out, VERSION)?;
+    push_number(&mut out, 0)?;
+    let mut links = Vec::new(alloc);
+    for node in nodes {
+        write_node(&mut out, &mut links, node)?;
+    }
+    let root = offset_of(&links, 0);
+    put_root(&mut out, root);
+    Ok(out)
+}

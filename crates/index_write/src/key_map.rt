@@ -1,0 +1,87 @@
+ghost use Rattle.std.specs.Prelude.{◌≡◌, OnOk, OnErr, IfOk};
+ghost use Rattle.std.specs.List.{AllByRecursion};
+ghost use Rattle.std.specs.FinMap as map;
+ghost use Rattle.index_format.specs.Map.{IsKey, IsText, with_value};
+
+use crate::lists::add_value;
+use crate::node::KeyEntry;
+use km_names::Blob;
+use std::alloc::{AllocError, Global};
+use std::collections::BTreeMap;
+use std::marker::Model;
+
+/// A value of a key.
+#[derive(Drop)]
+pub(crate) struct Value {
+    pub(crate) priority: u32,
+    pub(crate) text: Blob,
+}
+
+/// A map from keys to values, each of which has a priority and a text. The values of a key stand by rising
+/// priority, those of one priority in the order in which they were added.
+#[derive(Drop)]
+pub struct KeyMap {
+    alloc: Global,
+    lists: BTreeMap<Vec<u8>, Vec<Value>>,
+}
+
+impl Model for KeyMap {
+    ghost use Rattle.index_format.specs.Map.{KeyValues, key_values_code};
+
+    ghost Value = { KeyValues };
+
+    ghost coded = { key_values_code };
+
+    ghost use Rattle.index_write.specs.Lists.{map_of, AreSound};
+
+    ghost view = { λ m. map_of m.lists.entries };
+
+    ghost invariant = { λ m. AreSound m.lists.entries };
+}
+
+impl KeyMap {
+    ghost use Rattle.index_format.specs.Tree.{Rises};
+    ghost use Rattle.index_write.specs.Lists.{IsSound};
+    ghost use Rattle.index_write.specs.Groups.{shown};
+
+    /// The map without keys. It takes no memory.
+    pub fn new(alloc: Global) -> KeyMap
+        ensures { result ≡ map.empty }
+    {
+        KeyMap {
+            alloc,
+            lists: BTreeMap::new(alloc),
+        }
+    }
+
+    /// Adds a value to a key. It goes after the last value of the key whose priority isn't greater. After a
+    /// refusal the map is as before.
+    pub fn add(&mut self, key: &[u8], priority: u32, text: &[u8]) -> Result<(), AllocError>
+        requires key { IsKey key.now }
+        requires text { IsText text.now }
+        ensures ok { OnOk result (self.new ≡ with_value self.old key.now (priority, text.now)) }
+        ensures err { OnErr result (self.new ≡ self.old) }
+    {
+        let value = Value {
+            priority,
+            text: Blob::from_slice(self.alloc, text)?,
+        };
+        add_value(self.alloc, &mut self.lists, key, value)
+    }
+
+    /// The keys in their order, each with its values.
+    pub(crate) fn entries(&self, alloc: Global) -> Result<Vec<KeyEntry<'_>>, AllocError>
+        ensures shown { IfOk result (λ v. shown v.items ≡ map.entries self.now) }
+        ensures rises { OnOk result (Rises (map.entries self.now)) }
+        ensures sound { OnOk result (AllByRecursion IsSound (map.entries self.now)) }
+    {
+        let mut entries = Vec::new(alloc);
+        for (key, list) in &self.lists {
+            entries.push(KeyEntry {
+                key: key.as_slice(),
+                values: list.as_slice(),
+            })?;
+        }
+        Ok(entries)
+    }
+}

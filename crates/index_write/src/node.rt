@@ -1,0 +1,232 @@
+ghost use Rattle.std.specs.Prelude.{◌≡◌, ◌≤◌, ◌<◌, ◌+◌, ◌^◌, [], ◌∷◌, ◌++◌, length, take, drop, map, OnOk, IfOk, IfNone, IfSome};
+ghost use Rattle.index_format.specs.Tree.{common, common_prefix, ending, groups, tree, Rises};
+ghost use Rattle.index_write.specs.Lists.{values_in};
+ghost use Rattle.index_write.specs.Parts.{span_of, parts_of};
+ghost use Rattle.index_write.specs.Groups.{shown, at_depth, group_of, groups_of, ended, leading, AllGoOn, part_of, below, part_for, root_part};
+
+use crate::key_map::Value;
+use std::alloc::{AllocError, Global};
+
+/// A key with its values.
+#[derive(Clone, Copy)]
+pub(crate) struct KeyEntry<'a> {
+    pub(crate) key: &'a [u8],
+    pub(crate) values: &'a [Value],
+}
+
+/// Entries whose keys begin alike, with the byte that leads to their node and the number of bytes that are
+/// taken off their keys there.
+#[derive(Clone, Copy)]
+pub(crate) struct Group<'e, 'a> {
+    byte: u8,
+    entries: &'e [KeyEntry<'a>],
+    depth: usize,
+}
+
+/// The bytes that lead to a node's children: the first and the last one, and how many there are.
+#[derive(Clone, Copy)]
+pub(crate) struct Span {
+    pub(crate) first: u8,
+    pub(crate) last: u8,
+    pub(crate) count: usize,
+}
+
+/// A node without its children.
+#[derive(Clone, Copy)]
+pub(crate) struct Node<'a> {
+    pub(crate) byte: u8,
+    pub(crate) prefix: &'a [u8],
+    pub(crate) values: &'a [Value],
+    pub(crate) children: Span,
+}
+
+/// What is left of a key when so many bytes are taken off.
+fn rest_of(key: &[u8], depth: usize) -> &[u8]
+    ensures rest { result.now ≡ drop depth key.now }
+    ensures fits { depth + length result.now < 2 ^ 64 }
+{
+    if depth <= key.len() {
+        &key[depth..]
+    } else {
+        &[]
+    }
+}
+
+/// How many bytes two keys have in common at their front.
+fn common_length(a: &[u8], b: &[u8]) -> usize
+    ensures within { result ≤ length a.now }
+    ensures common { take result a.now ≡ common a.now b.now }
+{
+    let mut n = 0;
+    while n < a.len() && n < b.len() && a[n] == b[n] {
+        n += 1;
+    }
+    n
+}
+
+/// The longest prefix that is common to what is left of the keys.
+fn common_prefix<'a>(entries: &[KeyEntry<'a>], depth: usize) -> &'a [u8]
+    ensures prefix { result.now ≡ common_prefix (at_depth depth entries.now) }
+    ensures fits { depth + length result.now < 2 ^ 64 }
+{
+    let Some((first, others)) = entries.split_first() else {
+        return &[];
+    };
+    let mut prefix = rest_of(first.key, depth);
+    for entry in others {
+        let common = common_length(prefix, rest_of(entry.key, depth));
+        prefix = &prefix[..common];
+    }
+    prefix
+}
+
+/// The values of the key that ends here.
+fn ending<'a>(entries: &[KeyEntry<'a>], depth: usize) -> &'a [Value]
+    ensures { values_in result.now ≡ ending (at_depth depth entries.now) }
+{
+    let Some(first) = entries.first() else {
+        return &[];
+    };
+    if first.key.len() <= depth {
+        first.values
+    } else {
+        &[]
+    }
+}
+
+/// How many entries end here: the first one or none.
+fn ended(entries: &[KeyEntry], depth: usize) -> usize
+    ensures count { result ≡ ended (at_depth depth entries.now) }
+    ensures within { result ≤ length entries.now }
+{
+    let Some(first) = entries.first() else {
+        return 0;
+    };
+    if first.key.len() <= depth { 1 } else { 0 }
+}
+
+/// How many entries at the front go on with this byte.
+fn run_length(entries: &[KeyEntry], depth: usize, byte: u8) -> usize
+    ensures count { result ≡ leading byte (at_depth depth entries.now) }
+    ensures within { result ≤ length entries.now }
+{
+    for (n, entry) in entries.iter().enumerate() {
+        if entry.key.len() <= depth || entry.key[depth] != byte {
+            return n;
+        }
+    }
+    entries.len()
+}
+
+/// The first group of entries that all go on, and how many entries it has.
+fn first_group<'e, 'a>(entries: &'e [KeyEntry<'a>], depth: usize) -> Option<(Group<'e, 'a>, usize)>
+    requires { AllGoOn (at_depth depth entries.now) }
+    ensures none { IfNone result (entries.now ≡ []) }
+    ensures some { IfSome result (λ p. groups (at_depth depth entries.now) ≡ group_of p.0 ∷ groups (drop p.1 (at_depth depth entries.now))) }
+    ensures more { IfSome result (λ p. 0 < p.1) }
+    ensures within { IfSome result (λ p. p.1 ≤ length entries.now) }
+{
+    let first = entries.first()?;
+    let byte = rest_of(first.key, depth)[0];
+    let count = run_length(entries, depth, byte);
+    let group = Group {
+        byte,
+        entries: &entries[..count],
+        depth: depth + 1,
+    };
+    Some((group, count))
+}
+
+/// Puts the groups of the entries that go on after the pending ones.
+fn push_groups<'e, 'a>(
+    entries: &'e [KeyEntry<'a>],
+    depth: usize,
+    pending: &mut Vec<Group<'e, 'a>>,
+) -> Result<(), AllocError>
+    requires { Rises (at_depth depth entries.now) }
+    ensures { OnOk result (groups_of pending.new.items ≡ groups_of pending.old.items ++ groups (at_depth depth entries.now)) }
+{
+    let mut from = ended(entries, depth);
+    while let Some((group, count)) = first_group(&entries[from..], depth) {
+        pending.push(group)?;
+        from += count;
+    }
+    Ok(())
+}
+
+/// The range of the bytes that lead to the nodes of groups.
+fn span_of(groups: &[Group]) -> Span
+    ensures { result ≡ span_of (map (λ g. g.0) (groups_of groups.now)) }
+{
+    match (groups.first(), groups.last()) {
+        (Some(first), Some(last)) => Span {
+            first: first.byte,
+            last: last.byte,
+            count: groups.len(),
+        },
+        _ => Span {
+            first: 0,
+            last: 0,
+            count: 0,
+        },
+    }
+}
+
+/// The node of a group. The groups below it go after the pending ones.
+fn node_of<'e, 'a>(
+    group: &Group<'e, 'a>,
+    pending: &mut Vec<Group<'e, 'a>>,
+) -> Result<Node<'a>, AllocError>
+    requires { Rises (group_of group.now).1 }
+    ensures node { IfOk result (λ n. part_of n ≡ part_for group.now.byte (group_of group.now).1) }
+    ensures pending { OnOk result (groups_of pending.new.items ≡ groups_of pending.old.items ++ groups (below (group_of group.now).1)) }
+{
+    let prefix = common_prefix(group.entries, group.depth);
+    let depth = group.depth + prefix.len();
+    let start = pending.len();
+    push_groups(group.entries, depth, pending)?;
+    Ok(Node {
+        byte: group.byte,
+        prefix,
+        values: ending(group.entries, depth),
+        children: span_of(&pending[start..]),
+    })
+}
+
+/// The root.
+fn root_of<'e, 'a>(
+    entries: &'e [KeyEntry<'a>],
+    pending: &mut Vec<Group<'e, 'a>>,
+) -> Result<Node<'a>, AllocError>
+    requires { Rises (shown entries.now) }
+    ensures node { IfOk result (λ n. part_of n ≡ root_part (shown entries.now)) }
+    ensures pending { OnOk result (groups_of pending.new.items ≡ groups_of pending.old.items ++ groups (shown entries.now)) }
+{
+    let start = pending.len();
+    push_groups(entries, 0, pending)?;
+    Ok(Node {
+        byte: 0,
+        prefix: &[],
+        values: ending(entries, 0),
+        children: span_of(&pending[start..]),
+    })
+}
+
+/// The nodes of the tree in the order of the file. They are found the other way round, each before those below
+/// it, and a vector keeps the groups whose nodes are still to be made.
+pub(crate) fn nodes<'a>(
+    alloc: Global,
+    entries: &[KeyEntry<'a>],
+) -> Result<Vec<Node<'a>>, AllocError>
+    requires { Rises (shown entries.now) }
+    ensures { IfOk result (λ v. map part_of v.items ≡ parts_of (tree (shown entries.now))) }
+{
+    let mut pending = Vec::new(alloc);
+    let mut nodes = Vec::new(alloc);
+    nodes.push(root_of(entries, &mut pending)?)?;
+    while let Some(group) = pending.pop() {
+        nodes.push(node_of(&group, &mut pending)?)?;
+    }
+    nodes.reverse();
+    Ok(nodes)
+}

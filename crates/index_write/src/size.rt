@@ -1,0 +1,69 @@
+ghost use Rattle.std.specs.Prelude.{◌≡◌, ◌+◌, ◌-◌, ◌^◌, min, map, sum_by};
+ghost use Rattle.index_format.specs.Check.{first_place};
+ghost use Rattle.index_write.specs.Lists.{values_in};
+ghost use Rattle.index_write.specs.Parts.{prefix_size, children_size, values_size, part_size};
+ghost use Rattle.index_write.specs.Groups.{part_of};
+
+use crate::key_map::Value;
+use crate::node::{Node, Span};
+
+/// The bytes before the first node: the magic, the version and the offset of the root.
+const HEADER_SIZE: u64 = 12;
+
+/// How many bytes a prefix takes with its NUL.
+fn prefix_size(prefix: &[u8]) -> u64
+    ensures { result ≡ min (prefix_size prefix.now) (2 ^ 64 - 1) }
+{
+    if prefix.is_empty() {
+        0
+    } else {
+        (prefix.len() as u64).saturating_add(1)
+    }
+}
+
+/// How many bytes the range of a node's children takes with its offsets.
+fn children_size(children: &Span) -> u64
+    ensures { result ≡ children_size children.now }
+{
+    if children.count == 0 {
+        0
+    } else {
+        2 + 4 * (u64::from(children.last).saturating_sub(u64::from(children.first)) + 1)
+    }
+}
+
+/// How many bytes values take with their count.
+fn values_size(values: &[Value]) -> u64
+    ensures { result ≡ min (values_size (values_in values.now)) (2 ^ 64 - 1) }
+{
+    if values.is_empty() {
+        return 0;
+    }
+    let mut total: u64 = 4;
+    for value in values {
+        total = total
+            .saturating_add(value.text.len() as u64)
+            .saturating_add(5);
+    }
+    total
+}
+
+/// How many bytes a node takes.
+fn node_size(node: &Node) -> u64
+    ensures { result ≡ min (part_size (part_of node.now)) (2 ^ 64 - 1) }
+{
+    prefix_size(node.prefix)
+        .saturating_add(children_size(&node.children))
+        .saturating_add(values_size(node.values))
+}
+
+/// How many bytes the file of these nodes has.
+pub(crate) fn file_size(nodes: &[Node]) -> u64
+    ensures { result ≡ min (first_place + sum_by part_size (map part_of nodes.now)) (2 ^ 64 - 1) }
+{
+    let mut total = HEADER_SIZE;
+    for node in nodes {
+        total = total.saturating_add(node_size(node));
+    }
+    total
+}
