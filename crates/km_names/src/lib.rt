@@ -20,5 +20,5 @@ pub use conf::{ConfFault, ConfFile, ConfFiles, Line, Lines, TreeIndex};
 pub use lines::{conf_lines, first_line};
 pub use list::{List, Names, Paths, Texts};
 pub use path::{is_compressed, join, module_name, underscored};
-pub use space::{split_word, trimmed};
+pub use space::{split_word, trimmed, words};
 pub use word::Word;
