@@ -1,4 +1,5 @@
 pub mod AliasRun
 pub mod Ends
 pub mod LineSteps
+pub mod StatementSteps
 pub mod Trims

@@ -12,6 +12,7 @@ mod lines;
 mod list;
 mod path;
 mod space;
+mod statement;
 mod word;
 
 pub use alias::normal_alias;
@@ -21,4 +22,5 @@ pub use lines::{conf_lines, first_line};
 pub use list::{List, Names, Paths, Texts};
 pub use path::{is_compressed, join, module_name, underscored};
 pub use space::{split_word, trimmed, words};
+pub use statement::{Statement, parse_files};
 pub use word::Word;
