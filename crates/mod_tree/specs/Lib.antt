@@ -1,2 +1,5 @@
+pub mod Chosen
+pub mod Order
 pub mod Search
+pub mod Shown
 pub mod Tree

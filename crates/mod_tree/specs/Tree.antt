@@ -5,8 +5,7 @@ use Rattle.std.specs.List.{list_any, ends_with, starts_with, position_or_len}
 use Rattle.std.specs.Str.{bytes_eq}
 use Rattle.std.specs.Ordering.{nat_cmp, ordering_then, is_lt}
 use Rattle.std.specs.declared.cmp.Ordering.{Ordering}
-use Rattle.std.specs.Cmp.Lexicographic.{slice_cmp}
-use Rattle.std.specs.FinSet as set
+use Rattle.mod_tree.specs.Order.{bytes_cmp, in_order}
 use Rattle.km_names.specs.Path.{module_name, is_compressed}
 use Rattle.km_names.specs.Lines.{lines_of}
 use Rattle.mod_tree.specs.declared.tree.TreeFault.{TreeFault}
@@ -19,10 +18,6 @@ is_module_path path = ends_with nat_eq path (codes ".ko") || is_compressed path
 -- Whether a byte can't stand in the path of a module: it isn't one of 33 to 126, or it is `:`.
 abbrev pub is_bad_byte : ℕ → Bool
 is_bad_byte b = nat_lt b 33 || nat_lt 126 b || b == 58
-
--- Byte lists in the order of their bytes.
-abbrev pub bytes_cmp : List ℕ → List ℕ → Ordering
-bytes_cmp = slice_cmp nat_cmp
 
 -- Whether a search word names a folder that a path lies in. `built-in` names none.
 abbrev pub is_folder_of : List ℕ → List ℕ → Bool
@@ -52,11 +47,11 @@ listing_cmp lines p q =
 
 -- The chosen ones among paths of modules, each once, in the order of the tree.
 unfoldable pub tree_paths : List (List ℕ) → List (List ℕ) → List (List ℕ) → List (List ℕ)
-tree_paths search lines paths = set.items (set.from_list {R = listing_cmp lines} (filter (is_chosen search paths) paths))
+tree_paths search lines paths = in_order (listing_cmp lines) (filter (is_chosen search paths) paths)
 
 -- How many module names the paths have.
 unfoldable pub name_count : List (List ℕ) → ℕ
-name_count paths = set.len (set.from_list {R = bytes_cmp} (map module_name paths))
+name_count paths = length (in_order bytes_cmp (map module_name paths))
 
 -- The lesser by bytes of a path and what may be another.
 abbrev pub lesser : List ℕ → Option (List ℕ) → Option (List ℕ)

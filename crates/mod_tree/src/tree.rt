@@ -13,3 +13,8 @@ pub enum TreeFault {
     /// Memory ran out.
     Memory,
 }
+
+ghost use Rattle.std.specs.Prelude.{ℕ, List, ◌≡◌};
+fn dummy() -> u8 
+   ensures { result ≡ 0 }
+{ 0 }
