@@ -4,6 +4,7 @@
 //! It stands on `km_names` for names, lines and configuration files.
 #![tactic(auto)]
 
+mod places;
 mod search;
 mod tree;
 
