@@ -2,4 +2,5 @@ pub mod NumberSums
 pub mod AliasRun
 pub mod Ends
 pub mod LineSteps
+pub mod StatementSteps
 pub mod Trims

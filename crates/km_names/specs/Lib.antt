@@ -4,3 +4,4 @@ pub mod Lines
 pub mod Number
 pub mod Path
 pub mod Space
+pub mod Statements

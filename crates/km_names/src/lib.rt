@@ -15,6 +15,7 @@ mod numbers;
 mod path;
 mod space;
 mod split;
+mod statement;
 mod word;
 
 pub use alias::normal_alias;
@@ -24,6 +25,7 @@ pub use lines::{conf_lines, first_line};
 pub use list::{List, Names, Paths, Texts};
 pub use numbers::{be_u16_at, be_u32_at, le_u16_at, le_u32_at, le_u64_at};
 pub use path::{is_compressed, join, module_name, underscored};
-pub use space::{split_word, trimmed};
 pub use split::split_at_byte;
+pub use space::{split_word, trimmed, words};
+pub use statement::{Statement, parse_files};
 pub use word::Word;

@@ -1,5 +1,9 @@
-ghost use Rattle.std.specs.Prelude.{◌≡◌, ◌≤◌, length, take};
-ghost use Rattle.km_names.specs.Space.{is_space as is_space_byte, trimmed as trimmed_text, trimmed_start as trimmed_at_start, trimmed_end as trimmed_at_end, first_word, rest_after_word};
+ghost use Rattle.std.specs.Prelude.{◌≡◌, ◌≤◌, ◌++◌, ◌∷◌, [], length, IfOk, OnOk};
+ghost use Rattle.std.specs.List.{position_or_len};
+ghost use Rattle.km_names.specs.Space.{is_space as is_space_byte, trimmed as trimmed_text, trimmed_start as trimmed_at_start, trimmed_end as trimmed_at_end, first_word, rest_after_word, nonempty, words as words_of};
+
+use crate::{Blob, Texts};
+use std::alloc::{AllocError, Global};
 
 /// A text without the white space at either end: space, tab and carriage return. modprobe.d(5).
 pub fn trimmed(text: &[u8]) -> &[u8]
@@ -26,8 +30,8 @@ fn is_space(byte: u8) -> bool
 
 // How many bytes stand before the first white space.
 fn word_length(text: &[u8]) -> usize
+    ensures place { result ≡ position_or_len is_space_byte text.now }
     ensures within { result ≤ length text.now }
-    ensures word { take result text.now ≡ first_word text.now }
 {
     let mut end = 0;
     while end < text.len() && !is_space(text[end]) {
@@ -54,4 +58,31 @@ fn trimmed_end(text: &[u8]) -> &[u8]
         end -= 1;
     }
     &text[..end]
+}
+
+/// The words of a text: what stands between its white space. modprobe.d(5), depmod.d(5).
+pub fn words(alloc: Global, text: &[u8]) -> Result<Texts, AllocError>
+    ensures { IfOk result (λ words. words ≡ words_of text.now) }
+{
+    let mut words = Texts::new(alloc);
+    let mut rest = text;
+    loop {
+        let end = word_length(rest);
+        push_nonempty(alloc, &mut words, &rest[..end])?;
+        let after = &rest[end..];
+        if after.is_empty() {
+            return Ok(words);
+        }
+        rest = &after[1..];
+    }
+}
+
+// Puts a piece at the end, unless it is empty.
+fn push_nonempty(alloc: Global, words: &mut Texts, piece: &[u8]) -> Result<(), AllocError>
+    ensures ok { OnOk result (words.new ≡ words.old ++ nonempty (piece.now ∷ [])) }
+{
+    if piece.is_empty() {
+        return Ok(());
+    }
+    words.push(Blob::from_slice(alloc, piece)?)
 }

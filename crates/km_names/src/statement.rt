@@ -1,0 +1,58 @@
+ghost use Rattle.std.specs.Prelude.{◌≡◌, ◌≤◌, ◌++◌, ◌⊎◌, ℕ, List, Option, length, All, IfOk, IfErr, OnOk};
+ghost use Rattle.km_names.specs.First.{first};
+ghost use Rattle.km_names.specs.Statements.{parsed, file_faults, file_statements};
+
+use crate::{ConfFault, ConfFile, ConfFiles, List as Items, PathText, conf_lines};
+use std::alloc::{AllocError, Global};
+
+/// What a line of a configuration file states.
+pub trait Statement: Drop + Sized {
+    /// What a text states, or none where it isn't understood.
+    ghost read: { List ℕ → Option Self };
+
+    /// Reads the text of a line, which has no white space at either end.
+    fn parse(alloc: Global, text: &[u8]) -> Result<Option<Self>, AllocError>
+        ensures { IfOk result (λ statement. statement ≡ read text.now) };
+}
+
+/// What configuration files state, one statement for each line, in order. `BadLine` comes exactly at the
+/// first line that states what isn't understood.
+pub fn parse_files<S: Statement>(alloc: Global, files: &ConfFiles) -> Result<Items<S>, ConfFault>
+    requires { All (λ file. length file.bytes ≤ 67108864) files.now }
+    ensures ok { IfOk result (λ statements. parsed S.read files.now ≡ Ok statements) }
+    ensures err { IfErr result (λ fault.
+        (fault ≡ ConfFault.Memory) ⊎ (parsed S.read files.now ≡ Err fault)) }
+{
+    let mut statements = Items::new(alloc);
+    for file in files.as_slice() {
+        parse_file(alloc, file, &mut statements)?;
+    }
+    Ok(statements)
+}
+
+// Puts the statements of a file at the end.
+fn parse_file<S: Statement>(
+    alloc: Global,
+    file: &ConfFile,
+    statements: &mut Items<S>,
+) -> Result<(), ConfFault>
+    requires { length file.now.bytes ≤ 67108864 }
+    ensures ok { OnOk result (first (file_faults S.read file.now) ≡ None) }
+    ensures statements { OnOk result (statements.new ≡ statements.old ++ file_statements S.read file.now) }
+    ensures err { IfErr result (λ fault.
+        (fault ≡ ConfFault.Memory) ⊎ (first (file_faults S.read file.now) ≡ Some fault)) }
+{
+    let lines = conf_lines(alloc, file.bytes.as_bytes())?;
+    for line in lines.as_slice() {
+        match S::parse(alloc, line.text.as_bytes())? {
+            Some(statement) => statements.push(statement)?,
+            None => {
+                return Err(ConfFault::BadLine {
+                    file: PathText::from_slice(alloc, file.path.as_bytes())?,
+                    line: line.number,
+                });
+            }
+        }
+    }
+    Ok(())
+}

@@ -1,0 +1,4 @@
+pub mod Ascending
+pub mod Heads
+pub mod PlaceSteps
+pub mod SearchSteps

@@ -1,0 +1,6 @@
+pub mod Chosen
+pub mod Order
+pub mod Places
+pub mod Search
+pub mod Shown
+pub mod Tree

@@ -1,0 +1,32 @@
+-- The list of search words: depmod.d(5), "search".
+use Rattle.std.specs.Prelude.{ℕ, List, [], ◌∷◌, if◌then◌else◌, codes, Option, Some, None, Result, Ok, Err, map}
+use Rattle.std.specs.List.{flat_map}
+use Rattle.std.specs.Str.{bytes_eq}
+use Rattle.km_names.specs.Space.{first_word, rest_after_word, words}
+use Rattle.km_names.specs.Statements.{parsed}
+use Rattle.km_names.specs.declared.conf.ConfFile.{ConfFile}
+use Rattle.km_names.specs.declared.conf.ConfFault.{ConfFault}
+use Rattle.mod_tree.specs.declared.search.SearchLine.{SearchLine}
+
+-- The words of a line, where there is one.
+abbrev pub some_words : List (List ℕ) → Option SearchLine
+some_words [] = None
+some_words (word ∷ words) = Some (record { words = word ∷ words })
+
+-- What a line of depmod.d states, if it is understood: `search` and one word or more.
+unfoldable pub search_line : List ℕ → Option SearchLine
+search_line text = if bytes_eq (first_word text) (codes "search") then some_words (words (rest_after_word text)) else None
+
+-- The words of all lines, in order, or `updates built-in` where there is no line.
+abbrev pub words_of_lines : List SearchLine → List (List ℕ)
+words_of_lines [] = codes "updates" ∷ codes "built-in" ∷ []
+words_of_lines (line ∷ lines) = flat_map (λ (l : SearchLine). l.words) (line ∷ lines)
+
+-- The search list of the lines, unless one isn't understood.
+abbrev pub search_of_lines : Result (List SearchLine) ConfFault → Result (List (List ℕ)) ConfFault
+search_of_lines (Ok lines) = Ok (words_of_lines lines)
+search_of_lines (Err fault) = Err fault
+
+-- The search list of the files, or the first line that isn't understood.
+unfoldable pub search_of : List ConfFile → Result (List (List ℕ)) ConfFault
+search_of files = search_of_lines (parsed search_line files)

@@ -1,0 +1,12 @@
+//! The tree of a kernel's modules: of all files that name a module, the one that the search list puts
+//! first, in the order of the kernel's build. depmod.d(5), "search"; modules.order.
+//!
+//! It stands on `km_names` for names, lines and configuration files.
+#![tactic(auto)]
+
+mod places;
+mod search;
+mod tree;
+
+pub use search::{Search, SearchLine, parse_search};
+pub use tree::{Tree, TreeFault};

@@ -1,0 +1,83 @@
+ghost use Rattle.std.specs.Prelude.{◌≡◌, ◌≤◌, ◌⊎◌, ◌++◌, List, ℕ, length, All, IfOk, IfErr, OnOk};
+ghost use Rattle.std.specs.List.{flat_map};
+ghost use Rattle.mod_tree.specs.Search.{search_of, words_of_lines};
+ghost use Rattle.km_names.specs.Space.{words as words_of};
+
+use km_names::{ConfFault, ConfFiles, List as Items, Name, Names, Statement, parse_files, split_word, words};
+use std::alloc::{AllocError, Global};
+
+/// The words that say in which folders modules are looked for first, in order.
+pub type Search = Names;
+
+/// A line `search WORDS` of depmod.d(5), with its words, one or more.
+#[derive(Drop)]
+pub struct SearchLine {
+    pub words: Names,
+}
+
+impl Statement for SearchLine {
+    ghost use Rattle.mod_tree.specs.Search.{search_line};
+
+    ghost read = { search_line };
+
+    fn parse(alloc: Global, text: &[u8]) -> Result<Option<SearchLine>, AllocError> {
+        let (command, rest) = split_word(text);
+        if command != b"search".as_slice() {
+            return Ok(None);
+        }
+        let words = name_words(alloc, rest)?;
+        if words.is_empty() {
+            return Ok(None);
+        }
+        Ok(Some(SearchLine { words }))
+    }
+}
+
+/// The search list of the files of depmod.d(5): the words of all their `search` lines, in order, or
+/// `updates built-in` where there is none. `BadLine` comes exactly at the first line that states anything
+/// else, or that has no word after `search`.
+pub fn parse_search(alloc: Global, files: &ConfFiles) -> Result<Search, ConfFault>
+    requires { All (λ file. length file.bytes ≤ 67108864) files.now }
+    ensures ok { IfOk result (λ search. search_of files.now ≡ Ok search) }
+    ensures err { IfErr result (λ fault.
+        (fault ≡ ConfFault.Memory) ⊎ (search_of files.now ≡ Err fault)) }
+{
+    let lines: Items<SearchLine> = parse_files(alloc, files)?;
+    Ok(all_words(alloc, &lines)?)
+}
+
+// The words of all lines, in order, or the usual ones where there is no line.
+fn all_words(alloc: Global, lines: &Items<SearchLine>) -> Result<Search, AllocError>
+    ensures { IfOk result (λ search. search ≡ words_of_lines lines.now) }
+{
+    let mut search = Search::new(alloc);
+    if lines.is_empty() {
+        search.push(Name::from_slice(alloc, b"updates")?)?;
+        search.push(Name::from_slice(alloc, b"built-in")?)?;
+        return Ok(search);
+    }
+    for line in lines.as_slice() {
+        push_words(alloc, &mut search, &line.words)?;
+    }
+    Ok(search)
+}
+
+fn push_words(alloc: Global, search: &mut Search, words: &Names) -> Result<(), AllocError>
+    ensures { OnOk result (search.new ≡ search.old ++ words.now) }
+{
+    for word in words.as_slice() {
+        search.push(Name::from_slice(alloc, word.as_bytes())?)?;
+    }
+    Ok(())
+}
+
+// The words of a text, as names.
+fn name_words(alloc: Global, text: &[u8]) -> Result<Names, AllocError>
+    ensures { IfOk result (λ names. names ≡ words_of text.now) }
+{
+    let mut names = Names::new(alloc);
+    for word in words(alloc, text)?.as_slice() {
+        names.push(Name::from_slice(alloc, word.as_bytes())?)?;
+    }
+    Ok(names)
+}

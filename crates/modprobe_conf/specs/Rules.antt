@@ -1,0 +1,67 @@
+-- The rules of modprobe.d(5): what each line of its files states.
+use Rattle.std.specs.Prelude.{ℕ, List, [], ◌∷◌, ◌++◌, Bool, not, ◌||◌, if◌then◌else◌, codes, Option, Some, None, Result, map}
+use Rattle.std.specs.Option.{option_map}
+use Rattle.std.specs.List.{take_while}
+use Rattle.std.specs.Str.{bytes_eq}
+use Rattle.km_names.specs.Path.{underscored}
+use Rattle.km_names.specs.AliasForm.{normal_alias}
+use Rattle.km_names.specs.Space.{first_word, rest_after_word, words}
+use Rattle.km_names.specs.Statements.{parsed}
+use Rattle.km_names.specs.declared.conf.ConfFile.{ConfFile}
+use Rattle.km_names.specs.declared.conf.ConfFault.{ConfFault}
+use Rattle.modprobe_conf.specs.declared.rule.Rule.{Rule}
+use Rattle.modprobe_conf.specs.declared.rule.Rule.TheVariants.{Alias, Blacklist, Options, Install, Remove, Softdep}
+
+-- Something, where a text isn't empty.
+abbrev pub unless_empty : {X : Type 0} → List ℕ → Option X → Option X
+unless_empty [] x = None
+unless_empty (b ∷ bs) x = x
+
+-- `alias PATTERN NAME`, from what follows the command: two words, the first with a normal form.
+unfoldable pub alias_rule : List ℕ → Option Rule
+alias_rule rest =
+    let name = first_word (rest_after_word rest) in
+    unless_empty name (option_map (λ pattern. Alias pattern (underscored name)) (normal_alias (first_word rest)))
+
+-- `blacklist NAME`: one word.
+unfoldable pub blacklist_rule : List ℕ → Option Rule
+blacklist_rule rest = unless_empty (first_word rest) (Some (Blacklist (underscored (first_word rest))))
+
+-- A name, and a rest that isn't empty and is kept as it stands.
+unfoldable pub name_with_rest : List ℕ → Option (List ℕ × List ℕ)
+name_with_rest rest = unless_empty (rest_after_word rest) (Some (underscored (first_word rest), rest_after_word rest))
+
+-- Whether a word says where the words after it belong, in a line of soft dependencies.
+abbrev pub is_marker : List ℕ → Bool
+is_marker word = bytes_eq word (codes "pre:") || bytes_eq word (codes "post:")
+
+-- The words after each such marker, up to the next marker of either kind.
+abbrev pub words_after : List ℕ → List (List ℕ) → List (List ℕ)
+words_after marker [] = []
+words_after marker (word ∷ words) =
+    if bytes_eq word marker then take_while (λ w. not (is_marker w)) words ++ words_after marker words else words_after marker words
+
+-- `softdep NAME WORDS`: one word after the name; the names after `pre:` and those after `post:`.
+unfoldable pub softdep_rule : List ℕ → Option Rule
+softdep_rule rest =
+    let list = rest_after_word rest in
+    let names : List ℕ → List (List ℕ) = λ marker. map underscored (words_after marker (words list)) in
+    unless_empty list (Some (Softdep (underscored (first_word rest)) (names (codes "pre:")) (names (codes "post:"))))
+
+-- What a line states, if it is understood: the rule of its command, where `options NAME REST`,
+-- `install NAME REST` and `remove NAME REST` are a name with a rest.
+unfoldable pub rule_of : List ℕ → Option Rule
+rule_of text =
+    let command = first_word text in
+    let rest = rest_after_word text in
+    if bytes_eq command (codes "alias") then alias_rule rest
+    else (if bytes_eq command (codes "blacklist") then blacklist_rule rest
+    else (if bytes_eq command (codes "options") then option_map (λ p. Options p.0 p.1) (name_with_rest rest)
+    else (if bytes_eq command (codes "install") then option_map (λ p. Install p.0 p.1) (name_with_rest rest)
+    else (if bytes_eq command (codes "remove") then option_map (λ p. Remove p.0 p.1) (name_with_rest rest)
+    else (if bytes_eq command (codes "softdep") then softdep_rule rest
+    else None)))))
+
+-- The rules of the files, one for each line, in order, or the first line that isn't understood.
+abbrev pub rules_of : List ConfFile → Result (List Rule) ConfFault
+rules_of files = parsed rule_of files

@@ -1,0 +1,140 @@
+ghost use Rattle.std.specs.Prelude.{◌≡◌, IfOk, IsTrue, map};
+ghost use Rattle.km_names.specs.Path.{underscored as underscored_bytes};
+ghost use Rattle.modprobe_conf.specs.Rules.{rule_of, alias_rule as alias_of, blacklist_rule as blacklist_of, name_with_rest as name_with_rest_of, softdep_rule as softdep_of, is_marker as is_marker_word, words_after};
+
+use km_names::{
+    Alias, Blob, List, Name, Names, Statement, Texts, normal_alias, split_word, underscored, words,
+};
+use std::alloc::{AllocError, Global};
+
+/// What a line of modprobe.d(5) states. Names have `_` for each `-`, and patterns their normal form.
+#[derive(Drop)]
+pub enum Rule {
+    /// `alias PATTERN NAME`: names that match the pattern stand for the module.
+    Alias { pattern: Alias, name: Name },
+    /// `blacklist NAME`: the module's own aliases aren't used.
+    Blacklist { name: Name },
+    /// `options NAME TEXT`: parameters that the module is loaded with.
+    Options { name: Name, text: Blob },
+    /// `install NAME COMMAND`: what is run instead of loading the module.
+    Install { name: Name, command: Blob },
+    /// `remove NAME COMMAND`: what is run instead of removing the module.
+    Remove { name: Name, command: Blob },
+    /// `softdep NAME pre: NAMES post: NAMES`: what is loaded before the module and after it, where it can be.
+    Softdep { name: Name, pre: Names, post: Names },
+}
+
+/// The rules of configuration files, in order.
+pub type Rules = List<Rule>;
+
+impl Statement for Rule {
+    ghost use Rattle.modprobe_conf.specs.Rules.{rule_of};
+
+    ghost read = { rule_of };
+
+    fn parse(alloc: Global, text: &[u8]) -> Result<Option<Rule>, AllocError> {
+        let (command, rest) = split_word(text);
+        if command == b"alias".as_slice() {
+            return alias_rule(alloc, rest);
+        }
+        if command == b"blacklist".as_slice() {
+            return blacklist_rule(alloc, rest);
+        }
+        if command == b"options".as_slice() {
+            let both = name_with_rest(alloc, rest)?;
+            return Ok(both.map(|(name, text)| Rule::Options { name, text }));
+        }
+        if command == b"install".as_slice() {
+            let both = name_with_rest(alloc, rest)?;
+            return Ok(both.map(|(name, command)| Rule::Install { name, command }));
+        }
+        if command == b"remove".as_slice() {
+            let both = name_with_rest(alloc, rest)?;
+            return Ok(both.map(|(name, command)| Rule::Remove { name, command }));
+        }
+        if command == b"softdep".as_slice() {
+            return softdep_rule(alloc, rest);
+        }
+        Ok(None)
+    }
+}
+
+fn alias_rule(alloc: Global, rest: &[u8]) -> Result<Option<Rule>, AllocError>
+    ensures { IfOk result (λ rule. rule ≡ alias_of rest.now) }
+{
+    let (pattern, rest) = split_word(rest);
+    let (name, _further) = split_word(rest);
+    if name.is_empty() {
+        return Ok(None);
+    }
+    match normal_alias(alloc, pattern)? {
+        Some(pattern) => Ok(Some(Rule::Alias {
+            pattern,
+            name: underscored(alloc, name)?,
+        })),
+        None => Ok(None),
+    }
+}
+
+fn blacklist_rule(alloc: Global, rest: &[u8]) -> Result<Option<Rule>, AllocError>
+    ensures { IfOk result (λ rule. rule ≡ blacklist_of rest.now) }
+{
+    let (name, _further) = split_word(rest);
+    if name.is_empty() {
+        return Ok(None);
+    }
+    Ok(Some(Rule::Blacklist {
+        name: underscored(alloc, name)?,
+    }))
+}
+
+// A name, and the rest after it, which has to be there.
+fn name_with_rest(alloc: Global, rest: &[u8]) -> Result<Option<(Name, Blob)>, AllocError>
+    ensures { IfOk result (λ both. both ≡ name_with_rest_of rest.now) }
+{
+    let (name, text) = split_word(rest);
+    if text.is_empty() {
+        return Ok(None);
+    }
+    Ok(Some((underscored(alloc, name)?, Blob::from_slice(alloc, text)?)))
+}
+
+fn softdep_rule(alloc: Global, rest: &[u8]) -> Result<Option<Rule>, AllocError>
+    ensures { IfOk result (λ rule. rule ≡ softdep_of rest.now) }
+{
+    let (name, list) = split_word(rest);
+    if list.is_empty() {
+        return Ok(None);
+    }
+    let words = words(alloc, list)?;
+    Ok(Some(Rule::Softdep {
+        name: underscored(alloc, name)?,
+        pre: names_after(alloc, &words, b"pre:")?,
+        post: names_after(alloc, &words, b"post:")?,
+    }))
+}
+
+// Whether a word of a line of soft dependencies says where the words after it belong.
+fn is_marker(word: &[u8]) -> bool
+    ensures { result ≡ is_marker_word word.now }
+{
+    word == b"pre:".as_slice() || word == b"post:".as_slice()
+}
+
+// The names after each such marker, up to the next marker of either kind.
+fn names_after(alloc: Global, words: &Texts, marker: &[u8]) -> Result<Names, AllocError>
+    requires { IsTrue (is_marker_word marker.now) }
+    ensures { IfOk result (λ names. names ≡ map underscored_bytes (words_after marker.now words.now)) }
+{
+    let mut names = Names::new(alloc);
+    let mut belongs = false;
+    for word in words.as_slice() {
+        let word = word.as_bytes();
+        if is_marker(word) {
+            belongs = word == marker;
+        } else if belongs {
+            names.push(underscored(alloc, word)?)?;
+        }
+    }
+    Ok(names)
+}
