@@ -1,11 +1,11 @@
 -- Sections put into a file one after the other.
-use Rattle.std.proofs.Common.{◌≡◌, ℕ, ◌+◌, ◌-◌, ◌*◌, ◌<◌, ◌≤◌, List, [], ◌∷◌, ◌++◌, codes, length, map, take, drop, refl, sym, ap, ◌∙◌, arith}
+use Rattle.std.proofs.Common.{◌≡◌, ℕ, ◌+◌, ◌-◌, ◌≤◌, List, [], ◌∷◌, ◌++◌, codes, length, map, take, drop, refl, sym, ap, ◌∙◌, arith}
 use Rattle.std.proofs.Math.Nat.{add-zero}
 use Rattle.std.proofs.lemmas.List.{append-nil, append_assoc, length-append, length-replicate, length-drop, take_rest, take_at, drop-drop, drop_all}
 use borrow.Rule.Slice.PartMut.{put_mid}
 use Rattle.tree_gen.specs.declared.sheet.Sheet.{Sheet}
-use Rattle.tree_gen.specs.Contents.{zeros, half, word, xword, local_count, text_bytes, data_bytes, modinfo_bytes, versions_bytes, rela_bytes, symtab_bytes, strtab_bytes, shstrtab_bytes, section_names, contents}
-use Rattle.tree_gen.specs.Object.{Attributes, gap, placed, starts, header, plain, attributes, section_header, section_headers, section_table, table_place, object_of}
+use Rattle.tree_gen.specs.Contents.{zeros, half, word, xword, local_count, text_bytes, data_bytes, modinfo_bytes, versions_bytes, rela_bytes, symtab_bytes, strtab_bytes, shstrtab_bytes, contents}
+use Rattle.tree_gen.specs.Object.{Attributes, gap, placed, starts, header, plain, section_header, section_headers, section_table, table_place, object_of}
 use Rattle.tree_gen.specs.Build.{Build, with_part, with_section, with_loaded, with_linked}
 
 pub length-zeros : (n : ℕ) → length (zeros n) ≡ n
@@ -22,7 +22,7 @@ pub put-at : (a k : ℕ) (file rest b : List ℕ) → rest ≡ b ++ drop k (take
 put-at a k file rest b e =
     let none : drop (length file - a) (drop a file) ≡ [] = drop_all (length file - a) (drop a file) (omega (arith, length-drop a file)) in
     let after : rest ≡ b ++ drop (a + k) file =
-        e ∙ ap (λ r. b ++ drop k r) (take_rest file a) ∙ ap (λ r. b ++ r) (drop-drop k a file) in
+    e ∙ ap (λ r. b ++ drop k r) (take_rest file a) ∙ ap (λ r. b ++ r) (drop-drop k a file) in
     ap (λ r. take a file ++ (rest ++ r)) none
     ∙ ap (λ r. take a file ++ r) (append-nil rest ∙ after)
     ∙ sym (append_assoc (take a file) b (drop (a + k) file))
@@ -40,7 +40,7 @@ unfolding with_section
 section-steps name a content f g h t u place fill put at row =
     let bytes : h ≡ with_part content f = put ∙ ap (λ r. r ++ content) fill in
     let table : u ≡ t ++ section_header name a (length f + gap (length f)) (length content) =
-        row ∙ ap (λ p. t ++ section_header name a p (length content)) (at ∙ filled-length f g fill) in
+    row ∙ ap (λ p. t ++ section_header name a p (length content)) (at ∙ filled-length f g fill) in
     λ i. record { bytes = bytes i; table = table i }
 
 -- the table is put, and its place
@@ -79,7 +79,7 @@ parts_contents ps = map (λ (p : Part). p.2) ps
 abbrev after_parts : ℕ → ℕ → List Part → Build → Build
 after_parts name at ps b = record {
   bytes = b.bytes ++ placed at (parts_contents ps);
-  table = b.table ++ section_headers name (parts_names ps) (parts_attributes ps) (starts at (parts_contents ps)) (parts_contents ps)
+  table = b.table ++ section_headers name (parts_names ps) (parts_attributes ps) (starts at (parts_contents ps)) (parts_contents ps);
 }
 
 regroup : (a b c d : List ℕ) → a ++ b ++ c ++ d ≡ a ++ (b ++ c ++ d)
@@ -100,11 +100,11 @@ with_parts-is (p ∷ ps) name b =
     let file : List ℕ = with_part p.2 b.bytes in
     let grown : length file ≡ later = length-with_part p.2 b.bytes in
     let bytes : file ++ placed (length file) (parts_contents ps) ≡ b.bytes ++ (zeros (gap now) ++ p.2 ++ placed later (parts_contents ps)) =
-        ap (λ n. file ++ placed n (parts_contents ps)) grown ∙ regroup b.bytes (zeros (gap now)) p.2 (placed later (parts_contents ps)) in
+    ap (λ n. file ++ placed n (parts_contents ps)) grown ∙ regroup b.bytes (zeros (gap now)) p.2 (placed later (parts_contents ps)) in
     let table : b.table ++ row ++ section_headers next (parts_names ps) (parts_attributes ps) (starts (length file) (parts_contents ps)) (parts_contents ps)
-        ≡ b.table ++ (row ++ section_headers next (parts_names ps) (parts_attributes ps) (starts later (parts_contents ps)) (parts_contents ps)) =
-        ap (λ n. b.table ++ row ++ section_headers next (parts_names ps) (parts_attributes ps) (starts n (parts_contents ps)) (parts_contents ps)) grown
-        ∙ append_assoc b.table row _ in
+    ≡ b.table ++ (row ++ section_headers next (parts_names ps) (parts_attributes ps) (starts later (parts_contents ps)) (parts_contents ps)) =
+    ap (λ n. b.table ++ row ++ section_headers next (parts_names ps) (parts_attributes ps) (starts n (parts_contents ps)) (parts_contents ps)) grown
+    ∙ append_assoc b.table row _ in
     with_parts-is ps next (with_section name p.1 p.2 b) ∙ (λ i. record { bytes = bytes i; table = table i })
 
 -- one more part at the end
@@ -115,7 +115,7 @@ placed-push (x ∷ xs) at t =
     let next : ℕ = at + gap at + length x in
     let rest : List ℕ = placed next xs in
     let end : next + length rest ≡ at + length (front ++ rest) =
-        sym (ap (λ n. at + n) (length-append front rest ∙ ap (λ n. n + length rest) (length-append (zeros (gap at)) x ∙ ap (λ n. n + length x) (length-zeros (gap at)))) ∙ regroup_sum at (gap at) (length x) (length rest)) in
+    sym (ap (λ n. at + n) (length-append front rest ∙ ap (λ n. n + length rest) (length-append (zeros (gap at)) x ∙ ap (λ n. n + length x) (length-zeros (gap at)))) ∙ regroup_sum at (gap at) (length x) (length rest)) in
     ap (λ r. front ++ r) (placed-push xs next t ∙ ap (λ n. rest ++ (zeros (gap n) ++ t)) end)
     ∙ sym (append_assoc front rest (zeros (gap (at + length (front ++ rest))) ++ t))
   where
@@ -160,7 +160,7 @@ built-whole s a b c first loaded linked =
 pub object-long : (s : Sheet) (a b c : Build) → a ≡ start → b ≡ with_loaded s a → c ≡ with_linked s b → 48 ≤ length c.bytes
 object-long s a b c first loaded linked =
     let e : length c.bytes ≡ length (header 0) + length (placed 64 (contents s)) =
-        ap (λ (d : Build). length d.bytes) (built-whole s a b c first loaded linked) ∙ length-append (header 0) (placed 64 (contents s)) in
+    ap (λ (d : Build). length d.bytes) (built-whole s a b c first loaded linked) ∙ length-append (header 0) (placed 64 (contents s)) in
     omega (arith, e, length-header 0)
 
 finished : (s : Sheet) → take 40 (with_part (section_table s) (header 0 ++ placed 64 (contents s))) ++ xword (table_place s) ++ drop 48 (with_part (section_table s) (header 0 ++ placed 64 (contents s)))
@@ -170,11 +170,11 @@ finished s =
     let parts : List ℕ = placed 64 (contents s) in
     let table : List ℕ = section_table s in
     let end : length (header 0 ++ parts) ≡ 64 + length parts =
-        length-append (header 0) parts ∙ ap (λ n. n + length parts) (length-header 0) in
+    length-append (header 0) parts ∙ ap (λ n. n + length parts) (length-header 0) in
     let file : with_part table (header 0 ++ parts) ≡ header 0 ++ (parts ++ (zeros (gap (64 + length parts)) ++ table)) =
-        ap (λ n. header 0 ++ parts ++ zeros (gap n) ++ table) end
-        ∙ append_assoc (header 0 ++ parts) (zeros (gap (64 + length parts))) table
-        ∙ append_assoc (header 0) parts (zeros (gap (64 + length parts)) ++ table) in
+    ap (λ n. header 0 ++ parts ++ zeros (gap n) ++ table) end
+    ∙ append_assoc (header 0 ++ parts) (zeros (gap (64 + length parts))) table
+    ∙ append_assoc (header 0) parts (zeros (gap (64 + length parts)) ++ table) in
     ap (λ f. take 40 f ++ xword (table_place s) ++ drop 48 f) file
     ∙ patched (table_place s) (parts ++ (zeros (gap (64 + length parts)) ++ table))
     ∙ ap (λ r. header (table_place s) ++ r) (sym (placed-push (contents s) 64 table))
@@ -185,7 +185,7 @@ pub object-steps : (s : Sheet) (a b c : Build) (out : List ℕ) → a ≡ start 
     → out ≡ object_of s
 object-steps s a b c out first loaded linked e =
     let end : length (header 0 ++ placed 64 (contents s)) ≡ 64 + length (placed 64 (contents s)) =
-        length-append (header 0) (placed 64 (contents s)) ∙ ap (λ n. n + length (placed 64 (contents s))) (length-header 0) in
+    length-append (header 0) (placed 64 (contents s)) ∙ ap (λ n. n + length (placed 64 (contents s))) (length-header 0) in
     e
     ∙ ap (λ (d : Build). take 40 (with_part d.table d.bytes) ++ xword (length d.bytes + gap (length d.bytes)) ++ drop 48 (with_part d.table d.bytes)) (built-whole s a b c first loaded linked)
     ∙ ap (λ n. take 40 (with_part (section_table s) (header 0 ++ placed 64 (contents s))) ++ xword (n + gap n) ++ drop 48 (with_part (section_table s) (header 0 ++ placed 64 (contents s)))) end

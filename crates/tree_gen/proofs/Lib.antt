@@ -1,3 +1,4 @@
 pub mod SymbolLemmas
 pub mod NameLemmas
 pub mod FileLemmas
+pub mod SheetLemmas

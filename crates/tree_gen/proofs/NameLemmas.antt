@@ -1,5 +1,5 @@
 -- The numbers of symbols, as the places of their names.
-use Rattle.std.proofs.Common.{◌≡◌, ℕ, ◌+◌, ◌*◌, ◌<◌, Bool, false, not, nat_lt, cond, ◌||◌, List, [], ◌∷◌, ◌++◌, length, map, take, drop, get_or, position, unwrap_or, None, Some, refl, sym, ap, subst, ◌∙◌, arith, if◌then◌else◌}
+use Rattle.std.proofs.Common.{◌≡◌, ℕ, ◌+◌, ◌<◌, Bool, false, not, nat_lt, cond, ◌||◌, List, [], ◌∷◌, ◌++◌, length, map, take, drop, get_or, position, unwrap_or, None, Some, refl, sym, ap, subst, ◌∙◌, arith, if◌then◌else◌}
 use Rattle.std.proofs.Math.Nat.{add-zero}
 use Rattle.std.proofs.lemmas.List.{append-nil, append_assoc, length-append, length-map, length-take-le, take_more, map_more, drop_more, map-append, take-append-drop}
 use Rattle.std.proofs.lemmas.List.Elements.{All-from_recursion, All-contains, Contains-append_right, Contains-get_or}
@@ -23,7 +23,7 @@ absent [] n rest d = refl
 absent (x ∷ xs) n rest d =
     let all = All-from_recursion (λ y. bytes_eq x y ≡ false) (xs ++ n ∷ rest) d.0 in
     let here : bytes_eq x n ≡ false =
-        All-contains (λ y. bytes_eq x y ≡ false) (xs ++ n ∷ rest) n all (Contains-append_right xs (n ∷ rest) n (Contains-get_or (n ∷ rest) 0 n (omega arith))) in
+    All-contains (λ y. bytes_eq x y ≡ false) (xs ++ n ∷ rest) n all (Contains-append_right xs (n ∷ rest) n (Contains-get_or (n ∷ rest) 0 n (omega arith))) in
     ap (λ b. b || list_any (bytes_eq n) xs) (nat_list_eq_equiv.symm n x ∙ here) ∙ absent xs n rest d.1
 
 -- the front of a list of distinct names
@@ -68,15 +68,15 @@ pub insert-next : {X : Type 0} (f : X → List ℕ) (xs : List X) (i : ℕ) (x :
 insert-next f xs i x before keys new k h is same so_far distinct e =
     let rest : List (List ℕ) = map f (drop (i + 1) xs) in
     let split : map f xs ≡ map f (take i xs) ++ f x ∷ rest =
-        ap (map f) (sym (take-append-drop i xs))
-        ∙ map-append f (take i xs) (drop i xs)
-        ∙ ap (λ r. map f (take i xs) ++ map f r) (drop_more xs i x h)
-        ∙ ap (λ y. map f (take i xs) ++ f y ∷ rest) (sym is) in
+    ap (map f) (sym (take-append-drop i xs))
+    ∙ map-append f (take i xs) (drop i xs)
+    ∙ ap (λ r. map f (take i xs) ++ map f r) (drop_more xs i x h)
+    ∙ ap (λ y. map f (take i xs) ++ f y ∷ rest) (sym is) in
     let whole : before ++ map f xs ≡ names_of keys ++ k.now ∷ rest =
-        ap (λ r. before ++ r) split
-        ∙ sym (append_assoc before (map f (take i xs)) (f x ∷ rest))
-        ∙ ap (λ r. r ++ f x ∷ rest) (sym so_far)
-        ∙ ap (λ n. names_of keys ++ n ∷ rest) (sym same) in
+    ap (λ r. before ++ r) split
+    ∙ sym (append_assoc before (map f (take i xs)) (f x ∷ rest))
+    ∙ ap (λ r. r ++ f x ∷ rest) (sym so_far)
+    ∙ ap (λ n. names_of keys ++ n ∷ rest) (sym same) in
     insert-absent keys new k (absent (names_of keys) k.now rest (subst (IsDistinct bytes_eq) whole distinct)) e
     ∙ ap (λ r. r ++ k.now ∷ []) so_far
     ∙ append_assoc before (map f (take i xs)) (k.now ∷ [])

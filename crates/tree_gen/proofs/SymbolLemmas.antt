@@ -1,5 +1,5 @@
 -- Symbols put into a table one after the other.
-use Rattle.std.proofs.Common.{◌≡◌, ℕ, ◌+◌, ◌*◌, ◌<◌, ◌≤◌, List, [], ◌∷◌, ◌++◌, codes, length, map, take, get_or, All, Option, None, Some, refl, sym, ap, subst, ◌∙◌, arith, if◌then◌else◌}
+use Rattle.std.proofs.Common.{◌≡◌, ℕ, ◌+◌, ◌*◌, ◌<◌, ◌≤◌, List, [], ◌∷◌, ◌++◌, codes, length, map, take, get_or, All, Option, None, Some, sym, ap, subst, ◌∙◌, arith, if◌then◌else◌}
 use Rattle.std.proofs.Math.Nat.{add-zero}
 use Rattle.std.proofs.lemmas.List.{append-nil, append_assoc, length-append, length-map, length-take-le, take_more, map_more, get_or_append_left, get_or-append-add, get_or-map}
 use Rattle.std.proofs.lemmas.Grind.{flat_map-append}
@@ -8,8 +8,8 @@ use Rattle.tree_gen.specs.declared.sheet.Sheet.{Sheet}
 use Rattle.tree_gen.specs.declared.sheet.SheetExport.{SheetExport}
 use Rattle.tree_gen.specs.declared.sheet.SheetNeed.{SheetNeed}
 use Rattle.tree_gen.specs.declared.symbols.SymbolTable.{SymbolTable}
-use Rattle.tree_gen.specs.Sheet.{IsSheet, IsText, symbol_names}
-use Rattle.tree_gen.specs.Contents.{SymbolEntry, with_nul, zeros, table_symbol, version_symbols, local_symbols, export_symbols, need_symbol, symbols, names_bytes, symbol_bytes, entries_bytes, symtab_bytes, strtab_bytes}
+use Rattle.tree_gen.specs.Sheet.{IsSheet, symbol_names}
+use Rattle.tree_gen.specs.Contents.{SymbolEntry, with_nul, zeros, version_symbols, local_symbols, export_symbols, need_symbol, symbols, names_bytes, symbol_bytes, entries_bytes, symtab_bytes, strtab_bytes}
 use Rattle.tree_gen.specs.Build.{Adds}
 
 pub entries_bytes-append : (xs ys : List SymbolEntry) (at : ℕ)
@@ -18,7 +18,7 @@ entries_bytes-append [] ys at = ap (λ n. entries_bytes n ys) (sym (add-zero at)
 entries_bytes-append (x ∷ xs) ys at =
     let next : ℕ = at + (length x.name + 1) in
     let e : next + length (names_bytes xs) ≡ at + length (with_nul x.name ++ names_bytes xs) =
-        omega (arith, length-append (with_nul x.name) (names_bytes xs), length-append x.name (0 ∷ [])) in
+    omega (arith, length-append (with_nul x.name) (names_bytes xs), length-append x.name (0 ∷ [])) in
     ap (λ r. symbol_bytes at x ++ r) (entries_bytes-append xs ys next ∙ ap (λ n. entries_bytes next xs ++ entries_bytes n ys) e)
     ∙ sym (append_assoc (symbol_bytes at x) (entries_bytes next xs) _)
 
@@ -30,7 +30,7 @@ Adds-then a b c xs ys p q = record {
       ∙ ap (λ r. r ++ entries_bytes (length b.names.items) ys) p.entries
       ∙ append_assoc a.entries.items (entries_bytes (length a.names.items) xs) (entries_bytes (length b.names.items) ys)
       ∙ ap (λ n. a.entries.items ++ (entries_bytes (length a.names.items) xs ++ entries_bytes n ys))
-          (ap length p.names ∙ length-append a.names.items (names_bytes xs))
+      (ap length p.names ∙ length-append a.names.items (names_bytes xs))
       ∙ ap (λ r. a.entries.items ++ r) (sym (entries_bytes-append xs ys (length a.names.items)));
   names =
       q.names
@@ -101,11 +101,11 @@ exports-next a b c xs i x name h is n p q =
     let here : List SymbolEntry = record { name = name; info = 0x12; section = 1; value = 16 * i; size = 16 } ∷ [] in
     let place : i ≡ 0 + length (take i xs) = omega (arith, length-take-le i xs (omega arith)) in
     let e : export_symbols 0 (take i xs) ++ here ≡ export_symbols 0 (take (i + 1) xs) =
-        ap (λ m. export_symbols 0 (take i xs) ++ record { name = m; info = 0x12; section = 1; value = 16 * i; size = 16 } ∷ []) n
-        ∙ ap (λ k. export_symbols 0 (take i xs) ++ export_symbols k (x ∷ [])) place
-        ∙ sym (export_symbols-append (take i xs) x 0)
-        ∙ ap (λ y. export_symbols 0 (take i xs ++ y ∷ [])) is
-        ∙ sym (ap (export_symbols 0) (take_more xs i x h)) in
+    ap (λ m. export_symbols 0 (take i xs) ++ record { name = m; info = 0x12; section = 1; value = 16 * i; size = 16 } ∷ []) n
+    ∙ ap (λ k. export_symbols 0 (take i xs) ++ export_symbols k (x ∷ [])) place
+    ∙ sym (export_symbols-append (take i xs) x 0)
+    ∙ ap (λ y. export_symbols 0 (take i xs ++ y ∷ [])) is
+    ∙ sym (ap (export_symbols 0) (take_more xs i x h)) in
     subst (Adds a c) e (Adds-then a b c _ _ p q)
 
 -- the step of a loop over needs
@@ -115,10 +115,10 @@ pub needs-next : (a b c : SymbolTable) (xs : List SheetNeed) (i : ℕ) (x : Shee
     → Adds a c (map need_symbol (take (i + 1) xs))
 needs-next a b c xs i x name info h is n w p q =
     let e : map need_symbol (take i xs) ++ record { name = name; info = info; section = 0; value = 0; size = 0 } ∷ [] ≡ map need_symbol (take (i + 1) xs) =
-        ap (λ m. map need_symbol (take i xs) ++ record { name = m; info = info; section = 0; value = 0; size = 0 } ∷ []) n
-        ∙ ap (λ v. map need_symbol (take i xs) ++ record { name = x.name; info = v; section = 0; value = 0; size = 0 } ∷ []) w
-        ∙ ap (λ y. map need_symbol (take i xs) ++ need_symbol y ∷ []) is
-        ∙ sym (map_more need_symbol xs i x h) in
+    ap (λ m. map need_symbol (take i xs) ++ record { name = m; info = info; section = 0; value = 0; size = 0 } ∷ []) n
+    ∙ ap (λ v. map need_symbol (take i xs) ++ record { name = x.name; info = v; section = 0; value = 0; size = 0 } ∷ []) w
+    ∙ ap (λ y. map need_symbol (take i xs) ++ need_symbol y ∷ []) is
+    ∙ sym (map_more need_symbol xs i x h) in
     subst (Adds a c) e (Adds-then a b c _ _ p q)
 
 -- a fact of each element, at the element that a loop has
@@ -130,11 +130,11 @@ short-at f xs i x h is all = subst (λ y. length (f y) ≤ 4096) (sym is) (all i
 pub short-exports : (s : Sheet) → IsSheet s → All (λ e. length e.name ≤ 4096) s.exports
 short-exports s is k d h =
     let there : k < length (symbol_names s) =
-        omega (arith, length-append (map (λ (e : SheetExport). e.name) s.exports) (map (λ (n : SheetNeed). n.name) s.needs), length-map s.exports (λ (e : SheetExport). e.name)) in
+    omega (arith, length-append (map (λ (e : SheetExport). e.name) s.exports) (map (λ (n : SheetNeed). n.name) s.needs), length-map s.exports (λ (e : SheetExport). e.name)) in
     let inside : k < length (map (λ (e : SheetExport). e.name) s.exports) = omega (arith, length-map s.exports (λ (e : SheetExport). e.name)) in
     subst (λ n. length n ≤ 4096)
     (get_or_append_left (map (λ (e : SheetExport). e.name) s.exports) (map (λ (n : SheetNeed). n.name) s.needs) d.name k inside
-        ∙ get_or-map (λ (e : SheetExport). e.name) s.exports k d d.name h)
+    ∙ get_or-map (λ (e : SheetExport). e.name) s.exports k d d.name h)
     (is.each_name k d.name there).short
 
 pub short-needs : (s : Sheet) → IsSheet s → All (λ n. length n.name ≤ 4096) s.needs
@@ -142,7 +142,7 @@ short-needs s is k d h =
     let exports : List (List ℕ) = map (λ (e : SheetExport). e.name) s.exports in
     let needs : List (List ℕ) = map (λ (n : SheetNeed). n.name) s.needs in
     let there : length exports + k < length (symbol_names s) =
-        omega (arith, length-append exports needs, length-map s.needs (λ (n : SheetNeed). n.name)) in
+    omega (arith, length-append exports needs, length-map s.needs (λ (n : SheetNeed). n.name)) in
     subst (λ n. length n ≤ 4096)
     (get_or-append-add exports needs k d.name ∙ get_or-map (λ (n : SheetNeed). n.name) s.needs k d d.name h)
     (is.each_name (length exports + k) d.name there).short

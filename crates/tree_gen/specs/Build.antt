@@ -40,7 +40,7 @@ with_part part file = file ++ zeros (gap (length file)) ++ part
 unfoldable pub with_section : ℕ → Attributes → List ℕ → Build → Build
 with_section name a content b = record {
   bytes = with_part content b.bytes;
-  table = b.table ++ section_header name a (length b.bytes + gap (length b.bytes)) (length content)
+  table = b.table ++ section_header name a (length b.bytes + gap (length b.bytes)) (length content);
 }
 
 -- With the sections that are loaded.

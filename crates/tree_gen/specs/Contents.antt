@@ -1,6 +1,6 @@
 -- What the sections of a sheet's object have in the file. gABI 4, "Symbol Table", "Relocation", "String
 -- Table"; x86-64 psABI, "Relocation"; the kernel's include/linux/module.h for `__versions`.
-use Rattle.std.specs.Prelude.{ℕ, ◌+◌, ◌*◌, ◌-◌, ◌^◌, ◌==◌, Bool, if◌then◌else◌, List, [], ◌∷◌, ◌++◌, length, map, codes, Option, Some, None, replicate, unwrap_or, ℤ}
+use Rattle.std.specs.Prelude.{ℕ, ◌+◌, ◌*◌, ◌-◌, if◌then◌else◌, List, [], ◌∷◌, ◌++◌, length, map, codes, Option, Some, None, replicate, unwrap_or}
 use Rattle.std.specs.List.{flat_map, position}
 use Rattle.std.specs.Int.{w16, w32, w64, to_le_bytes, cast_unsigned}
 use Rattle.std.specs.Str.{bytes_eq}

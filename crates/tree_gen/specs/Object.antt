@@ -1,5 +1,5 @@
 -- The object file of a sheet, as the concatenation of its parts. gABI 4, "ELF Header", "Sections".
-use Rattle.std.specs.Prelude.{ℕ, ◌+◌, ◌*◌, ◌-◌, ◌%◌, List, [], ◌∷◌, ◌++◌, length}
+use Rattle.std.specs.Prelude.{ℕ, ◌+◌, ◌-◌, ◌%◌, List, [], ◌∷◌, ◌++◌, length}
 use Rattle.tree_gen.specs.declared.sheet.Sheet.{Sheet}
 use Rattle.tree_gen.specs.Contents.{zeros, half, word, xword, section_names, local_count, contents}
 

@@ -1,6 +1,6 @@
 -- What a sheet may have.
-use Rattle.std.specs.Prelude.{◌≡◌, ℕ, ◌≤◌, ◌++◌, Bool, true, false, nat_eq, List, length, map, slice_get, Option, Some, All, Contains}
-use Rattle.std.specs.List.{IsDistinct}
+use Rattle.std.specs.Prelude.{ℕ, ◌≤◌, ◌++◌, Bool, true, ◌&&◌, not, nat_eq, nat_le, List, [], ◌∷◌, length, map, All, Contains}
+use Rattle.std.specs.List.{IsDistinct, list_all, list_any}
 use Rattle.std.specs.Str.{bytes_eq}
 use Rattle.tree_gen.specs.declared.sheet.Sheet.{Sheet}
 
@@ -26,3 +26,20 @@ pub record IsSheet (s : Sheet) : Type 0 where
   pub each_version : All (λ v. IsText v.name × (length v.name ≤ 55)) s.versions
   pub distinct : IsDistinct bytes_eq (symbol_names s)
   pub known : All (λ p. Contains (symbol_names s) p.symbol) s.places
+
+-- ---- the same as tests, by which the conditions of a sheet that is written out are computed
+
+abbrev pub is_text : List ℕ → Bool
+is_text text = nat_le (length text) 4096 && not (list_any (nat_eq 0) text)
+
+abbrev pub are_distinct : List (List ℕ) → Bool
+are_distinct [] = true
+are_distinct (name ∷ names) = list_all (λ other. not (bytes_eq name other)) names && are_distinct names
+
+abbrev pub is_sheet : Sheet → Bool
+is_sheet s =
+    nat_le (length s.texts) 65535 && (nat_le (length s.versions) 65535 && (nat_le (length s.exports) 65535
+    && (nat_le (length s.needs) 65535 && (nat_le (length s.places) 65535
+    && (list_all is_text s.texts && (list_all is_text (symbol_names s)
+    && (list_all (λ v. is_text v.name && nat_le (length v.name) 55) s.versions
+    && (are_distinct (symbol_names s) && list_all (λ p. list_any (bytes_eq p.symbol) (symbol_names s)) s.places))))))))

@@ -2,7 +2,8 @@
 //! module has, and `object` writes the relocatable object that has just these. Tests and trials read them
 //! back.
 //!
-//! It stands on `km_names`.
+//! It stands on `km_names`, on `byteorder` for the place that is put in last, and on `indexmap` for the numbers of
+//! symbols. Only memory can be wanting.
 #![tactic(auto)]
 
 mod bytes;
@@ -12,6 +13,8 @@ mod relocations;
 mod section;
 mod sheet;
 mod symbols;
+#[cfg(test)]
+mod tests;
 
 pub use object_file::object;
 pub use sheet::{

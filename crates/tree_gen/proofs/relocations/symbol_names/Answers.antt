@@ -14,5 +14,5 @@ add_exports-requires c =
     let needs : List (List ℕ) = map (λ (n : SheetNeed). n.name) s.needs in
     subst (IsDistinct bytes_eq)
     (sym (ap (λ keys. names_of keys ++ map (λ (e : SheetExport). e.name) c.as_slice.result.now) c.new-names.ensures.empty
-        ∙ ap (λ xs. map (λ (e : SheetExport). e.name) xs) c.as_slice.ensures))
+    ∙ ap (λ xs. map (λ (e : SheetExport). e.name) xs) c.as_slice.ensures))
     (distinct-front exports needs c.requires)

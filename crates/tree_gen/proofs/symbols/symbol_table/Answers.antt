@@ -25,9 +25,9 @@ returns-clause-entries c =
     let e = c.push_needs.new.self in
     table-entries c.args.sheet.now a e c.in_ok-table.ensures.entries c.in_ok-table.ensures.names
     (table-adds c.args.sheet.now a b d e
-        (subst (λ xs. Adds a b (flat_map local_symbols xs)) c.as_slice-exports.ensures c.in_ok-push_locals.ensures.added)
-        (subst (λ xs. Adds b d (export_symbols 0 xs)) c.as_slice-exports.ensures c.in_ok-push_exports.ensures.added)
-        (subst (λ xs. Adds d e (map need_symbol xs)) c.as_slice.ensures c.in_ok-push_needs.ensures))
+    (subst (λ xs. Adds a b (flat_map local_symbols xs)) c.as_slice-exports.ensures c.in_ok-push_locals.ensures.added)
+    (subst (λ xs. Adds b d (export_symbols 0 xs)) c.as_slice-exports.ensures c.in_ok-push_exports.ensures.added)
+    (subst (λ xs. Adds d e (map need_symbol xs)) c.as_slice.ensures c.in_ok-push_needs.ensures))
 
 pub returns-clause-names : goal.returns-clause-names
 returns-clause-names c =
@@ -37,6 +37,6 @@ returns-clause-names c =
     let e = c.push_needs.new.self in
     table-names c.args.sheet.now a e c.in_ok-table.ensures.names
     (table-adds c.args.sheet.now a b d e
-        (subst (λ xs. Adds a b (flat_map local_symbols xs)) c.as_slice-exports.ensures c.in_ok-push_locals.ensures.added)
-        (subst (λ xs. Adds b d (export_symbols 0 xs)) c.as_slice-exports.ensures c.in_ok-push_exports.ensures.added)
-        (subst (λ xs. Adds d e (map need_symbol xs)) c.as_slice.ensures c.in_ok-push_needs.ensures))
+    (subst (λ xs. Adds a b (flat_map local_symbols xs)) c.as_slice-exports.ensures c.in_ok-push_locals.ensures.added)
+    (subst (λ xs. Adds b d (export_symbols 0 xs)) c.as_slice-exports.ensures c.in_ok-push_exports.ensures.added)
+    (subst (λ xs. Adds d e (map need_symbol xs)) c.as_slice.ensures c.in_ok-push_needs.ensures))

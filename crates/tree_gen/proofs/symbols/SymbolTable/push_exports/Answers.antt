@@ -1,4 +1,4 @@
-use Rattle.std.proofs.Common.{◌*◌, ◌≡◌, [], ◌∷◌, List, arith, ap, ◌+◌, ◌≤◌, length}
+use Rattle.std.proofs.Common.{◌*◌, ◌≡◌, [], ◌∷◌, arith, ap, ◌≤◌, length}
 use Rattle.tree_gen.specs.Contents.{SymbolEntry}
 use Rattle.tree_gen.proofs.SymbolLemmas.{exports-next, Adds-length, length-names_bytes-one, short-at}
 use Rattle.tree_gen.proofs.symbols.SymbolTable.push_exports.Goals as goal
