@@ -19,6 +19,8 @@ mod shape;
 mod strings;
 mod symbol;
 mod tables;
+#[cfg(test)]
+mod tests;
 
 pub use fault::{ObjectFault, SectionFault};
 pub use object::Object;
