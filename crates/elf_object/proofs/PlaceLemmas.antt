@@ -6,8 +6,8 @@ use Rattle.elf_object.proofs.ShapeLemmas.{has_content-kept}
 use Rattle.std.specs.Bool.{IsTrue}
 use Rattle.elf_object.specs.declared.symbol.Symbol.{Symbol}
 use Rattle.elf_object.specs.declared.section.Section.{Section}
-use Rattle.std.proofs.Common.{◌≡◌, ℕ, ◌+◌, ◌<◌, ◌≤◌, ◌==◌, ◌&&◌, ◌||◌, nat_lt, not, Bool, true, false, length, inl, inr, List, [], ◌∷◌, ◌++◌, map, None, refl, sym, ap, ◌∙◌, arith}
-use Rattle.std.proofs.lemmas.Bool.{and_cases, and_parts, eqb-false, eqb-true, ltb-false, not-false, or_parts}
+use Rattle.std.proofs.Common.{◌≡◌, ℕ, ◌+◌, ◌<◌, ◌≤◌, ◌==◌, ◌&&◌, ◌||◌, nat_lt, not, Bool, true, false, length, inl, inr, List, [], ◌∷◌, ◌++◌, map, None, refl, sym, ap, ◌∙◌, arith, Option}
+use Rattle.std.proofs.lemmas.Bool.{and_cases, and_parts, eqb-false, eqb-true, ltb-false, not-false, or_parts, leb-false}
 use Rattle.std.proofs.lemmas.List.{append-nil, map-id}
 use Rattle.std.proofs.lemmas.List.Concat.{flat_map-append}
 use Rattle.std.proofs.lemmas.List.FromFn.{map-range_with_len_more}
@@ -58,6 +58,11 @@ pub places-more : (b : List ℕ) (n : ℕ) → flat_map (section_places b) (rang
 places-more b n =
     rw (range_more n) (flat_map-append (section_places b) (range_with_len 0 n) (n ∷ []) ∙ rw append-nil refl)
 
+-- the first of some tests passed
+one-passed : {F : Type 0} (x : Bool) (f : F) (rest : List (Option F)) → first (fault_if x f ∷ rest) ≡ None → x ≡ false
+one-passed true f rest passed = cc
+one-passed false f rest passed = refl
+
 -- the last of three tests passed
 three-passed : {F : Type 0} (x y z : Bool) (f g h : F) → first (fault_if x f ∷ fault_if y g ∷ fault_if z h ∷ []) ≡ None → z ≡ false
 three-passed true y z f g h passed = cc
@@ -82,12 +87,20 @@ place_test-within sections symbols target p passed bytes =
           (ltb-false target.size (p.offset + place_width p) both.0, eqb-false target.kind SHT_NOBITS both.1)
     ]
 
+-- a place that passed its tests is over a symbol of the table
+place_test-symbol : (sections : List Section) (symbols : List Symbol) (target : Section) (p : RelaPlace) → place_test sections symbols target p ≡ None → p.symbol < length symbols
+unfolding place_test
+place_test-symbol sections symbols target p passed =
+    leb-false (length symbols) p.symbol (one-passed (nat_le (length symbols) p.symbol) (BadRela p.section p.entry) _ passed)
+
 -- a place of an applied section that passed its tests
 pub IsInSection-place : (b : List ℕ) (i j : ℕ) → is_applied b i ≡ true → (section_of b i).info < section_count b → section_count b < 0xff00 → (IsTrue (has_content (section_of b (section_of b i).info).kind) → (section_of b (section_of b i).info).offset + (section_of b (section_of b i).info).size ≤ length b) → place_test (sections_of b) (symbols_of b) (section_of b (section_of b i).info) (place_of b i j) ≡ None → IsInSection b (place_of b i j)
 unfolding place_in
 IsInSection-place b i j applied target few within passed = record {
   target = target;
   near = omega arith;
+  symbol = place_test-symbol (sections_of b) (symbols_of b) (section_of b (section_of b i).info) (place_of b i j) passed;
+  kept = is_applied-kept b i applied;
   within = λ bytes.
       let inside = place_test-within (sections_of b) (symbols_of b) (section_of b (section_of b i).info) (place_of b i j) passed bytes in
       let has = within (has_content-kept b (section_of b i).info (is_applied-kept b i applied) inside.1) in
