@@ -1,4 +1,5 @@
 -- The places of one section, where it is applied and where it isn't.
+use Rattle.elf_object.proofs.TestLemmas.{one-passed, three-passed}
 use Rattle.std.specs.Prelude.{is_none, nat_le}
 use Rattle.elf_object.specs.declared.fault.ObjectFault.TheVariants.{BadRela, UnknownType}
 use Rattle.elf_object.specs.declared.place.RelaPlace.{RelaPlace}
@@ -6,7 +7,7 @@ use Rattle.elf_object.proofs.ShapeLemmas.{has_content-kept}
 use Rattle.std.specs.Bool.{IsTrue}
 use Rattle.elf_object.specs.declared.symbol.Symbol.{Symbol}
 use Rattle.elf_object.specs.declared.section.Section.{Section}
-use Rattle.std.proofs.Common.{◌≡◌, ℕ, ◌+◌, ◌<◌, ◌≤◌, ◌==◌, ◌&&◌, ◌||◌, nat_lt, not, Bool, true, false, length, inl, inr, List, [], ◌∷◌, ◌++◌, map, None, refl, sym, ap, ◌∙◌, arith, Option}
+use Rattle.std.proofs.Common.{◌≡◌, ℕ, ◌+◌, ◌<◌, ◌≤◌, ◌==◌, ◌&&◌, ◌||◌, nat_lt, not, true, false, length, inl, inr, List, [], ◌∷◌, ◌++◌, map, None, refl, sym, ap, ◌∙◌, arith}
 use Rattle.std.proofs.lemmas.Bool.{and_cases, and_parts, eqb-false, eqb-true, ltb-false, not-false, or_parts, leb-false}
 use Rattle.std.proofs.lemmas.List.{append-nil, map-id}
 use Rattle.std.proofs.lemmas.List.Concat.{flat_map-append}
@@ -14,7 +15,7 @@ use Rattle.std.proofs.lemmas.List.FromFn.{map-range_with_len_more}
 use Rattle.std.specs.List.{flat_map, range_with_len}
 use Rattle.km_names.specs.First.{first}
 use Rattle.elf_object.specs.declared.format.TheConstants.{R_X86_64_NONE, SHT_NOBITS, SHT_RELA}
-use Rattle.elf_object.specs.Shape.{contents, each, fault_if, section_count, has_content}
+use Rattle.elf_object.specs.Shape.{contents, each, section_count, has_content}
 use Rattle.elf_object.specs.Sections.{section_of, sections_of}
 use Rattle.elf_object.specs.Symbols.{entries, symbols_of}
 use Rattle.elf_object.specs.Places.{IsInSection, is_applied, is_bad_place, is_unkept, place_in, place_width, width, place_of, place_test, rela_test, section_places}
@@ -57,18 +58,6 @@ range_more n =
 pub places-more : (b : List ℕ) (n : ℕ) → flat_map (section_places b) (range_with_len 0 (n + 1)) ≡ flat_map (section_places b) (range_with_len 0 n) ++ section_places b n
 places-more b n =
     rw (range_more n) (flat_map-append (section_places b) (range_with_len 0 n) (n ∷ []) ∙ rw append-nil refl)
-
--- the first of some tests passed
-one-passed : {F : Type 0} (x : Bool) (f : F) (rest : List (Option F)) → first (fault_if x f ∷ rest) ≡ None → x ≡ false
-one-passed true f rest passed = cc
-one-passed false f rest passed = refl
-
--- the last of three tests passed
-three-passed : {F : Type 0} (x y z : Bool) (f g h : F) → first (fault_if x f ∷ fault_if y g ∷ fault_if z h ∷ []) ≡ None → z ≡ false
-three-passed true y z f g h passed = cc
-three-passed false true z f g h passed = cc
-three-passed false false true f g h passed = cc
-three-passed false false false f g h passed = refl
 
 -- a place that passed its tests, and changes bytes, lies in its section, which has bytes
 pub place_test-within : (sections : List Section) (symbols : List Symbol) (target : Section) (p : RelaPlace) → place_test sections symbols target p ≡ None → 0 < place_width p → (p.offset + place_width p ≤ target.size) × (target.kind ≡ SHT_NOBITS → ⊥)

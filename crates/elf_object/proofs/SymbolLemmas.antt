@@ -1,28 +1,15 @@
 -- What the tests of a symbol say.
-use Rattle.std.proofs.Common.{◌≡◌, ℕ, ◌<◌, ◌==◌, Bool, true, false, List, [], ◌∷◌, Option, Some, None, refl, inl, inr, arith}
+use Rattle.elf_object.proofs.TestLemmas.{two-passed, three-passed}
+use Rattle.std.proofs.Common.{◌≡◌, ℕ, ◌<◌, ◌==◌, false, List, [], None, inl, inr, arith}
 use Rattle.std.specs.Prelude.{unwrap_or, is_none}
 use Rattle.std.proofs.lemmas.Bool.{cases_Bool}
 use Rattle.std.proofs.lemmas.Bool.Decides.{nat_tests}
-use Rattle.km_names.specs.First.{first}
 use Rattle.elf_object.specs.declared.format.TheConstants.{SHN_LORESERVE}
 use Rattle.elf_object.specs.declared.symbol.SymbolEntry.{SymbolEntry}
 use Rattle.elf_object.specs.declared.fault.ObjectFault.TheVariants.{Shape, ExtendedIndex, CommonSymbol, BadSymbol}
 use Rattle.elf_object.specs.declared.fault.SectionFault.TheVariants.{BadString}
-use Rattle.elf_object.specs.Shape.{fault_if, text_at}
+use Rattle.elf_object.specs.Shape.{text_at}
 use Rattle.elf_object.specs.Symbols.{IsSectionBelow, is_bad_symbol, kind_test, symbol_entry, symbol_in, symbol_test_in}
-
--- the second of two tests passed
-two-passed : {F : Type 0} (x : Bool) (f : F) (test : Option F) → first (fault_if x f ∷ test ∷ []) ≡ None → test ≡ None
-two-passed true f test passed = cc
-two-passed false f None passed = refl
-two-passed false f (Some g) passed = passed
-
--- the last of three tests passed
-three-passed : {F : Type 0} (x y z : Bool) (f g h : F) → first (fault_if x f ∷ fault_if y g ∷ fault_if z h ∷ []) ≡ None → z ≡ false
-three-passed true y z f g h passed = cc
-three-passed false true z f g h passed = cc
-three-passed false false true f g h passed = cc
-three-passed false false false f g h passed = refl
 
 -- a symbol that isn't bad has a section of the file, unless its number is reserved
 is_bad_symbol-below : (count : ℕ) (name : List ℕ) (e : SymbolEntry) → is_bad_symbol count name e ≡ false → e.section < SHN_LORESERVE → e.section < count
