@@ -1,6 +1,6 @@
 -- The places that relocations change, and the tests that they pass.
 -- gABI 4, "Relocation"; x86-64 psABI, "Relocation Types".
-use Rattle.std.specs.Prelude.{ℕ, ◌+◌, ◌*◌, ◌/◌, ◌%◌, ◌^◌, ◌<◌, ◌≤◌, ◌==◌, ◌&&◌, ◌||◌, nat_lt, nat_le, not, Bool, false, if◌then◌else◌, List, [], ◌∷◌, length, map, Option, Some, None, is_none, option_map, slice_get, unwrap_or}
+use Rattle.std.specs.Prelude.{ℕ, ◌+◌, ◌*◌, ◌/◌, ◌%◌, ◌^◌, ◌<◌, ◌≤◌, ◌==◌, ◌&&◌, ◌||◌, nat_lt, nat_le, not, Bool, false, if◌then◌else◌, List, [], ◌∷◌, length, map, Option, Some, None, is_none, option_map, slice_get, unwrap_or, ◌≡◌, true}
 use Rattle.std.specs.Int.{is_power_of_two}
 use Rattle.std.specs.List.{count_by, flat_map, position, range_with_len}
 use Rattle.std.specs.Option.{option_map_or}
@@ -77,6 +77,8 @@ place_test sections symbols target p =
 pub record IsInSection (b : List ℕ) (p : RelaPlace) : Type 0 where
   pub target : p.target < section_count b
   pub near : p.target < 2 ^ 16
+  pub symbol : p.symbol < length (symbols_of b)
+  pub kept : (section_of b p.target).kept ≡ true
   pub within : 0 < place_width p → (p.offset + place_width p ≤ (section_of b p.target).size) × ((section_of b p.target).size ≤ length b)
 
 -- The section i holds relocations of a section that is kept.

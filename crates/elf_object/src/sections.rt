@@ -84,6 +84,7 @@ impl Sections {
     /// How many sections the file has.
     pub(crate) fn count(&self) -> u32
         ensures count { result ≡ section_count self.now.file }
+        ensures some { 0 < result }
         ensures small { result < 0xff00 }
         ensures read { self.now ≡ file_sections self.now.file }
     {
