@@ -39,11 +39,7 @@ fn bytes_of(alloc: Global, digits: &str) -> Result<Vec<u8>, Fail> {
 }
 
 /// The file of a map of these keys, priorities and texts, added in this order.
-fn file_of(
-    rt: &impl Abort,
-    alloc: Global,
-    values: &[(&str, u32, &str)],
-) -> Result<Vec<u8>, Fail> {
+fn file_of(rt: &impl Abort, alloc: Global, values: &[(&str, u32, &str)]) -> Result<Vec<u8>, Fail> {
     let mut map = KeyMap::new(alloc);
     for (key, priority, text) in values {
         let is_key = is_key(key.as_bytes());
