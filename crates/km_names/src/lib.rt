@@ -13,6 +13,8 @@ mod list;
 mod path;
 mod space;
 mod statement;
+#[cfg(test)]
+mod tests;
 mod word;
 
 pub use alias::normal_alias;
