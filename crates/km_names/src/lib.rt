@@ -16,6 +16,8 @@ mod path;
 mod space;
 mod split;
 mod statement;
+#[cfg(test)]
+mod tests;
 mod word;
 
 pub use alias::normal_alias;

@@ -8,6 +8,8 @@ mod chosen;
 mod listing;
 mod places;
 mod search;
+#[cfg(test)]
+mod tests;
 mod tree;
 
 pub use search::{Search, SearchLine, parse_search};
