@@ -50,7 +50,8 @@ width kind =
 abbrev pub place_width : RelaPlace → ℕ
 place_width p = unwrap_or (width p.kind) 0
 
--- The symbol k lies in a section that isn't kept.
+-- The symbol k lies in a section that isn't kept. An undefined one lies in none, nor does one with a reserved
+-- number.
 unfoldable pub is_unkept : List Section → List Symbol → ℕ → Bool
 is_unkept sections symbols k =
     option_map_or
@@ -73,7 +74,8 @@ place_test sections symbols target p =
     ∷ fault_if (not (p.kind == R_X86_64_NONE) && is_bad_place sections symbols target p) (BadRela p.section p.entry)
     ∷ [])
 
--- A place lies in a section of the file, and where it changes bytes it does so in the file's.
+-- What a place that passed its tests says: it is over a symbol of the file, in a section of it that is kept, and
+-- the bytes that it changes are in the file.
 pub record IsInSection (b : List ℕ) (p : RelaPlace) : Type 0 where
   pub target : p.target < section_count b
   pub near : p.target < 2 ^ 16

@@ -30,7 +30,12 @@ impl Model for Object {
 
     ghost Value = { FileObject };
 
-    ghost view = { λ o. record { file = o.sections.file; sections = o.sections.list; symbols = o.symbols; places = o.places } };
+    ghost view = { λ o. record {
+      file = o.sections.file;
+      sections = o.sections.list;
+      symbols = o.symbols;
+      places = o.places;
+    } };
 
     ghost invariant = { λ o. IsInside o.sections.list o.symbols o.places };
 }
@@ -86,7 +91,8 @@ impl Object {
         requires { length bytes ≤ 67108864 }
         ensures object { IfOk result (λ o. o ≡ file_object bytes) }
         ensures passed { OnOk result (object_fault bytes ≡ None) }
-        ensures fault { IfErr result (λ e. (e ≡ ObjectFault.Memory) ⊎ (object_fault bytes ≡ Some e)) }
+        ensures fault { IfErr result (λ e. (e ≡ ObjectFault.Memory)
+            ⊎ (object_fault bytes ≡ Some e)) }
     {
         let sections = Sections::read(alloc, bytes)?;
         let symbols = read_symbol_table(alloc, &sections)?;
@@ -116,7 +122,8 @@ impl Object {
     /// The bytes of the section `i` in the file; a section of type NULL or NOBITS has none.
     pub fn section_bytes(&self, i: u32) -> &[u8]
         requires { i < length self.now.sections }
-        ensures { IfSome (slice_get self.now.sections i) (λ s. result.now ≡ bytes_of self.now.file s) }
+        ensures { IfSome (slice_get self.now.sections i)
+            (λ s. result.now ≡ bytes_of self.now.file s) }
     {
         self.sections.section_bytes(i)
     }

@@ -96,7 +96,8 @@ fn read_symbol(
     ensures symbol { IfOk result (λ s. s ≡ symbol_in table.now names.now index) }
     ensures passed { OnOk result (symbol_test_in table.now names.now count index ≡ None) }
     ensures fault { IfErr result
-        (λ e. (e ≡ ObjectFault.Memory) ⊎ (symbol_test_in table.now names.now count index ≡ Some e)) }
+        (λ e. (e ≡ ObjectFault.Memory)
+        ⊎ (symbol_test_in table.now names.now count index ≡ Some e)) }
 {
     if index == 0 {
         return Ok(Symbol {
@@ -132,9 +133,11 @@ pub(crate) fn read_symbols(
     requires some { 0 < count }
     ensures inside { IfOk result (All (IsSectionBelow count)) }
     ensures symbols { IfOk result (λ l. l ≡ symbols_in table.now names.now) }
-    ensures passed { OnOk result (first (each (entries table.now) (symbol_test_in table.now names.now count)) ≡ None) }
+    ensures passed { OnOk result
+        (first (each (entries table.now) (symbol_test_in table.now names.now count)) ≡ None) }
     ensures fault { IfErr result
-        (λ e. (e ≡ ObjectFault.Memory) ⊎ (first (each (entries table.now) (symbol_test_in table.now names.now count)) ≡ Some e)) }
+        (λ e. (e ≡ ObjectFault.Memory)
+        ⊎ (first (each (entries table.now) (symbol_test_in table.now names.now count)) ≡ Some e)) }
 {
     let entries = table.len() / ENTRY;
     let mut symbols = Vec::with_capacity(alloc, entries)?;
