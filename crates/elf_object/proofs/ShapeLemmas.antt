@@ -1,13 +1,17 @@
 -- What the tests of a file's shape say.
-use Rattle.std.proofs.Common.{◌≡◌, ℕ, ◌+◌, ◌<◌, ◌≤◌, true, List, ◌∷◌, ◌++◌, length, map, Some, None, sym, subst, ◌∙◌, arith}
+use Rattle.std.proofs.lemmas.Bool.{ne_eqb, and_from}
+use Rattle.std.proofs.Common.{◌≡◌, ℕ, ◌<◌, ◌≤◌, true, false, List, [], ◌∷◌, ◌++◌, Bool, length, take, drop, get_or, map, if◌then◌else◌, Some, None, refl, sym, ap, ◌∙◌, arith, ◌+◌, ◌==◌, not, ◌&&◌, Bool}
 use Rattle.std.proofs.lemmas.Bool.Decides.{nat_tests}
 use Rattle.km_names.specs.First.{first}
 use Rattle.elf_object.specs.declared.fault.SectionFault.{SectionFault}
-use Rattle.elf_object.specs.Shape.{AllInFile, HasTable, each, has_content, header_tests, is_table, name_table, name_table_test, name_test, place_test, section_count, shape_fault, shape_tests}
-use Rattle.elf_object.specs.Sections.{IsPlaced, section_of, sections_of}
+use Rattle.elf_object.specs.Shape.{AllInFile, content, contents, each, has_content, header_tests, is_kept, is_table, name_table, name_table_test, name_test, place_test, section_count, section_header, shape_fault, shape_tests}
+use Rattle.elf_object.specs.Sections.{bytes_of, section_of, sections_of}
+use Rattle.std.proofs.lemmas.List.{length-drop, length-take}
 use Rattle.std.proofs.lemmas.List.FromFn.{get_or-map-range_with_len, length-map-range_with_len}
-use Rattle.std.proofs.lemmas.Option.{get_or_from_slice_get, slice_get_within}
+use Rattle.std.proofs.lemmas.Option.{get_or_from_slice_get, slice_get-get_or, slice_get_within}
 use Rattle.std.specs.Bool.{IsTrue}
+use Rattle.std.specs.Option.{IfSome}
+use Rattle.elf_object.specs.declared.format.TheConstants.{SHT_NOBITS, SHT_NULL}
 use Rattle.std.specs.List.{range_with_len, slice_get}
 use Rattle.elf_object.specs.declared.section.Section.{Section}
 use Rattle.elf_object.proofs.TestLemmas.{first-failed, first-passed}
@@ -52,15 +56,50 @@ sections_of-get b i s is =
           ∙ get_or-map-range_with_len (section_of b) 0 (section_count b) i i s less (omega arith),
     )
 
--- The sections of a file whose sections lie in it.
-pub IsPlaced-sections : (b : List ℕ) → HasTable b → AllInFile b → IsPlaced b (sections_of b)
+-- The bytes of a section, by the list or by the header.
+pub bytes_of-section_of : (b : List ℕ) (i : ℕ) → bytes_of b (section_of b i) ≡ contents b i
 unfolding section_of
-IsPlaced-sections b table within = record {
-  count = rw (length-sections_of b) table.count;
-  within = λ i s is.
-      let at = sections_of-get b i s is in
-      subst
-      (λ (x : Section). IsTrue (has_content x.kind) → x.offset + x.size ≤ length b)
-      (sym at.1)
-      (within i at.0);
-}
+bytes_of-section_of b i = refl
+
+-- The section at a number below the count.
+pub sections_of-at : (b : List ℕ) (i : ℕ) (d : Section) → i < section_count b → get_or (sections_of b) i d ≡ section_of b i
+unfolding sections_of
+sections_of-at b i d less = get_or-map-range_with_len (section_of b) 0 (section_count b) i i d less (omega arith)
+
+-- A section has no more bytes than the file.
+pub length-contents : (b : List ℕ) (i : ℕ) → length (contents b i) ≤ length b
+unfolding content
+length-contents b i =
+    let h = section_header b i in
+    elim (has_content h.kind) as (λ (t : Bool). length (if t then take h.size (drop h.offset b) else []) ≤ length b) [
+      | true ↦ omega (arith, length-take h.size (drop h.offset b), length-drop h.offset b)
+      | false ↦ omega arith
+    ]
+
+pub sections_of-slice_get : (b : List ℕ) (i : ℕ) → i < section_count b → slice_get (sections_of b) i ≡ Some (section_of b i)
+sections_of-slice_get b i less =
+    let length_is = length-sections_of b in
+    slice_get-get_or (sections_of b) i (section_of b i) (omega arith) ∙ ap Some (sections_of-at b i (section_of b i) less)
+
+-- The bytes of the section at a number.
+pub bytes_of-slice_get : (b : List ℕ) (i : ℕ) (bytes : List ℕ) → i < section_count b → bytes ≡ contents b i → IfSome (slice_get (sections_of b) i) (λ s. bytes ≡ bytes_of b s)
+bytes_of-slice_get b i bytes less is =
+    rw (sections_of-slice_get b i less) (is ∙ sym (bytes_of-section_of b i))
+
+-- A section of a file whose sections lie in it.
+pub section_of-within : (b : List ℕ) (i : ℕ) → i < section_count b → AllInFile b → IsTrue (has_content (section_of b i).kind) → (section_of b i).offset + (section_of b i).size ≤ length b
+unfolding section_of
+section_of-within b i less within has = within i less has
+
+-- the first of four tests
+first_of_four : (x y z t : Bool) → (x && y && z && t) ≡ true → x ≡ true
+first_of_four true y z t passed = refl
+first_of_four false y z t passed = passed
+
+-- A section that is kept and not of type NOBITS has bytes in the file.
+pub has_content-kept : (b : List ℕ) (i : ℕ) → (section_of b i).kept ≡ true → ((section_of b i).kind ≡ SHT_NOBITS → ⊥) → has_content (section_of b i).kind ≡ true
+unfolding section_of is_kept
+has_content-kept b i kept other =
+    let kind = (section_header b i).kind in
+    let section = first_of_four (not (kind == SHT_NULL)) _ _ _ kept in
+    and_from (not (kind == SHT_NULL)) (not (kind == SHT_NOBITS)) section (ap not (ne_eqb kind SHT_NOBITS other))

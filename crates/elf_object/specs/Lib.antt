@@ -1,3 +1,6 @@
 pub mod FaultText
 pub mod Sections
 pub mod Shape
+pub mod Symbols
+pub mod Places
+pub mod Overlap

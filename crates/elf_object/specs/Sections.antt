@@ -1,14 +1,14 @@
 -- The sections of an object file. gABI 4, "Sections".
-use Rattle.std.specs.Prelude.{◌≡◌, ℕ, ◌+◌, ◌<◌, ◌≤◌, IsTrue, List, length, map, Some, slice_get}
+use Rattle.std.specs.Prelude.{◌≡◌, ℕ, List, map}
 use Rattle.std.specs.List.{range_with_len}
 use Rattle.elf_object.specs.declared.section.Section.{Section}
-use Rattle.elf_object.specs.Shape.{content, has_content, is_kept, name_in, name_table, section_count, section_header, strings}
+use Rattle.elf_object.specs.Shape.{AllInFile, HasTable, content, is_kept, name_in, name_table, section_count, section_header, contents}
 
 -- The section i of the file.
 unfoldable pub section_of : List ℕ → ℕ → Section
 section_of b i =
     let h = section_header b i in
-    let text = name_in (strings b (name_table b)) h.kind h.name in
+    let text = name_in (contents b (name_table b)) h.kind h.name in
     record {
       name = text;
       kind = h.kind;
@@ -20,6 +20,10 @@ section_of b i =
       align = h.align;
       kept = is_kept h.kind h.flags text;
     }
+
+-- The size of an entry of the section i, if it is a table. gABI 4, "Sections", sh_entsize.
+abbrev pub entry_size : List ℕ → ℕ → ℕ
+entry_size b i = (section_header b i).entry_size
 
 -- The sections of the file, by rising number.
 unfoldable pub sections_of : List ℕ → List Section
@@ -38,7 +42,8 @@ file_sections b = record { file = b; list = sections_of b }
 abbrev pub bytes_of : List ℕ → Section → List ℕ
 bytes_of file s = content file s.kind s.offset s.size
 
--- Each section lies in the file, as far as it has bytes there, and none has a reserved number.
-pub record IsPlaced (file : List ℕ) (list : List Section) : Type 0 where
-  pub count : length list < 0xff00
-  pub within : (i : ℕ) (s : Section) → slice_get list i ≡ Some s → IsTrue (has_content s.kind) → s.offset + s.size ≤ length file
+-- The list has the sections of the file, and these lie in it.
+pub record IsRead (file : List ℕ) (list : List Section) : Type 0 where
+  pub list_is : list ≡ sections_of file
+  pub table : HasTable file
+  pub within : AllInFile file

@@ -95,9 +95,9 @@ is_kept kind flags name =
     not (kind == SHT_NULL) && not (bit_and flags SHF_ALLOC == 0) && not (bytes_eq name (codes ".modinfo"))
     && not (bytes_eq name (codes "__versions"))
 
--- The bytes of the section i as a string table.
-abbrev pub strings : List ℕ → ℕ → List ℕ
-strings b i = content b (section_header b i).kind (section_header b i).offset (section_header b i).size
+-- The bytes of the section i.
+abbrev pub contents : List ℕ → ℕ → List ℕ
+contents b i = content b (section_header b i).kind (section_header b i).offset (section_header b i).size
 
 -- The tests of the file header.
 unfoldable pub header_tests : List ℕ → List (Option SectionFault)
@@ -129,7 +129,7 @@ unfoldable pub name_test_in : List ℕ → ℕ → ℕ → Option SectionFault
 name_test_in names kind at = fault_if (not (kind == SHT_NULL) && is_none (text_at names at)) (BadString at)
 
 abbrev pub name_test : List ℕ → ℕ → Option SectionFault
-name_test b i = name_test_in (strings b (name_table b)) (section_header b i).kind (section_header b i).name
+name_test b i = name_test_in (contents b (name_table b)) (section_header b i).kind (section_header b i).name
 
 -- The tests that a file with sections passes, in order.
 unfoldable pub shape_tests : List ℕ → List (Option SectionFault)

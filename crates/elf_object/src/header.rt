@@ -28,8 +28,8 @@ pub(crate) struct SectionHeader {
     pub(crate) entry_size: u64,
 }
 
-#[tactic(auto, unfolding(crate::specs::Shape::is_class))]
 /// Whether the file is of 64 bits, little-endian and of version 1.
+#[tactic(auto, unfolding(crate::specs::Shape::is_class))]
 fn has_class(bytes: &[u8]) -> bool
     requires { 64 ≤ length bytes.now }
     ensures { result ≡ is_class bytes.now }
@@ -37,8 +37,8 @@ fn has_class(bytes: &[u8]) -> bool
     bytes[4] == 2 && bytes[5] == 1 && bytes[6] == 1 && le_u32_at(bytes, 20) == 1
 }
 
-#[tactic(auto, unfolding(crate::specs::Shape::is_table))]
 /// Whether the numbers of the section header table can be those of a table.
+#[tactic(auto, unfolding(crate::specs::Shape::is_table))]
 fn has_table(bytes: &[u8]) -> bool
     requires { 64 ≤ length bytes.now }
     ensures { result ≡ is_table bytes.now }
@@ -72,8 +72,8 @@ pub(crate) fn name_table(bytes: &[u8]) -> u16
     le_u16_at(bytes, 62)
 }
 
-#[tactic(auto, unfolding(crate::specs::Shape::header_tests))]
 /// Tests the file header, and that the section header table lies in the file.
+#[tactic(auto, unfolding(crate::specs::Shape::header_tests))]
 pub(crate) fn check_header(bytes: &[u8]) -> Result<(), SectionFault>
     ensures fault { result_err result ≡ first (header_tests bytes.now) }
     ensures table { OnOk result (HasTable bytes.now) }
@@ -115,8 +115,8 @@ pub(crate) fn is_within(bytes: &[u8], offset: u64, size: u64) -> bool
     offset <= length && size <= length - offset
 }
 
-#[tactic(auto, unfolding(crate::specs::Shape::section_header))]
 /// The section header `index`.
+#[tactic(auto, unfolding(crate::specs::Shape::section_header))]
 pub(crate) fn section_header(bytes: &[u8], index: u16) -> SectionHeader
     requires table { HasTable bytes.now }
     requires index { index < section_count bytes.now }

@@ -9,11 +9,18 @@
 mod fault;
 mod format;
 mod header;
+mod overlap;
+mod place;
+mod places;
 mod section;
 mod sections;
 mod shape;
 mod strings;
+mod symbol;
+mod tables;
 
-pub use fault::SectionFault;
+pub use fault::{ObjectFault, SectionFault};
+pub use place::RelaPlace;
 pub use section::Section;
 pub use sections::Sections;
+pub use symbol::Symbol;

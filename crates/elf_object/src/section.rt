@@ -2,7 +2,7 @@
 
 ghost use Rattle.std.specs.Prelude.{◌≡◌, ◌<◌, ◌⊎◌, None, Some, IfOk, IfErr};
 ghost use Rattle.std.specs.Result.{result_err};
-ghost use Rattle.elf_object.specs.Shape.{HasTable, is_kept, name_in, name_table, name_test, name_test_in, section_count, strings};
+ghost use Rattle.elf_object.specs.Shape.{HasTable, is_kept, name_in, name_table, name_test, name_test_in, section_count, contents};
 ghost use Rattle.elf_object.specs.Sections.{section_of};
 
 use crate::SectionFault;
@@ -36,8 +36,8 @@ pub struct Section {
     pub kept: bool,
 }
 
-#[tactic(auto, unfolding(crate::specs::Shape::is_kept))]
 /// Whether the section is in the memory of the running module.
+#[tactic(auto, unfolding(crate::specs::Shape::is_kept))]
 fn is_kept(kind: u32, flags: u64, name: &[u8]) -> bool
     ensures { result ≡ is_kept kind flags name.now }
 {
@@ -47,8 +47,8 @@ fn is_kept(kind: u32, flags: u64, name: &[u8]) -> bool
         && name != b"__versions".as_slice()
 }
 
-#[tactic(auto, unfolding(crate::specs::Shape::name_in, crate::specs::Shape::name_test_in))]
 /// The name of a section, by the table of names.
+#[tactic(auto, unfolding(crate::specs::Shape::name_in, crate::specs::Shape::name_test_in))]
 fn section_name<'a>(names: &'a [u8], kind: u32, at: u32) -> Result<&'a [u8], SectionFault>
     ensures name { IfOk result (λ name. name.now ≡ name_in names.now kind at) }
     ensures fault { result_err result ≡ name_test_in names.now kind at }
@@ -64,8 +64,8 @@ fn section_name<'a>(names: &'a [u8], kind: u32, at: u32) -> Result<&'a [u8], Sec
     }
 }
 
-#[tactic(auto, unfolding(crate::specs::Sections::section_of))]
 /// The section `index`, by the table of names.
+#[tactic(auto, unfolding(crate::specs::Sections::section_of))]
 pub(crate) fn read_section(
     alloc: Global,
     bytes: &[u8],
@@ -74,7 +74,7 @@ pub(crate) fn read_section(
 ) -> Result<Section, SectionFault>
     requires table { HasTable bytes.now }
     requires index { index < section_count bytes.now }
-    requires names { names.now ≡ strings bytes.now (name_table bytes.now) }
+    requires names { names.now ≡ contents bytes.now (name_table bytes.now) }
     ensures section { IfOk result (λ s. s ≡ section_of bytes.now index) }
     ensures passed { IfOk result (λ _. name_test bytes.now index ≡ None) }
     ensures fault { IfErr result (λ e. (e ≡ SectionFault.Memory) ⊎ (name_test bytes.now index ≡ Some e)) }

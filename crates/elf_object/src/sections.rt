@@ -1,11 +1,12 @@
 // The sections of a file, with its bytes.
 
-ghost use Rattle.std.specs.Prelude.{◌≡◌, ◌<◌, ◌⊎◌, length, None, Some, IfOk, IfErr, IfSome, OnOk, slice_get};
+ghost use Rattle.std.specs.Prelude.{◌≡◌, ◌+◌, ◌<◌, ◌≤◌, ◌⊎◌, length, None, Some, IfOk, IfErr, IfSome, IsTrue, OnOk, slice_get};
 ghost use Rattle.std.specs.List.{position};
 ghost use Rattle.std.specs.Str.{bytes_eq};
-ghost use Rattle.elf_object.specs.Shape.{shape_fault};
+ghost use Rattle.elf_object.specs.Shape.{contents, has_content, section_count, shape_fault};
 
-use crate::shape::{content, read_shape};
+use crate::header::section_header;
+use crate::shape::{contents, read_shape};
 use crate::{Section, SectionFault};
 use km_names::{Blob, List};
 use std::alloc::Global;
@@ -19,17 +20,17 @@ pub struct Sections {
 }
 
 impl Model for Sections {
-    ghost use Rattle.elf_object.specs.Sections.{FileSections, IsPlaced};
+    ghost use Rattle.elf_object.specs.Sections.{FileSections, IsRead};
 
     ghost Value = { FileSections };
 
     ghost view = { λ s. record { file = s.bytes; list = s.sections } };
 
-    ghost invariant = { λ s. IsPlaced s.bytes s.sections };
+    ghost invariant = { λ s. IsRead s.bytes s.sections };
 }
 
 impl Sections {
-    ghost use Rattle.elf_object.specs.Sections.{bytes_of, file_sections};
+    ghost use Rattle.elf_object.specs.Sections.{bytes_of, entry_size, file_sections, section_of, sections_of};
 
     /// Reads the sections of a file, which it keeps. After a refusal the bytes are given up.
     ///
@@ -49,7 +50,7 @@ impl Sections {
     pub fn section_count(&self) -> u32
         ensures { result ≡ length self.now.list }
     {
-        self.sections.len() as u32
+        self.count()
     }
 
     /// The section `i`.
@@ -65,13 +66,7 @@ impl Sections {
         requires { i < length self.now.list }
         ensures { IfSome (slice_get self.now.list i) (λ s. result.now ≡ bytes_of self.now.file s) }
     {
-        let section = self.section(i);
-        content(
-            self.bytes.as_bytes(),
-            section.kind,
-            section.offset,
-            section.size,
-        )
+        contents(self.bytes.as_bytes(), i as u16)
     }
 
     /// The first section of this name.
@@ -84,5 +79,47 @@ impl Sections {
             }
         }
         None
+    }
+
+    /// How many sections the file has.
+    pub(crate) fn count(&self) -> u32
+        ensures count { result ≡ section_count self.now.file }
+        ensures small { result < 0xff00 }
+        ensures read { self.now ≡ file_sections self.now.file }
+    {
+        self.sections.len() as u32
+    }
+
+    /// The sections, as the file has them.
+    pub(crate) fn list(&self) -> &[Section]
+        ensures { result.now ≡ sections_of self.now.file }
+    {
+        self.sections.as_slice()
+    }
+
+    /// The section `i`, as the file has it.
+    pub(crate) fn section_of(&self, i: u32) -> &Section
+        requires { i < section_count self.now.file }
+        ensures section { result.now ≡ section_of self.now.file i }
+        ensures within { IsTrue (has_content result.now.kind) → result.now.offset + result.now.size ≤ length self.now.file }
+    {
+        &self.sections.as_slice()[i as usize]
+    }
+
+    /// The bytes of the section `i`, as the file has them.
+    pub(crate) fn contents(&self, i: u32) -> &[u8]
+        requires { i < section_count self.now.file }
+        ensures contents { result.now ≡ contents self.now.file i }
+        ensures length { length result.now ≤ length self.now.file }
+    {
+        contents(self.bytes.as_bytes(), i as u16)
+    }
+
+    /// The size of an entry of the section `i`, if it is a table. gABI 4, "Sections", sh_entsize.
+    pub(crate) fn entry_size(&self, i: u32) -> u64
+        requires { i < section_count self.now.file }
+        ensures { result ≡ entry_size self.now.file i }
+    {
+        section_header(self.bytes.as_bytes(), i as u16).entry_size
     }
 }

@@ -3,8 +3,8 @@
 ghost use Rattle.std.specs.Prelude.{◌≡◌, ◌+◌, ◌<◌, ◌≤◌, ◌⊎◌, length, None, Some, IsTrue, OnOk, IfOk, IfErr};
 ghost use Rattle.std.specs.Result.{result_err};
 ghost use Rattle.km_names.specs.First.{first};
-ghost use Rattle.elf_object.specs.Shape.{AllInFile, HasTable, IsInFile, content, each, has_content, name_table, name_table_test, name_test, place_test, section_count, section_header, shape_fault, strings};
-ghost use Rattle.elf_object.specs.Sections.{IsPlaced, sections_of};
+ghost use Rattle.elf_object.specs.Shape.{AllInFile, HasTable, IsInFile, content, each, has_content, name_table, name_table_test, name_test, place_test, section_count, section_header, shape_fault, contents};
+ghost use Rattle.elf_object.specs.Sections.{IsRead, sections_of};
 
 use crate::format::{SHT_NOBITS, SHT_NULL, SHT_STRTAB};
 use crate::header::{
@@ -24,7 +24,7 @@ fn has_content(kind: u32) -> bool
 
 /// The bytes of a section in the file.
 #[tactic(auto, unfolding(crate::specs::Shape::content))]
-pub(crate) fn content(bytes: &[u8], kind: u32, offset: u64, size: u64) -> &[u8]
+fn content(bytes: &[u8], kind: u32, offset: u64, size: u64) -> &[u8]
     requires { IsTrue (has_content kind) → offset + size ≤ length bytes.now }
     ensures { result.now ≡ content bytes.now kind offset size }
 {
@@ -82,12 +82,12 @@ fn check_name_table(bytes: &[u8]) -> Result<(), SectionFault>
     Ok(())
 }
 
-/// The bytes of the section `index` as a string table.
-fn strings(bytes: &[u8], index: u16) -> &[u8]
+/// The bytes of the section `index`.
+pub(crate) fn contents(bytes: &[u8], index: u16) -> &[u8]
     requires table { HasTable bytes.now }
     requires within { AllInFile bytes.now }
     requires index { index < section_count bytes.now }
-    ensures { result.now ≡ strings bytes.now index }
+    ensures { result.now ≡ contents bytes.now index }
 {
     let header = section_header(bytes, index);
     content(bytes, header.kind, header.offset, header.size)
@@ -102,7 +102,7 @@ fn read_sections(alloc: Global, bytes: &[u8]) -> Result<List<Section>, SectionFa
     ensures fault { IfErr result
         (λ e. (e ≡ SectionFault.Memory) ⊎ (first (each (section_count bytes.now) (name_test bytes.now)) ≡ Some e)) }
 {
-    let names = strings(bytes, name_table(bytes));
+    let names = contents(bytes, name_table(bytes));
     let count = section_count(bytes);
     let mut sections = Vec::with_capacity(alloc, count as usize)?;
     for index in 0..count {
@@ -114,7 +114,7 @@ fn read_sections(alloc: Global, bytes: &[u8]) -> Result<List<Section>, SectionFa
 /// Reads the sections of a file, after all tests that it must pass.
 pub(crate) fn read_shape(alloc: Global, bytes: &[u8]) -> Result<List<Section>, SectionFault>
     ensures sections { IfOk result (λ l. l ≡ sections_of bytes.now) }
-    ensures placed { IfOk result (λ l. IsPlaced bytes.now l) }
+    ensures read { IfOk result (λ l. IsRead bytes.now l) }
     ensures passed { OnOk result (shape_fault bytes.now ≡ None) }
     ensures fault { IfErr result (λ e. (e ≡ SectionFault.Memory) ⊎ (shape_fault bytes.now ≡ Some e)) }
 {

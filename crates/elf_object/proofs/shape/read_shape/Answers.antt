@@ -1,10 +1,10 @@
 use Rattle.std.proofs.Common.{◌≡◌, Some, sym, ◌∙◌, ◌⊎◌, inl, inr}
 use Rattle.std.proofs.lemmas.Result.{IfErr-weaker, IfOk-weaker, err_from_is_err_and, on_ok_weaker}
-use Rattle.elf_object.proofs.ShapeLemmas.{IsPlaced-sections, shape_fault-header, shape_fault-names, shape_fault-places}
+use Rattle.elf_object.proofs.ShapeLemmas.{shape_fault-header, shape_fault-names, shape_fault-places}
 use Rattle.km_names.specs.First.{first}
 use Rattle.elf_object.specs.declared.fault.SectionFault.TheVariants.{Memory}
 use Rattle.elf_object.specs.Shape.{each, name_test, section_count, shape_fault}
-use Rattle.elf_object.specs.Sections.{IsPlaced, sections_of}
+use Rattle.elf_object.specs.Sections.{IsRead, sections_of}
 use Rattle.elf_object.proofs.shape.read_shape.Goals as goal
 use Rattle.elf_object.proofs.shape.read_shape.Goals.{After-read_sections}
 
@@ -28,11 +28,15 @@ returns-in_err-check_name_table-clause-fault c =
     let names = shape_fault-names b (sym c.in_ok-check_header.ensures.fault) (sym c.in_ok-check_places.ensures.fault) in
     rw (p.1, p.2) (inr (rw (← c.in_err-check_name_table.ensures) at names))
 
-pub returns-clause-placed : goal.returns-clause-placed
-returns-clause-placed c =
+pub returns-clause-read : goal.returns-clause-read
+returns-clause-read c =
     let b = c.args.bytes.now in
-    IfOk-weaker c.read_sections.result (λ l. l ≡ sections_of b) (λ l. IsPlaced b l)
-    (λ l is. rw is (IsPlaced-sections b c.in_ok-check_header.ensures.table c.in_ok-check_places.ensures.within))
+    IfOk-weaker c.read_sections.result (λ l. l ≡ sections_of b) (λ l. IsRead b l)
+    (λ l is. record {
+      list_is = is;
+      table = c.in_ok-check_header.ensures.table;
+      within = c.in_ok-check_places.ensures.within;
+    })
     c.read_sections.ensures.sections
 
 -- what is left to test once the header and the places are

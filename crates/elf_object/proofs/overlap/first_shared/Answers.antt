@@ -1,0 +1,33 @@
+use Rattle.std.proofs.Common.{◌≡◌, ℕ, ◌<◌, ◌≤◌, take, length, get_or, arith}
+use Rattle.std.proofs.lemmas.List.{get_or_default, take_all}
+use Rattle.std.proofs.lemmas.List.Elements.{All-get_or}
+use Rattle.elf_object.specs.Overlap.{IsLong, span_end, span_start}
+use Rattle.elf_object.proofs.SpanLemmas.{Apart-more, IsLeastShared-found, Reaches-more, no_span}
+use Rattle.elf_object.proofs.overlap.first_shared.Goals as goal
+
+pub returns-then-span-end : goal.returns-then-span-end
+returns-then-span-end c =
+    let spans = c.args.spans.now in
+    let i = c.loop-span.span-index in
+    let s = get_or spans i no_span in
+    let is = get_or_default spans i no_span s c.loop-span-test.true in
+    IsLeastShared-found span_start span_end spans i s c.loop-span.end c.loop-span-test.true is c.requires.sorted
+      c.loop-span.invariant.apart c.loop-span.invariant.reaches c.if-span-end.true
+      (All-get_or IsLong spans i no_span c.loop-span-test.true c.requires.long)
+
+pub loop-span-preserved : goal.loop-span-preserved
+loop-span-preserved c =
+    let spans = c.args.spans.now in
+    let i = c.loop-span.span-index in
+    let s = get_or spans i no_span in
+    let is = get_or_default spans i no_span s c.loop-span-test.true in
+    let long : s.start < s.end = All-get_or IsLong spans i no_span c.loop-span-test.true c.requires.long in
+    record {
+      apart = Apart-more span_start span_end spans i s c.loop-span.end c.loop-span-test.true is c.loop-span.invariant.apart c.if-span-end.false (omega arith);
+      reaches = Reaches-more span_start span_end spans i s c.loop-span-test.true is;
+    }
+
+pub returns : goal.returns
+returns c = λ a.
+    let whole = take_all c.loop-span.span-index c.args.spans.now c.loop-span-test.false in
+    rw whole at (c.loop-span.invariant.apart.once a)

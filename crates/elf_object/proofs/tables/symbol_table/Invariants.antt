@@ -1,0 +1,7 @@
+use Rattle.std.proofs.Common.{◌≡◌, ℕ, ◌<◌, ◌==◌, false}
+use Rattle.elf_object.specs.declared.format.TheConstants.{SHT_SYMTAB}
+use Rattle.elf_object.specs.Sections.{section_of}
+use Rattle.elf_object.proofs.tables.symbol_table.Given as goal
+
+abbrev pub invariant-loop-index : goal.invariant-loop-index
+invariant-loop-index l = (k : ℕ) → k < l.index → ((section_of l.sections.file k).kind == SHT_SYMTAB) ≡ false

@@ -1,0 +1,47 @@
+-- Bytes that two places change. The bytes of all sections stand in one line here, 2^32 of them for each section,
+-- so that a byte has one number.
+use Rattle.std.specs.Prelude.{◌≡◌, ℕ, ◌+◌, ◌*◌, ◌^◌, ◌<◌, ◌≤◌, ◌&&◌, nat_lt, nat_le, Bool, List, Option, MatchOption}
+use Rattle.std.specs.List.{count_by}
+use Rattle.elf_object.specs.declared.place.RelaPlace.{RelaPlace}
+use Rattle.elf_object.specs.declared.overlap.Span.{Span}
+use Rattle.elf_object.specs.Places.{place_width}
+
+-- A number lies from low on and below high.
+abbrev pub is_between : ℕ → ℕ → ℕ → Bool
+is_between low high a = nat_le low a && nat_lt a high
+
+-- How many items have the number a between their first number and their end.
+abbrev pub count_at : {X : Type 0} → (X → ℕ) → (X → ℕ) → ℕ → List X → ℕ
+count_at start finish a xs = count_by (λ x. is_between (start x) (finish x) a) xs
+
+abbrev pub span_start : Span → ℕ
+span_start s = s.start
+
+abbrev pub span_end : Span → ℕ
+span_end s = s.end
+
+-- The number of a place's first byte, and the end of its bytes.
+abbrev pub place_start : RelaPlace → ℕ
+place_start p = p.target * 2 ^ 32 + p.offset
+
+abbrev pub place_end : RelaPlace → ℕ
+place_end p = place_start p + place_width p
+
+-- A place that changes bytes lies in the 2^32 bytes of its section, whose number has 16 bits.
+abbrev pub IsNear : RelaPlace → Type 0
+IsNear p = 0 < place_width p → (p.target < 2 ^ 16) × (p.offset + place_width p ≤ 2 ^ 32)
+
+-- A span has a byte.
+abbrev pub IsLong : Span → Type 0
+IsLong s = s.start < s.end
+
+-- The span has the bytes of the place.
+pub record IsSpanOf (p : RelaPlace) (s : Span) : Type 0 where
+  pub start : s.start ≡ place_start p
+  pub end : s.end ≡ place_end p
+  pub long : 0 < place_width p
+
+-- No number is counted twice, or a is the least that is.
+abbrev pub IsLeastShared : (ℕ → ℕ) → Option ℕ → Type 0
+IsLeastShared count r =
+    MatchOption r ((a : ℕ) → count a ≤ 1) (λ a. (1 < count a) × ((k : ℕ) → k < a → count k ≤ 1))

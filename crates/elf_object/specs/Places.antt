@@ -1,0 +1,115 @@
+-- The places that relocations change, and the tests that they pass.
+-- gABI 4, "Relocation"; x86-64 psABI, "Relocation Types".
+use Rattle.std.specs.Prelude.{ℕ, ◌+◌, ◌*◌, ◌/◌, ◌%◌, ◌^◌, ◌<◌, ◌≤◌, ◌==◌, ◌&&◌, ◌||◌, nat_lt, nat_le, not, Bool, false, if◌then◌else◌, List, [], ◌∷◌, length, map, Option, Some, None, is_none, option_map, slice_get, unwrap_or}
+use Rattle.std.specs.Int.{is_power_of_two}
+use Rattle.std.specs.List.{count_by, flat_map, position, range_with_len}
+use Rattle.std.specs.Option.{option_map_or}
+use Rattle.km_names.specs.Number.{le, signed}
+use Rattle.km_names.specs.First.{first}
+use Rattle.elf_object.specs.declared.format.TheConstants.{SHT_RELA, SHT_NOBITS, SHN_UNDEF, R_X86_64_NONE, R_X86_64_64, R_X86_64_PC32, R_X86_64_PLT32, R_X86_64_32, R_X86_64_32S, R_X86_64_PC64, PAGE}
+use Rattle.elf_object.specs.declared.section.Section.{Section}
+use Rattle.elf_object.specs.declared.symbol.Symbol.{Symbol}
+use Rattle.elf_object.specs.declared.place.RelaPlace.{RelaPlace}
+use Rattle.elf_object.specs.declared.fault.ObjectFault.{ObjectFault}
+use Rattle.elf_object.specs.declared.fault.ObjectFault.TheVariants.{BadAlign, BadRela, UnknownType, OverlappingPlaces}
+use Rattle.elf_object.specs.Shape.{contents, each, fault_if, section_count}
+use Rattle.elf_object.specs.Sections.{section_of, sections_of}
+use Rattle.elf_object.specs.Symbols.{entries, symbols_of}
+
+-- An alignment is a power of two of at most a page, or 0, which counts as 1. gABI 4, "Sections", sh_addralign.
+unfoldable pub is_alignment : ℕ → Bool
+is_alignment align = nat_le align PAGE && (align == 0 || is_power_of_two align)
+
+-- The test of the alignment of the section i, where it is kept.
+unfoldable pub align_test : List ℕ → ℕ → Option ObjectFault
+align_test b i = fault_if ((section_of b i).kept && not (is_alignment (section_of b i).align)) (BadAlign i)
+
+-- The relocation j of a section of these bytes, over the section `target`. gABI 4, "Relocation", Elf64_Rela.
+unfoldable pub place_in : List ℕ → ℕ → ℕ → ℕ → RelaPlace
+place_in table section target j =
+    let info = le table (24 * j + 8) 8 in
+    record {
+      section = section;
+      entry = j;
+      target = target;
+      offset = le table (24 * j) 8;
+      symbol = info / 2 ^ 32;
+      kind = info % 2 ^ 32;
+      addend = signed (le table (24 * j + 16) 8);
+    }
+
+-- How many bytes a relocation of this type changes, where the type is known.
+-- x86-64 psABI, "Relocation Types".
+unfoldable pub width : ℕ → Option ℕ
+width kind =
+    if kind == R_X86_64_NONE then Some 0
+    else if kind == R_X86_64_64 || kind == R_X86_64_PC64 then Some 8
+    else if kind == R_X86_64_PC32 || kind == R_X86_64_PLT32 || kind == R_X86_64_32 || kind == R_X86_64_32S then Some 4
+    else None
+
+abbrev pub place_width : RelaPlace → ℕ
+place_width p = unwrap_or (width p.kind) 0
+
+-- The symbol k lies in a section that isn't kept.
+unfoldable pub is_unkept : List Section → List Symbol → ℕ → Bool
+is_unkept sections symbols k =
+    option_map_or
+    (λ s. not (s.section == SHN_UNDEF) && option_map_or (λ t. not t.kept) (slice_get sections s.section) false)
+    (slice_get symbols k)
+    false
+
+-- A place that changes bytes can't be as it is: it leaves its section, or that one has no bytes, or its
+-- symbol lies in a section that isn't kept.
+unfoldable pub is_bad_place : List Section → List Symbol → Section → RelaPlace → Bool
+is_bad_place sections symbols target p =
+    nat_lt target.size (p.offset + place_width p) || target.kind == SHT_NOBITS || is_unkept sections symbols p.symbol
+
+-- The tests of a place in its section, in order.
+unfoldable pub place_test : List Section → List Symbol → Section → RelaPlace → Option ObjectFault
+place_test sections symbols target p =
+    first (
+    fault_if (nat_le (length symbols) p.symbol) (BadRela p.section p.entry)
+    ∷ fault_if (is_none (width p.kind)) (UnknownType p.section p.entry p.kind)
+    ∷ fault_if (not (p.kind == R_X86_64_NONE) && is_bad_place sections symbols target p) (BadRela p.section p.entry)
+    ∷ [])
+
+-- A place lies in a section of the file, and where it changes bytes it does so in the file's.
+pub record IsInSection (b : List ℕ) (p : RelaPlace) : Type 0 where
+  pub target : p.target < section_count b
+  pub within : 0 < place_width p → (p.offset + place_width p ≤ (section_of b p.target).size) × ((section_of b p.target).size ≤ length b)
+
+-- The section i holds relocations of a section that is kept.
+unfoldable pub is_applied : List ℕ → ℕ → Bool
+is_applied b i = (section_of b i).kind == SHT_RELA && (section_of b (section_of b i).info).kept
+
+-- The place that the relocation j of the section i changes.
+abbrev pub place_of : List ℕ → ℕ → ℕ → RelaPlace
+place_of b i j = place_in (contents b i) i (section_of b i).info j
+
+-- The places of the section i.
+unfoldable pub section_places : List ℕ → ℕ → List RelaPlace
+section_places b i = if is_applied b i then map (place_of b i) (range_with_len 0 (entries (contents b i))) else []
+
+-- The places of a file, by rising section, then by entry.
+unfoldable pub places_of : List ℕ → List RelaPlace
+places_of b = flat_map (section_places b) (range_with_len 0 (section_count b))
+
+-- The tests of the places of the section i, by rising entry.
+unfoldable pub rela_test : List ℕ → ℕ → Option ObjectFault
+rela_test b i =
+    if is_applied b i then first (each (entries (contents b i)) (λ j.
+    place_test (sections_of b) (symbols_of b) (section_of b (section_of b i).info) (place_of b i j)))
+    else None
+
+-- The place p changes the byte at x of the section `target`.
+unfoldable pub covers : ℕ → ℕ → RelaPlace → Bool
+covers target x p = p.target == target && nat_le p.offset x && nat_lt x (p.offset + place_width p)
+
+-- Two places change the byte at x of the section `target`.
+unfoldable pub is_shared : List RelaPlace → ℕ → ℕ → Bool
+is_shared places target x = nat_lt 1 (count_by (covers target x) places)
+
+-- The test that no byte of the section i is changed by two places; the least such byte is named.
+unfoldable pub overlap_test : List ℕ → ℕ → Option ObjectFault
+overlap_test b i =
+    option_map (λ x. OverlappingPlaces i x) (position (is_shared (places_of b) i) (range_with_len 0 (section_of b i).size))

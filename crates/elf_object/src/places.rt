@@ -1,0 +1,125 @@
+// The places of an object file, and the tests of its sections' alignments.
+
+ghost use Rattle.std.specs.Prelude.{◌≡◌, ◌<◌, ◌≤◌, ◌⊎◌, ◌++◌, length, All, None, Some, IfOk, IfErr, OnOk};
+ghost use Rattle.std.specs.Result.{result_err};
+ghost use Rattle.km_names.specs.First.{first};
+ghost use Rattle.elf_object.specs.Shape.{each, section_count};
+ghost use Rattle.elf_object.specs.Symbols.{TablesFit, symbols_of};
+ghost use Rattle.elf_object.specs.Places.{IsInSection, align_test, is_alignment, is_applied, overlap_test, places_of, rela_test, section_places};
+
+use crate::format::{PAGE, SHT_RELA};
+use crate::overlap::{SECTION, find_shared};
+use crate::place::{check_place, place_at};
+use crate::symbol::ENTRY;
+use crate::{ObjectFault, RelaPlace, Sections, Symbol};
+use km_names::List;
+use std::alloc::Global;
+
+/// Whether an alignment is a power of two of at most a page, or 0.
+#[tactic(auto, unfolding(crate::specs::Places::is_alignment))]
+fn is_alignment(align: u64) -> bool
+    ensures { result ≡ is_alignment align }
+{
+    align <= PAGE && (align == 0 || align.is_power_of_two())
+}
+
+/// Tests the alignments of the sections that are kept.
+#[tactic(auto, unfolding(crate::specs::Places::align_test))]
+pub(crate) fn check_alignments(sections: &Sections) -> Result<(), ObjectFault>
+    ensures { result_err result ≡ first (each (section_count sections.now.file) (align_test sections.now.file)) }
+{
+    for index in 0..sections.count() {
+        let section = sections.section_of(index);
+        if section.kept && !is_alignment(section.align) {
+            return Err(ObjectFault::BadAlign { index });
+        }
+    }
+    Ok(())
+}
+
+/// Whether the section `index` holds relocations of a section that is kept.
+#[tactic(auto, unfolding(crate::specs::Places::is_applied))]
+fn is_applied(sections: &Sections, index: u32) -> bool
+    requires fit { TablesFit sections.now.file }
+    requires index { index < section_count sections.now.file }
+    ensures { result ≡ is_applied sections.now.file index }
+{
+    let section = sections.section_of(index);
+    section.kind == SHT_RELA && sections.section_of(section.info).kept
+}
+
+/// Adds the places of the section `index`, where it holds relocations of a section that is kept.
+fn read_section_places(
+    sections: &Sections,
+    symbols: &[Symbol],
+    index: u32,
+    places: &mut Vec<RelaPlace>,
+) -> Result<(), ObjectFault>
+    requires small { length sections.now.file ≤ 67108864 }
+    requires fit { TablesFit sections.now.file }
+    requires index { index < section_count sections.now.file }
+    requires symbols { symbols.now ≡ symbols_of sections.now.file }
+    requires inside { All (IsInSection sections.now.file) places.old.items }
+    ensures inside { OnOk result (All (IsInSection sections.now.file) places.new.items) }
+    ensures places { OnOk result (places.new.items ≡ places.old.items ++ section_places sections.now.file index) }
+    ensures passed { OnOk result (rela_test sections.now.file index ≡ None) }
+    ensures fault { IfErr result (λ e. (e ≡ ObjectFault.Memory) ⊎ (rela_test sections.now.file index ≡ Some e)) }
+{
+    if !is_applied(sections, index) {
+        return Ok(());
+    }
+    let number = sections.section_of(index).info;
+    let target = sections.section_of(number);
+    let table = sections.contents(index);
+    for entry in 0..(table.len() / ENTRY) as u32 {
+        let place = place_at(table, index, number, entry);
+        check_place(sections.list(), symbols, target, &place)?;
+        places.push(place)?;
+    }
+    Ok(())
+}
+
+/// Reads the places of a file.
+pub(crate) fn read_places(
+    alloc: Global,
+    sections: &Sections,
+    symbols: &[Symbol],
+) -> Result<List<RelaPlace>, ObjectFault>
+    requires small { length sections.now.file ≤ 67108864 }
+    requires fit { TablesFit sections.now.file }
+    requires symbols { symbols.now ≡ symbols_of sections.now.file }
+    ensures inside { IfOk result (All (IsInSection sections.now.file)) }
+    ensures places { IfOk result (λ l. l ≡ places_of sections.now.file) }
+    ensures passed { OnOk result (first (each (section_count sections.now.file) (rela_test sections.now.file)) ≡ None) }
+    ensures fault { IfErr result
+        (λ e. (e ≡ ObjectFault.Memory) ⊎ (first (each (section_count sections.now.file) (rela_test sections.now.file)) ≡ Some e)) }
+{
+    let mut places = Vec::new(alloc);
+    for index in 0..sections.count() {
+        read_section_places(sections, symbols, index, &mut places)?;
+    }
+    Ok(List::from_vec(places))
+}
+
+/// Tests that no byte is changed by two places.
+pub(crate) fn check_overlaps(
+    alloc: Global,
+    sections: &Sections,
+    places: &[RelaPlace],
+) -> Result<(), ObjectFault>
+    requires small { length sections.now.file ≤ 67108864 }
+    requires few { section_count sections.now.file < 0xff00 }
+    requires places { places.now ≡ places_of sections.now.file }
+    requires inside { All (IsInSection sections.now.file) places.now }
+    ensures passed { OnOk result (first (each (section_count sections.now.file) (overlap_test sections.now.file)) ≡ None) }
+    ensures fault { IfErr result
+        (λ e. (e ≡ ObjectFault.Memory) ⊎ (first (each (section_count sections.now.file) (overlap_test sections.now.file)) ≡ Some e)) }
+{
+    match find_shared(alloc, places)? {
+        None => Ok(()),
+        Some(byte) => Err(ObjectFault::OverlappingPlaces {
+            section: (byte / SECTION) as u32,
+            offset: byte % SECTION,
+        }),
+    }
+}

@@ -1,0 +1,143 @@
+// One symbol, and the symbol table.
+
+ghost use Rattle.std.specs.Prelude.{◌≡◌, ◌+◌, ◌*◌, ◌<◌, ◌≤◌, ◌⊎◌, length, None, Some, IfOk, IfErr, OnOk};
+ghost use Rattle.std.specs.Result.{result_err};
+ghost use Rattle.km_names.specs.First.{first};
+ghost use Rattle.elf_object.specs.Shape.{each};
+ghost use Rattle.elf_object.specs.Symbols.{entries, is_bad_symbol, kind_test, symbol_entry, symbol_in, symbol_test_in, symbols_in};
+
+use crate::format::{
+    SHN_ABS, SHN_COMMON, SHN_LORESERVE, SHN_UNDEF, SHN_XINDEX, STB_LOCAL, STB_WEAK,
+};
+use crate::strings::text_at;
+use crate::{ObjectFault, SectionFault};
+use km_names::{List, Name, le_u16_at, le_u32_at, le_u64_at};
+use std::alloc::Global;
+
+/// A symbol of a file. gABI 4, "Symbol Table", Elf64_Sym.
+#[derive(Drop)]
+pub struct Symbol {
+    /// The text at `st_name` of the symbol table's string table.
+    pub name: Name,
+    /// The binding: 0 local, 1 global, 2 weak.
+    pub binding: u8,
+    /// The number of its section; 0 where it is undefined, 0xfff1 where its value is absolute.
+    pub section: u16,
+    /// Its value: its place in its section, or the absolute value.
+    pub value: u64,
+}
+
+/// One entry of a symbol table, as it stands in the file.
+#[derive(Clone, Copy)]
+pub(crate) struct SymbolEntry {
+    pub(crate) name: u32,
+    pub(crate) info: u8,
+    pub(crate) section: u16,
+    pub(crate) value: u64,
+}
+
+/// The bytes of an entry of a symbol table, and of a relocation.
+pub(crate) const ENTRY: usize = 24;
+
+/// The entry `index` of a symbol table.
+#[tactic(auto, unfolding(crate::specs::Symbols::symbol_entry))]
+fn symbol_entry(table: &[u8], index: u32) -> SymbolEntry
+    requires { 24 * index + 24 ≤ length table.now }
+    ensures { result ≡ symbol_entry table.now index }
+{
+    let at = ENTRY * index as usize;
+    SymbolEntry {
+        name: le_u32_at(table, at),
+        info: table[at + 4],
+        section: le_u16_at(table, at + 6),
+        value: le_u64_at(table, at + 8),
+    }
+}
+
+/// Whether a symbol of this name can't be as it is, in a file of `count` sections.
+#[tactic(auto, unfolding(crate::specs::Symbols::is_bad_symbol))]
+fn is_bad_symbol(count: u32, name: &[u8], entry: &SymbolEntry) -> bool
+    ensures { result ≡ is_bad_symbol count name.now entry.now }
+{
+    let binding = entry.info / 16;
+    (SHN_LORESERVE <= entry.section && entry.section != SHN_ABS)
+        || (entry.section < SHN_LORESERVE && count <= u32::from(entry.section))
+        || STB_WEAK < binding
+        || (entry.section == SHN_UNDEF && (binding == STB_LOCAL || name.is_empty()))
+}
+
+/// Tests the section and the binding of the symbol `index` of this name.
+#[tactic(auto, unfolding(crate::specs::Symbols::kind_test))]
+fn check_kind(count: u32, name: &[u8], index: u32, entry: &SymbolEntry) -> Result<(), ObjectFault>
+    ensures { result_err result ≡ kind_test count name.now index entry.now }
+{
+    if entry.section == SHN_XINDEX {
+        return Err(ObjectFault::ExtendedIndex { index });
+    }
+    if entry.section == SHN_COMMON {
+        return Err(ObjectFault::CommonSymbol { index });
+    }
+    if is_bad_symbol(count, name, entry) {
+        return Err(ObjectFault::BadSymbol { index });
+    }
+    Ok(())
+}
+
+/// The symbol `index` of a table, by its string table and the count of sections.
+#[tactic(auto, unfolding(crate::specs::Symbols::symbol_in, crate::specs::Symbols::symbol_test_in))]
+fn read_symbol(
+    alloc: Global,
+    table: &[u8],
+    names: &[u8],
+    count: u32,
+    index: u32,
+) -> Result<Symbol, ObjectFault>
+    requires { 24 * index + 24 ≤ length table.now }
+    ensures symbol { IfOk result (λ s. s ≡ symbol_in table.now names.now index) }
+    ensures passed { OnOk result (symbol_test_in table.now names.now count index ≡ None) }
+    ensures fault { IfErr result
+        (λ e. (e ≡ ObjectFault.Memory) ⊎ (symbol_test_in table.now names.now count index ≡ Some e)) }
+{
+    if index == 0 {
+        return Ok(Symbol {
+            name: Name::new(alloc),
+            binding: 0,
+            section: 0,
+            value: 0,
+        });
+    }
+    let entry = symbol_entry(table, index);
+    let Some(name) = text_at(names, entry.name) else {
+        return Err(ObjectFault::Shape(SectionFault::BadString {
+            offset: u64::from(entry.name),
+        }));
+    };
+    check_kind(count, name, index, &entry)?;
+    Ok(Symbol {
+        name: Name::from_slice(alloc, name)?,
+        binding: entry.info / 16,
+        section: entry.section,
+        value: entry.value,
+    })
+}
+
+/// The symbols of a table, by its string table and the count of sections.
+pub(crate) fn read_symbols(
+    alloc: Global,
+    table: &[u8],
+    names: &[u8],
+    count: u32,
+) -> Result<List<Symbol>, ObjectFault>
+    requires { length table.now ≤ 67108864 }
+    ensures symbols { IfOk result (λ l. l ≡ symbols_in table.now names.now) }
+    ensures passed { OnOk result (first (each (entries table.now) (symbol_test_in table.now names.now count)) ≡ None) }
+    ensures fault { IfErr result
+        (λ e. (e ≡ ObjectFault.Memory) ⊎ (first (each (entries table.now) (symbol_test_in table.now names.now count)) ≡ Some e)) }
+{
+    let entries = table.len() / ENTRY;
+    let mut symbols = Vec::with_capacity(alloc, entries)?;
+    for index in 0..entries as u32 {
+        symbols.push(read_symbol(alloc, table, names, count, index)?)?;
+    }
+    Ok(List::from_vec(symbols))
+}

@@ -1,0 +1,109 @@
+// The tables of an object file: that of its symbols, and those of its relocations.
+
+ghost use Rattle.std.specs.Prelude.{◌≡◌, ◌<◌, ◌≤◌, length, None, OnOk};
+ghost use Rattle.std.specs.Result.{result_err};
+ghost use Rattle.km_names.specs.First.{first};
+ghost use Rattle.elf_object.specs.Shape.{each, section_count};
+ghost use Rattle.elf_object.specs.Symbols.{TablesFit, has_entries, is_good_table, is_string_table, is_symbol_table, rel_test, symbol_bytes, symbol_names, symbol_table, table_test};
+
+use crate::format::{SHT_REL, SHT_RELA, SHT_STRTAB, SHT_SYMTAB};
+use crate::symbol::ENTRY;
+use crate::{ObjectFault, Sections};
+
+/// Tests that no section holds relocations without addends.
+#[tactic(auto, unfolding(crate::specs::Symbols::rel_test))]
+pub(crate) fn check_rel(sections: &Sections) -> Result<(), ObjectFault>
+    ensures { result_err result ≡ first (each (section_count sections.now.file) (rel_test sections.now.file)) }
+{
+    for index in 0..sections.count() {
+        if sections.section_of(index).kind == SHT_REL {
+            return Err(ObjectFault::RelSection { index });
+        }
+    }
+    Ok(())
+}
+
+/// The symbol table: the first section of that type.
+pub(crate) fn symbol_table(sections: &Sections) -> Option<u32>
+    ensures { result ≡ symbol_table sections.now.file }
+{
+    for index in 0..sections.count() {
+        if sections.section_of(index).kind == SHT_SYMTAB {
+            return Some(index);
+        }
+    }
+    None
+}
+
+/// Whether the section `index` is a string table.
+#[tactic(auto, unfolding(crate::specs::Symbols::is_string_table))]
+fn is_string_table(sections: &Sections, index: u32) -> bool
+    ensures { result ≡ is_string_table sections.now.file index }
+{
+    index < sections.count() && sections.section_of(index).kind == SHT_STRTAB
+}
+
+/// Whether the section `index` has entries of 24 bytes, each of them whole.
+#[tactic(auto, unfolding(crate::specs::Symbols::has_entries))]
+fn has_entries(sections: &Sections, index: u32) -> bool
+    requires { index < section_count sections.now.file }
+    ensures { result ≡ has_entries sections.now.file index }
+{
+    let entry = ENTRY as u64;
+    sections.entry_size(index) == entry && sections.section_of(index).size % entry == 0
+}
+
+/// Whether the section `index`, if it is a table, can be one, by the number of the symbol table.
+#[tactic(auto, unfolding(crate::specs::Symbols::is_good_table, crate::specs::Symbols::is_symbol_table))]
+fn is_good_table(sections: &Sections, symbols: Option<u32>, index: u32) -> bool
+    requires index { index < section_count sections.now.file }
+    requires symbols { symbols ≡ symbol_table sections.now.file }
+    ensures { result ≡ is_good_table sections.now.file index }
+{
+    let section = sections.section_of(index);
+    match section.kind {
+        SHT_SYMTAB => {
+            symbols == Some(index)
+                && has_entries(sections, index)
+                && is_string_table(sections, section.link)
+        }
+        SHT_RELA => {
+            has_entries(sections, index)
+                && symbols == Some(section.link)
+                && 0 < section.info
+                && section.info < sections.count()
+        }
+        _ => true,
+    }
+}
+
+/// Tests that each table can be one, by the number of the symbol table.
+pub(crate) fn check_tables(sections: &Sections, symbols: Option<u32>) -> Result<(), ObjectFault>
+    requires { symbols ≡ symbol_table sections.now.file }
+    ensures fault { result_err result ≡ first (each (section_count sections.now.file) (table_test sections.now.file)) }
+    ensures fit { OnOk result (TablesFit sections.now.file) }
+{
+    for index in 0..sections.count() {
+        if !is_good_table(sections, symbols, index) {
+            return Err(ObjectFault::BadTable { index });
+        }
+    }
+    Ok(())
+}
+
+/// The bytes of the symbol table, and those of its string table; none where there is no symbol table.
+pub(crate) fn symbol_tables(sections: &Sections, symbols: Option<u32>) -> (&[u8], &[u8])
+    requires symbols { symbols ≡ symbol_table sections.now.file }
+    requires fit { TablesFit sections.now.file }
+    ensures bytes { result.0.now ≡ symbol_bytes sections.now.file }
+    ensures names { result.1.now ≡ symbol_names sections.now.file }
+    ensures length { length result.0.now ≤ length sections.now.file }
+{
+    match symbols {
+        Some(table) => {
+            let names = sections.section_of(table).link;
+            (sections.contents(table), sections.contents(names))
+        }
+        None => (&[], &[]),
+    }
+}
