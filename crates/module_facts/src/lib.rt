@@ -1,0 +1,9 @@
+//! The facts of a kernel module: what it exports and needs, with the versions of both, its aliases and its
+//! soft dependencies, or why it is refused.
+//!
+//! It stands on `km_names`, on `elf_object`, whose symbols and sections it reads, and on `modinfo_fields`
+//! for the texts of the section `.modinfo`.
+#![tactic(auto)]
+
+mod role;
+mod table;
