@@ -6,3 +6,4 @@ pub mod TableLemmas
 pub mod PlaceLemmas
 pub mod SpanLemmas
 pub mod OverlapLemmas
+pub mod ObjectLemmas

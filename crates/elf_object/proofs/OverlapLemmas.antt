@@ -1,29 +1,26 @@
 -- The test of overlaps, by the numbers of bytes that are counted twice.
 use Rattle.std.specs.Prelude.{option_map}
 use Rattle.elf_object.proofs.SpanLemmas.{is_between-from, is_between-true}
-use Rattle.std.proofs.Common.{◌≡◌, ℕ, zero, suc, ◌+◌, ◌*◌, ◌/◌, ◌%◌, ◌^◌, ◌<◌, ◌≤◌, ◌&&◌, ◌==◌, nat_lt, nat_le, Bool, true, false, cond, List, [], ◌∷◌, length, get_or, All, Option, Some, None, MatchOption, refl, sym, ap, ◌∙◌, inl, inr, arith}
+use Rattle.std.proofs.Common.{◌≡◌, ℕ, ◌+◌, ◌*◌, ◌^◌, ◌<◌, ◌≤◌, ◌&&◌, ◌==◌, nat_lt, nat_le, Bool, true, false, cond, List, [], ◌∷◌, length, All, Some, None, refl, sym, ap, ◌∙◌, inl, inr, arith}
 use Rattle.std.proofs.lemmas.Bool.{cases_Bool, cases_lt, lt-ltb, le-ltb, ltb-true, and_parts, and_from, and_right, both_ways, eq-eqb, eqb-true, le-leb, leb-true, and_left, lt-leb}
-use Rattle.std.proofs.lemmas.Bool.Decides.{nat_tests}
-use Rattle.std.proofs.lemmas.List.Elements.{All-get_or, All-head, All-tail, All-weaker}
+use Rattle.std.proofs.lemmas.List.Elements.{All-head, All-tail, All-weaker}
 use Rattle.std.proofs.lemmas.List.Sums.{sum_by-cons}
-use Rattle.std.specs.List.{count_by, position, range_with_len}
+use Rattle.std.specs.List.{count_by}
 use Rattle.km_names.specs.First.{first}
 use Rattle.elf_object.specs.declared.place.RelaPlace.{RelaPlace}
-use Rattle.elf_object.specs.declared.fault.ObjectFault.{ObjectFault}
 use Rattle.elf_object.specs.declared.fault.ObjectFault.TheVariants.{OverlappingPlaces}
 use Rattle.elf_object.specs.Shape.{each, section_count}
 use Rattle.elf_object.specs.Sections.{section_of}
 use Rattle.elf_object.specs.Places.{IsInSection, covers, is_shared, overlap_test, place_width, places_of}
-use Rattle.elf_object.specs.Overlap.{IsLeastShared, IsNear, count_at, is_between, place_end, place_start}
+use Rattle.elf_object.specs.Overlap.{IsNear, count_at, is_between, place_end, place_start}
 use Rattle.elf_object.proofs.TestLemmas.{each-failed, each-passed}
 use Rattle.elf_object.proofs.TableLemmas.{position-no_number, position-number}
 
 -- a place of the file is near
-pub IsNear-inside : (b : List ℕ) (p : RelaPlace) → length b ≤ 67108864 → section_count b < 0xff00 → IsInSection b p → IsNear p
-IsNear-inside b p small few inside = λ bytes.
+pub IsNear-inside : (b : List ℕ) (p : RelaPlace) → length b ≤ 67108864 → IsInSection b p → IsNear p
+IsNear-inside b p small inside = λ bytes.
     let within = inside.within bytes in
-    let target = inside.target in
-    (omega arith, omega arith)
+    (inside.near, omega arith)
 
 -- the byte at x of a section, and its number
 covers-number : (t x w : ℕ) (p : RelaPlace) → x < 2 ^ 32 → (0 < w → p.offset + w ≤ 2 ^ 32) → is_between (p.target * 2 ^ 32 + p.offset) (p.target * 2 ^ 32 + p.offset + w) (t * 2 ^ 32 + x) ≡ (p.target == t && nat_le p.offset x && nat_lt x (p.offset + w))
@@ -32,24 +29,24 @@ covers-number t x w p less near =
     let a = t * 2 ^ 32 + x in
     let both = p.target == t && nat_le p.offset x in
     elim (cases_Bool (both && nat_lt x (p.offset + w))) [
-      inl covered ↦
-        let parts = and_parts both (nat_lt x (p.offset + w)) covered in
-        let front = and_parts (p.target == t) (nat_le p.offset x) parts.0 in
-        let target = eqb-true p.target t front.0 in
-        let low = leb-true p.offset x front.1 in
-        let high = ltb-true x (p.offset + w) parts.1 in
-        is_between-from start (start + w) a (omega arith) (omega arith) ∙ sym covered
-    | inr other ↦ elim (cases_Bool (is_between start (start + w) a)) [
-        inl between ↦
-          let numbers = is_between-true start (start + w) a between in
-          let bytes : 0 < w = omega arith in
-          let inside = near bytes in
-          let target : p.target ≡ t = omega arith in
-          let low : p.offset ≤ x = omega arith in
-          let high : x < p.offset + w = omega arith in
-          absurd (both_ways (both && nat_lt x (p.offset + w)) other
+      | inl covered ↦
+          let parts = and_parts both (nat_lt x (p.offset + w)) covered in
+          let front = and_parts (p.target == t) (nat_le p.offset x) parts.0 in
+          let target = eqb-true p.target t front.0 in
+          let low = leb-true p.offset x front.1 in
+          let high = ltb-true x (p.offset + w) parts.1 in
+          is_between-from start (start + w) a (omega arith) (omega arith) ∙ sym covered
+      | inr other ↦ elim (cases_Bool (is_between start (start + w) a)) [
+        | inl between ↦
+            let numbers = is_between-true start (start + w) a between in
+            let bytes : 0 < w = omega arith in
+            let inside = near bytes in
+            let target : p.target ≡ t = omega arith in
+            let low : p.offset ≤ x = omega arith in
+            let high : x < p.offset + w = omega arith in
+            absurd (both_ways (both && nat_lt x (p.offset + w)) other
             (and_from both (nat_lt x (p.offset + w)) (and_from (p.target == t) (nat_le p.offset x) (eq-eqb p.target t target) (le-leb p.offset x low)) (lt-ltb x (p.offset + w) high)))
-      | inr apart ↦ apart ∙ sym other
+        | inr apart ↦ apart ∙ sym other
       ]
     ]
 
@@ -62,15 +59,15 @@ pub covers-far : (t x : ℕ) (p : RelaPlace) → 2 ^ 32 ≤ x → IsNear p → c
 unfolding covers
 covers-far t x p far near =
     elim (cases_Bool (nat_lt x (p.offset + place_width p))) [
-      inl below ↦
-        let high = ltb-true x (p.offset + place_width p) below in
-        elim (cases_lt 0 (place_width p)) [
-          inl bytes ↦ let inside = (near bytes).1 in absurd (omega arith)
-        | inr none ↦
-          and_left (p.target == t && nat_le p.offset x) (nat_lt x (p.offset + place_width p))
-            (and_right (p.target == t) (nat_le p.offset x) (lt-leb p.offset x (omega arith)))
-        ]
-    | inr past ↦ rw past (and_right (p.target == t && nat_le p.offset x) false refl)
+      | inl below ↦
+          let high = ltb-true x (p.offset + place_width p) below in
+          elim (cases_lt 0 (place_width p)) [
+            | inl bytes ↦ let inside = (near bytes).1 in absurd (omega arith)
+            | inr none ↦
+                and_left (p.target == t && nat_le p.offset x) (nat_lt x (p.offset + place_width p))
+                (and_right (p.target == t) (nat_le p.offset x) (lt-leb p.offset x (omega arith)))
+          ]
+      | inr past ↦ rw past (and_right (p.target == t && nat_le p.offset x) false refl)
     ]
 
 -- counts of the same items
@@ -92,26 +89,26 @@ count_by-none p P none (x ∷ xs) all =
 count_by-member : {X : Type 0} (p : X → Bool) (xs : List X) → 0 < count_by p xs → (x : X) × ((P : X → Type 0) → All P xs → P x) × (p x ≡ true)
 count_by-member p [] some = absurd (omega arith)
 count_by-member p (x ∷ xs) some = elim (cases_Bool (p x)) [
-      inl here ↦ (x, λ P all. All-head P x xs all, here)
-    | inr other ↦
-        let count = sum_by-cons (λ y. cond (p y) 1 0) x xs in
-        let zero_here : cond {A = ℕ} (p x) 1 0 ≡ 0 = rw other refl in
-        let rest : 0 < count_by p xs = omega arith in
-        let found = count_by-member p xs rest in
-        (found.0, λ P all. found.1 P (All-tail P x xs all), found.2)
-    ]
+  | inl here ↦ (x, λ P all. All-head P x xs all, here)
+  | inr other ↦
+      let count = sum_by-cons (λ y. cond (p y) 1 0) x xs in
+      let zero_here : cond {A = ℕ} (p x) 1 0 ≡ 0 = rw other refl in
+      let rest : 0 < count_by p xs = omega arith in
+      let found = count_by-member p xs rest in
+      (found.0, λ P all. found.1 P (All-tail P x xs all), found.2)
+]
 
 -- a file whose places lie in their sections
-module _ (b : List ℕ) (small : length b ≤ 67108864) (few : section_count b < 0xff00) (inside : All (IsInSection b) (places_of b)) where
+module _ (b : List ℕ) (small : length b ≤ 67108864) (inside : All (IsInSection b) (places_of b)) where
   near_places : All IsNear (places_of b)
-  near_places = All-weaker (IsInSection b) IsNear (λ p. IsNear-inside b p small few) (places_of b) inside
+  near_places = All-weaker (IsInSection b) IsNear (λ p. IsNear-inside b p small) (places_of b) inside
 
   -- a byte of a section is shared where its number is counted twice
   is_shared-number : (t x : ℕ) → x < 2 ^ 32 → is_shared (places_of b) t x ≡ nat_lt 1 (count_at place_start place_end (t * 2 ^ 32 + x) (places_of b))
   unfolding is_shared
   is_shared-number t x less =
       ap (nat_lt 1) (sym (count_by-same (λ p. is_between (place_start p) (place_end p) (t * 2 ^ 32 + x)) (covers t x) IsNear
-        (λ p near. is_between-covers t x p less near) (places_of b) near_places))
+      (λ p near. is_between-covers t x p less near) (places_of b) near_places))
 
   is_shared-far : (t x : ℕ) → 2 ^ 32 ≤ x → is_shared (places_of b) t x ≡ false
   unfolding is_shared
@@ -121,24 +118,24 @@ module _ (b : List ℕ) (small : length b ≤ 67108864) (few : section_count b <
   -- where its number is counted once at most, a byte isn't shared
   is_shared-once : (t x : ℕ) → (x < 2 ^ 32 → count_at place_start place_end (t * 2 ^ 32 + x) (places_of b) ≤ 1) → is_shared (places_of b) t x ≡ false
   is_shared-once t x once = elim (cases_lt x (2 ^ 32)) [
-      inl less ↦ is_shared-number t x less ∙ le-ltb 1 (count_at place_start place_end (t * 2 ^ 32 + x) (places_of b)) (once less)
+    | inl less ↦ is_shared-number t x less ∙ le-ltb 1 (count_at place_start place_end (t * 2 ^ 32 + x) (places_of b)) (once less)
     | inr far ↦ is_shared-far t x far
-    ]
+  ]
 
   -- no byte is shared in the section i
   overlap_test-none : (i : ℕ) → ((x : ℕ) → x < 2 ^ 32 → count_at place_start place_end (i * 2 ^ 32 + x) (places_of b) ≤ 1) → overlap_test b i ≡ None
   unfolding overlap_test
   overlap_test-none i once =
       ap (option_map (λ x. OverlappingPlaces i x))
-        (position-no_number (is_shared (places_of b) i) (section_of b i).size (λ k less. is_shared-once i k (λ near. once k near)))
+      (position-no_number (is_shared (places_of b) i) (section_of b i).size (λ k less. is_shared-once i k (λ near. once k near)))
 
   overlap_test-found : (i x : ℕ) → x < 2 ^ 32 → x < (section_of b i).size → 1 < count_at place_start place_end (i * 2 ^ 32 + x) (places_of b) → ((k : ℕ) → k < x → count_at place_start place_end (i * 2 ^ 32 + k) (places_of b) ≤ 1) → overlap_test b i ≡ Some (OverlappingPlaces i x)
   unfolding overlap_test
   overlap_test-found i x near less twice before =
       ap (option_map (λ y. OverlappingPlaces i y))
-        (position-number (is_shared (places_of b) i) (section_of b i).size x less
-          (λ k below. is_shared-once i k (λ _. before k below))
-          (is_shared-number i x near ∙ lt-ltb 1 (count_at place_start place_end (i * 2 ^ 32 + x) (places_of b)) twice))
+      (position-number (is_shared (places_of b) i) (section_of b i).size x less
+      (λ k below. is_shared-once i k (λ _. before k below))
+      (is_shared-number i x near ∙ lt-ltb 1 (count_at place_start place_end (i * 2 ^ 32 + x) (places_of b)) twice))
 
   -- no number is counted twice
   pub overlaps-none : ((a : ℕ) → count_at place_start place_end a (places_of b) ≤ 1) → first (each (section_count b) (overlap_test b)) ≡ None
@@ -160,5 +157,5 @@ module _ (b : List ℕ) (small : length b ≤ 67108864) (few : section_count b <
       let size = rw target at (is_inside.within bytes).0 in
       let less = rw target at is_inside.target in
       each-failed (section_count b) (overlap_test b) t (OverlappingPlaces t x) less
-        (λ i below. overlap_test-none i (λ y close. before (i * 2 ^ 32 + y) (omega arith)))
-        (overlap_test-found t x near (omega arith) twice (λ k below. before (t * 2 ^ 32 + k) (omega arith)))
+      (λ i below. overlap_test-none i (λ y close. before (i * 2 ^ 32 + y) (omega arith)))
+      (overlap_test-found t x near (omega arith) twice (λ k below. before (t * 2 ^ 32 + k) (omega arith)))

@@ -70,25 +70,26 @@ pub place_test-within : (sections : List Section) (symbols : List Symbol) (targe
 unfolding place_test is_bad_place width
 place_test-within sections symbols target p passed bytes =
     let last = three-passed (nat_le (length symbols) p.symbol) (is_none (width p.kind)) (not (p.kind == R_X86_64_NONE) && is_bad_place sections symbols target p)
-      (BadRela p.section p.entry) (UnknownType p.section p.entry p.kind) (BadRela p.section p.entry) passed in
+    (BadRela p.section p.entry) (UnknownType p.section p.entry p.kind) (BadRela p.section p.entry) passed in
     elim (and_cases (not (p.kind == R_X86_64_NONE)) (is_bad_place sections symbols target p) last) [
-      inl none ↦
-        let kind = eqb-true p.kind R_X86_64_NONE (not-false (p.kind == R_X86_64_NONE) none) in
-        let empty = rw kind at bytes in
-        absurd (omega arith)
-    | inr good ↦
-        let parts = or_parts (nat_lt target.size (p.offset + place_width p) || target.kind == SHT_NOBITS) (is_unkept sections symbols p.symbol) good in
-        let both = or_parts (nat_lt target.size (p.offset + place_width p)) (target.kind == SHT_NOBITS) parts.0 in
-        (ltb-false target.size (p.offset + place_width p) both.0, eqb-false target.kind SHT_NOBITS both.1)
+      | inl none ↦
+          let kind = eqb-true p.kind R_X86_64_NONE (not-false (p.kind == R_X86_64_NONE) none) in
+          let empty = rw kind at bytes in
+          absurd (omega arith)
+      | inr good ↦
+          let parts = or_parts (nat_lt target.size (p.offset + place_width p) || target.kind == SHT_NOBITS) (is_unkept sections symbols p.symbol) good in
+          let both = or_parts (nat_lt target.size (p.offset + place_width p)) (target.kind == SHT_NOBITS) parts.0 in
+          (ltb-false target.size (p.offset + place_width p) both.0, eqb-false target.kind SHT_NOBITS both.1)
     ]
 
 -- a place of an applied section that passed its tests
-pub IsInSection-place : (b : List ℕ) (i j : ℕ) → is_applied b i ≡ true → (section_of b i).info < section_count b → (IsTrue (has_content (section_of b (section_of b i).info).kind) → (section_of b (section_of b i).info).offset + (section_of b (section_of b i).info).size ≤ length b) → place_test (sections_of b) (symbols_of b) (section_of b (section_of b i).info) (place_of b i j) ≡ None → IsInSection b (place_of b i j)
+pub IsInSection-place : (b : List ℕ) (i j : ℕ) → is_applied b i ≡ true → (section_of b i).info < section_count b → section_count b < 0xff00 → (IsTrue (has_content (section_of b (section_of b i).info).kind) → (section_of b (section_of b i).info).offset + (section_of b (section_of b i).info).size ≤ length b) → place_test (sections_of b) (symbols_of b) (section_of b (section_of b i).info) (place_of b i j) ≡ None → IsInSection b (place_of b i j)
 unfolding place_in
-IsInSection-place b i j applied target within passed = record {
+IsInSection-place b i j applied target few within passed = record {
   target = target;
+  near = omega arith;
   within = λ bytes.
-    let inside = place_test-within (sections_of b) (symbols_of b) (section_of b (section_of b i).info) (place_of b i j) passed bytes in
-    let has = within (has_content-kept b (section_of b i).info (is_applied-kept b i applied) inside.1) in
-    (inside.0, omega arith);
+      let inside = place_test-within (sections_of b) (symbols_of b) (section_of b (section_of b i).info) (place_of b i j) passed bytes in
+      let has = within (has_content-kept b (section_of b i).info (is_applied-kept b i applied) inside.1) in
+      (inside.0, omega arith);
 }

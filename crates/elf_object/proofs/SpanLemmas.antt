@@ -1,5 +1,5 @@
 -- Counting the items that have a number between their first number and their end.
-use Rattle.std.proofs.Common.{◌≡◌, ℕ, zero, suc, ◌+◌, ◌<◌, ◌≤◌, Bool, true, false, cond, ltb, leb, ◌&&◌, List, [], ◌∷◌, ◌++◌, length, take, drop, get_or, pos, Option, Some, None, refl, sym, ap, ◌∙◌, inl, inr, ◌⊎◌, arith}
+use Rattle.std.proofs.Common.{◌≡◌, ℕ, zero, suc, ◌+◌, ◌<◌, ◌≤◌, true, false, cond, ltb, leb, List, [], ◌∷◌, length, take, drop, get_or, pos, Option, Some, None, refl, ◌∙◌, inl, inr, arith}
 use Rattle.std.proofs.lemmas.Bool.{and_parts, cases_Bool, leb-true, ltb-true, le-leb, lt-ltb, and_from}
 use Rattle.std.proofs.lemmas.Bool.Decides.{nat_tests}
 use Rattle.std.proofs.lemmas.List.Sums.{sum_by-cons, sum_by_more, sum_by-take-drop, sum_by-take-le}
@@ -39,32 +39,32 @@ count_at-more start finish xs i x within is a =
 pub Apart-more : {X : Type 0} (start finish : X → ℕ) (xs : List X) (i : ℕ) (x : X) (end : ℕ) → i < length xs → x ≡ get_or xs i x → Apart start finish xs i end → end ≤ start x → start x ≤ finish x → Apart start finish xs (i + 1) (finish x)
 Apart-more start finish xs i x end within is apart after ordered = record {
   once = λ a.
-    let more = count_at-more start finish xs i x within is a in
-    let b = is_between (start x) (finish x) a in
-    elim (cases_Bool b) [
-      inl yes' ↦
-        let low = (is_between-true (start x) (finish x) a yes').0 in
-        let none = apart.past a (omega arith) in
-        rw (more, none, yes') (omega arith)
-    | inr no' ↦ let before = apart.once a in rw (more, no') (omega arith)
-    ];
+      let more = count_at-more start finish xs i x within is a in
+      let b = is_between (start x) (finish x) a in
+      elim (cases_Bool b) [
+        | inl yes' ↦
+            let low = (is_between-true (start x) (finish x) a yes').0 in
+            let none = apart.past a (omega arith) in
+            rw (more, none, yes') (omega arith)
+        | inr no' ↦ let before = apart.once a in rw (more, no') (omega arith)
+      ];
   past = λ a later.
-    let more = count_at-more start finish xs i x within is a in
-    let none = apart.past a (omega arith) in
-    rw (more, none, is_between-past (start x) (finish x) a later) refl;
+      let more = count_at-more start finish xs i x within is a in
+      let none = apart.past a (omega arith) in
+      rw (more, none, is_between-past (start x) (finish x) a later) refl;
 }
 
 -- an item without bytes
 pub Apart-skip : {X : Type 0} (start finish : X → ℕ) (xs : List X) (i : ℕ) (x : X) (end : ℕ) → i < length xs → x ≡ get_or xs i x → Apart start finish xs i end → finish x ≡ start x + 0 → Apart start finish xs (i + 1) end
 Apart-skip start finish xs i x end within is apart empty = record {
   once = λ a.
-    let more = rw (empty, is_between-empty (start x) a) at (count_at-more start finish xs i x within is a) in
-    let before = apart.once a in
-    omega arith;
+      let more = rw (empty, is_between-empty (start x) a) at (count_at-more start finish xs i x within is a) in
+      let before = apart.once a in
+      omega arith;
   past = λ a later.
-    let more = rw (empty, is_between-empty (start x) a) at (count_at-more start finish xs i x within is a) in
-    let before = apart.past a later in
-    omega arith;
+      let more = rw (empty, is_between-empty (start x) a) at (count_at-more start finish xs i x within is a) in
+      let before = apart.past a later in
+      omega arith;
 }
 
 -- before the first item nothing is counted
@@ -93,24 +93,24 @@ count_at-none start finish a (x ∷ xs) without =
 -- an item in order that begins before the end shares its first number, and none shares a lower one
 pub IsLeastShared-found : {X : Type 0} (start finish : X → ℕ) (xs : List X) (i : ℕ) (x : X) (end : ℕ) → i < length xs → x ≡ get_or xs i x → IsNonDecreasingBy start xs → Apart start finish xs i end → Reaches start finish xs i end → start x < end → start x < finish x → IsLeastShared (λ a. count_at start finish a xs) (Some (start x))
 IsLeastShared-found start finish xs i x end within is sorted apart reaches before long = (
-    (
+  (
       let more = count_at-more start finish xs i x within is (start x) in
       let one = reaches (start x) (λ k d less. rw (← is) at (rw (get_or_default xs i d x within) at (sorted k i d (omega arith) within))) before in
       let whole = sum_by-take-le (λ y. cond (is_between (start y) (finish y) (start x)) 1 0) xs (i + 1) in
       let here = is_between-from (start x) (finish x) (start x) (omega arith) long in
       let two = rw here at more in
       omega arith
-    ),
-    λ a less.
+      ),
+  λ a less.
       let parts = sum_by-take-drop (λ y. cond (is_between (start y) (finish y) a) 1 0) xs i in
       let once = apart.once a in
       let length_is = length-drop i xs in
       let none = count_at-none start finish a (drop i xs) (λ k d below.
-        let inside : i + k < length xs = omega arith in
-        let later = rw (← is) at (rw (get_or_default xs i d x within) at (sorted i (i + k) d (omega arith) inside)) in
-        rw (get_or-drop i xs k d) (is_between-before (start (get_or xs (i + k) d)) (finish (get_or xs (i + k) d)) a (omega arith))) in
+      let inside : i + k < length xs = omega arith in
+      let later = rw (← is) at (rw (get_or_default xs i d x within) at (sorted i (i + k) d (omega arith) inside)) in
+      rw (get_or-drop i xs k d) (is_between-before (start (get_or xs (i + k) d)) (finish (get_or xs (i + k) d)) a (omega arith))) in
       omega arith,
-  )
+)
 
 -- what a loop reads past the end of a list of places, or of spans
 abbrev pub no_place : RelaPlace

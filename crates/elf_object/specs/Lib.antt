@@ -4,3 +4,4 @@ pub mod Shape
 pub mod Symbols
 pub mod Places
 pub mod Overlap
+pub mod Object

@@ -76,6 +76,7 @@ place_test sections symbols target p =
 -- A place lies in a section of the file, and where it changes bytes it does so in the file's.
 pub record IsInSection (b : List ℕ) (p : RelaPlace) : Type 0 where
   pub target : p.target < section_count b
+  pub near : p.target < 2 ^ 16
   pub within : 0 < place_width p → (p.offset + place_width p ≤ (section_of b p.target).size) × ((section_of b p.target).size ≤ length b)
 
 -- The section i holds relocations of a section that is kept.
@@ -113,3 +114,11 @@ is_shared places target x = nat_lt 1 (count_by (covers target x) places)
 unfoldable pub overlap_test : List ℕ → ℕ → Option ObjectFault
 overlap_test b i =
     option_map (λ x. OverlappingPlaces i x) (position (is_shared (places_of b) i) (range_with_len 0 (section_of b i).size))
+
+-- The tests of the alignments and of the places of a file, in order, each by rising section.
+unfoldable pub place_tests : List ℕ → List (Option ObjectFault)
+place_tests b =
+    first (each (section_count b) (align_test b))
+    ∷ first (each (section_count b) (rela_test b))
+    ∷ first (each (section_count b) (overlap_test b))
+    ∷ []

@@ -10,7 +10,7 @@ use Rattle.elf_object.specs.declared.symbol.SymbolEntry.{SymbolEntry}
 use Rattle.elf_object.specs.declared.fault.ObjectFault.{ObjectFault}
 use Rattle.elf_object.specs.declared.fault.ObjectFault.TheVariants.{Shape, RelSection, BadTable, ExtendedIndex, CommonSymbol, BadSymbol}
 use Rattle.elf_object.specs.declared.fault.SectionFault.TheVariants.{BadString}
-use Rattle.elf_object.specs.Shape.{contents, fault_if, section_count, text_at}
+use Rattle.elf_object.specs.Shape.{each, contents, fault_if, section_count, text_at}
 use Rattle.elf_object.specs.Sections.{entry_size, section_of}
 
 -- The test that the section i holds no relocations without addends.
@@ -122,3 +122,11 @@ symbols_of b = symbols_in (symbol_bytes b) (symbol_names b)
 -- The tests of the symbol j of a file.
 abbrev pub symbol_test : List ℕ → ℕ → Option ObjectFault
 symbol_test b j = symbol_test_in (symbol_bytes b) (symbol_names b) (section_count b) j
+
+-- The tests of the tables and of the symbols of a file, in order, each by rising number.
+unfoldable pub symbol_tests : List ℕ → List (Option ObjectFault)
+symbol_tests b =
+    first (each (section_count b) (rel_test b))
+    ∷ first (each (section_count b) (table_test b))
+    ∷ first (each (entries (symbol_bytes b)) (symbol_test b))
+    ∷ []

@@ -9,6 +9,7 @@
 mod fault;
 mod format;
 mod header;
+mod object;
 mod overlap;
 mod place;
 mod places;
@@ -20,6 +21,7 @@ mod symbol;
 mod tables;
 
 pub use fault::{ObjectFault, SectionFault};
+pub use object::Object;
 pub use place::RelaPlace;
 pub use section::Section;
 pub use sections::Sections;

@@ -108,7 +108,6 @@ pub(crate) fn check_overlaps(
     places: &[RelaPlace],
 ) -> Result<(), ObjectFault>
     requires small { length sections.now.file ≤ 67108864 }
-    requires few { section_count sections.now.file < 0xff00 }
     requires places { places.now ≡ places_of sections.now.file }
     requires inside { All (IsInSection sections.now.file) places.now }
     ensures passed { OnOk result (first (each (section_count sections.now.file) (overlap_test sections.now.file)) ≡ None) }

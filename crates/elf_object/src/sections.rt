@@ -101,6 +101,7 @@ impl Sections {
     pub(crate) fn section_of(&self, i: u32) -> &Section
         requires { i < section_count self.now.file }
         ensures section { result.now ≡ section_of self.now.file i }
+        ensures few { section_count self.now.file < 0xff00 }
         ensures within { IsTrue (has_content result.now.kind) → result.now.offset + result.now.size ≤ length self.now.file }
     {
         &self.sections.as_slice()[i as usize]

@@ -1,6 +1,6 @@
-use Rattle.std.proofs.Common.{◌≡◌, ℕ, ◌+◌, ◌≤◌, take, length, get_or, sym, ap, arith}
+use Rattle.std.proofs.Common.{◌+◌, get_or, ap, arith}
 use Rattle.std.proofs.lemmas.List.{get_or_default, take_all}
-use Rattle.elf_object.specs.Overlap.{count_at, place_end, place_start}
+use Rattle.elf_object.specs.Overlap.{place_end, place_start}
 use Rattle.elf_object.proofs.SpanLemmas.{Apart-more, Apart-skip, no_place}
 use Rattle.elf_object.proofs.overlap.are_apart.Goals as goal
 use Rattle.elf_object.proofs.overlap.are_apart.Goals.{in-Some+else-span-end, in_default}
@@ -12,15 +12,15 @@ loop-place-preserved c =
     let p = get_or places i no_place in
     let is = get_or_default places i no_place p c.loop-place-test.true in
     elim c.match-span_of.branch [
-      in-Some+else-span-end w ↦
-        let start = w.in-Some.ensures.start in
-        let end = w.in-Some.ensures.end in
-        rw (w.end-is, end)
+      | in-Some+else-span-end w ↦
+          let start = w.in-Some.ensures.start in
+          let end = w.in-Some.ensures.end in
+          rw (w.end-is, end)
           (Apart-more place_start place_end places i p c.loop-place.end c.loop-place-test.true is c.loop-place.invariant (omega arith) (omega arith))
-    | in_default w ↦
-        rw w.end-is
+      | in_default w ↦
+          rw w.end-is
           (Apart-skip place_start place_end places i p c.loop-place.end c.loop-place-test.true is c.loop-place.invariant
-            (ap (λ n. place_start p + n) w.in_default.ensures))
+          (ap (λ n. place_start p + n) w.in_default.ensures))
     ]
 
 pub returns : goal.returns

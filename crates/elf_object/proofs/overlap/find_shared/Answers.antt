@@ -1,4 +1,4 @@
-use Rattle.std.proofs.Common.{◌≡◌, ℕ, cond, rules, ◌∙◌, ap, arith}
+use Rattle.std.proofs.Common.{cond, rules, ◌∙◌, ap}
 use Rattle.std.proofs.lemmas.List.Sorted.{All-permutation, IsNonDecreasingBy-from_sort_by_key, sum_by-IsPermutation}
 use Rattle.elf_object.specs.declared.overlap.Span.{Span}
 use Rattle.elf_object.specs.Overlap.{IsLong, count_at, is_between, place_end, place_start, span_end, span_start}
@@ -8,20 +8,20 @@ use Rattle.elf_object.proofs.overlap.find_shared.Goals as goal
 pub first_shared-requires-clause-sorted : goal.first_shared-requires-clause-sorted
 first_shared-requires-clause-sorted c =
     rw c.deref.ensures.value
-      (IsNonDecreasingBy-from_sort_by_key span_start _ c.sort_unstable_by_key.ensures.sorted (λ a r q k. search rules))
+    (IsNonDecreasingBy-from_sort_by_key span_start _ c.sort_unstable_by_key.ensures.sorted (λ a r q k. search rules))
 
 pub first_shared-requires-clause-long : goal.first_shared-requires-clause-long
 first_shared-requires-clause-long c =
     rw c.deref.ensures.value
-      (All-permutation IsLong c.in_ok-spans.spans.items _ c.sort_unstable_by_key.ensures.permutation c.in_ok-spans.ensures.long)
+    (All-permutation IsLong c.in_ok-spans.spans.items _ c.sort_unstable_by_key.ensures.permutation c.in_ok-spans.ensures.long)
 
 pub returns : goal.returns
 returns c =
     IsLeastShared-same
-      (λ a. count_at span_start span_end a c.deref.result.now)
-      (λ a. count_at place_start place_end a c.args.places.now)
-      (λ a.
-        ap (count_at span_start span_end a) c.deref.ensures.value
-        ∙ sum_by-IsPermutation (λ (y : Span). cond (is_between y.start y.end a) 1 0) c.in_ok-spans.spans.items _ c.sort_unstable_by_key.ensures.permutation
-        ∙ c.in_ok-spans.ensures.counts a)
-      c.first_shared.result c.first_shared.ensures
+    (λ a. count_at span_start span_end a c.deref.result.now)
+    (λ a. count_at place_start place_end a c.args.places.now)
+    (λ a.
+    ap (count_at span_start span_end a) c.deref.ensures.value
+    ∙ sum_by-IsPermutation (λ (y : Span). cond (is_between y.start y.end a) 1 0) c.in_ok-spans.spans.items _ c.sort_unstable_by_key.ensures.permutation
+    ∙ c.in_ok-spans.ensures.counts a)
+    c.first_shared.result c.first_shared.ensures

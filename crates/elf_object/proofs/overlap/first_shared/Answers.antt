@@ -1,4 +1,4 @@
-use Rattle.std.proofs.Common.{◌≡◌, ℕ, ◌<◌, ◌≤◌, take, length, get_or, arith}
+use Rattle.std.proofs.Common.{◌<◌, get_or, arith}
 use Rattle.std.proofs.lemmas.List.{get_or_default, take_all}
 use Rattle.std.proofs.lemmas.List.Elements.{All-get_or}
 use Rattle.elf_object.specs.Overlap.{IsLong, span_end, span_start}
@@ -12,8 +12,8 @@ returns-then-span-end c =
     let s = get_or spans i no_span in
     let is = get_or_default spans i no_span s c.loop-span-test.true in
     IsLeastShared-found span_start span_end spans i s c.loop-span.end c.loop-span-test.true is c.requires.sorted
-      c.loop-span.invariant.apart c.loop-span.invariant.reaches c.if-span-end.true
-      (All-get_or IsLong spans i no_span c.loop-span-test.true c.requires.long)
+    c.loop-span.invariant.apart c.loop-span.invariant.reaches c.if-span-end.true
+    (All-get_or IsLong spans i no_span c.loop-span-test.true c.requires.long)
 
 pub loop-span-preserved : goal.loop-span-preserved
 loop-span-preserved c =

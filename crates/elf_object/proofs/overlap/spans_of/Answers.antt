@@ -1,9 +1,9 @@
-use Rattle.std.proofs.Common.{◌≡◌, ℕ, ◌+◌, ◌<◌, ◌≤◌, Vec, Global, false, take, length, get_or, cond, sym, ap, ◌∙◌, arith}
+use Rattle.std.proofs.Common.{◌≡◌, ◌<◌, Vec, Global, false, get_or, cond, sym, ap, ◌∙◌, arith}
 use Rattle.std.proofs.lemmas.List.{get_or_default, take_all}
 use Rattle.std.proofs.lemmas.List.Elements.{All-push}
 use Rattle.std.proofs.lemmas.List.Sums.{sum_by_push}
 use Rattle.elf_object.specs.declared.overlap.Span.{Span}
-use Rattle.elf_object.specs.Overlap.{IsLong, count_at, is_between, place_end, place_start, span_end, span_start}
+use Rattle.elf_object.specs.Overlap.{IsLong, is_between, place_end, place_start}
 use Rattle.elf_object.proofs.SpanLemmas.{count_at-more, is_between-empty, no_place}
 use Rattle.elf_object.proofs.overlap.spans_of.Goals as goal
 use Rattle.elf_object.proofs.overlap.spans_of.Goals.{in-Some+in_ok-push, in_default}
@@ -16,32 +16,32 @@ loop-place-preserved c =
     let is = get_or_default places i no_place p c.loop-place-test.true in
     let old = c.loop-place.invariant in
     elim c.match-span_of.branch [
-      in-Some+in_ok-push w ↦
-        let span = w.in-Some.span in
-        let start = w.in-Some.ensures.start in
-        let end = w.in-Some.ensures.end in
-        let bytes = w.in-Some.ensures.long in
-        let long : span.start < span.end = omega arith in
-        let items = ap (λ (v : Vec Span Global). v.items) w.spans-is ∙ w.in_ok-push.ensures.items in
-        record {
-          long = rw items (All-push IsLong c.loop-place.spans.items span old.long long);
-          counts = λ a.
-            rw items
-              (sum_by_push (λ (y : Span). cond (is_between y.start y.end a) 1 0) c.loop-place.spans.items span
-              ∙ rw (old.counts a, start, end) (sym (count_at-more place_start place_end places i p c.loop-place-test.true is a)));
-        }
-    | in_default w ↦
-        let items = ap (λ (v : Vec Span Global). v.items) w.spans-is in
-        record {
-          long = rw items old.long;
-          counts = λ a.
-            let more = count_at-more place_start place_end places i p c.loop-place-test.true is a in
-            let empty : is_between (place_start p) (place_end p) a ≡ false =
-              rw w.in_default.ensures (is_between-empty (place_start p) a) in
-            let same = rw empty at more in
-            let before = old.counts a in
-            rw items (omega arith);
-        }
+      | in-Some+in_ok-push w ↦
+          let span = w.in-Some.span in
+          let start = w.in-Some.ensures.start in
+          let end = w.in-Some.ensures.end in
+          let bytes = w.in-Some.ensures.long in
+          let long : span.start < span.end = omega arith in
+          let items = ap (λ (v : Vec Span Global). v.items) w.spans-is ∙ w.in_ok-push.ensures.items in
+          record {
+            long = rw items (All-push IsLong c.loop-place.spans.items span old.long long);
+            counts = λ a.
+                rw items
+                (sum_by_push (λ (y : Span). cond (is_between y.start y.end a) 1 0) c.loop-place.spans.items span
+                ∙ rw (old.counts a, start, end) (sym (count_at-more place_start place_end places i p c.loop-place-test.true is a)));
+          }
+      | in_default w ↦
+          let items = ap (λ (v : Vec Span Global). v.items) w.spans-is in
+          record {
+            long = rw items old.long;
+            counts = λ a.
+                let more = count_at-more place_start place_end places i p c.loop-place-test.true is a in
+                let empty : is_between (place_start p) (place_end p) a ≡ false =
+                rw w.in_default.ensures (is_between-empty (place_start p) a) in
+                let same = rw empty at more in
+                let before = old.counts a in
+                rw items (omega arith);
+          }
     ]
 
 pub returns-clause-counts : goal.returns-clause-counts

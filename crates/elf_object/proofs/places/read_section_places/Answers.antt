@@ -53,7 +53,7 @@ loop-entry-preserved c =
     record {
       tests = below_more _ _ c.loop-entry.invariant.tests passed;
       inside = rw c.in_ok-push.ensures.items (All-push (IsInSection b) c.loop-entry.places.items _ c.loop-entry.invariant.inside
-        (rw place (IsInSection-place b i n applied target within passed)));
+          (rw place (IsInSection-place b i n applied target c.section_of.ensures.few within passed)));
       places_are =
           c.in_ok-push.ensures.items
           ∙ rw (c.loop-entry.invariant.places_are, place, map-range_with_len_more (place_of b i) 0 n n (omega arith))

@@ -23,3 +23,9 @@ returns-clause-within c =
     let is = rw (c.as_slice.ensures, c.self.invariant.list_is) at c.index-as_slice-i.is in
     let at = is ∙ sections_of-at c.self.inside.bytes c.args.i c.index-as_slice-i.result (omega arith) in
     rw (at, ← c.self.view_is) (section_of-within c.self.inside.bytes c.args.i (omega arith) c.self.invariant.within)
+
+pub returns-clause-few : goal.returns-clause-few
+returns-clause-few c =
+    let same = ap (λ (v : FileSections). section_count v.file) c.self.view_is in
+    let few = c.self.invariant.table.count in
+    omega arith

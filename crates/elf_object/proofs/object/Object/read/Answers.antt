@@ -1,0 +1,42 @@
+use Rattle.std.proofs.Common.{ap, ◌∙◌, inl, inr}
+use Rattle.std.proofs.lemmas.Result.{err_from_is_err_and}
+use Rattle.elf_object.proofs.ObjectLemmas.{length-symbols_of, object_fault-from, object_fault-places, object_fault-symbols}
+use Rattle.elf_object.specs.Sections.{FileSections}
+use Rattle.elf_object.proofs.object.Object.read.Goals as goal
+
+pub returns-in_err-sections-clause-fault : goal.returns-in_err-sections-clause-fault
+returns-in_err-sections-clause-fault c =
+    let p = err_from_is_err_and c.from_residual.result c.from_residual.ensures.1 in
+    rw (p.1, p.2) (object_fault-from c.args.bytes _ c.in_err-sections.ensures.fault)
+
+pub returns-in_err-symbols-clause-fault : goal.returns-in_err-symbols-clause-fault
+returns-in_err-symbols-clause-fault c =
+    let p = err_from_is_err_and c.from_residual-in_err-symbols.result c.from_residual-in_err-symbols.ensures.1 in
+    let file = ap (λ (v : FileSections). v.file) c.in_ok-sections.ensures.sections in
+    rw (p.1, p.2)
+    (elim c.in_err-symbols.ensures.fault [
+      | inl memory ↦ inl memory
+      | inr failed ↦ inr (object_fault-symbols c.args.bytes _ c.in_ok-sections.ensures.passed (rw file at failed))
+    ])
+
+pub returns-in_err-places-clause-fault : goal.returns-in_err-places-clause-fault
+returns-in_err-places-clause-fault c =
+    let p = err_from_is_err_and c.from_residual-in_err-places.result c.from_residual-in_err-places.ensures.1 in
+    let file = ap (λ (v : FileSections). v.file) c.in_ok-sections.ensures.sections in
+    let left = object_fault-places c.args.bytes c.in_ok-sections.ensures.passed (rw file at c.in_ok-symbols.ensures.passed) in
+    rw (p.1, p.2)
+    (elim c.in_err-places.ensures.fault [
+      | inl memory ↦ inl memory
+      | inr failed ↦ inr (left ∙ rw file at failed)
+    ])
+
+pub returns-clause-passed : goal.returns-clause-passed
+returns-clause-passed c =
+    let file = ap (λ (v : FileSections). v.file) c.in_ok-sections.ensures.sections in
+    object_fault-places c.args.bytes c.in_ok-sections.ensures.passed (rw file at c.in_ok-symbols.ensures.passed)
+    ∙ rw file at c.in_ok-places.ensures.passed
+
+pub invariant_of-result : goal.invariant_of-result
+invariant_of-result c =
+    let file = ap (λ (v : FileSections). v.file) c.in_ok-sections.ensures.sections in
+    rw (c.in_ok-symbols.ensures.symbols, file) (length-symbols_of c.args.bytes c.requires)
