@@ -1,2 +1,9 @@
 pub mod Roles
 pub mod NameTable
+pub mod Contents
+pub mod Versions
+pub mod SymbolTables
+pub mod Exports
+pub mod Needs
+pub mod Facts
+pub mod Faults

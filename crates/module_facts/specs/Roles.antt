@@ -35,10 +35,10 @@ stated_name Export = exported_name
 stated_name Version = versioned_name
 stated_name Definition = defined_name
 
--- The symbol states this name, by what it states.
-abbrev pub states : (Symbol → Option (List ℕ)) → List ℕ → Symbol → Bool
-states stated name s = option_map_or (λ n. bytes_eq n name) (stated s) false
+-- An item states this name, by what it states.
+abbrev pub states : {X : Type 0} → (X → Option (List ℕ)) → List ℕ → X → Bool
+states stated name x = option_map_or (λ n. bytes_eq n name) (stated x) false
 
--- The number of the first symbol that states this name.
-unfoldable pub first_stating : (Symbol → Option (List ℕ)) → List Symbol → List ℕ → Option ℕ
-first_stating stated symbols name = position (states stated name) symbols
+-- The place of the first item that states this name.
+abbrev pub first_stating : {X : Type 0} → (X → Option (List ℕ)) → List X → List ℕ → Option ℕ
+first_stating stated items name = position (states stated name) items

@@ -5,5 +5,15 @@
 //! for the texts of the section `.modinfo`.
 #![tactic(auto)]
 
+mod contents;
+mod exports;
+mod facts;
+mod fault;
+mod needs;
 mod role;
 mod table;
+mod tables;
+mod versions;
+
+pub use facts::{Export, Exports, Facts, Need, Needs};
+pub use fault::ModuleFault;

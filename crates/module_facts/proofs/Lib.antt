@@ -1,0 +1,4 @@
+pub mod ContentLemmas
+pub mod EntryLemmas
+pub mod FirstLemmas
+pub mod ListLemmas
