@@ -29,9 +29,17 @@ has_bad_name f =
 unfoldable pub is_twice : List Export → Export → Bool
 is_twice exports e = nat_lt 1 (count_by (λ other. bytes_eq other.name e.name) exports)
 
+-- The test that no two exports have one name; the first that another has too is named.
+abbrev pub twice_test : List Export → Option ModuleFault
+twice_test exports = option_map (λ e. ExportTwice e.name) (find (is_twice exports) exports)
+
 -- No symbol defines the export.
 unfoldable pub is_undefined : FileObject → Export → Bool
 is_undefined o e = is_none (first_stating defined_name o.symbols e.name)
+
+-- The test that each export is defined; the first that isn't is named.
+abbrev pub undefined_test : FileObject → List Export → Option ModuleFault
+undefined_test o exports = option_map (λ e. ExportUndefined e.name) (find (is_undefined o) exports)
 
 -- The symbol that gives the export's version lies where its section has no 4 bytes in the file.
 unfoldable pub has_bad_version : FileObject → Export → Bool
@@ -46,8 +54,8 @@ unfoldable pub facts_tests : FileObject → Facts → List (Option ModuleFault)
 facts_tests o f =
     fault_if (nat_lt 55 (length f.name)) NameTooLong
     ∷ fault_if (has_bad_name f) BadName
-    ∷ option_map (λ e. ExportTwice e.name) (find (is_twice f.exports) f.exports)
-    ∷ option_map (λ e. ExportUndefined e.name) (find (is_undefined o) f.exports)
+    ∷ twice_test f.exports
+    ∷ undefined_test o f.exports
     ∷ fault_if (has_bad_versions o f.exports) BadVersions
     ∷ []
 

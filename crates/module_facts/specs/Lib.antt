@@ -7,3 +7,7 @@ pub mod Exports
 pub mod Needs
 pub mod Facts
 pub mod Faults
+pub mod FaultText
+pub mod Times
+pub mod Missing
+pub mod Module

@@ -15,14 +15,14 @@ unfoldable pub is_need : ℕ → Symbol → Bool
 is_need i s = nat_lt 0 i && not (is_defined s) && not (bytes_eq s.name (codes "_GLOBAL_OFFSET_TABLE_"))
 
 -- The need that the symbol i states; its version is that of the first entry of its name.
-unfoldable pub need_of : FileObject → ℕ → Symbol → Need
-need_of o i s = record {
+unfoldable pub need_of : List ℕ → ℕ → Symbol → Need
+need_of versions i s = record {
   name = s.name;
   symbol = i;
   weak = s.binding == STB_WEAK;
-  crc = stated_version (version_bytes o) s.name;
+  crc = stated_version versions s.name;
 }
 
 -- The needs, in the order of their symbols.
 unfoldable pub needs_of : FileObject → List Need
-needs_of o = map (λ p. need_of o p.0 p.1) (filter (λ p. is_need p.0 p.1) (enumerate_from 0 o.symbols))
+needs_of o = map (λ p. need_of (version_bytes o) p.0 p.1) (filter (λ p. is_need p.0 p.1) (enumerate_from 0 o.symbols))

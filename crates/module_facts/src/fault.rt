@@ -1,6 +1,6 @@
 // What is wrong with a module.
 
-ghost use Rattle.std.specs.Prelude.{◌≡◌, IfOk};
+ghost use Rattle.std.specs.Prelude.{◌≡◌, ◌++◌, codes, IfOk};
 
 use elf_object::ObjectFault;
 use km_names::{Blob, Name};
@@ -46,4 +46,47 @@ impl<T: Drop> From<AllocFailed<T>> for ModuleFault {
     fn from(_refusal: AllocFailed<T>) -> ModuleFault {
         ModuleFault::Memory
     }
+}
+
+impl From<ObjectFault> for ModuleFault {
+    ghost use Rattle.module_facts.specs.FaultText.{module_fault_from};
+
+    ghost from_gives = { λ object fault. fault ≡ module_fault_from object };
+
+    fn from(fault: ObjectFault) -> ModuleFault {
+        match fault {
+            ObjectFault::Memory => ModuleFault::Memory,
+            other => ModuleFault::Object(other),
+        }
+    }
+}
+
+impl ModuleFault {
+    ghost use Rattle.module_facts.specs.FaultText.{module_fault_text};
+
+    /// The text of the fault, as it stands in a line on standard error.
+    pub fn text(&self, alloc: Global) -> Result<Blob, AllocError>
+        ensures { IfOk result (λ text. text ≡ module_fault_text self.now) }
+    {
+        match self {
+            ModuleFault::Compressed => Blob::from_slice(alloc, b"compressed"),
+            ModuleFault::Object(fault) => fault.text(alloc),
+            ModuleFault::NameTooLong => Blob::from_slice(alloc, b"name too long"),
+            ModuleFault::BadName => Blob::from_slice(alloc, b"bad name"),
+            ModuleFault::ExportTwice { name } => export_text(alloc, name, b" twice"),
+            ModuleFault::ExportUndefined { name } => export_text(alloc, name, b" undefined"),
+            ModuleFault::BadVersions => Blob::from_slice(alloc, b"bad versions"),
+            ModuleFault::Memory => Blob::from_slice(alloc, b"out of memory"),
+        }
+    }
+}
+
+/// The text that says how an export is wrong.
+fn export_text(alloc: Global, name: &Name, how: &[u8]) -> Result<Blob, AllocError>
+    ensures { IfOk result (λ text. text ≡ codes "export " ++ name.now ++ how.now) }
+{
+    let mut text = Blob::from_slice(alloc, b"export ")?;
+    text.extend(name.as_bytes())?;
+    text.extend(how)?;
+    Ok(text)
 }

@@ -5,11 +5,14 @@
 //! for the texts of the section `.modinfo`.
 #![tactic(auto)]
 
+mod checks;
 mod contents;
 mod exports;
 mod facts;
 mod fault;
+mod module;
 mod needs;
+mod read;
 mod role;
 mod table;
 mod tables;
@@ -17,3 +20,5 @@ mod versions;
 
 pub use facts::{Export, Exports, Facts, Need, Needs};
 pub use fault::ModuleFault;
+pub use module::Module;
+pub use read::read_module;

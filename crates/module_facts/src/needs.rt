@@ -3,7 +3,7 @@
 ghost use Rattle.std.specs.Prelude.{◌≡◌, ◌≤◌, length, IfOk};
 ghost use Rattle.module_facts.specs.NameTable.{HasFirsts};
 ghost use Rattle.module_facts.specs.Needs.{is_need, need_of, needs_of};
-ghost use Rattle.module_facts.specs.Versions.{entry_name, entry_numbers, version_bytes};
+ghost use Rattle.module_facts.specs.Versions.{entry_name, entry_numbers};
 
 use crate::role::{SHN_UNDEF, STB_WEAK};
 use crate::table::NameTable;
@@ -23,25 +23,24 @@ fn is_need(i: u32, symbol: &Symbol) -> bool
         && symbol.name.as_bytes() != b"_GLOBAL_OFFSET_TABLE_".as_slice()
 }
 
-/// The need that the symbol `i` states.
+/// The need that the symbol `i` states, by the bytes and the table of the section `__versions`.
 #[tactic(auto, unfolding(crate::specs::Needs::need_of))]
 fn read_need(
     alloc: Global,
-    object: &Object,
+    versions: &[u8],
     entries: &NameTable,
     i: u32,
     symbol: &Symbol,
 ) -> Result<Need, AllocError>
-    requires small { length object.now.file ≤ 67108864 }
-    requires entries { HasFirsts entries.now (entry_name (version_bytes object.now)) (entry_numbers (version_bytes object.now)) }
-    ensures { IfOk result (λ need. need ≡ need_of object.now i symbol.now) }
+    requires { HasFirsts entries.now (entry_name versions.now) (entry_numbers versions.now) }
+    ensures { IfOk result (λ need. need ≡ need_of versions.now i symbol.now) }
 {
     let name = symbol.name.as_bytes();
     Ok(Need {
         name: Name::from_slice(alloc, name)?,
         symbol: i,
         weak: symbol.binding == STB_WEAK,
-        crc: stated_version(version_bytes(object), entries, name),
+        crc: stated_version(versions, entries, name),
     })
 }
 
@@ -51,12 +50,13 @@ pub(crate) fn read_needs(alloc: Global, object: &Object) -> Result<Needs, AllocE
     requires { length object.now.file ≤ 67108864 }
     ensures { IfOk result (λ needs. needs ≡ needs_of object.now) }
 {
-    let entries = first_entries(alloc, version_bytes(object))?;
+    let versions = version_bytes(object);
+    let entries = first_entries(alloc, versions)?;
     let mut needs = Needs::new(alloc);
     for i in 0..object.symbol_count() {
         let symbol = object.symbol(i);
         if is_need(i, symbol) {
-            needs.push(read_need(alloc, object, &entries, i, symbol)?)?;
+            needs.push(read_need(alloc, versions, &entries, i, symbol)?)?;
         }
     }
     Ok(needs)

@@ -1,4 +1,4 @@
-use Rattle.std.proofs.Common.{◌≡◌, sym, arith}
+use Rattle.std.proofs.Common.{sym, arith}
 use Rattle.module_facts.specs.Versions.{entry_name}
 use Rattle.module_facts.proofs.EntryLemmas.{are_bad_entries-false, are_bad_entries-true, nameless}
 use Rattle.module_facts.proofs.versions.are_bad_entries.Goals as goal
