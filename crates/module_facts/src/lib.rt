@@ -16,6 +16,8 @@ mod read;
 mod role;
 mod table;
 mod tables;
+#[cfg(test)]
+mod tests;
 mod versions;
 
 pub use facts::{Export, Exports, Facts, Need, Needs};
