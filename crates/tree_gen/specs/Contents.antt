@@ -11,8 +11,18 @@ use Rattle.tree_gen.specs.declared.sheet.SheetNeed.{SheetNeed}
 use Rattle.tree_gen.specs.declared.sheet.SheetPlace.{SheetPlace}
 use Rattle.tree_gen.specs.Sheet.{symbol_names}
 
+-- Numbers of 2, 4 and 8 bytes, the lowest byte first. gABI 4, Elf64_Half, Elf64_Word, Elf64_Xword.
+unfoldable pub half : ℕ → List ℕ
+half n = to_le_bytes w16 n
+
+unfoldable pub word : ℕ → List ℕ
+word n = to_le_bytes w32 n
+
+unfoldable pub xword : ℕ → List ℕ
+xword n = to_le_bytes w64 n
+
 -- so many zeros
-abbrev pub zeros : ℕ → List ℕ
+unfoldable pub zeros : ℕ → List ℕ
 zeros n = replicate n 0
 
 -- the text with its NUL
@@ -32,7 +42,7 @@ modinfo_bytes s = flat_map with_nul s.texts
 
 -- An entry of 64 bytes: the version, and the name filled up with zeros.
 abbrev pub version_bytes : SheetVersion → List ℕ
-version_bytes v = to_le_bytes w64 v.crc ++ v.name ++ zeros (56 - length v.name)
+version_bytes v = xword v.crc ++ v.name ++ zeros (56 - length v.name)
 
 abbrev pub versions_bytes : Sheet → List ℕ
 versions_bytes s = flat_map version_bytes s.versions
@@ -82,7 +92,7 @@ names_bytes symbols = flat_map (λ e. with_nul e.name) symbols
 
 -- An entry of 24 bytes, whose name stands at this place of the string table. gABI 4, Elf64_Sym.
 abbrev pub symbol_bytes : ℕ → SymbolEntry → List ℕ
-symbol_bytes at e = to_le_bytes w32 at ++ e.info ∷ 0 ∷ to_le_bytes w16 e.section ++ to_le_bytes w64 e.value ++ to_le_bytes w64 e.size
+symbol_bytes at e = word at ++ e.info ∷ 0 ∷ half e.section ++ xword e.value ++ xword e.size
 
 -- The entries of symbols whose names stand from this place on.
 abbrev pub entries_bytes : ℕ → List SymbolEntry → List ℕ
@@ -97,12 +107,12 @@ strtab_bytes s = 0 ∷ names_bytes (symbols s)
 
 -- The number of the symbol of this name: the exports and needs stand after the local symbols.
 unfoldable pub symbol_number : Sheet → List ℕ → ℕ
-symbol_number s name = local_count s + unwrap_or (position (λ other. bytes_eq other name) (symbol_names s)) 0
+symbol_number s name = local_count s + unwrap_or (position (bytes_eq name) (symbol_names s)) 0
 
 -- The relocation of the word k. gABI 4, Elf64_Rela.
 abbrev pub place_bytes : Sheet → ℕ → SheetPlace → List ℕ
 place_bytes s k p =
-    to_le_bytes w64 (8 * k) ++ to_le_bytes w32 p.kind ++ to_le_bytes w32 (symbol_number s p.symbol) ++ to_le_bytes w64 (cast_unsigned w64 p.addend)
+    xword (8 * k) ++ word p.kind ++ word (symbol_number s p.symbol) ++ xword (cast_unsigned w64 p.addend)
 
 -- The relocations of the words from k on.
 abbrev pub places_bytes : Sheet → ℕ → List SheetPlace → List ℕ

@@ -1,3 +1,4 @@
 pub mod Sheet
 pub mod Contents
 pub mod Object
+pub mod Build

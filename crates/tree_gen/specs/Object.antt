@@ -1,9 +1,7 @@
 -- The object file of a sheet, as the concatenation of its parts. gABI 4, "ELF Header", "Sections".
-use Rattle.std.specs.Prelude.{ℕ, ◌+◌, ◌*◌, ◌-◌, ◌%◌, List, [], ◌∷◌, ◌++◌, length, codes}
-use Rattle.std.specs.List.{flat_map}
-use Rattle.std.specs.Int.{w16, w32, w64, to_le_bytes}
+use Rattle.std.specs.Prelude.{ℕ, ◌+◌, ◌*◌, ◌-◌, ◌%◌, List, [], ◌∷◌, ◌++◌, length}
 use Rattle.tree_gen.specs.declared.sheet.Sheet.{Sheet}
-use Rattle.tree_gen.specs.Contents.{zeros, with_nul, section_names, local_count, contents}
+use Rattle.tree_gen.specs.Contents.{zeros, half, word, xword, section_names, local_count, contents}
 
 -- How many zeros stand before a part that begins at a multiple of 8.
 abbrev pub gap : ℕ → ℕ
@@ -27,9 +25,9 @@ header_size = 64
 unfoldable pub header : ℕ → List ℕ
 header table =
     0x7f ∷ 0x45 ∷ 0x4c ∷ 0x46 ∷ 2 ∷ 1 ∷ 1 ∷ zeros 9
-    ++ to_le_bytes w16 1 ++ to_le_bytes w16 62 ++ to_le_bytes w32 1
-    ++ zeros 16 ++ to_le_bytes w64 table
-    ++ zeros 4 ++ to_le_bytes w16 64 ++ zeros 4 ++ to_le_bytes w16 64 ++ to_le_bytes w16 9 ++ to_le_bytes w16 8
+    ++ half 1 ++ half 62 ++ word 1
+    ++ zeros 16 ++ xword table
+    ++ zeros 4 ++ half 64 ++ zeros 4 ++ half 64 ++ half 9 ++ half 8
 
 -- What a section header says of a section but for its name, place and size. gABI 4, Elf64_Shdr.
 pub record Attributes : Type 0 where
@@ -55,9 +53,9 @@ attributes s =
 -- A section header: where its name stands, its attributes, its place and its size.
 unfoldable pub section_header : ℕ → Attributes → ℕ → ℕ → List ℕ
 section_header name a at size =
-    to_le_bytes w32 name ++ to_le_bytes w32 a.kind ++ to_le_bytes w64 a.flags ++ zeros 8 ++ to_le_bytes w64 at
-    ++ to_le_bytes w64 size ++ to_le_bytes w32 a.link ++ to_le_bytes w32 a.info ++ to_le_bytes w64 a.align
-    ++ to_le_bytes w64 a.entry_size
+    word name ++ word a.kind ++ xword a.flags ++ zeros 8 ++ xword at
+    ++ xword size ++ word a.link ++ word a.info ++ xword a.align
+    ++ xword a.entry_size
 
 -- The headers of sections whose names stand from a place on.
 abbrev pub section_headers : ℕ → List (List ℕ) → List Attributes → List ℕ → List (List ℕ) → List ℕ

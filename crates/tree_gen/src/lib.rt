@@ -5,8 +5,15 @@
 //! It stands on `km_names`.
 #![tactic(auto)]
 
+mod bytes;
+mod content;
+mod object_file;
+mod relocations;
+mod section;
 mod sheet;
+mod symbols;
 
+pub use object_file::object;
 pub use sheet::{
     Sheet, SheetExport, SheetExports, SheetNeed, SheetNeeds, SheetPlace, SheetPlaces, SheetVersion,
     SheetVersions,

@@ -1,0 +1,40 @@
+// Numbers and zeros at the end of a vector.
+ghost use Rattle.std.specs.Prelude.{◌≡◌, ◌++◌, OnOk};
+ghost use Rattle.tree_gen.specs.Contents.{half, word, xword, zeros};
+
+use std::alloc::AllocError;
+
+/// Puts a number of 2 bytes at the end, the lowest first.
+#[tactic(auto, unfolding(crate::specs::Contents::half))]
+pub(crate) fn push_half(out: &mut Vec<u8>, n: u16) -> Result<(), AllocError>
+    ensures { OnOk result (out.new.items ≡ out.old.items ++ half n) }
+{
+    out.extend_from_slice(&n.to_le_bytes())
+}
+
+/// Puts a number of 4 bytes at the end, the lowest first.
+#[tactic(auto, unfolding(crate::specs::Contents::word))]
+pub(crate) fn push_word(out: &mut Vec<u8>, n: u32) -> Result<(), AllocError>
+    ensures { OnOk result (out.new.items ≡ out.old.items ++ word n) }
+{
+    out.extend_from_slice(&n.to_le_bytes())
+}
+
+/// Puts a number of 8 bytes at the end, the lowest first.
+#[tactic(auto, unfolding(crate::specs::Contents::xword))]
+pub(crate) fn push_xword(out: &mut Vec<u8>, n: u64) -> Result<(), AllocError>
+    ensures { OnOk result (out.new.items ≡ out.old.items ++ xword n) }
+{
+    out.extend_from_slice(&n.to_le_bytes())
+}
+
+/// Puts so many zeros at the end.
+#[tactic(auto, unfolding(crate::specs::Contents::zeros))]
+pub(crate) fn push_zeros(out: &mut Vec<u8>, count: usize) -> Result<(), AllocError>
+    ensures { OnOk result (out.new.items ≡ out.old.items ++ zeros count) }
+{
+    for _index in 0..count {
+        out.push(0)?;
+    }
+    Ok(())
+}

@@ -1,0 +1,55 @@
+// The contents of the sections that are loaded.
+ghost use Rattle.std.specs.Prelude.{◌≡◌, ◌≤◌, ◌++◌, length, All, OnOk, IfOk};
+ghost use Rattle.std.specs.List.{flat_map};
+ghost use Rattle.tree_gen.specs.Contents.{with_nul, version_bytes, zeros};
+
+use crate::bytes::{push_xword, push_zeros};
+use crate::sheet::SheetVersion;
+use km_names::Blob;
+use std::alloc::{AllocError, Global};
+
+/// The bytes of the name of a version, the last of which is NUL.
+const VERSION_NAME: usize = 56;
+
+/// So many zeros.
+pub(crate) fn zeros(alloc: Global, count: usize) -> Result<Vec<u8>, AllocError>
+    ensures { IfOk result (λ v. v.items ≡ zeros count) }
+{
+    let mut content = Vec::new(alloc);
+    push_zeros(&mut content, count)?;
+    Ok(content)
+}
+
+/// The texts of `.modinfo`, each with its NUL.
+pub(crate) fn modinfo(alloc: Global, texts: &[Blob]) -> Result<Vec<u8>, AllocError>
+    ensures { IfOk result (λ v. v.items ≡ flat_map with_nul texts.now) }
+{
+    let mut content = Vec::new(alloc);
+    for text in texts {
+        content.extend_from_slice(text.as_bytes())?;
+        content.push(0)?;
+    }
+    Ok(content)
+}
+
+/// Puts an entry of `__versions` at the end.
+fn push_version(out: &mut Vec<u8>, version: &SheetVersion) -> Result<(), AllocError>
+    requires { length version.now.name ≤ 55 }
+    ensures { OnOk result (out.new.items ≡ out.old.items ++ version_bytes version.now) }
+{
+    push_xword(out, version.crc)?;
+    out.extend_from_slice(version.name.as_bytes())?;
+    push_zeros(out, VERSION_NAME - version.name.len())
+}
+
+/// The entries of `__versions`.
+pub(crate) fn versions(alloc: Global, versions: &[SheetVersion]) -> Result<Vec<u8>, AllocError>
+    requires { All (λ v. length v.name ≤ 55) versions.now }
+    ensures { IfOk result (λ v. v.items ≡ flat_map version_bytes versions.now) }
+{
+    let mut content = Vec::new(alloc);
+    for version in versions {
+        push_version(&mut content, version)?;
+    }
+    Ok(content)
+}
