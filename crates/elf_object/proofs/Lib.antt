@@ -7,3 +7,4 @@ pub mod PlaceLemmas
 pub mod SpanLemmas
 pub mod OverlapLemmas
 pub mod ObjectLemmas
+pub mod SymbolLemmas

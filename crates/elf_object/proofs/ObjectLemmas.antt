@@ -1,7 +1,10 @@
 -- The first failing test of an object, by its parts.
+use Rattle.elf_object.specs.declared.symbol.Symbol.{Symbol}
+use Rattle.elf_object.specs.declared.place.RelaPlace.{RelaPlace}
+use Rattle.elf_object.specs.Sections.{sections_of}
 use Rattle.std.proofs.lemmas.List.FromFn.{length-map-range_with_len}
 use Rattle.std.specs.Option.{option_map_or}
-use Rattle.elf_object.proofs.ShapeLemmas.{length-contents}
+use Rattle.elf_object.proofs.ShapeLemmas.{length-contents, length-sections_of, sections_of-slice_get}
 use Rattle.elf_object.specs.FaultText.{object_fault_from}
 use Rattle.elf_object.specs.declared.fault.SectionFault.TheVariants.{Memory}
 use Rattle.std.proofs.Common.{◌≡◌, ℕ, List, [], ◌∷◌, Option, Some, None, refl, ◌⊎◌, inl, inr, length, ◌≤◌, ◌<◌, ◌^◌, arith}
@@ -10,9 +13,9 @@ use Rattle.elf_object.specs.declared.fault.SectionFault.{SectionFault}
 use Rattle.elf_object.specs.declared.fault.ObjectFault.{ObjectFault}
 use Rattle.elf_object.specs.declared.fault.ObjectFault.TheVariants.{Shape, Memory as OutOfMemory}
 use Rattle.elf_object.specs.Shape.{each, section_count, shape_fault, contents}
-use Rattle.elf_object.specs.Symbols.{entries, rel_test, symbol_bytes, symbol_test, symbol_tests, table_test, symbols_of, symbols_in, symbol_in, symbol_names, symbol_table}
-use Rattle.elf_object.specs.Places.{align_test, overlap_test, place_tests, rela_test}
-use Rattle.elf_object.specs.Object.{object_fault, object_tests}
+use Rattle.elf_object.specs.Symbols.{entries, rel_test, symbol_bytes, symbol_test, symbol_tests, table_test, symbols_of, symbols_in, symbol_in, symbol_names, symbol_table, IsSectionBelow}
+use Rattle.elf_object.specs.Places.{align_test, overlap_test, place_tests, rela_test, IsInSection}
+use Rattle.elf_object.specs.Object.{object_fault, object_tests, IsPlaceIn, IsSymbolIn}
 use Rattle.elf_object.proofs.TestLemmas.{first-failed, first-passed}
 
 first-last : {F : Type 0} (test : Option F) → first (test ∷ []) ≡ test
@@ -67,3 +70,14 @@ length-symbols_of b small =
     let table = symbol_bytes b in
     let bytes : length table ≤ length b = elim (symbol_table b) as (λ o. length (option_map_or (contents b) o []) ≤ length b) [ None ↦ omega arith | Some t ↦ length-contents b t ] in
     rw (length-map-range_with_len (symbol_in table (symbol_names b)) 0 (entries table)) (omega arith)
+
+-- the places and the symbols of a file are in its sections
+pub IsPlaceIn-inside : (b : List ℕ) (p : RelaPlace) → IsInSection b p → IsPlaceIn (sections_of b) (symbols_of b) p
+IsPlaceIn-inside b p inside = record {
+  symbol = inside.symbol;
+  target = rw (length-sections_of b) inside.target;
+  within = rw (sections_of-slice_get b p.target inside.target) (inside.kept, λ bytes. (inside.within bytes).0);
+}
+
+pub IsSymbolIn-below : (b : List ℕ) (s : Symbol) → IsSectionBelow (section_count b) s → IsSymbolIn (sections_of b) s
+IsSymbolIn-below b s below = λ ordinary. rw (length-sections_of b) (below ordinary)

@@ -1,4 +1,5 @@
 -- The places of one section, where it is applied and where it isn't.
+use Rattle.elf_object.proofs.TestLemmas.{one-passed, three-passed}
 use Rattle.std.specs.Prelude.{is_none, nat_le}
 use Rattle.elf_object.specs.declared.fault.ObjectFault.TheVariants.{BadRela, UnknownType}
 use Rattle.elf_object.specs.declared.place.RelaPlace.{RelaPlace}
@@ -6,15 +7,15 @@ use Rattle.elf_object.proofs.ShapeLemmas.{has_content-kept}
 use Rattle.std.specs.Bool.{IsTrue}
 use Rattle.elf_object.specs.declared.symbol.Symbol.{Symbol}
 use Rattle.elf_object.specs.declared.section.Section.{Section}
-use Rattle.std.proofs.Common.{◌≡◌, ℕ, ◌+◌, ◌<◌, ◌≤◌, ◌==◌, ◌&&◌, ◌||◌, nat_lt, not, Bool, true, false, length, inl, inr, List, [], ◌∷◌, ◌++◌, map, None, refl, sym, ap, ◌∙◌, arith}
-use Rattle.std.proofs.lemmas.Bool.{and_cases, and_parts, eqb-false, eqb-true, ltb-false, not-false, or_parts}
+use Rattle.std.proofs.Common.{◌≡◌, ℕ, ◌+◌, ◌<◌, ◌≤◌, ◌==◌, ◌&&◌, ◌||◌, nat_lt, not, true, false, length, inl, inr, List, [], ◌∷◌, ◌++◌, map, None, refl, sym, ap, ◌∙◌, arith}
+use Rattle.std.proofs.lemmas.Bool.{and_cases, and_parts, eqb-false, eqb-true, ltb-false, not-false, or_parts, leb-false}
 use Rattle.std.proofs.lemmas.List.{append-nil, map-id}
 use Rattle.std.proofs.lemmas.List.Concat.{flat_map-append}
 use Rattle.std.proofs.lemmas.List.FromFn.{map-range_with_len_more}
 use Rattle.std.specs.List.{flat_map, range_with_len}
 use Rattle.km_names.specs.First.{first}
 use Rattle.elf_object.specs.declared.format.TheConstants.{R_X86_64_NONE, SHT_NOBITS, SHT_RELA}
-use Rattle.elf_object.specs.Shape.{contents, each, fault_if, section_count, has_content}
+use Rattle.elf_object.specs.Shape.{contents, each, section_count, has_content}
 use Rattle.elf_object.specs.Sections.{section_of, sections_of}
 use Rattle.elf_object.specs.Symbols.{entries, symbols_of}
 use Rattle.elf_object.specs.Places.{IsInSection, is_applied, is_bad_place, is_unkept, place_in, place_width, width, place_of, place_test, rela_test, section_places}
@@ -58,13 +59,6 @@ pub places-more : (b : List ℕ) (n : ℕ) → flat_map (section_places b) (rang
 places-more b n =
     rw (range_more n) (flat_map-append (section_places b) (range_with_len 0 n) (n ∷ []) ∙ rw append-nil refl)
 
--- the last of three tests passed
-three-passed : {F : Type 0} (x y z : Bool) (f g h : F) → first (fault_if x f ∷ fault_if y g ∷ fault_if z h ∷ []) ≡ None → z ≡ false
-three-passed true y z f g h passed = cc
-three-passed false true z f g h passed = cc
-three-passed false false true f g h passed = cc
-three-passed false false false f g h passed = refl
-
 -- a place that passed its tests, and changes bytes, lies in its section, which has bytes
 pub place_test-within : (sections : List Section) (symbols : List Symbol) (target : Section) (p : RelaPlace) → place_test sections symbols target p ≡ None → 0 < place_width p → (p.offset + place_width p ≤ target.size) × (target.kind ≡ SHT_NOBITS → ⊥)
 unfolding place_test is_bad_place width
@@ -82,12 +76,20 @@ place_test-within sections symbols target p passed bytes =
           (ltb-false target.size (p.offset + place_width p) both.0, eqb-false target.kind SHT_NOBITS both.1)
     ]
 
+-- a place that passed its tests is over a symbol of the table
+place_test-symbol : (sections : List Section) (symbols : List Symbol) (target : Section) (p : RelaPlace) → place_test sections symbols target p ≡ None → p.symbol < length symbols
+unfolding place_test
+place_test-symbol sections symbols target p passed =
+    leb-false (length symbols) p.symbol (one-passed (nat_le (length symbols) p.symbol) (BadRela p.section p.entry) _ passed)
+
 -- a place of an applied section that passed its tests
 pub IsInSection-place : (b : List ℕ) (i j : ℕ) → is_applied b i ≡ true → (section_of b i).info < section_count b → section_count b < 0xff00 → (IsTrue (has_content (section_of b (section_of b i).info).kind) → (section_of b (section_of b i).info).offset + (section_of b (section_of b i).info).size ≤ length b) → place_test (sections_of b) (symbols_of b) (section_of b (section_of b i).info) (place_of b i j) ≡ None → IsInSection b (place_of b i j)
 unfolding place_in
 IsInSection-place b i j applied target few within passed = record {
   target = target;
   near = omega arith;
+  symbol = place_test-symbol (sections_of b) (symbols_of b) (section_of b (section_of b i).info) (place_of b i j) passed;
+  kept = is_applied-kept b i applied;
   within = λ bytes.
       let inside = place_test-within (sections_of b) (symbols_of b) (section_of b (section_of b i).info) (place_of b i j) passed bytes in
       let has = within (has_content-kept b (section_of b i).info (is_applied-kept b i applied) inside.1) in

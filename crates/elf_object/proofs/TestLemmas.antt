@@ -1,8 +1,8 @@
 -- Lists of tests.
-use Rattle.std.proofs.Common.{◌≡◌, ℕ, zero, suc, ◌+◌, ◌<◌, List, [], ◌∷◌, ◌++◌, map, Option, Some, None, refl, arith}
+use Rattle.std.proofs.Common.{◌≡◌, ℕ, zero, suc, ◌+◌, ◌<◌, List, [], ◌∷◌, ◌++◌, map, Option, Some, None, refl, arith, Bool, true, false}
 use Rattle.std.proofs.Math.Nat.{add-zero, zero-add}
 use Rattle.km_names.specs.First.{first}
-use Rattle.elf_object.specs.Shape.{each}
+use Rattle.elf_object.specs.Shape.{each, fault_if}
 use Rattle.std.specs.List.{range_with_len}
 
 -- where the front passes, the rest decides
@@ -46,3 +46,21 @@ each-passed n test passed =
 pub each-failed : {F : Type 0} (n : ℕ) (test : ℕ → Option F) (i : ℕ) (fault : F) → i < n → ((k : ℕ) → k < i → test k ≡ None) → test i ≡ Some fault → first (each n test) ≡ Some fault
 each-failed n test i fault within passed failed =
     from-failed test 0 n i fault within (λ k less. rw (zero-add k) (passed k less)) (rw (zero-add i) failed)
+
+-- the first of some tests passed
+pub one-passed : {F : Type 0} (x : Bool) (f : F) (rest : List (Option F)) → first (fault_if x f ∷ rest) ≡ None → x ≡ false
+one-passed true f rest passed = cc
+one-passed false f rest passed = refl
+
+-- the second of two tests passed
+pub two-passed : {F : Type 0} (x : Bool) (f : F) (test : Option F) → first (fault_if x f ∷ test ∷ []) ≡ None → test ≡ None
+two-passed true f test passed = cc
+two-passed false f None passed = refl
+two-passed false f (Some g) passed = passed
+
+-- the last of three tests passed
+pub three-passed : {F : Type 0} (x y z : Bool) (f g h : F) → first (fault_if x f ∷ fault_if y g ∷ fault_if z h ∷ []) ≡ None → z ≡ false
+three-passed true y z f g h passed = cc
+three-passed false true z f g h passed = cc
+three-passed false false true f g h passed = cc
+three-passed false false false f g h passed = refl

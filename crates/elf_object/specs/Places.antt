@@ -1,6 +1,6 @@
 -- The places that relocations change, and the tests that they pass.
 -- gABI 4, "Relocation"; x86-64 psABI, "Relocation Types".
-use Rattle.std.specs.Prelude.{ℕ, ◌+◌, ◌*◌, ◌/◌, ◌%◌, ◌^◌, ◌<◌, ◌≤◌, ◌==◌, ◌&&◌, ◌||◌, nat_lt, nat_le, not, Bool, false, if◌then◌else◌, List, [], ◌∷◌, length, map, Option, Some, None, is_none, option_map, slice_get, unwrap_or}
+use Rattle.std.specs.Prelude.{ℕ, ◌+◌, ◌*◌, ◌/◌, ◌%◌, ◌^◌, ◌<◌, ◌≤◌, ◌==◌, ◌&&◌, ◌||◌, nat_lt, nat_le, not, Bool, false, if◌then◌else◌, List, [], ◌∷◌, length, map, Option, Some, None, is_none, option_map, slice_get, unwrap_or, ◌≡◌, true}
 use Rattle.std.specs.Int.{is_power_of_two}
 use Rattle.std.specs.List.{count_by, flat_map, position, range_with_len}
 use Rattle.std.specs.Option.{option_map_or}
@@ -50,7 +50,8 @@ width kind =
 abbrev pub place_width : RelaPlace → ℕ
 place_width p = unwrap_or (width p.kind) 0
 
--- The symbol k lies in a section that isn't kept.
+-- The symbol k lies in a section that isn't kept. An undefined one lies in none, nor does one with a reserved
+-- number.
 unfoldable pub is_unkept : List Section → List Symbol → ℕ → Bool
 is_unkept sections symbols k =
     option_map_or
@@ -73,10 +74,13 @@ place_test sections symbols target p =
     ∷ fault_if (not (p.kind == R_X86_64_NONE) && is_bad_place sections symbols target p) (BadRela p.section p.entry)
     ∷ [])
 
--- A place lies in a section of the file, and where it changes bytes it does so in the file's.
+-- What a place that passed its tests says: it is over a symbol of the file, in a section of it that is kept, and
+-- the bytes that it changes are in the file.
 pub record IsInSection (b : List ℕ) (p : RelaPlace) : Type 0 where
   pub target : p.target < section_count b
   pub near : p.target < 2 ^ 16
+  pub symbol : p.symbol < length (symbols_of b)
+  pub kept : (section_of b p.target).kept ≡ true
   pub within : 0 < place_width p → (p.offset + place_width p ≤ (section_of b p.target).size) × ((section_of b p.target).size ≤ length b)
 
 -- The section i holds relocations of a section that is kept.

@@ -100,6 +100,10 @@ symbol_in table names j =
     if j == 0 then record { name = []; binding = 0; section = 0; value = 0 }
     else record { name = unwrap_or (text_at names e.name) []; binding = binding e; section = e.section; value = e.value }
 
+-- The section of a symbol is below the count, unless it is a reserved number.
+abbrev pub IsSectionBelow : ℕ → Symbol → Type 0
+IsSectionBelow count s = s.section < SHN_LORESERVE → s.section < count
+
 -- How many entries of 24 bytes a table of these bytes has.
 abbrev pub entries : List ℕ → ℕ
 entries table = length table / 24

@@ -4,9 +4,10 @@ ghost use Rattle.std.specs.Prelude.{◌≡◌, ◌<◌, ◌≤◌, ◌⊎◌, le
 ghost use Rattle.std.specs.List.{position};
 ghost use Rattle.std.specs.Str.{bytes_eq};
 ghost use Rattle.km_names.specs.First.{first};
+ghost use Rattle.elf_object.specs.Shape.{section_count};
 ghost use Rattle.elf_object.specs.Object.{object_fault};
-ghost use Rattle.elf_object.specs.Symbols.{TablesFit, symbol_tests, symbols_of};
-ghost use Rattle.elf_object.specs.Places.{place_tests, places_of};
+ghost use Rattle.elf_object.specs.Symbols.{IsSectionBelow, TablesFit, symbol_tests, symbols_of};
+ghost use Rattle.elf_object.specs.Places.{IsInSection, place_tests, places_of};
 
 use crate::places::{check_alignments, check_overlaps, read_places};
 use crate::symbol::read_symbols;
@@ -25,20 +26,25 @@ pub struct Object {
 }
 
 impl Model for Object {
-    ghost use Rattle.std.specs.Prelude.{◌^◌, ◌<◌, length};
-    ghost use Rattle.elf_object.specs.Object.{FileObject};
+    ghost use Rattle.elf_object.specs.Object.{FileObject, IsInside};
 
     ghost Value = { FileObject };
 
-    ghost view = { λ o. record { file = o.sections.file; sections = o.sections.list; symbols = o.symbols; places = o.places } };
+    ghost view = { λ o. record {
+      file = o.sections.file;
+      sections = o.sections.list;
+      symbols = o.symbols;
+      places = o.places;
+    } };
 
-    ghost invariant = { λ o. length o.symbols < 2 ^ 32 };
+    ghost invariant = { λ o. IsInside o.sections.list o.symbols o.places };
 }
 
 /// Reads the symbols of a file, after the tests of its tables.
 fn read_symbol_table(alloc: Global, sections: &Sections) -> Result<List<Symbol>, ObjectFault>
     requires { length sections.now.file ≤ 67108864 }
     ensures symbols { IfOk result (λ l. l ≡ symbols_of sections.now.file) }
+    ensures inside { IfOk result (All (IsSectionBelow (section_count sections.now.file))) }
     ensures fit { OnOk result (TablesFit sections.now.file) }
     ensures passed { OnOk result (first (symbol_tests sections.now.file) ≡ None) }
     ensures fault { IfErr result
@@ -60,6 +66,7 @@ fn read_all_places(
     requires small { length sections.now.file ≤ 67108864 }
     requires fit { TablesFit sections.now.file }
     requires symbols { symbols.now ≡ symbols_of sections.now.file }
+    ensures inside { IfOk result (All (IsInSection sections.now.file)) }
     ensures places { IfOk result (λ l. l ≡ places_of sections.now.file) }
     ensures passed { OnOk result (first (place_tests sections.now.file) ≡ None) }
     ensures fault { IfErr result
@@ -73,7 +80,7 @@ fn read_all_places(
 
 impl Object {
     ghost use Rattle.elf_object.specs.Sections.{bytes_of};
-    ghost use Rattle.elf_object.specs.Object.{file_object};
+    ghost use Rattle.elf_object.specs.Object.{IsPlaceIn, IsSymbolIn, file_object};
 
     /// Reads an object file, which it keeps. After a refusal the bytes are given up.
     ///
@@ -84,7 +91,8 @@ impl Object {
         requires { length bytes ≤ 67108864 }
         ensures object { IfOk result (λ o. o ≡ file_object bytes) }
         ensures passed { OnOk result (object_fault bytes ≡ None) }
-        ensures fault { IfErr result (λ e. (e ≡ ObjectFault.Memory) ⊎ (object_fault bytes ≡ Some e)) }
+        ensures fault { IfErr result (λ e. (e ≡ ObjectFault.Memory)
+            ⊎ (object_fault bytes ≡ Some e)) }
     {
         let sections = Sections::read(alloc, bytes)?;
         let symbols = read_symbol_table(alloc, &sections)?;
@@ -114,7 +122,8 @@ impl Object {
     /// The bytes of the section `i` in the file; a section of type NULL or NOBITS has none.
     pub fn section_bytes(&self, i: u32) -> &[u8]
         requires { i < length self.now.sections }
-        ensures { IfSome (slice_get self.now.sections i) (λ s. result.now ≡ bytes_of self.now.file s) }
+        ensures { IfSome (slice_get self.now.sections i)
+            (λ s. result.now ≡ bytes_of self.now.file s) }
     {
         self.sections.section_bytes(i)
     }
@@ -136,7 +145,8 @@ impl Object {
     /// The symbol `i`.
     pub fn symbol(&self, i: u32) -> &Symbol
         requires { i < length self.now.symbols }
-        ensures { slice_get self.now.symbols i ≡ Some result.now }
+        ensures symbol { slice_get self.now.symbols i ≡ Some result.now }
+        ensures inside { IsSymbolIn self.now.sections result.now }
     {
         &self.symbols.as_slice()[i as usize]
     }
@@ -151,7 +161,8 @@ impl Object {
     /// The place `i`. Places stand by relocation section, then by entry, and only for kept targets.
     pub fn place(&self, i: usize) -> &RelaPlace
         requires { i < length self.now.places }
-        ensures { slice_get self.now.places i ≡ Some result.now }
+        ensures place { slice_get self.now.places i ≡ Some result.now }
+        ensures inside { IsPlaceIn self.now.sections self.now.symbols result.now }
     {
         &self.places.as_slice()[i]
     }

@@ -57,7 +57,8 @@ fn spans_of(alloc: Global, places: &[RelaPlace]) -> Result<Vec<Span>, AllocError
     requires { All IsNear places.now }
     ensures long { IfOk result (λ v. All IsLong v.items) }
     ensures counts { IfOk result
-        (λ v. (a : ℕ) → count_at span_start span_end a v.items ≡ count_at place_start place_end a places.now) }
+        (λ v. (a : ℕ) → count_at span_start span_end a v.items
+        ≡ count_at place_start place_end a places.now) }
 {
     let mut spans = Vec::new(alloc);
     for place in places {
@@ -87,7 +88,8 @@ fn first_shared(spans: &[Span]) -> Option<u64>
 /// The least byte that two places share. Places in order, as tools write them, take no memory.
 pub(crate) fn find_shared(alloc: Global, places: &[RelaPlace]) -> Result<Option<u64>, AllocError>
     requires { All IsNear places.now }
-    ensures { IfOk result (λ r. IsLeastShared (λ a. count_at place_start place_end a places.now) r) }
+    ensures { IfOk result
+        (λ r. IsLeastShared (λ a. count_at place_start place_end a places.now) r) }
 {
     if are_apart(places) {
         return Ok(None);

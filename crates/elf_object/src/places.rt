@@ -26,7 +26,8 @@ fn is_alignment(align: u64) -> bool
 /// Tests the alignments of the sections that are kept.
 #[tactic(auto, unfolding(crate::specs::Places::align_test))]
 pub(crate) fn check_alignments(sections: &Sections) -> Result<(), ObjectFault>
-    ensures { result_err result ≡ first (each (section_count sections.now.file) (align_test sections.now.file)) }
+    ensures { result_err result
+        ≡ first (each (section_count sections.now.file) (align_test sections.now.file)) }
 {
     for index in 0..sections.count() {
         let section = sections.section_of(index);
@@ -61,9 +62,11 @@ fn read_section_places(
     requires symbols { symbols.now ≡ symbols_of sections.now.file }
     requires inside { All (IsInSection sections.now.file) places.old.items }
     ensures inside { OnOk result (All (IsInSection sections.now.file) places.new.items) }
-    ensures places { OnOk result (places.new.items ≡ places.old.items ++ section_places sections.now.file index) }
+    ensures places { OnOk result
+        (places.new.items ≡ places.old.items ++ section_places sections.now.file index) }
     ensures passed { OnOk result (rela_test sections.now.file index ≡ None) }
-    ensures fault { IfErr result (λ e. (e ≡ ObjectFault.Memory) ⊎ (rela_test sections.now.file index ≡ Some e)) }
+    ensures fault { IfErr result (λ e. (e ≡ ObjectFault.Memory)
+        ⊎ (rela_test sections.now.file index ≡ Some e)) }
 {
     if !is_applied(sections, index) {
         return Ok(());
@@ -90,9 +93,11 @@ pub(crate) fn read_places(
     requires symbols { symbols.now ≡ symbols_of sections.now.file }
     ensures inside { IfOk result (All (IsInSection sections.now.file)) }
     ensures places { IfOk result (λ l. l ≡ places_of sections.now.file) }
-    ensures passed { OnOk result (first (each (section_count sections.now.file) (rela_test sections.now.file)) ≡ None) }
+    ensures passed { OnOk result
+        (first (each (section_count sections.now.file) (rela_test sections.now.file)) ≡ None) }
     ensures fault { IfErr result
-        (λ e. (e ≡ ObjectFault.Memory) ⊎ (first (each (section_count sections.now.file) (rela_test sections.now.file)) ≡ Some e)) }
+        (λ e. (e ≡ ObjectFault.Memory)
+        ⊎ (first (each (section_count sections.now.file) (rela_test sections.now.file)) ≡ Some e)) }
 {
     let mut places = Vec::new(alloc);
     for index in 0..sections.count() {
@@ -110,9 +115,11 @@ pub(crate) fn check_overlaps(
     requires small { length sections.now.file ≤ 67108864 }
     requires places { places.now ≡ places_of sections.now.file }
     requires inside { All (IsInSection sections.now.file) places.now }
-    ensures passed { OnOk result (first (each (section_count sections.now.file) (overlap_test sections.now.file)) ≡ None) }
+    ensures passed { OnOk result
+        (first (each (section_count sections.now.file) (overlap_test sections.now.file)) ≡ None) }
     ensures fault { IfErr result
-        (λ e. (e ≡ ObjectFault.Memory) ⊎ (first (each (section_count sections.now.file) (overlap_test sections.now.file)) ≡ Some e)) }
+        (λ e. (e ≡ ObjectFault.Memory)
+        ⊎ (first (each (section_count sections.now.file) (overlap_test sections.now.file)) ≡ Some e)) }
 {
     match find_shared(alloc, places)? {
         None => Ok(()),

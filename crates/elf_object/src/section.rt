@@ -77,7 +77,8 @@ pub(crate) fn read_section(
     requires names { names.now ≡ contents bytes.now (name_table bytes.now) }
     ensures section { IfOk result (λ s. s ≡ section_of bytes.now index) }
     ensures passed { IfOk result (λ _. name_test bytes.now index ≡ None) }
-    ensures fault { IfErr result (λ e. (e ≡ SectionFault.Memory) ⊎ (name_test bytes.now index ≡ Some e)) }
+    ensures fault { IfErr result (λ e. (e ≡ SectionFault.Memory)
+        ⊎ (name_test bytes.now index ≡ Some e)) }
 {
     let header = section_header(bytes, index);
     let name = section_name(names, header.kind, header.name)?;

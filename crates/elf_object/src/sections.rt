@@ -40,7 +40,8 @@ impl Sections {
     pub fn read(alloc: Global, bytes: Blob) -> Result<Sections, SectionFault>
         ensures sections { IfOk result (λ s. s ≡ file_sections bytes) }
         ensures passed { OnOk result (shape_fault bytes ≡ None) }
-        ensures fault { IfErr result (λ e. (e ≡ SectionFault.Memory) ⊎ (shape_fault bytes ≡ Some e)) }
+        ensures fault { IfErr result (λ e. (e ≡ SectionFault.Memory)
+            ⊎ (shape_fault bytes ≡ Some e)) }
     {
         let sections = read_shape(alloc, bytes.as_bytes())?;
         Ok(Sections { bytes, sections })
@@ -84,6 +85,7 @@ impl Sections {
     /// How many sections the file has.
     pub(crate) fn count(&self) -> u32
         ensures count { result ≡ section_count self.now.file }
+        ensures some { 0 < result }
         ensures small { result < 0xff00 }
         ensures read { self.now ≡ file_sections self.now.file }
     {
@@ -102,7 +104,8 @@ impl Sections {
         requires { i < section_count self.now.file }
         ensures section { result.now ≡ section_of self.now.file i }
         ensures few { section_count self.now.file < 0xff00 }
-        ensures within { IsTrue (has_content result.now.kind) → result.now.offset + result.now.size ≤ length self.now.file }
+        ensures within { IsTrue (has_content result.now.kind) →
+            result.now.offset + result.now.size ≤ length self.now.file }
     {
         &self.sections.as_slice()[i as usize]
     }

@@ -58,7 +58,8 @@ fn check_place(bytes: &[u8], index: u16, header: &SectionHeader) -> Result<(), S
 /// Tests that each section lies in the file.
 fn check_places(bytes: &[u8]) -> Result<(), SectionFault>
     requires { HasTable bytes.now }
-    ensures fault { result_err result ≡ first (each (section_count bytes.now) (place_test bytes.now)) }
+    ensures fault { result_err result
+        ≡ first (each (section_count bytes.now) (place_test bytes.now)) }
     ensures within { OnOk result (AllInFile bytes.now) }
 {
     for index in 0..section_count(bytes) {
@@ -98,9 +99,11 @@ fn read_sections(alloc: Global, bytes: &[u8]) -> Result<List<Section>, SectionFa
     requires table { HasTable bytes.now }
     requires within { AllInFile bytes.now }
     ensures sections { IfOk result (λ l. l ≡ sections_of bytes.now) }
-    ensures passed { OnOk result (first (each (section_count bytes.now) (name_test bytes.now)) ≡ None) }
+    ensures passed { OnOk result
+        (first (each (section_count bytes.now) (name_test bytes.now)) ≡ None) }
     ensures fault { IfErr result
-        (λ e. (e ≡ SectionFault.Memory) ⊎ (first (each (section_count bytes.now) (name_test bytes.now)) ≡ Some e)) }
+        (λ e. (e ≡ SectionFault.Memory)
+        ⊎ (first (each (section_count bytes.now) (name_test bytes.now)) ≡ Some e)) }
 {
     let names = contents(bytes, name_table(bytes));
     let count = section_count(bytes);
@@ -116,7 +119,8 @@ pub(crate) fn read_shape(alloc: Global, bytes: &[u8]) -> Result<List<Section>, S
     ensures sections { IfOk result (λ l. l ≡ sections_of bytes.now) }
     ensures read { IfOk result (λ l. IsRead bytes.now l) }
     ensures passed { OnOk result (shape_fault bytes.now ≡ None) }
-    ensures fault { IfErr result (λ e. (e ≡ SectionFault.Memory) ⊎ (shape_fault bytes.now ≡ Some e)) }
+    ensures fault { IfErr result (λ e. (e ≡ SectionFault.Memory)
+        ⊎ (shape_fault bytes.now ≡ Some e)) }
 {
     check_header(bytes)?;
     check_places(bytes)?;

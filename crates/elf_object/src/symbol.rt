@@ -1,10 +1,10 @@
 // One symbol, and the symbol table.
 
-ghost use Rattle.std.specs.Prelude.{◌≡◌, ◌+◌, ◌*◌, ◌<◌, ◌≤◌, ◌⊎◌, length, None, Some, IfOk, IfErr, OnOk};
+ghost use Rattle.std.specs.Prelude.{◌≡◌, ◌+◌, ◌*◌, ◌<◌, ◌≤◌, ◌⊎◌, length, All, None, Some, IfOk, IfErr, OnOk};
 ghost use Rattle.std.specs.Result.{result_err};
 ghost use Rattle.km_names.specs.First.{first};
 ghost use Rattle.elf_object.specs.Shape.{each};
-ghost use Rattle.elf_object.specs.Symbols.{entries, is_bad_symbol, kind_test, symbol_entry, symbol_in, symbol_test_in, symbols_in};
+ghost use Rattle.elf_object.specs.Symbols.{IsSectionBelow, entries, is_bad_symbol, kind_test, symbol_entry, symbol_in, symbol_test_in, symbols_in};
 
 use crate::format::{
     SHN_ABS, SHN_COMMON, SHN_LORESERVE, SHN_UNDEF, SHN_XINDEX, STB_LOCAL, STB_WEAK,
@@ -96,7 +96,8 @@ fn read_symbol(
     ensures symbol { IfOk result (λ s. s ≡ symbol_in table.now names.now index) }
     ensures passed { OnOk result (symbol_test_in table.now names.now count index ≡ None) }
     ensures fault { IfErr result
-        (λ e. (e ≡ ObjectFault.Memory) ⊎ (symbol_test_in table.now names.now count index ≡ Some e)) }
+        (λ e. (e ≡ ObjectFault.Memory)
+        ⊎ (symbol_test_in table.now names.now count index ≡ Some e)) }
 {
     if index == 0 {
         return Ok(Symbol {
@@ -128,11 +129,15 @@ pub(crate) fn read_symbols(
     names: &[u8],
     count: u32,
 ) -> Result<List<Symbol>, ObjectFault>
-    requires { length table.now ≤ 67108864 }
+    requires small { length table.now ≤ 67108864 }
+    requires some { 0 < count }
+    ensures inside { IfOk result (All (IsSectionBelow count)) }
     ensures symbols { IfOk result (λ l. l ≡ symbols_in table.now names.now) }
-    ensures passed { OnOk result (first (each (entries table.now) (symbol_test_in table.now names.now count)) ≡ None) }
+    ensures passed { OnOk result
+        (first (each (entries table.now) (symbol_test_in table.now names.now count)) ≡ None) }
     ensures fault { IfErr result
-        (λ e. (e ≡ ObjectFault.Memory) ⊎ (first (each (entries table.now) (symbol_test_in table.now names.now count)) ≡ Some e)) }
+        (λ e. (e ≡ ObjectFault.Memory)
+        ⊎ (first (each (entries table.now) (symbol_test_in table.now names.now count)) ≡ Some e)) }
 {
     let entries = table.len() / ENTRY;
     let mut symbols = Vec::with_capacity(alloc, entries)?;

@@ -13,7 +13,8 @@ use crate::{ObjectFault, Sections};
 /// Tests that no section holds relocations without addends.
 #[tactic(auto, unfolding(crate::specs::Symbols::rel_test))]
 pub(crate) fn check_rel(sections: &Sections) -> Result<(), ObjectFault>
-    ensures { result_err result ≡ first (each (section_count sections.now.file) (rel_test sections.now.file)) }
+    ensures { result_err result
+        ≡ first (each (section_count sections.now.file) (rel_test sections.now.file)) }
 {
     for index in 0..sections.count() {
         if sections.section_of(index).kind == SHT_REL {
@@ -80,7 +81,8 @@ fn is_good_table(sections: &Sections, symbols: Option<u32>, index: u32) -> bool
 /// Tests that each table can be one, by the number of the symbol table.
 pub(crate) fn check_tables(sections: &Sections, symbols: Option<u32>) -> Result<(), ObjectFault>
     requires { symbols ≡ symbol_table sections.now.file }
-    ensures fault { result_err result ≡ first (each (section_count sections.now.file) (table_test sections.now.file)) }
+    ensures fault { result_err result
+        ≡ first (each (section_count sections.now.file) (table_test sections.now.file)) }
     ensures fit { OnOk result (TablesFit sections.now.file) }
 {
     for index in 0..sections.count() {

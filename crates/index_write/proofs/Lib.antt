@@ -2,3 +2,10 @@ pub mod KeyLemmas
 pub mod NodeLemmas
 pub mod SizeLemmas
 pub mod WriteLemmas
+pub mod Reading
+pub mod Lookup
+pub mod Walks
+pub mod Accepted
+pub mod Visits
+pub mod Rows
+pub mod Standing

@@ -118,11 +118,11 @@ with_parts-written (Node byte prefix values below beside) ps w =
 sum_by-cons : {A : Type 0} (f : A → ℕ) (x : A) (xs : List A) → sum_by f (x ∷ xs) ≡ f x + sum_by f xs
 sum_by-cons f x xs = sum_by-append f (x ∷ []) xs ∙ omega arith
 
-last-bytes : (byte : ℕ) (links : Links) → last byte links ≡ last_of byte (map (λ l. l.0) links)
+pub last-bytes : (byte : ℕ) (links : Links) → last byte links ≡ last_of byte (map (λ l. l.0) links)
 last-bytes byte [] = refl
 last-bytes byte (l ∷ links) = last-bytes l.0 links
 
-length-offsets : (links : Links) (start n : ℕ) → length (offsets_bytes links start n) ≡ 4 * n
+pub length-offsets : (links : Links) (start n : ℕ) → length (offsets_bytes links start n) ≡ 4 * n
 length-offsets links start zero = refl
 length-offsets links start (suc n) =
     omega (arith, length-append (number (offset links start)) (offsets_bytes links (start + 1) n), length-offsets links (start + 1) n)

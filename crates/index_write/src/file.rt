@@ -1,5 +1,6 @@
 ghost use Rattle.std.specs.Prelude.{◌≡◌, ℕ, ◌≤◌, ◌<◌, ◌-◌, ◌^◌, min, length, IfOk, OnOk, Err};
 ghost use Rattle.index_format.specs.File.{file, largest_file};
+ghost use Rattle.index_format.specs.Holds.{Holds};
 
 use crate::bytes::write;
 use crate::fault::WriteFault;
@@ -16,6 +17,7 @@ const LARGEST_FILE: u64 = 67_108_864;
 /// size is built.
 pub fn encode(alloc: Global, map: &KeyMap) -> Result<Blob, WriteFault>
     ensures file { IfOk result (λ b. b ≡ file map.now) }
+    ensures holds { IfOk result (λ b. Holds b map.now) }
     ensures within { OnOk result (length (file map.now) ≤ largest_file) }
     ensures too_large { (n : ℕ) → result ≡ Err (WriteFault.IndexTooLarge n) → largest_file < length (file map.now) }
     ensures length { (n : ℕ) → result ≡ Err (WriteFault.IndexTooLarge n) → n ≡ min (length (file map.now)) (2 ^ 64 - 1) }

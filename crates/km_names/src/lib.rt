@@ -16,6 +16,8 @@ mod path;
 mod space;
 mod split;
 mod statement;
+#[cfg(test)]
+mod tests;
 mod word;
 
 pub use alias::normal_alias;
@@ -25,7 +27,7 @@ pub use lines::{conf_lines, first_line};
 pub use list::{List, Names, Paths, Texts};
 pub use numbers::{be_u16_at, be_u32_at, le_u16_at, le_u32_at, le_u64_at};
 pub use path::{is_compressed, join, module_name, underscored};
-pub use split::split_at_byte;
 pub use space::{split_word, trimmed, words};
+pub use split::split_at_byte;
 pub use statement::{Statement, parse_files};
 pub use word::Word;

@@ -1,12 +1,11 @@
 -- Lists in order: from a sort, through a key, and as the items of a set.
-use Rattle.std.proofs.Common.{◌≡◌, ℕ, suc, ◌+◌, ◌<◌, ◌≤◌, Bool, true, false, cond, eqb, List, [], ◌∷◌, ◌++◌, length, get_or, sym, refl, ap, subst, ◌∙◌, inl, inr, arith, Ordering, Option, Some, None}
-use Rattle.std.specs.Prelude.{not, ◌&&◌, ◌||◌, map, filter, nat_eq}
-use Rattle.std.specs.List.{AllByRecursion, list_any, list_all, count_by, All}
-use Rattle.std.specs.List.Sorted.{IsSortedBy, IsPermutation}
+use Rattle.std.proofs.Common.{◌≡◌, ℕ, suc, ◌+◌, ◌≤◌, Bool, true, false, cond, List, [], ◌∷◌, sym, refl, ap, subst, ◌∙◌, inl, inr, arith, Ordering, Some, None}
+use Rattle.std.specs.Prelude.{◌&&◌, ◌||◌, map, filter}
+use Rattle.std.specs.List.{AllByRecursion, list_any, list_all, count_by}
+use Rattle.std.specs.List.Sorted.{IsSortedBy}
 use Rattle.std.specs.Str.{bytes_eq}
 use Rattle.std.specs.Cmp.{IsTotalOrder, IsStrictWeakOrder}
-use Rattle.std.specs.Cmp.Lexicographic.{slice_cmp}
-use Rattle.std.specs.Ordering.{nat_cmp, ordering_then, ordering_reverse, is_lt, is_eq, eq_by_cmp}
+use Rattle.std.specs.Ordering.{ordering_reverse, is_lt, is_eq, eq_by_cmp}
 use Rattle.std.specs.declared.cmp.Ordering.TheVariants.{Less, Equal, Greater}
 use lib.Dec.{T}
 use Rattle.mod_tree.specs.Order.{in_order}
@@ -46,8 +45,8 @@ pub all-has : (P : List ℕ → Type 0) (q : List ℕ) (ys : List (List ℕ)) �
 all-has P q [] all has = absurd (true≢false (sym has))
 all-has P q (y ∷ ys) all has =
     elim (cases_Bool (bytes_eq q y)) [
-      inl is ↦ subst P (sym ((bytes_eq-Decides q y).0 is)) all.0
-    | inr other ↦ all-has P q ys all.1 (sym (ap (λ b. b || list_any (bytes_eq q) ys) other) ∙ has)
+      | inl is ↦ subst P (sym ((bytes_eq-Decides q y).0 is)) all.0
+      | inr other ↦ all-has P q ys all.1 (sym (ap (λ b. b || list_any (bytes_eq q) ys) other) ∙ has)
     ]
 
 pub pair : {K : Type 0} → K → K × Unit {0}
@@ -68,8 +67,8 @@ find-pairs : {K : Type 0} (R : K → K → Ordering) (q : K) (xs : List K) → f
 find-pairs R q [] = refl
 find-pairs {K} R q (x ∷ xs) =
     elim (eq_by_cmp R q x) as (λ b. cond b (Some tt) (finmap.find R q (map (λ (k : K). (k, tt {0})) xs)) ≡ cond (b || list_any (eq_by_cmp R q) xs) (Some tt) None) [
-      true ↦ refl
-    | false ↦ find-pairs R q xs
+      | true ↦ refl
+      | false ↦ find-pairs R q xs
     ]
 
 -- a list in strict order is, in that order, each list with its members
@@ -80,8 +79,8 @@ in_order-is {K} {R} o same ks xs strict has =
     let m : finmap.FinMap R (Unit {0}) = finmap.from_sorted {R = R} pairs in
     let sorted : T (finmap.is_sorted R pairs) = subst (λ b. T b) (sym strict) tt in
     let gets : (q : K) → finmap.get (finmap.from_entries {R = R} (map (λ (k : K). (k, tt {0})) xs)) q ≡ finmap.get m q = λ q.
-        finmap.get-from_entries o (map (λ (k : K). (k, tt {0})) xs) q ∙ find-pairs R q xs
-        ∙ ap (λ b. cond b (Some tt) None) (sym (has q)) ∙ sym (find-pairs R q ks) ∙ sym (finmap.get-from_sorted R pairs q sorted) in
+    finmap.get-from_entries o (map (λ (k : K). (k, tt {0})) xs) q ∙ find-pairs R q xs
+    ∙ ap (λ b. cond b (Some tt) None) (sym (has q)) ∙ sym (find-pairs R q ks) ∙ sym (finmap.get-from_sorted R pairs q sorted) in
     ap finmap.keys (finmap.same_map o same _ m gets) ∙ ap (λ (l : List (K × Unit {0})). map (λ e. e.0) l) (finmap.entries-from_sorted R pairs sorted) ∙ map-pair ks
 
 -- neither of two is below the other only where they are equal
@@ -142,8 +141,8 @@ strict-rest R x ys strict = (and_parts _ _ strict).1
 pub eq-is : {R : List ℕ → List ℕ → Ordering} (o : IsTotalOrder R) (same : finmap.IsAntisymmetric R) (x y : List ℕ) → eq_by_cmp R x y ≡ bytes_eq x y
 eq-is {R} o same x y =
     elim (cases_Bool (bytes_eq x y)) [
-      inl is ↦ ap (λ z. is_eq (R x z)) (sym ((bytes_eq-Decides x y).0 is)) ∙ ap is_eq (tied_itself o x) ∙ sym is
-    | inr other ↦ go (R x y) refl other ∙ sym other
+      | inl is ↦ ap (λ z. is_eq (R x z)) (sym ((bytes_eq-Decides x y).0 is)) ∙ ap is_eq (tied_itself o x) ∙ sym is
+      | inr other ↦ go (R x y) refl other ∙ sym other
     ]
   where
     go : (r : Ordering) → R x y ≡ r → bytes_eq x y ≡ false → is_eq (R x y) ≡ false
@@ -159,16 +158,16 @@ pub any-filter : (f : List ℕ → Bool) (q : List ℕ) (xs : List (List ℕ)) �
 any-filter f q [] = refl
 any-filter f q (x ∷ xs) =
     elim (cases_Bool (bytes_eq q x)) [
-      inl is ↦
-        let e : q ≡ x = (bytes_eq-Decides q x).0 is in
-        elim (cases_Bool (f x)) [
-          inl kept ↦ rw (kept, is, ap f e ∙ kept) refl
-        | inr dropped ↦ rw (dropped, is, any-filter f q xs, ap f e ∙ dropped) (and-none (list_any (bytes_eq q) xs))
-        ]
-    | inr other ↦ elim (cases_Bool (f x)) [
-          inl kept ↦ rw (kept, other) (any-filter f q xs)
+      | inl is ↦
+          let e : q ≡ x = (bytes_eq-Decides q x).0 is in
+          elim (cases_Bool (f x)) [
+            | inl kept ↦ rw (kept, is, ap f e ∙ kept) refl
+            | inr dropped ↦ rw (dropped, is, any-filter f q xs, ap f e ∙ dropped) (and-none (list_any (bytes_eq q) xs))
+          ]
+      | inr other ↦ elim (cases_Bool (f x)) [
+        | inl kept ↦ rw (kept, other) (any-filter f q xs)
         | inr dropped ↦ rw (dropped, other) (any-filter f q xs)
-        ]
+      ]
     ]
   where
     and-none : (a : Bool) → (a && false) ≡ false

@@ -1,13 +1,13 @@
 -- Of paths in order of name, rank and bytes, the first of each name are the chosen ones.
-use Rattle.std.proofs.Common.{◌≡◌, ℕ, suc, ◌+◌, ◌<◌, ◌≤◌, Bool, true, false, cond, List, [], ◌∷◌, ◌++◌, length, sym, refl, ap, subst, ◌∙◌, inl, inr, arith, Ordering, Option, Some, None}
-use Rattle.std.specs.Prelude.{not, ◌&&◌, ◌||◌, map, filter}
+use Rattle.std.proofs.Common.{◌≡◌, ℕ, ◌≤◌, Bool, true, false, cond, List, [], ◌∷◌, length, sym, refl, ap, subst, ◌∙◌, inl, inr, arith, Ordering, Option, Some, None}
+use Rattle.std.specs.Prelude.{not, ◌&&◌, ◌||◌, map}
 use Rattle.std.specs.List.{AllByRecursion, list_any, list_all, count_by}
 use Rattle.std.specs.List.Sorted.{IsPermutation}
 use Rattle.std.specs.Str.{bytes_eq}
 use Rattle.std.specs.Cmp.{IsTotalOrder}
 use Rattle.std.specs.Cmp.{on_total, then_total, nat_cmp_total}
-use Rattle.std.specs.Cmp.Lexicographic.{slice_cmp, nat_list_cmp_total}
-use Rattle.std.specs.Ordering.{nat_cmp, ordering_then, is_lt, eq_by_cmp}
+use Rattle.std.specs.Cmp.Lexicographic.{nat_list_cmp_total}
+use Rattle.std.specs.Ordering.{nat_cmp, ordering_then, is_lt}
 use Rattle.std.specs.declared.cmp.Ordering.TheVariants.{Less, Equal, Greater}
 use Rattle.std.specs.FinMap.{IsAntisymmetric, nat_cmp-IsAntisymmetric, slice_cmp-IsAntisymmetric}
 use Rattle.std.proofs.lemmas.Bool.{cases_Bool, true≢false, false_from_ne_true, and_parts, and_from}
@@ -17,10 +17,10 @@ use Rattle.std.proofs.lemmas.List.{length-map}
 use Rattle.std.proofs.lemmas.List.Sorted.{list_any-IsPermutation, IsPermutation-map}
 use Rattle.std.proofs.lemmas.List.Sums.{sum_by-cons}
 use Rattle.km_names.specs.Path.{module_name}
-use Rattle.mod_tree.specs.Order.{bytes_cmp, in_order}
+use Rattle.mod_tree.specs.Order.{bytes_cmp}
 use Rattle.mod_tree.specs.Tree.{rank, choice_cmp, is_chosen, name_count}
 use Rattle.mod_tree.specs.Chosen.{is_name, heads, HasChosen}
-use Rattle.mod_tree.proofs.Ascending.{Ascends, IsStrict, all-has, sorted-cons, below-from_other, equal-from_both, not_below_itself, bytes_eq-itself, bytes_eq-other, strict-low, strict-rest, any-eq, any-filter, in_order-is}
+use Rattle.mod_tree.proofs.Ascending.{Ascends, IsStrict, all-has, sorted-cons, below-from_other, equal-from_both, not_below_itself, bytes_eq-other, strict-low, strict-rest, any-eq, any-filter, in_order-is}
 
 pub bytes_total : IsTotalOrder bytes_cmp
 bytes_total = nat_list_cmp_total
@@ -72,10 +72,10 @@ none-before : (search : List (List ℕ)) (p : List ℕ) (ps : List (List ℕ)) �
 none-before search p [] all = refl
 none-before search p (r ∷ ps) all =
     elim (cases_Bool (bytes_eq (module_name r) (module_name p))) [
-      inl named ↦
-        let back : bytes_eq (module_name p) (module_name r) ≡ true = (bytes_eq-Decides _ _).1 (sym ((bytes_eq-Decides (module_name r) (module_name p)).0 named)) in
-        rw (named, choice-after search r p back all.0) (none-before search p ps all.1)
-    | inr other ↦ rw other (none-before search p ps all.1)
+      | inl named ↦
+          let back : bytes_eq (module_name p) (module_name r) ≡ true = (bytes_eq-Decides _ _).1 (sym ((bytes_eq-Decides (module_name r) (module_name p)).0 named)) in
+          rw (named, choice-after search r p back all.0) (none-before search p ps all.1)
+      | inr other ↦ rw other (none-before search p ps all.1)
     ]
 
 -- a name that isn't below m, and below which m isn't, is m
@@ -101,8 +101,8 @@ ends-false false b c false = elim c as (λ v. false ≡ ((v || false) && false))
 ends-false false b c true = elim c as (λ v. false ≡ ((v || false) && false)) [ true ↦ refl | false ↦ refl ]
 ends-false true b c d =
     elim b as (λ v. (v && false) ≡ ((c || true) && (d && false))) [
-      true ↦ elim c as (λ v. false ≡ ((v || true) && (d && false))) [ true ↦ elim d as (λ v. false ≡ (v && false)) [ true ↦ refl | false ↦ refl ] | false ↦ elim d as (λ v. false ≡ (v && false)) [ true ↦ refl | false ↦ refl ] ]
-    | false ↦ elim c as (λ v. false ≡ ((v || true) && (d && false))) [ true ↦ elim d as (λ v. false ≡ (v && false)) [ true ↦ refl | false ↦ refl ] | false ↦ elim d as (λ v. false ≡ (v && false)) [ true ↦ refl | false ↦ refl ] ]
+      | true ↦ elim c as (λ v. false ≡ ((v || true) && (d && false))) [ true ↦ elim d as (λ v. false ≡ (v && false)) [ true ↦ refl | false ↦ refl ] | false ↦ elim d as (λ v. false ≡ (v && false)) [ true ↦ refl | false ↦ refl ] ]
+      | false ↦ elim c as (λ v. false ≡ ((v || true) && (d && false))) [ true ↦ elim d as (λ v. false ≡ (v && false)) [ true ↦ refl | false ↦ refl ] | false ↦ elim d as (λ v. false ≡ (v && false)) [ true ↦ refl | false ↦ refl ] ]
     ]
 
 and-false : (a b : Bool) → (a && (b && false)) ≡ false
@@ -160,14 +160,14 @@ heads-step words prev p ps up low q ih =
     let rest : List (List ℕ) = heads (Some (module_name p)) ps in
     let cut : Bool → Bool = λ b. has q (cond b rest (p ∷ rest)) in
     elim (cases_Bool (is_name prev (module_name p))) [
-      inl same ↦
-        ap cut same ∙ ih
-        ∙ at-same (bytes_eq q p) (has q ps) (is_chosen words (p ∷ ps) q) (is_name prev (module_name q)) (bytes_eq (module_name p) (module_name q)) (is_chosen words ps q) (prev-name prev (module_name p) (module_name q) same) (λ other. (same-path q p other, chosen-other words p q ps other))
-    | inr fresh ↦
-        ap cut fresh ∙ ap (λ b. bytes_eq q p || b) ih
-        ∙ (elim (cases_Bool (bytes_eq (module_name p) (module_name q))) [
-            inl named ↦ at-name (bytes_eq q p) (has q ps) (is_chosen words (p ∷ ps) q) (is_name prev (module_name q)) (bytes_eq (module_name p) (module_name q)) (is_chosen words ps q) named (same-name prev (module_name p) (module_name q) named ∙ fresh) (first-chosen words p q ps up.0) (later-not words p q ps up.0 named)
-          | inr other ↦ at-other (bytes_eq q p) (has q ps) (is_chosen words (p ∷ ps) q) (is_name prev (module_name q)) (bytes_eq (module_name p) (module_name q)) (is_chosen words ps q) other (same-path q p other) (chosen-other words p q ps other) (λ there. not_name prev p q low (name-after words q p (all-has (λ x. is_lt (full_cmp words x p) ≡ false) q ps up.0 there)) other)
+      | inl same ↦
+          ap cut same ∙ ih
+          ∙ at-same (bytes_eq q p) (has q ps) (is_chosen words (p ∷ ps) q) (is_name prev (module_name q)) (bytes_eq (module_name p) (module_name q)) (is_chosen words ps q) (prev-name prev (module_name p) (module_name q) same) (λ other. (same-path q p other, chosen-other words p q ps other))
+      | inr fresh ↦
+          ap cut fresh ∙ ap (λ b. bytes_eq q p || b) ih
+          ∙ (elim (cases_Bool (bytes_eq (module_name p) (module_name q))) [
+            | inl named ↦ at-name (bytes_eq q p) (has q ps) (is_chosen words (p ∷ ps) q) (is_name prev (module_name q)) (bytes_eq (module_name p) (module_name q)) (is_chosen words ps q) named (same-name prev (module_name p) (module_name q) named ∙ fresh) (first-chosen words p q ps up.0) (later-not words p q ps up.0 named)
+            | inr other ↦ at-other (bytes_eq q p) (has q ps) (is_chosen words (p ∷ ps) q) (is_name prev (module_name q)) (bytes_eq (module_name p) (module_name q)) (is_chosen words ps q) other (same-path q p other) (chosen-other words p q ps other) (λ there. not_name prev p q low (name-after words q p (all-has (λ x. is_lt (full_cmp words x p) ≡ false) q ps up.0 there)) other)
           ])
     ]
 
@@ -249,10 +249,10 @@ names-has words prev (p ∷ ps) up low n =
     let ih : has n (map module_name rest) ≡ (has n (map module_name ps) && not (bytes_eq (module_name p) n)) = names-has words (Some (module_name p)) ps up.1 after n in
     let cut : Bool → Bool = λ b. has n (map module_name (cond b rest (p ∷ rest))) in
     elim (cases_Bool (is_name prev (module_name p))) [
-      inl same ↦ ap cut same ∙ ih ∙ name-same (bytes_eq n (module_name p)) (has n (map module_name ps)) (is_name prev n) (bytes_eq (module_name p) n) (prev-name prev (module_name p) n same) (swapped (module_name p) n false)
-    | inr fresh ↦
-        ap cut fresh ∙ ap (λ b. bytes_eq n (module_name p) || b) ih
-        ∙ name-fresh (bytes_eq n (module_name p)) (has n (map module_name ps)) (is_name prev n) (bytes_eq (module_name p) n)
+      | inl same ↦ ap cut same ∙ ih ∙ name-same (bytes_eq n (module_name p)) (has n (map module_name ps)) (is_name prev n) (bytes_eq (module_name p) n) (prev-name prev (module_name p) n same) (swapped (module_name p) n false)
+      | inr fresh ↦
+          ap cut fresh ∙ ap (λ b. bytes_eq n (module_name p) || b) ih
+          ∙ name-fresh (bytes_eq n (module_name p)) (has n (map module_name ps)) (is_name prev n) (bytes_eq (module_name p) n)
           (λ named. (swapped (module_name p) n true named, same-name prev (module_name p) n named ∙ fresh))
           (swapped (module_name p) n false)
           (λ other there. not_previous prev p n low.0 (all-has (λ k. is_lt (bytes_cmp k (module_name p)) ≡ false) n (map module_name ps) (names-all p ps after) there) other)
@@ -270,10 +270,10 @@ once-strict [] strict q = omega arith
 once-strict (x ∷ xs) strict q =
     let e = sum_by-cons (λ z. cond (bytes_eq q z) 1 0) x xs in
     elim (cases_Bool (bytes_eq q x)) [
-      inl is ↦
-        let none : count_by (bytes_eq q) xs ≡ 0 = ap (λ z. count_by (bytes_eq z) xs) ((bytes_eq-Decides q x).0 is) ∙ none-there x xs (strict-low bytes_cmp (module_name x) (map module_name xs) strict) in
-        omega (arith, e, none, ap {B = ℕ} (λ b. cond b 1 0) is)
-    | inr other ↦ omega (arith, e, ap {B = ℕ} (λ b. cond b 1 0) other, once-strict xs (strict-rest bytes_cmp (module_name x) (map module_name xs) strict) q)
+      | inl is ↦
+          let none : count_by (bytes_eq q) xs ≡ 0 = ap (λ z. count_by (bytes_eq z) xs) ((bytes_eq-Decides q x).0 is) ∙ none-there x xs (strict-low bytes_cmp (module_name x) (map module_name xs) strict) in
+          omega (arith, e, none, ap {B = ℕ} (λ b. cond b 1 0) is)
+      | inr other ↦ omega (arith, e, ap {B = ℕ} (λ b. cond b 1 0) other, once-strict xs (strict-rest bytes_cmp (module_name x) (map module_name xs) strict) q)
     ]
 
 pub heads-chosen : (search ms ps : List (List ℕ)) → IsPermutation ms ps → Ascends (λ x y. is_lt (full_cmp search x y)) ps → HasChosen search ms (heads None ps)
@@ -289,11 +289,11 @@ heads-chosen words ms ps moved up =
       once = once-strict (heads None ps) names.0;
       count =
           sym (ap length (in_order-is bytes_total bytes_same (map module_name (heads None ps)) (map module_name ms) names.0 (λ n.
-            any-eq bytes_total bytes_same n (map module_name (heads None ps))
-            ∙ names-has words None ps up low n
-            ∙ and-true (has n (map module_name ps))
-            ∙ sym (list_any-IsPermutation (bytes_eq n) (map module_name ms) (map module_name ps) (IsPermutation-map module_name ms ps moved))
-            ∙ sym (any-eq bytes_total bytes_same n (map module_name ms)))) ∙ length-map (heads None ps) module_name);
+          any-eq bytes_total bytes_same n (map module_name (heads None ps))
+          ∙ names-has words None ps up low n
+          ∙ and-true (has n (map module_name ps))
+          ∙ sym (list_any-IsPermutation (bytes_eq n) (map module_name ms) (map module_name ps) (IsPermutation-map module_name ms ps moved))
+          ∙ sym (any-eq bytes_total bytes_same n (map module_name ms)))) ∙ length-map (heads None ps) module_name);
     }
   where
     and-true : (a : Bool) → (a && true) ≡ a

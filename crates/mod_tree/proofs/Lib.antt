@@ -1,4 +1,7 @@
 pub mod Ascending
+pub mod ChosenSteps
+pub mod Folders
 pub mod Heads
+pub mod ListingSteps
 pub mod PlaceSteps
 pub mod SearchSteps

@@ -1,5 +1,5 @@
 -- The first place of an element in a list that grows at its end.
-use Rattle.std.proofs.Common.{◌≡◌, ℕ, suc, ◌+◌, ◌<◌, ◌≤◌, Bool, true, false, cond, ltb, List, [], ◌∷◌, ◌++◌, length, sym, refl, ap, subst, ◌∙◌, inl, inr, arith, Option, Some, None, Ordering}
+use Rattle.std.proofs.Common.{◌≡◌, ℕ, ◌+◌, ◌<◌, ◌≤◌, Bool, true, false, cond, ltb, List, [], ◌∷◌, ◌++◌, length, sym, refl, ap, ◌∙◌, inl, inr, arith, Option, Some, None}
 use Rattle.std.specs.Prelude.{not, is_some, unwrap_or, option_copied}
 use Rattle.std.specs.Borrow.{Bor}
 use Rattle.std.specs.List.{position, position_or_len}
@@ -18,30 +18,30 @@ module _ {X : Type 0} (p : X → Bool) where
   pos-found [] ys l = absurd (omega (arith, l))
   pos-found (x ∷ xs) ys l =
       elim (cases_Bool (p x)) [
-        inl here ↦ rw here refl
-      | inr later ↦ let m : position_or_len p xs < length xs = omega (arith, rw later at l) in rw (later, pos-found xs ys m) refl
+        | inl here ↦ rw here refl
+        | inr later ↦ let m : position_or_len p xs < length xs = omega (arith, rw later at l) in rw (later, pos-found xs ys m) refl
       ]
 
   pos-end : (xs ys : List X) → position_or_len p xs ≡ length xs → position_or_len p (xs ++ ys) ≡ length xs + position_or_len p ys
   pos-end [] ys e = omega arith
   pos-end (x ∷ xs) ys e =
       elim (cases_Bool (p x)) [
-        inl here ↦ absurd (omega (arith, rw here at e))
-      | inr later ↦ let m : position_or_len p xs ≡ length xs = omega (arith, rw later at e) in rw (later, pos-end xs ys m) (omega arith)
+        | inl here ↦ absurd (omega (arith, rw here at e))
+        | inr later ↦ let m : position_or_len p xs ≡ length xs = omega (arith, rw later at e) in rw (later, pos-end xs ys m) (omega arith)
       ]
 
   at-end : (xs : List X) → position p xs ≡ None → position_or_len p xs ≡ length xs
   at-end xs e =
       elim (cases_Bool (ltb (position_or_len p xs) (length xs))) [
-        inl l ↦ let f : Some (position_or_len p xs) ≡ None = sym (ap (λ b. cond b (Some (position_or_len p xs)) None) l) ∙ e in cc
-      | inr h ↦ omega (arith, ltb-false (position_or_len p xs) (length xs) h, prefix_len-le-length (λ x. not (p x)) xs)
+        | inl l ↦ let f : Some (position_or_len p xs) ≡ None = sym (ap (λ b. cond b (Some (position_or_len p xs)) None) l) ∙ e in cc
+        | inr h ↦ omega (arith, ltb-false (position_or_len p xs) (length xs) h, prefix_len-le-length (λ x. not (p x)) xs)
       ]
 
   at-place : (xs : List X) (k : ℕ) → position p xs ≡ Some k → (position_or_len p xs ≡ k) × (position_or_len p xs < length xs)
   at-place xs k e =
       elim (cases_Bool (ltb (position_or_len p xs) (length xs))) [
-        inl l ↦ let f : Some (position_or_len p xs) ≡ Some k = sym (ap (λ b. cond b (Some (position_or_len p xs)) None) l) ∙ e in (cc, ltb-true (position_or_len p xs) (length xs) l)
-      | inr h ↦ let f : None ≡ Some k = sym (ap (λ b. cond b (Some (position_or_len p xs)) None) h) ∙ e in cc
+        | inl l ↦ let f : Some (position_or_len p xs) ≡ Some k = sym (ap (λ b. cond b (Some (position_or_len p xs)) None) l) ∙ e in (cc, ltb-true (position_or_len p xs) (length xs) l)
+        | inr h ↦ let f : None ≡ Some k = sym (ap (λ b. cond b (Some (position_or_len p xs)) None) h) ∙ e in cc
       ]
 
   position-at : (xs : List X) (k : ℕ) → position_or_len p xs ≡ k → k < length xs → position p xs ≡ Some k
@@ -77,11 +77,11 @@ tie-is x y false e = eq-is bytes_total bytes_same y x ∙ false_from_ne_true (by
 pub added : (items : List (List ℕ)) (item q : List ℕ) (before after mine : Option ℕ) (n : ℕ) → n ≡ length items → before ≡ position (bytes_eq q) items → mine ≡ position (bytes_eq item) items → mine ≡ None → after ≡ cond (eq_by_cmp (slice_cmp nat_cmp) item q) (Some n) before → after ≡ position (bytes_eq q) (items ++ item ∷ [])
 added items item q before after mine n count old here none new =
     elim (cases_Bool (bytes_eq q item)) [
-      inl is ↦
-        let e : q ≡ item = (bytes_eq-Decides q item).0 is in
-        let gone : position (bytes_eq q) items ≡ None = ap (λ x. position (bytes_eq x) items) e ∙ sym here ∙ none in
-        new ∙ ap (λ b. cond b (Some n) before) (tie-is q item true is) ∙ ap Some count ∙ sym (position-new (bytes_eq q) items item gone is)
-    | inr other ↦ new ∙ ap (λ b. cond b (Some n) before) (tie-is q item false other) ∙ go before old other
+      | inl is ↦
+          let e : q ≡ item = (bytes_eq-Decides q item).0 is in
+          let gone : position (bytes_eq q) items ≡ None = ap (λ x. position (bytes_eq x) items) e ∙ sym here ∙ none in
+          new ∙ ap (λ b. cond b (Some n) before) (tie-is q item true is) ∙ ap Some count ∙ sym (position-new (bytes_eq q) items item gone is)
+      | inr other ↦ new ∙ ap (λ b. cond b (Some n) before) (tie-is q item false other) ∙ go before old other
     ]
   where
     go : (o : Option ℕ) → o ≡ position (bytes_eq q) items → bytes_eq q item ≡ false → o ≡ position (bytes_eq q) (items ++ item ∷ [])
@@ -92,10 +92,10 @@ added items item q before after mine n count old here none new =
 pub repeated : (items : List (List ℕ)) (item q : List ℕ) (before mine : Option ℕ) → before ≡ position (bytes_eq q) items → mine ≡ position (bytes_eq item) items → is_some mine ≡ true → before ≡ position (bytes_eq q) (items ++ item ∷ [])
 repeated items item q None mine old here some =
     elim (cases_Bool (bytes_eq q item)) [
-      inl is ↦
-        let e : q ≡ item = (bytes_eq-Decides q item).0 is in
-        absurd (true≢false (sym some ∙ ap is_some (here ∙ ap (λ x. position (bytes_eq x) items) (sym e) ∙ sym old)))
-    | inr other ↦ sym (position-still (bytes_eq q) items item (sym old) other)
+      | inl is ↦
+          let e : q ≡ item = (bytes_eq-Decides q item).0 is in
+          absurd (true≢false (sym some ∙ ap is_some (here ∙ ap (λ x. position (bytes_eq x) items) (sym e) ∙ sym old)))
+      | inr other ↦ sym (position-still (bytes_eq q) items item (sym old) other)
     ]
 repeated items item q (Some k) mine old here some = sym (position-kept (bytes_eq q) items item k (sym old))
 

@@ -1,4 +1,5 @@
 pub mod Chosen
+pub mod Listing
 pub mod Order
 pub mod Places
 pub mod Search

@@ -1,6 +1,6 @@
 -- The tree of a kernel's modules: which file of each name is its module, and in which order they stand.
 -- depmod.d(5), "search"; modules.order as the kernel's build writes it.
-use Rattle.std.specs.Prelude.{ℕ, ◌+◌, List, [], ◌∷◌, ◌++◌, Bool, not, ◌&&◌, ◌||◌, ◌==◌, nat_lt, if◌then◌else◌, codes, Option, Some, None, Result, Ok, Err, map, filter, length, nat_eq}
+use Rattle.std.specs.Prelude.{ℕ, List, [], ◌∷◌, ◌++◌, Bool, not, ◌&&◌, ◌||◌, ◌==◌, nat_lt, if◌then◌else◌, codes, Option, Some, None, Result, Ok, Err, map, filter, length, nat_eq}
 use Rattle.std.specs.List.{list_any, ends_with, starts_with, position_or_len}
 use Rattle.std.specs.Str.{bytes_eq}
 use Rattle.std.specs.Ordering.{nat_cmp, ordering_then, is_lt}
@@ -28,7 +28,7 @@ is_folder_of path word = not (bytes_eq word (codes "built-in")) && starts_with n
 abbrev pub rank : List (List ℕ) → List ℕ → ℕ
 rank search path =
     let place = position_or_len (is_folder_of path) search in
-    if nat_lt place (length search) then place else position_or_len (λ word. bytes_eq word (codes "built-in")) search
+    if nat_lt place (length search) then place else position_or_len (bytes_eq (codes "built-in")) search
 
 -- Paths of one name in the order of choice: by rank, and then by bytes.
 abbrev pub choice_cmp : List (List ℕ) → List ℕ → List ℕ → Ordering

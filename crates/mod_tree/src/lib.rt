@@ -4,9 +4,13 @@
 //! It stands on `km_names` for names, lines and configuration files.
 #![tactic(auto)]
 
+mod chosen;
+mod listing;
 mod places;
 mod search;
+#[cfg(test)]
+mod tests;
 mod tree;
 
 pub use search::{Search, SearchLine, parse_search};
-pub use tree::{Tree, TreeFault};
+pub use tree::{Tree, TreeFault, choose};

@@ -23,6 +23,13 @@ impl<'a> Places<'a> {
         }
     }
 
+    // How many byte lists there are.
+    pub(crate) fn count(&self) -> usize
+        ensures { (items : List (List ℕ)) → IsPlacesOf items self.now → result ≡ length items }
+    {
+        self.count
+    }
+
     // Adds one more byte list at the end.
     pub(crate) fn add(&mut self, item: &'a [u8]) -> Result<(), AllocError>
         requires { self.old.count + 1 < 2 ^ 64 }

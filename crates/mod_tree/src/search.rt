@@ -3,7 +3,9 @@ ghost use Rattle.std.specs.List.{flat_map};
 ghost use Rattle.mod_tree.specs.Search.{search_of, words_of_lines};
 ghost use Rattle.km_names.specs.Space.{words as words_of};
 
-use km_names::{ConfFault, ConfFiles, List as Items, Name, Names, Statement, parse_files, split_word, words};
+use km_names::{
+    ConfFault, ConfFiles, List as Items, Name, Names, Statement, parse_files, split_word, words,
+};
 use std::alloc::{AllocError, Global};
 
 /// The words that say in which folders modules are looked for first, in order.

@@ -1,4 +1,14 @@
-use km_names::{Paths, PathText};
+ghost use Rattle.std.specs.Prelude.{◌≡◌, ◌⊎◌, filter, IfOk, IfErr, option_copied};
+ghost use Rattle.std.specs.List.{list_any};
+ghost use Rattle.mod_tree.specs.Tree.{tree_of, is_module_path as has_module_path, is_bad_byte as is_bad, lesser as lesser_of, bad_path as bad_path_of};
+ghost use Rattle.mod_tree.specs.Shown.{shown};
+
+use crate::Search;
+use crate::chosen::chosen_paths;
+use crate::listing::tree_in_order;
+use km_names::{PathText, Paths, is_compressed};
+use std::alloc::{AllocError, AllocFailed, Global};
+use std::cmp::Ordering;
 
 /// The paths of a tree's modules, relative to the kernel's folder, in the order of the tree.
 pub type Tree = Paths;
@@ -14,7 +24,109 @@ pub enum TreeFault {
     Memory,
 }
 
-ghost use Rattle.std.specs.Prelude.{ℕ, List, ◌≡◌};
-fn dummy() -> u8 
-   ensures { result ≡ 0 }
-{ 0 }
+impl From<AllocError> for TreeFault {
+    ghost use Rattle.mod_tree.specs.declared.tree.TreeFault.TheVariants.{Memory};
+
+    ghost from_gives = { λ _ fault. fault ≡ Memory };
+
+    fn from(_error: AllocError) -> TreeFault {
+        TreeFault::Memory
+    }
+}
+
+impl<T: Drop> From<AllocFailed<T>> for TreeFault {
+    ghost use Rattle.mod_tree.specs.declared.tree.TreeFault.TheVariants.{Memory};
+
+    ghost from_gives = { λ _ fault. fault ≡ Memory };
+
+    fn from(_failed: AllocFailed<T>) -> TreeFault {
+        TreeFault::Memory
+    }
+}
+
+/// The most modules that a tree may have.
+const MOST_MODULES: usize = 10_000;
+
+/// The tree of the listed paths: of each module name the path that the search list ranks first, ties by
+/// bytes; first those that modules.order lists, by their first line there, and then the others by bytes.
+/// `BadPath` comes exactly where the path of a module has a byte outside 33 to 126 or a `:`, with the
+/// least such path; and then `TooManyModules` exactly where there are more than 10,000 module names.
+/// depmod.d(5), "search".
+pub fn choose(
+    alloc: Global,
+    paths: &Paths,
+    order_file: &[u8],
+    search: &Search,
+) -> Result<Tree, TreeFault>
+    ensures ok { IfOk result (λ tree. tree_of paths.now order_file.now search.now ≡ Ok tree) }
+    ensures err { IfErr result (λ fault. (fault ≡ TreeFault.Memory)
+        ⊎ (tree_of paths.now order_file.now search.now ≡ Err fault)) }
+{
+    let modules = module_paths(alloc, paths)?;
+    if let Some(path) = bad_path(modules.as_slice()) {
+        return Err(TreeFault::BadPath {
+            path: PathText::from_slice(alloc, path.as_bytes())?,
+        });
+    }
+    let chosen = chosen_paths(alloc, modules.as_slice(), search)?;
+    if chosen.len() > MOST_MODULES {
+        return Err(TreeFault::TooManyModules {
+            count: chosen.len() as u64,
+        });
+    }
+    Ok(tree_in_order(alloc, chosen.as_slice(), order_file)?)
+}
+
+// The paths that are those of modules.
+fn module_paths(alloc: Global, paths: &Paths) -> Result<Vec<&PathText>, AllocError>
+    ensures { IfOk result (λ modules. shown modules.items ≡ filter has_module_path paths.now) }
+{
+    let mut modules = Vec::new(alloc);
+    for path in paths.as_slice() {
+        if is_module_path(path) {
+            modules.push(path)?;
+        }
+    }
+    Ok(modules)
+}
+
+fn is_module_path(path: &PathText) -> bool
+    ensures { result ≡ has_module_path path.now }
+{
+    path.as_bytes().ends_with(b".ko") || is_compressed(path)
+}
+
+// The least path by bytes that has a byte which can't stand there.
+fn bad_path<'a>(modules: &[&'a PathText]) -> Option<&'a PathText>
+    ensures { option_copied result ≡ bad_path_of (shown modules.now) }
+{
+    let mut least = None;
+    let mut at = modules.len();
+    while at > 0 {
+        at -= 1;
+        let path = modules[at];
+        if has_bad_byte(path.as_bytes()) {
+            least = Some(lesser(path, least));
+        }
+    }
+    least
+}
+
+fn has_bad_byte(path: &[u8]) -> bool
+    ensures { result ≡ list_any is_bad path.now }
+{
+    path.iter().any(|b| *b < 33 || *b > 126 || *b == b':')
+}
+
+// The lesser by bytes of a path and what may be another.
+fn lesser<'a>(path: &'a PathText, other: Option<&'a PathText>) -> &'a PathText
+    ensures { Some result.now ≡ lesser_of path.now (option_copied other.entry) }
+{
+    match other {
+        None => path,
+        Some(other) => match path.as_bytes().cmp(&other.as_bytes()) {
+            Ordering::Less => path,
+            _ => other,
+        },
+    }
+}

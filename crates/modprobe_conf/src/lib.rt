@@ -8,6 +8,8 @@ ghost use Rattle.std.specs.Prelude.{◌≡◌, ◌≤◌, ◌⊎◌, length, All
 ghost use Rattle.modprobe_conf.specs.Rules.{rules_of};
 
 mod rule;
+#[cfg(test)]
+mod tests;
 
 use km_names::{ConfFault, ConfFiles, parse_files};
 pub use rule::{Rule, Rules};

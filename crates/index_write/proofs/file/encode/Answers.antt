@@ -3,6 +3,8 @@ use Rattle.index_format.specs.Tree.{tree, Rises}
 use Rattle.index_write.specs.Parts.{parts_of, with_parts, headed}
 use Rattle.index_write.specs.Groups.{shown, part_of}
 use Rattle.index_write.proofs.WriteLemmas.{file-size, rooted-file, length-rooted}
+use Rattle.index_format.specs.Holds.{Holds}
+use Rattle.index_write.proofs.Standing.{holds}
 use Rattle.index_write.proofs.file.encode.Goals as goal
 
 pub nodes-requires : goal.nodes-requires
@@ -35,3 +37,11 @@ pub returns-clause-within : goal.returns-clause-within
 returns-clause-within c =
     let parts = ap (map part_of) c.deref-2.ensures.value ∙ c.in_ok-nodes.ensures ∙ ap (λ es. parts_of (tree es)) (ap shown c.deref.ensures.value ∙ c.in_ok-entries.ensures.shown) in
     omega (arith, file-size c.args.map.now (map part_of c.deref-2.result.now) parts)
+
+pub returns-clause-holds : goal.returns-clause-holds
+returns-clause-holds c =
+    let parts = ap (map part_of) c.deref-3.ensures.value ∙ c.in_ok-nodes.ensures ∙ ap (λ es. parts_of (tree es)) (ap shown c.deref.ensures.value ∙ c.in_ok-entries.ensures.shown) in
+    let parts-2 = ap (map part_of) c.deref-2.ensures.value ∙ c.in_ok-nodes.ensures ∙ ap (λ es. parts_of (tree es)) (ap shown c.deref.ensures.value ∙ c.in_ok-entries.ensures.shown) in
+    let is_file = c.from_vec.ensures ∙ c.in_ok-bytes.ensures ∙ rooted-file c.args.map.now (map part_of c.deref-3.result.now) parts in
+    subst (λ b. Holds b c.args.map.now) (sym is_file)
+    (holds c.args.map.now c.in_ok-entries.ensures.rises c.in_ok-entries.ensures.sound (omega (arith, file-size c.args.map.now (map part_of c.deref-2.result.now) parts-2)))

@@ -22,5 +22,11 @@ returns-clause-small c =
     let small = c.self.invariant.table.count in
     omega arith
 
+pub returns-clause-some : goal.returns-clause-some
+returns-clause-some c =
+    let length_is = ap length c.self.invariant.list_is ∙ length-sections_of c.self.inside.bytes in
+    let names = c.self.invariant.table.names in
+    omega arith
+
 pub returns-clause-read : goal.returns-clause-read
 returns-clause-read c = rw (← c.self.view_is, c.self.invariant.list_is) refl

@@ -1,4 +1,4 @@
-use Rattle.std.proofs.Common.{◌≡◌, sym, ◌∙◌}
+use Rattle.std.proofs.Common.{◌∙◌}
 use Rattle.std.specs.Str.{bytes_eq}
 use Rattle.mod_tree.proofs.PlaceSteps.{place-or-count}
 use Rattle.mod_tree.proofs.places.Places.first_place.Goals as goal

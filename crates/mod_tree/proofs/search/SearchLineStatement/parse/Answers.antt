@@ -1,8 +1,8 @@
-use Rattle.std.proofs.Common.{◌≡◌, Bool, true, false, List, ℕ, sym, refl, ap, ◌∙◌, Some, None}
+use Rattle.std.proofs.Common.{◌≡◌, true, false, List, ℕ, sym, refl, ap, ◌∙◌}
 use Rattle.std.specs.Prelude.{codes}
 use Rattle.std.specs.Str.{bytes_eq}
 use Rattle.km_names.specs.Space.{first_word, rest_after_word, words}
-use Rattle.mod_tree.specs.Search.{search_line, some_words}
+use Rattle.mod_tree.specs.Search.{search_line}
 use Rattle.mod_tree.proofs.SearchSteps.{no_words, words-there, command-is}
 use Rattle.mod_tree.proofs.search.SearchLineStatement.parse.Goals as goal
 

@@ -1,0 +1,69 @@
+ghost use Rattle.std.specs.Prelude.{◌≡◌, ◌<◌, ◌^◌, ◌+◌, ℕ, List, length, map, All, IfOk};
+ghost use Rattle.km_names.specs.Lines.{lines_of};
+ghost use Rattle.mod_tree.specs.Tree.{tree_paths};
+ghost use Rattle.mod_tree.specs.Shown.{shown};
+ghost use Rattle.mod_tree.specs.Places.{IsPlacesOf};
+ghost use Rattle.mod_tree.specs.Listing.{IsListing, listed_path};
+ghost use Rattle.mod_tree.specs.Chosen.{HasChosen};
+
+use crate::places::Places;
+use km_names::{PathText, Paths, first_line};
+use std::alloc::{AllocError, Global};
+
+// A path as it is compared with others: the place of its first line in modules.order, or the number of
+// lines where it has none, and the path.
+type Listing<'a> = (usize, &'a [u8]);
+
+// The chosen paths in the order of the tree.
+pub(crate) fn tree_in_order(
+    alloc: Global,
+    chosen: &[&[u8]],
+    order_file: &[u8],
+) -> Result<Paths, AllocError>
+    ensures { IfOk result (λ tree. (search paths : List (List ℕ)) → HasChosen search paths (shown chosen.now)
+        → tree ≡ tree_paths search (lines_of order_file.now) paths) }
+{
+    let places = line_places(alloc, order_file)?;
+    let mut list = listings(alloc, chosen, &places)?;
+    list.sort()?;
+    listed_paths(alloc, list.as_slice())
+}
+
+// Where each line of a text first stands.
+fn line_places(alloc: Global, text: &[u8]) -> Result<Places<'_>, AllocError>
+    ensures { IfOk result (λ places. IsPlacesOf (lines_of text.now) places) }
+{
+    let mut places = Places::new(alloc);
+    let mut rest = text;
+    while !rest.is_empty() {
+        let (line, next) = first_line(rest);
+        places.add(line)?;
+        rest = next;
+    }
+    Ok(places)
+}
+
+fn listings<'a>(
+    alloc: Global,
+    chosen: &[&'a [u8]],
+    places: &Places<'_>,
+) -> Result<Vec<Listing<'a>>, AllocError>
+    ensures paths { IfOk result (λ list. map listed_path list.items ≡ shown chosen.now) }
+    ensures each { IfOk result (λ list. (lines : List (List ℕ)) → IsPlacesOf lines places.now → All (IsListing lines) list.items) }
+{
+    let mut list = Vec::new(alloc);
+    for path in chosen {
+        list.push((places.first_place(path), *path))?;
+    }
+    Ok(list)
+}
+
+fn listed_paths(alloc: Global, list: &[Listing<'_>]) -> Result<Paths, AllocError>
+    ensures { IfOk result (λ paths. paths ≡ map listed_path list.now) }
+{
+    let mut paths = Paths::new(alloc);
+    for listing in list {
+        paths.push(PathText::from_slice(alloc, listing.1)?)?;
+    }
+    Ok(paths)
+}

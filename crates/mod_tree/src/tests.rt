@@ -1,0 +1,148 @@
+use crate::{TreeFault, choose, parse_search};
+use km_names::{Blob, ConfFault, ConfFile, ConfFiles, Name, Names, PathText, Paths};
+use std::alloc::{AllocError, Global};
+use std::test::Fail;
+
+fn paths_of(alloc: Global, texts: &[&[u8]]) -> Result<Paths, AllocError> {
+    let mut paths = Paths::new(alloc);
+    for text in texts {
+        paths.push(PathText::from_slice(alloc, text)?)?;
+    }
+    Ok(paths)
+}
+
+fn names_of(alloc: Global, texts: &[&[u8]]) -> Result<Names, AllocError> {
+    let mut names = Names::new(alloc);
+    for text in texts {
+        names.push(Name::from_slice(alloc, text)?)?;
+    }
+    Ok(names)
+}
+
+fn file_of(alloc: Global, text: &[u8]) -> Result<ConfFiles, AllocError> {
+    let mut files = ConfFiles::new(alloc);
+    files.push(ConfFile {
+        path: PathText::from_slice(alloc, b"/etc/depmod.d/a.conf")?,
+        bytes: Blob::from_slice(alloc, text)?,
+    })?;
+    Ok(files)
+}
+
+// Each path on a line of its own.
+fn lines_of(alloc: Global, paths: &Paths) -> Result<Vec<u8>, AllocError> {
+    let mut text = Vec::new(alloc);
+    for path in paths.as_slice() {
+        text.extend_from_slice(path.as_bytes())?;
+        text.push(b'\n')?;
+    }
+    Ok(text)
+}
+
+// For some search words and lines of modules.order, the tree of one listing.
+#[test]
+fn trees_of_a_listing(rt: HostRuntime) -> Result<(), Fail> {
+    let listed = [
+        b"updates/a.ko".as_slice(),
+        b"kernel/b.ko",
+        b"kernel/a.ko",
+        b"extra/a.ko.xz",
+        b"kernel/drivers/a.ko",
+        b"kernel/c-d.ko",
+        b"kernel/c_d.ko",
+        b"notes.txt",
+    ];
+    let rows = [
+        (
+            [b"updates".as_slice(), b"built-in"],
+            b"".as_slice(),
+            b"kernel/b.ko\nkernel/c-d.ko\nupdates/a.ko\n".as_slice(),
+        ),
+        (
+            [b"extra".as_slice(), b"updates"],
+            b"kernel/c-d.ko\n\nkernel/b.ko\r\nupdates/a.ko\nkernel/c-d.ko",
+            b"kernel/c-d.ko\nextra/a.ko.xz\nkernel/b.ko\n",
+        ),
+        (
+            [b"built-in".as_slice(), b"updates"],
+            b"kernel/none.ko\nupdates/a.ko\nkernel/b.ko",
+            b"kernel/b.ko\nextra/a.ko.xz\nkernel/c-d.ko\n",
+        ),
+        (
+            [b"kernel/drivers".as_slice(), b"kernel"],
+            b"c_d\nkernel/c_d.ko\n",
+            b"kernel/b.ko\nkernel/c-d.ko\nkernel/drivers/a.ko\n",
+        ),
+    ];
+    let paths = paths_of(rt.alloc(), &listed)?;
+    for (search, order, want) in rows {
+        let search = names_of(rt.alloc(), &search)?;
+        match choose(rt.alloc(), &paths, order, &search) {
+            Ok(tree) => assert_eq!(rt; lines_of(rt.alloc(), &tree)?.as_slice(), want),
+            Err(_) => assert!(rt; false, "no tree"),
+        }
+    }
+    Ok(())
+}
+
+#[test]
+fn paths_that_have_no_tree(rt: HostRuntime) -> Result<(), Fail> {
+    let rows = [
+        [
+            b"kernel/b c.ko".as_slice(),
+            b"kernel/a:.ko.gz",
+            b"kernel/a\xff",
+        ],
+        [b"z/\x7f.ko".as_slice(), b"kernel/a:.ko.gz", b"kernel/a.ko"],
+    ];
+    let search = names_of(rt.alloc(), &[])?;
+    for row in rows {
+        let paths = paths_of(rt.alloc(), &row)?;
+        match choose(rt.alloc(), &paths, b"", &search) {
+            Err(TreeFault::BadPath { path }) => assert_eq!(rt;
+                path.as_bytes(),
+                b"kernel/a:.ko.gz".as_slice()
+            ),
+            _ => assert!(rt; false, "a bad path that was taken"),
+        }
+    }
+    Ok(())
+}
+
+#[test]
+fn search_lists(rt: HostRuntime) -> Result<(), Fail> {
+    let rows = [
+        (b"# none\n".as_slice(), b"updates built-in".as_slice()),
+        (
+            b"search a built-in\n search  b-c \\\n d",
+            b"a built-in b-c d",
+        ),
+    ];
+    for (text, want) in rows {
+        let files = file_of(rt.alloc(), text)?;
+        match parse_search(rt.alloc(), &files) {
+            Ok(search) => {
+                let mut words = Vec::new(rt.alloc());
+                for word in search.as_slice() {
+                    if !words.is_empty() {
+                        words.push(b' ')?;
+                    }
+                    words.extend_from_slice(word.as_bytes())?;
+                }
+                assert_eq!(rt; words.as_slice(), want);
+            }
+            Err(_) => assert!(rt; false, "a line that wasn't understood"),
+        }
+    }
+    for text in [
+        b"search a\nsearch".as_slice(),
+        b"search a\noverride a * b\nsearch",
+        b"\nalias a b",
+    ] {
+        let files = file_of(rt.alloc(), text)?;
+        match parse_search(rt.alloc(), &files) {
+            Err(ConfFault::BadLine { line, .. }) => assert_eq!(rt; line, 2),
+            _ => assert!(rt; false, "a bad line that was understood"),
+        }
+    }
+    Ok(())
+}

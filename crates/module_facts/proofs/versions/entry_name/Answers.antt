@@ -1,0 +1,10 @@
+use Rattle.std.proofs.Common.{◌≡◌, ◌+◌, ◌-◌, ◌*◌, ◌∙◌, take, drop, ap, arith}
+use Rattle.module_facts.specs.Versions.{before_nul, entry_name}
+use Rattle.module_facts.proofs.versions.entry_name.Goals as goal
+
+pub returns : goal.returns
+unfolding entry_name
+returns c =
+    let start = 64 * c.args.k + 8 in
+    let size : start + 56 - start ≡ 56 = omega arith in
+    c.before_nul.ensures ∙ ap (λ n. before_nul (take n (drop start c.args.bytes.now))) size

@@ -1,0 +1,13 @@
+pub mod Roles
+pub mod NameTable
+pub mod Contents
+pub mod Versions
+pub mod SymbolTables
+pub mod Exports
+pub mod Needs
+pub mod Facts
+pub mod Faults
+pub mod FaultText
+pub mod Times
+pub mod Missing
+pub mod Module

@@ -1,0 +1,50 @@
+// The facts of a module.
+
+use km_names::{List, Name, PathText, Texts};
+
+/// A symbol that a module offers to others. The kernel's EXPORT_SYMBOL, include/linux/export.h.
+#[derive(Drop)]
+pub struct Export {
+    /// The name that others know it by.
+    pub name: Name,
+    /// The number of the symbol that it stands for.
+    pub symbol: u32,
+    /// Its version, where it states one.
+    pub crc: Option<u64>,
+}
+
+/// The exports of a module, in the order of the symbols that state them.
+pub type Exports = List<Export>;
+
+/// A symbol that a module wants from the kernel or from another module. gABI 4, "Symbol Table".
+#[derive(Drop)]
+pub struct Need {
+    /// Its name.
+    pub name: Name,
+    /// The number of its symbol.
+    pub symbol: u32,
+    /// Whether the module runs without it too.
+    pub weak: bool,
+    /// The version that the module was built against, where it states one.
+    pub crc: Option<u64>,
+}
+
+/// The needs of a module, in the order of their symbols.
+pub type Needs = List<Need>;
+
+/// What a module states of itself.
+#[derive(Drop)]
+pub struct Facts {
+    /// The path of its file.
+    pub path: PathText,
+    /// Its name.
+    pub name: Name,
+    /// What it offers to others.
+    pub exports: Exports,
+    /// What it wants from others.
+    pub needs: Needs,
+    /// The values of the key `alias` of its section `.modinfo`, as they stand there.
+    pub aliases: Texts,
+    /// The values of the key `softdep`, as they stand there. modprobe.d(5), "softdep".
+    pub softdeps: Texts,
+}

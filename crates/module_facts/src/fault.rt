@@ -1,0 +1,124 @@
+// What is wrong with a module.
+
+ghost use Rattle.std.specs.Prelude.{◌≡◌, ◌++◌, codes, IfOk};
+
+use bstr::BStr;
+use elf_object::ObjectFault;
+use km_names::{Blob, Name};
+use std::alloc::{AllocError, AllocFailed, Global};
+use std::fmt;
+use thiserror::Error;
+
+/// Why a file isn't taken for a kernel module.
+#[derive(Drop, Error)]
+pub enum ModuleFault {
+    /// Its path is that of a compressed module.
+    #[error("compressed")]
+    Compressed,
+    /// It is no object file that can be read; never for want of memory.
+    #[error("{0}")]
+    Object(ObjectFault),
+    /// The module's name has over 55 bytes.
+    #[error("name too long")]
+    NameTooLong,
+    /// The module's name, or that of an export or a need, is empty, or has a byte that isn't a visible
+    /// character of ASCII.
+    #[error("bad name")]
+    BadName,
+    /// The module exports `name` twice.
+    #[error("export {} twice", BStr::new(.name.as_bytes()))]
+    ExportTwice { name: Name },
+    /// The module exports `name`, and doesn't define it.
+    #[error("export {} undefined", BStr::new(.name.as_bytes()))]
+    ExportUndefined { name: Name },
+    /// The versions of the needs or of the exports can't be as they are.
+    #[error("bad versions")]
+    BadVersions,
+    /// Memory ran out.
+    #[error("out of memory")]
+    Memory,
+}
+
+impl fmt::Debug for ModuleFault {
+    fn fmt<W: fmt::Write>(&self, f: &mut fmt::Formatter<W>) -> fmt::Result {
+        match self {
+            ModuleFault::Compressed => f.write_str("Compressed"),
+            ModuleFault::Object(fault) => f.debug_tuple("Object").field(fault).finish(),
+            ModuleFault::NameTooLong => f.write_str("NameTooLong"),
+            ModuleFault::BadName => f.write_str("BadName"),
+            ModuleFault::ExportTwice { name } => f
+                .debug_struct("ExportTwice")
+                .field("name", &BStr::new(name.as_bytes()))
+                .finish(),
+            ModuleFault::ExportUndefined { name } => f
+                .debug_struct("ExportUndefined")
+                .field("name", &BStr::new(name.as_bytes()))
+                .finish(),
+            ModuleFault::BadVersions => f.write_str("BadVersions"),
+            ModuleFault::Memory => f.write_str("Memory"),
+        }
+    }
+}
+
+impl From<AllocError> for ModuleFault {
+    ghost use Rattle.module_facts.specs.declared.fault.ModuleFault.TheVariants.{Memory};
+
+    ghost from_gives = { λ _ fault. fault ≡ Memory };
+
+    fn from(_refusal: AllocError) -> ModuleFault {
+        ModuleFault::Memory
+    }
+}
+
+impl<T: Drop> From<AllocFailed<T>> for ModuleFault {
+    ghost use Rattle.module_facts.specs.declared.fault.ModuleFault.TheVariants.{Memory};
+
+    ghost from_gives = { λ _ fault. fault ≡ Memory };
+
+    fn from(_refusal: AllocFailed<T>) -> ModuleFault {
+        ModuleFault::Memory
+    }
+}
+
+impl From<ObjectFault> for ModuleFault {
+    ghost use Rattle.module_facts.specs.FaultText.{module_fault_from};
+
+    ghost from_gives = { λ object fault. fault ≡ module_fault_from object };
+
+    fn from(fault: ObjectFault) -> ModuleFault {
+        match fault {
+            ObjectFault::Memory => ModuleFault::Memory,
+            other => ModuleFault::Object(other),
+        }
+    }
+}
+
+impl ModuleFault {
+    ghost use Rattle.module_facts.specs.FaultText.{module_fault_text};
+
+    /// The text of the fault, as it stands in a line on standard error.
+    pub fn text(&self, alloc: Global) -> Result<Blob, AllocError>
+        ensures { IfOk result (λ text. text ≡ module_fault_text self.now) }
+    {
+        match self {
+            ModuleFault::Compressed => Blob::from_slice(alloc, b"compressed"),
+            ModuleFault::Object(fault) => fault.text(alloc),
+            ModuleFault::NameTooLong => Blob::from_slice(alloc, b"name too long"),
+            ModuleFault::BadName => Blob::from_slice(alloc, b"bad name"),
+            ModuleFault::ExportTwice { name } => export_text(alloc, name, b" twice"),
+            ModuleFault::ExportUndefined { name } => export_text(alloc, name, b" undefined"),
+            ModuleFault::BadVersions => Blob::from_slice(alloc, b"bad versions"),
+            ModuleFault::Memory => Blob::from_slice(alloc, b"out of memory"),
+        }
+    }
+}
+
+/// The text that says how an export is wrong.
+fn export_text(alloc: Global, name: &Name, how: &[u8]) -> Result<Blob, AllocError>
+    ensures { IfOk result (λ text. text ≡ codes "export " ++ name.now ++ how.now) }
+{
+    let mut text = Blob::from_slice(alloc, b"export ")?;
+    text.extend(name.as_bytes())?;
+    text.extend(how)?;
+    Ok(text)
+}
