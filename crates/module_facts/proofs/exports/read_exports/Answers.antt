@@ -14,8 +14,8 @@ loop-i-preserved c =
       | in-Some+in_ok-read_export+in_ok-push w ↦
           w.exports-is ∙ w.in_ok-push.ensures.ok
           ∙ rw (c.loop-i.invariant, w.in_ok-read_export.ensures)
-          (sym (filter_map-given exported_name (export_of o) o.symbols i s w.in-Some.name.now c.symbol.ensures w.in-Some.ensures))
+          (sym (filter_map-given exported_name (export_of o) o.symbols i s w.in-Some.name.now c.symbol.ensures.symbol w.in-Some.ensures))
       | in_default w ↦
           w.exports-is ∙ c.loop-i.invariant
-          ∙ sym (filter_map-silent exported_name (export_of o) o.symbols i s c.symbol.ensures w.in_default.ensures)
+          ∙ sym (filter_map-silent exported_name (export_of o) o.symbols i s c.symbol.ensures.symbol w.in_default.ensures)
     ]

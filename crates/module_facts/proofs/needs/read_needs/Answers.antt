@@ -14,8 +14,8 @@ loop-i-preserved c =
       | then-is_need+in_ok-read_need+in_ok-push w ↦
           w.needs-is ∙ w.in_ok-push.ensures.ok
           ∙ rw (c.loop-i.invariant, w.in_ok-read_need.ensures)
-          (sym (numbered-passed (λ p. is_need p.0 p.1) (λ p. need_of versions p.0 p.1) symbols i s c.symbol-symbol.ensures (sym c.is_need.ensures ∙ w.if-is_need.true)))
+          (sym (numbered-passed (λ p. is_need p.0 p.1) (λ p. need_of versions p.0 p.1) symbols i s c.symbol-symbol.ensures.symbol (sym c.is_need.ensures ∙ w.if-is_need.true)))
       | else-is_need w ↦
           w.needs-is ∙ c.loop-i.invariant
-          ∙ sym (numbered-failed (λ p. is_need p.0 p.1) (λ p. need_of versions p.0 p.1) symbols i s c.symbol-symbol.ensures (sym c.is_need.ensures ∙ w.if-is_need.false))
+          ∙ sym (numbered-failed (λ p. is_need p.0 p.1) (λ p. need_of versions p.0 p.1) symbols i s c.symbol-symbol.ensures.symbol (sym c.is_need.ensures ∙ w.if-is_need.false))
     ]
