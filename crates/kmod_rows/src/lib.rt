@@ -3,8 +3,12 @@
 #![tactic(auto)]
 
 #[cfg(test)]
+mod facts;
+#[cfg(test)]
 mod modinfo;
 #[cfg(test)]
 mod object;
 #[cfg(test)]
 mod row;
+#[cfg(test)]
+mod sheet_row;

@@ -1,0 +1,121 @@
+ghost use Rattle.std.specs.Prelude.{◌≡◌, map, IfOk, IsTrue};
+ghost use Rattle.tree_gen.specs.Sheet.{is_sheet};
+ghost use Rattle.kmod_rows.specs.Rows.{version_of, export_of, need_of, place_of, sheet_of};
+
+use km_names::{Blob, List, Name, Texts};
+use std::alloc::{AllocError, Global};
+use tree_gen::{
+    Sheet, SheetExport, SheetExports, SheetNeed, SheetNeeds, SheetPlace, SheetPlaces, SheetVersion,
+    SheetVersions, object,
+};
+
+/// A version of a sheet, written out.
+pub(crate) struct VersionRow {
+    pub(crate) name: &'static [u8],
+    pub(crate) crc: u64,
+}
+
+/// An export of a sheet, written out.
+pub(crate) struct ExportRow {
+    pub(crate) name: &'static [u8],
+    pub(crate) crc: Option<u64>,
+}
+
+/// A need of a sheet, written out.
+pub(crate) struct NeedRow {
+    pub(crate) name: &'static [u8],
+    pub(crate) weak: bool,
+}
+
+/// A relocated word of a sheet, written out.
+pub(crate) struct PlaceRow {
+    pub(crate) kind: u32,
+    pub(crate) symbol: &'static [u8],
+    pub(crate) addend: i64,
+}
+
+/// A sheet, written out.
+pub(crate) struct SheetRow {
+    pub(crate) texts: &'static [&'static [u8]],
+    pub(crate) versions: &'static [VersionRow],
+    pub(crate) exports: &'static [ExportRow],
+    pub(crate) needs: &'static [NeedRow],
+    pub(crate) places: &'static [PlaceRow],
+}
+
+fn texts(alloc: Global, rows: &[&'static [u8]]) -> Result<Texts, AllocError>
+    ensures { IfOk result (λ list. list ≡ map (λ t. t.now) rows.now) }
+{
+    let mut list = List::new(alloc);
+    for row in rows {
+        list.push(Blob::from_slice(alloc, row)?)?;
+    }
+    Ok(list)
+}
+
+fn versions(alloc: Global, rows: &[VersionRow]) -> Result<SheetVersions, AllocError>
+    ensures { IfOk result (λ list. list ≡ map version_of rows.now) }
+{
+    let mut list = List::new(alloc);
+    for row in rows {
+        list.push(SheetVersion {
+            name: Name::from_slice(alloc, row.name)?,
+            crc: row.crc,
+        })?;
+    }
+    Ok(list)
+}
+
+fn exports(alloc: Global, rows: &[ExportRow]) -> Result<SheetExports, AllocError>
+    ensures { IfOk result (λ list. list ≡ map export_of rows.now) }
+{
+    let mut list = List::new(alloc);
+    for row in rows {
+        list.push(SheetExport {
+            name: Name::from_slice(alloc, row.name)?,
+            crc: row.crc,
+        })?;
+    }
+    Ok(list)
+}
+
+fn needs(alloc: Global, rows: &[NeedRow]) -> Result<SheetNeeds, AllocError>
+    ensures { IfOk result (λ list. list ≡ map need_of rows.now) }
+{
+    let mut list = List::new(alloc);
+    for row in rows {
+        list.push(SheetNeed {
+            name: Name::from_slice(alloc, row.name)?,
+            weak: row.weak,
+        })?;
+    }
+    Ok(list)
+}
+
+fn places(alloc: Global, rows: &[PlaceRow]) -> Result<SheetPlaces, AllocError>
+    ensures { IfOk result (λ list. list ≡ map place_of rows.now) }
+{
+    let mut list = List::new(alloc);
+    for row in rows {
+        list.push(SheetPlace {
+            kind: row.kind,
+            symbol: Name::from_slice(alloc, row.symbol)?,
+            addend: row.addend,
+        })?;
+    }
+    Ok(list)
+}
+
+/// The object of a sheet that is written out. That an object can be made of it is computed.
+pub(crate) fn object_of(alloc: Global, row: &SheetRow) -> Result<Blob, AllocError>
+    requires { IsTrue (is_sheet (sheet_of row.now)) }
+{
+    let sheet = Sheet {
+        texts: texts(alloc, row.texts)?,
+        versions: versions(alloc, row.versions)?,
+        exports: exports(alloc, row.exports)?,
+        needs: needs(alloc, row.needs)?,
+        places: places(alloc, row.places)?,
+    };
+    object(alloc, &sheet)
+}
