@@ -1,6 +1,6 @@
 use crate::sheet_row::{ExportRow, NeedRow, PlaceRow, SheetRow, VersionRow, object_of};
 use elf_object::ObjectFault;
-use km_names::{Blob, PathText};
+use km_names::{Blob, PathText, le_u64_at};
 use module_facts::{Export, Facts, ModuleFault, Need, read_module};
 use std::alloc::Global;
 use std::process::Abort;
@@ -187,4 +187,62 @@ fn objects_of_sheets_are_read_back(rt: HostRuntime) -> Result<(), Fail> {
     assert_eq!(rt; facts.aliases.len(), 2);
     assert_eq!(rt; facts.softdeps.len(), 1);
     Ok(())
+}
+
+/// The fault of the object at the path.
+fn fault_at(rt: &impl Abort, alloc: Global, path: &[u8], bytes: Blob) -> Result<ModuleFault, Fail> {
+    let path = PathText::from_slice(alloc, path)?;
+    assert!(rt; bytes.len() <= 67_108_864);
+    match read_module(alloc, &path, bytes) {
+        Ok(_) => Err("the module was read".into()),
+        Err(fault) => Ok(fault),
+    }
+}
+
+/// A module's fault is the first one: its path's, then its object's.
+#[test]
+fn faults_of_objects_are_named(rt: HostRuntime) -> Result<(), Fail> {
+    let alloc = rt.alloc();
+    let fault = fault_at(&rt, alloc, b"/m/x.ko.zst", object_of(alloc, &ONE_NEED)?)?;
+    assert!(rt; matches!(&fault, ModuleFault::Compressed));
+
+    let fault = fault_at(&rt, alloc, b"/m/x.ko", object_of(alloc, &UNKNOWN_TYPE)?)?;
+    assert!(rt;
+        matches!(
+            &fault,
+            ModuleFault::Object(ObjectFault::UnknownType {
+                section: 5,
+                entry: 0,
+                kind: 9
+            })
+        )
+    );
+
+    // The second word's place moves into the first.
+    let mut bytes = object_of(alloc, &TWO_WORDS)?.into_vec();
+    let entry = second_relocation(&rt, bytes.as_slice());
+    assert!(rt; entry < bytes.len());
+    assert_eq!(rt; bytes[entry], 8);
+    bytes[entry] = 4;
+    let fault = fault_at(&rt, alloc, b"/m/x.ko", Blob::from_vec(bytes))?;
+    assert!(rt;
+        matches!(
+            &fault,
+            ModuleFault::Object(ObjectFault::OverlappingPlaces {
+                section: 2,
+                offset: 4
+            })
+        )
+    );
+    Ok(())
+}
+
+/// Where the second entry of the section `.rela.data`, the fifth, stands in the file.
+fn second_relocation(rt: &impl Abort, bytes: &[u8]) -> usize {
+    assert!(rt; bytes.len() >= 48);
+    let header = le_u64_at(bytes, 40).saturating_add(64 * 5 + 24);
+    assert!(rt; header < 4096 && header as usize + 8 <= bytes.len());
+    let content = le_u64_at(bytes, header as usize);
+    assert!(rt; content < 4096);
+    content as usize + 24
 }
