@@ -17,7 +17,7 @@ use Rattle.tree_gen.specs.Contents.{local_count, symbol_number, place_bytes, pla
 use Rattle.tree_gen.specs.Build.{names_of}
 
 -- a name that stands after other names in a list of distinct ones is none of them
-absent : (names : List (List ℕ)) (n : List ℕ) (rest : List (List ℕ)) → IsDistinct bytes_eq (names ++ n ∷ rest) → list_any (bytes_eq n) names ≡ false
+pub absent : (names : List (List ℕ)) (n : List ℕ) (rest : List (List ℕ)) → IsDistinct bytes_eq (names ++ n ∷ rest) → list_any (bytes_eq n) names ≡ false
 unfolding IsDistinct
 absent [] n rest d = refl
 absent (x ∷ xs) n rest d =
@@ -37,7 +37,7 @@ distinct-front [] ys d = tt
 distinct-front (x ∷ xs) ys d = (recursion-front (λ y. bytes_eq x y ≡ false) xs ys d.0, distinct-front xs ys d.1)
 
 -- a test of slices by their bytes
-list_any-keys : (n : List ℕ) (keys : List (Bor (List ℕ))) → list_any (λ (k : Bor (List ℕ)). bytes_eq n k.now) keys ≡ list_any (bytes_eq n) (names_of keys)
+pub list_any-keys : (n : List ℕ) (keys : List (Bor (List ℕ))) → list_any (λ (k : Bor (List ℕ)). bytes_eq n k.now) keys ≡ list_any (bytes_eq n) (names_of keys)
 list_any-keys n [] = refl
 list_any-keys n (k ∷ keys) = ap (λ b. bytes_eq n k.now || b) (list_any-keys n keys)
 
@@ -55,34 +55,44 @@ position-keys p keys =
     ∙ ap (λ l. cond (nat_lt (prefix_len (λ x. not (p x)) (names_of keys)) l) (Some (prefix_len (λ x. not (p x)) (names_of keys))) None) (sym (length-keys keys))
 
 -- a new name goes to the end
-insert-absent : (keys new : List (Bor (List ℕ))) (k : Bor (List ℕ)) → list_any (bytes_eq k.now) (names_of keys) ≡ false
+pub insert-absent : (keys new : List (Bor (List ℕ))) (k : Bor (List ℕ)) → list_any (bytes_eq k.now) (names_of keys) ≡ false
     → new ≡ insert_key (λ (a b : Bor (List ℕ)). bytes_eq a.now b.now) keys k → names_of new ≡ names_of keys ++ k.now ∷ []
 insert-absent keys new k none e =
     ap names_of (e ∙ ap (λ b. if b then keys else keys ++ k ∷ []) (list_any-keys k.now keys ∙ none))
     ∙ map-append (λ (k : Bor (List ℕ)). k.now) keys (k ∷ [])
+
+module _ {X : Type 0} (f : X → List ℕ) (xs : List X) (i : ℕ) (x : X) (before names : List (List ℕ)) (n : List ℕ)
+    (h : i < length xs) (is : x ≡ get_or xs i x) (same : n ≡ f x) (so_far : names ≡ before ++ map f (take i xs)) where
+  -- all names, by those before an item, its own and the rest
+  pub names-whole : before ++ map f xs ≡ names ++ n ∷ map f (drop (i + 1) xs)
+  names-whole =
+      let rest : List (List ℕ) = map f (drop (i + 1) xs) in
+      let split : map f xs ≡ map f (take i xs) ++ f x ∷ rest =
+      ap (map f) (sym (take-append-drop i xs))
+      ∙ map-append f (take i xs) (drop i xs)
+      ∙ ap (λ r. map f (take i xs) ++ map f r) (drop_more xs i x h)
+      ∙ ap (λ y. map f (take i xs) ++ f y ∷ rest) (sym is) in
+      ap (λ r. before ++ r) split
+      ∙ sym (append_assoc before (map f (take i xs)) (f x ∷ rest))
+      ∙ ap (λ r. r ++ f x ∷ rest) (sym so_far)
+      ∙ ap (λ m. names ++ m ∷ rest) (sym same)
+
+  -- the names with one more
+  pub push-next : names ++ n ∷ [] ≡ before ++ map f (take (i + 1) xs)
+  push-next =
+      ap (λ r. r ++ n ∷ []) so_far
+      ∙ append_assoc before (map f (take i xs)) (n ∷ [])
+      ∙ ap (λ m. before ++ (map f (take i xs) ++ m ∷ [])) same
+      ∙ ap (λ y. before ++ (map f (take i xs) ++ f y ∷ [])) is
+      ∙ ap (λ r. before ++ r) (sym (map_more f xs i x h))
 
 -- the step of a loop that inserts distinct names
 pub insert-next : {X : Type 0} (f : X → List ℕ) (xs : List X) (i : ℕ) (x : X) (before : List (List ℕ)) (keys new : List (Bor (List ℕ))) (k : Bor (List ℕ))
     → i < length xs → x ≡ get_or xs i x → k.now ≡ f x → names_of keys ≡ before ++ map f (take i xs) → IsDistinct bytes_eq (before ++ map f xs)
     → new ≡ insert_key (λ (a b : Bor (List ℕ)). bytes_eq a.now b.now) keys k → names_of new ≡ before ++ map f (take (i + 1) xs)
 insert-next f xs i x before keys new k h is same so_far distinct e =
-    let rest : List (List ℕ) = map f (drop (i + 1) xs) in
-    let split : map f xs ≡ map f (take i xs) ++ f x ∷ rest =
-    ap (map f) (sym (take-append-drop i xs))
-    ∙ map-append f (take i xs) (drop i xs)
-    ∙ ap (λ r. map f (take i xs) ++ map f r) (drop_more xs i x h)
-    ∙ ap (λ y. map f (take i xs) ++ f y ∷ rest) (sym is) in
-    let whole : before ++ map f xs ≡ names_of keys ++ k.now ∷ rest =
-    ap (λ r. before ++ r) split
-    ∙ sym (append_assoc before (map f (take i xs)) (f x ∷ rest))
-    ∙ ap (λ r. r ++ f x ∷ rest) (sym so_far)
-    ∙ ap (λ n. names_of keys ++ n ∷ rest) (sym same) in
-    insert-absent keys new k (absent (names_of keys) k.now rest (subst (IsDistinct bytes_eq) whole distinct)) e
-    ∙ ap (λ r. r ++ k.now ∷ []) so_far
-    ∙ append_assoc before (map f (take i xs)) (k.now ∷ [])
-    ∙ ap (λ n. before ++ (map f (take i xs) ++ n ∷ [])) same
-    ∙ ap (λ y. before ++ (map f (take i xs) ++ f y ∷ [])) is
-    ∙ ap (λ r. before ++ r) (sym (map_more f xs i x h))
+    insert-absent keys new k (absent (names_of keys) k.now (map f (drop (i + 1) xs)) (subst (IsDistinct bytes_eq) (names-whole f xs i x before (names_of keys) k.now h is same so_far) distinct)) e
+    ∙ push-next f xs i x before (names_of keys) k.now h is same so_far
 
 -- how many names a sheet has
 pub length-symbol_names : (s : Sheet) → length (symbol_names s) ≡ length s.exports + length s.needs

@@ -1,8 +1,10 @@
 -- What a sheet may have.
-use Rattle.std.specs.Prelude.{ℕ, ◌≤◌, ◌++◌, Bool, true, ◌&&◌, not, nat_eq, nat_le, List, [], ◌∷◌, length, map, All, Contains}
+use Rattle.std.specs.Prelude.{ℕ, ◌≤◌, ◌++◌, Bool, true, ◌&&◌, not, ◌==◌, nat_le, List, [], ◌∷◌, length, map, All, Contains}
 use Rattle.std.specs.List.{IsDistinct, list_all, list_any}
 use Rattle.std.specs.Str.{bytes_eq}
 use Rattle.tree_gen.specs.declared.sheet.Sheet.{Sheet}
+use Rattle.tree_gen.specs.declared.sheet.SheetVersion.{SheetVersion}
+use Rattle.tree_gen.specs.declared.sheet.SheetPlace.{SheetPlace}
 
 -- the names of the exported and then of the undefined symbols
 abbrev pub symbol_names : Sheet → List (List ℕ)
@@ -30,16 +32,31 @@ pub record IsSheet (s : Sheet) : Type 0 where
 -- ---- the same as tests, by which the conditions of a sheet that is written out are computed
 
 abbrev pub is_text : List ℕ → Bool
-is_text text = nat_le (length text) 4096 && not (list_any (nat_eq 0) text)
+is_text text = nat_le (length text) 4096 && not (list_any (λ byte. byte == 0) text)
+
+abbrev pub is_version : SheetVersion → Bool
+is_version v = is_text v.name && nat_le (length v.name) 55
 
 abbrev pub are_distinct : List (List ℕ) → Bool
 are_distinct [] = true
 are_distinct (name ∷ names) = list_all (λ other. not (bytes_eq name other)) names && are_distinct names
 
+abbrev pub is_known : List (List ℕ) → SheetPlace → Bool
+is_known names p = list_any (bytes_eq p.symbol) names
+
+-- of the lengths of the lists
+abbrev pub are_few : Sheet → Bool
+are_few s =
+    nat_le (length s.texts) 65535 && nat_le (length s.versions) 65535 && nat_le (length s.exports) 65535
+    && nat_le (length s.needs) 65535 && nat_le (length s.places) 65535
+
+-- of the texts and names
+abbrev pub are_texts : Sheet → Bool
+are_texts s = list_all is_text s.texts && list_all is_text (symbol_names s) && list_all is_version s.versions
+
+-- of the names with each other
+abbrev pub are_known : Sheet → Bool
+are_known s = are_distinct (symbol_names s) && list_all (is_known (symbol_names s)) s.places
+
 abbrev pub is_sheet : Sheet → Bool
-is_sheet s =
-    nat_le (length s.texts) 65535 && (nat_le (length s.versions) 65535 && (nat_le (length s.exports) 65535
-    && (nat_le (length s.needs) 65535 && (nat_le (length s.places) 65535
-    && (list_all is_text s.texts && (list_all is_text (symbol_names s)
-    && (list_all (λ v. is_text v.name && nat_le (length v.name) 55) s.versions
-    && (are_distinct (symbol_names s) && list_all (λ p. list_any (bytes_eq p.symbol) (symbol_names s)) s.places))))))))
+is_sheet s = are_few s && are_texts s && are_known s

@@ -7,6 +7,7 @@
 #![tactic(auto)]
 
 mod bytes;
+mod conditions;
 mod content;
 mod object_file;
 mod relocations;
@@ -16,6 +17,7 @@ mod symbols;
 #[cfg(test)]
 mod tests;
 
+pub use conditions::is_sheet;
 pub use object_file::object;
 pub use sheet::{
     Sheet, SheetExport, SheetExports, SheetNeed, SheetNeeds, SheetPlace, SheetPlaces, SheetVersion,

@@ -1,9 +1,6 @@
 // Objects by hand: the bytes were worked out from the ELF structures by a program of its own, and readelf
 // shows what the sheets say.
-ghost use Rattle.std.specs.Prelude.{◌≡◌, [], ◌∷◌, IfOk};
-ghost use Rattle.tree_gen.specs.Sheet.{IsSheet};
-
-use crate::{Sheet, SheetExport, SheetNeed, SheetPlace, SheetVersion, object};
+use crate::{Sheet, SheetExport, SheetNeed, SheetPlace, SheetVersion, is_sheet, object};
 use km_names::{Blob, List, Name};
 use std::alloc::{AllocError, Global};
 use std::test::Fail;
@@ -104,18 +101,14 @@ const ONE_OF_EACH: [(usize, &[u8]); 46] = [
 ];
 
 /// The list of one item.
-fn one<T: Drop>(alloc: Global, item: T) -> Result<List<T>, AllocError>
-    ensures { IfOk result (λ l. l ≡ item ∷ []) }
-{
+fn one<T: Drop>(alloc: Global, item: T) -> Result<List<T>, AllocError> {
     let mut items = List::new(alloc);
     items.push(item)?;
     Ok(items)
 }
 
 /// The sheet with a text and nothing else.
-fn text_alone(alloc: Global) -> Result<Sheet, AllocError>
-    ensures { IfOk result IsSheet }
-{
+fn text_alone(alloc: Global) -> Result<Sheet, AllocError> {
     let text = Blob::from_slice(alloc, b"license=GPL")?;
     let texts = one(alloc, text)?;
     let versions = List::new(alloc);
@@ -132,9 +125,7 @@ fn text_alone(alloc: Global) -> Result<Sheet, AllocError>
 }
 
 /// The sheet with one of each.
-fn one_of_each(alloc: Global) -> Result<Sheet, AllocError>
-    ensures { IfOk result IsSheet }
-{
+fn one_of_each(alloc: Global) -> Result<Sheet, AllocError> {
     let text = Blob::from_slice(alloc, b"license=GPL")?;
     let texts = one(alloc, text)?;
     let versioned = Name::from_slice(alloc, b"printk")?;
@@ -185,11 +176,34 @@ fn unpacked(alloc: Global, length: usize, runs: &[(usize, &[u8])]) -> Result<Vec
 #[test]
 fn objects_have_the_bytes_of_the_structures(rt: HostRuntime) -> Result<(), Fail> {
     let alloc = rt.alloc();
-    let got = object(alloc, &text_alone(alloc)?)?;
+    let sheet = text_alone(alloc)?;
+    assert!(rt; is_sheet(alloc, &sheet)?);
+    let got = object(alloc, &sheet)?;
     let want = unpacked(alloc, 760, &TEXT_ALONE)?;
     assert_eq!(rt; got.as_bytes(), want.as_slice());
-    let got = object(alloc, &one_of_each(alloc)?)?;
+    let sheet = one_of_each(alloc)?;
+    assert!(rt; is_sheet(alloc, &sheet)?);
+    let got = object(alloc, &sheet)?;
     let want = unpacked(alloc, 992, &ONE_OF_EACH)?;
     assert_eq!(rt; got.as_bytes(), want.as_slice());
+    Ok(())
+}
+
+#[test]
+fn sheets_that_are_none(rt: HostRuntime) -> Result<(), Fail> {
+    let alloc = rt.alloc();
+    for name in [b"".as_slice(), b"f", b"f\0", b"printk"] {
+        let mut sheet = one_of_each(alloc)?;
+        let export = SheetExport {
+            name: Name::from_slice(alloc, name)?,
+            crc: None,
+        };
+        sheet.exports.push(export)?;
+        let fits = name.is_empty();
+        assert_eq!(rt; is_sheet(alloc, &sheet)?, fits);
+    }
+    let mut sheet = one_of_each(alloc)?;
+    sheet.needs = List::new(alloc);
+    assert!(rt; !is_sheet(alloc, &sheet)?);
     Ok(())
 }
