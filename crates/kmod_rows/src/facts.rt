@@ -169,12 +169,22 @@ fn facts_at(
 #[test]
 fn objects_of_sheets_are_read_back(rt: HostRuntime) -> Result<(), Fail> {
     let alloc = rt.alloc();
-    let facts = facts_at(&rt, alloc, b"kernel/em-pty.ko", object_of(alloc, &EMPTY)?)?;
+    let facts = facts_at(
+        &rt,
+        alloc,
+        b"kernel/em-pty.ko",
+        object_of(&rt, alloc, &EMPTY)?,
+    )?;
     assert_eq!(rt; facts.name.as_bytes(), b"em_pty".as_slice());
     assert!(rt; facts.exports.is_empty() && facts.needs.is_empty());
     assert!(rt; facts.aliases.is_empty() && facts.softdeps.is_empty());
 
-    let facts = facts_at(&rt, alloc, b"kernel/varied.ko", object_of(alloc, &VARIED)?)?;
+    let facts = facts_at(
+        &rt,
+        alloc,
+        b"kernel/varied.ko",
+        object_of(&rt, alloc, &VARIED)?,
+    )?;
     let exports = facts.exports.as_slice();
     assert_eq!(rt; exports.len(), 2);
     assert_export(&rt, &exports[0], b"z-last", Some(0x0001_1234_5678));
@@ -203,10 +213,20 @@ fn fault_at(rt: &impl Abort, alloc: Global, path: &[u8], bytes: Blob) -> Result<
 #[test]
 fn faults_of_objects_are_named(rt: HostRuntime) -> Result<(), Fail> {
     let alloc = rt.alloc();
-    let fault = fault_at(&rt, alloc, b"/m/x.ko.zst", object_of(alloc, &ONE_NEED)?)?;
+    let fault = fault_at(
+        &rt,
+        alloc,
+        b"/m/x.ko.zst",
+        object_of(&rt, alloc, &ONE_NEED)?,
+    )?;
     assert!(rt; matches!(&fault, ModuleFault::Compressed));
 
-    let fault = fault_at(&rt, alloc, b"/m/x.ko", object_of(alloc, &UNKNOWN_TYPE)?)?;
+    let fault = fault_at(
+        &rt,
+        alloc,
+        b"/m/x.ko",
+        object_of(&rt, alloc, &UNKNOWN_TYPE)?,
+    )?;
     assert!(rt;
         matches!(
             &fault,
@@ -219,7 +239,7 @@ fn faults_of_objects_are_named(rt: HostRuntime) -> Result<(), Fail> {
     );
 
     // The second word's place moves into the first.
-    let mut bytes = object_of(alloc, &TWO_WORDS)?.into_vec();
+    let mut bytes = object_of(&rt, alloc, &TWO_WORDS)?.into_vec();
     let entry = second_relocation(&rt, bytes.as_slice());
     assert!(rt; entry < bytes.len());
     assert_eq!(rt; bytes[entry], 8);

@@ -1,12 +1,9 @@
-ghost use Rattle.std.specs.Prelude.{◌≡◌, map, IfOk, IsTrue};
-ghost use Rattle.tree_gen.specs.Sheet.{is_sheet};
-ghost use Rattle.kmod_rows.specs.Rows.{version_of, export_of, need_of, place_of, sheet_of};
-
 use km_names::{Blob, List, Name, Texts};
 use std::alloc::{AllocError, Global};
+use std::process::Abort;
 use tree_gen::{
     Sheet, SheetExport, SheetExports, SheetNeed, SheetNeeds, SheetPlace, SheetPlaces, SheetVersion,
-    SheetVersions, object,
+    SheetVersions, is_sheet, object,
 };
 
 /// A version of a sheet, written out.
@@ -43,9 +40,7 @@ pub(crate) struct SheetRow {
     pub(crate) places: &'static [PlaceRow],
 }
 
-fn texts(alloc: Global, rows: &[&'static [u8]]) -> Result<Texts, AllocError>
-    ensures { IfOk result (λ list. list ≡ map (λ t. t.now) rows.now) }
-{
+fn texts(alloc: Global, rows: &[&'static [u8]]) -> Result<Texts, AllocError> {
     let mut list = List::new(alloc);
     for row in rows {
         list.push(Blob::from_slice(alloc, row)?)?;
@@ -53,9 +48,7 @@ fn texts(alloc: Global, rows: &[&'static [u8]]) -> Result<Texts, AllocError>
     Ok(list)
 }
 
-fn versions(alloc: Global, rows: &[VersionRow]) -> Result<SheetVersions, AllocError>
-    ensures { IfOk result (λ list. list ≡ map version_of rows.now) }
-{
+fn versions(alloc: Global, rows: &[VersionRow]) -> Result<SheetVersions, AllocError> {
     let mut list = List::new(alloc);
     for row in rows {
         list.push(SheetVersion {
@@ -66,9 +59,7 @@ fn versions(alloc: Global, rows: &[VersionRow]) -> Result<SheetVersions, AllocEr
     Ok(list)
 }
 
-fn exports(alloc: Global, rows: &[ExportRow]) -> Result<SheetExports, AllocError>
-    ensures { IfOk result (λ list. list ≡ map export_of rows.now) }
-{
+fn exports(alloc: Global, rows: &[ExportRow]) -> Result<SheetExports, AllocError> {
     let mut list = List::new(alloc);
     for row in rows {
         list.push(SheetExport {
@@ -79,9 +70,7 @@ fn exports(alloc: Global, rows: &[ExportRow]) -> Result<SheetExports, AllocError
     Ok(list)
 }
 
-fn needs(alloc: Global, rows: &[NeedRow]) -> Result<SheetNeeds, AllocError>
-    ensures { IfOk result (λ list. list ≡ map need_of rows.now) }
-{
+fn needs(alloc: Global, rows: &[NeedRow]) -> Result<SheetNeeds, AllocError> {
     let mut list = List::new(alloc);
     for row in rows {
         list.push(SheetNeed {
@@ -92,9 +81,7 @@ fn needs(alloc: Global, rows: &[NeedRow]) -> Result<SheetNeeds, AllocError>
     Ok(list)
 }
 
-fn places(alloc: Global, rows: &[PlaceRow]) -> Result<SheetPlaces, AllocError>
-    ensures { IfOk result (λ list. list ≡ map place_of rows.now) }
-{
+fn places(alloc: Global, rows: &[PlaceRow]) -> Result<SheetPlaces, AllocError> {
     let mut list = List::new(alloc);
     for row in rows {
         list.push(SheetPlace {
@@ -106,10 +93,12 @@ fn places(alloc: Global, rows: &[PlaceRow]) -> Result<SheetPlaces, AllocError>
     Ok(list)
 }
 
-/// The object of a sheet that is written out. That an object can be made of it is computed.
-pub(crate) fn object_of(alloc: Global, row: &SheetRow) -> Result<Blob, AllocError>
-    requires { IsTrue (is_sheet (sheet_of row.now)) }
-{
+/// The object of a sheet that is written out.
+pub(crate) fn object_of(
+    rt: &impl Abort,
+    alloc: Global,
+    row: &SheetRow,
+) -> Result<Blob, AllocError> {
     let sheet = Sheet {
         texts: texts(alloc, row.texts)?,
         versions: versions(alloc, row.versions)?,
@@ -117,5 +106,7 @@ pub(crate) fn object_of(alloc: Global, row: &SheetRow) -> Result<Blob, AllocErro
         needs: needs(alloc, row.needs)?,
         places: places(alloc, row.places)?,
     };
+    let can_be_made = is_sheet(alloc, &sheet)?;
+    assert!(rt; can_be_made);
     object(alloc, &sheet)
 }
