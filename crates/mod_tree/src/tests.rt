@@ -1,6 +1,9 @@
+ghost use Rattle.std.specs.Prelude.{◌≤◌, length, All, IfOk};
+
 use crate::{TreeFault, choose, parse_search};
 use km_names::{Blob, ConfFault, ConfFile, ConfFiles, Name, Names, PathText, Paths};
 use std::alloc::{AllocError, Global};
+use std::process::Abort;
 use std::test::Fail;
 
 fn paths_of(alloc: Global, texts: &[&[u8]]) -> Result<Paths, AllocError> {
@@ -19,7 +22,13 @@ fn names_of(alloc: Global, texts: &[&[u8]]) -> Result<Names, AllocError> {
     Ok(names)
 }
 
-fn file_of(alloc: Global, text: &[u8]) -> Result<ConfFiles, AllocError> {
+fn file_of(rt: &impl Abort, alloc: Global, text: &[u8]) -> Result<ConfFiles, AllocError>
+    ensures { IfOk result (λ files. All (λ file. length file.bytes ≤ 67108864) files) }
+{
+    assert!(rt;
+        text.len() <= 67_108_864,
+        "a file of more bytes than are taken"
+    );
     let mut files = ConfFiles::new(alloc);
     files.push(ConfFile {
         path: PathText::from_slice(alloc, b"/etc/depmod.d/a.conf")?,
@@ -102,7 +111,9 @@ fn paths_that_have_no_tree(rt: HostRuntime) -> Result<(), Fail> {
                 path.as_bytes(),
                 b"kernel/a:.ko.gz".as_slice()
             ),
-            _ => assert!(rt; false, "a bad path that was taken"),
+            Err(TreeFault::TooManyModules { .. }) => assert!(rt; false, "three paths are few"),
+            Err(TreeFault::Memory) => assert!(rt; false, "no memory"),
+            Ok(_tree) => assert!(rt; false, "a bad path that was taken"),
         }
     }
     Ok(())
@@ -118,7 +129,7 @@ fn search_lists(rt: HostRuntime) -> Result<(), Fail> {
         ),
     ];
     for (text, want) in rows {
-        let files = file_of(rt.alloc(), text)?;
+        let files = file_of(&rt, rt.alloc(), text)?;
         match parse_search(rt.alloc(), &files) {
             Ok(search) => {
                 let mut words = Vec::new(rt.alloc());
@@ -138,10 +149,14 @@ fn search_lists(rt: HostRuntime) -> Result<(), Fail> {
         b"search a\noverride a * b\nsearch",
         b"\nalias a b",
     ] {
-        let files = file_of(rt.alloc(), text)?;
+        let files = file_of(&rt, rt.alloc(), text)?;
         match parse_search(rt.alloc(), &files) {
-            Err(ConfFault::BadLine { line, .. }) => assert_eq!(rt; line, 2),
-            _ => assert!(rt; false, "a bad line that was understood"),
+            Err(ConfFault::BadLine { file, line }) => {
+                assert_eq!(rt; file.as_bytes(), b"/etc/depmod.d/a.conf".as_slice());
+                assert_eq!(rt; line, 2);
+            }
+            Err(ConfFault::Memory) => assert!(rt; false, "no memory"),
+            Ok(_search) => assert!(rt; false, "a bad line that was understood"),
         }
     }
     Ok(())

@@ -1,19 +1,36 @@
+ghost use Rattle.std.specs.Prelude.{◌≤◌, length, All, IfOk};
+
 use crate::{Rule, Rules, parse};
 use km_names::{Blob, ConfFault, ConfFile, ConfFiles, Names, PathText};
 use std::alloc::{AllocError, Global};
+use std::process::Abort;
 use std::test::Fail;
 
-// Files of one byte list each, named `0`, `1` and so on.
-fn files_of(alloc: Global, texts: &[&[u8]]) -> Result<ConfFiles, AllocError> {
+fn file_of(rt: &impl Abort, alloc: Global, name: u8, text: &[u8]) -> Result<ConfFile, AllocError>
+    ensures { IfOk result (λ file. length file.bytes ≤ 67108864) }
+{
+    assert!(rt;
+        text.len() <= 67_108_864,
+        "a file of more bytes than are taken"
+    );
+    Ok(ConfFile {
+        path: PathText::from_slice(alloc, &[name])?,
+        bytes: Blob::from_slice(alloc, text)?,
+    })
+}
+
+// The two files `0` and `1`.
+fn files_of(
+    rt: &impl Abort,
+    alloc: Global,
+    first: &[u8],
+    second: &[u8],
+) -> Result<ConfFiles, AllocError>
+    ensures { IfOk result (λ files. All (λ file. length file.bytes ≤ 67108864) files) }
+{
     let mut files = ConfFiles::new(alloc);
-    let mut name = b'0';
-    for text in texts {
-        files.push(ConfFile {
-            path: PathText::from_slice(alloc, &[name])?,
-            bytes: Blob::from_slice(alloc, text)?,
-        })?;
-        name = name.wrapping_add(1);
-    }
+    files.push(file_of(rt, alloc, b'0', first)?)?;
+    files.push(file_of(rt, alloc, b'1', second)?)?;
     Ok(files)
 }
 
@@ -72,13 +89,14 @@ fn lines_that_are_not_understood(rt: HostRuntime) -> Result<(), Fail> {
         (b"Options a b", b"", b'0', 1),
     ];
     for (first, second, name, number) in rows {
-        let files = files_of(rt.alloc(), &[first, second])?;
+        let files = files_of(&rt, rt.alloc(), first, second)?;
         match parse(rt.alloc(), &files) {
             Err(ConfFault::BadLine { file, line }) => {
                 assert_eq!(rt; file.as_bytes(), [name].as_slice());
                 assert_eq!(rt; line, number);
             }
-            _ => assert!(rt; false, "a bad line that was understood"),
+            Err(ConfFault::Memory) => assert!(rt; false, "no memory"),
+            Ok(_rules) => assert!(rt; false, "a bad line that was understood"),
         }
     }
     Ok(())
@@ -90,10 +108,10 @@ fn rules_of_lines(rt: HostRuntime) -> Result<(), Fail> {
         b"alias pci-x[a-b]* snd-hda more\nblacklist u-2 more\noptions b-1 depth=3  raw-x=1\ninstall a /bin/true\nremove a /bin/false -x\n softdep m\tq pre: gone a-v[-] post: late pre: zed";
     let want =
         b"alias snd_hda|pci_x[a-b]*\nblacklist u_2|\noptions b_1|depth=3  raw-x=1\ninstall a|/bin/true\nremove a|/bin/false -x\nsoftdep m| gone a_v[_] zed/ late\n";
-    let files = files_of(rt.alloc(), &[text, b""])?;
+    let files = files_of(&rt, rt.alloc(), text, b"")?;
     match parse(rt.alloc(), &files) {
         Ok(rules) => assert_eq!(rt; text_of(rt.alloc(), &rules)?.as_slice(), want.as_slice()),
-        Err(_) => assert!(rt; false, "a line that wasn't understood"),
+        Err(_fault) => assert!(rt; false, "a line that wasn't understood"),
     }
     Ok(())
 }
