@@ -28,7 +28,7 @@ const VARIED: SheetRow = SheetRow {
     versions: &[
         VersionRow {
             name: b"printk",
-            crc: 0x1111_1111,
+            crc: 0x1234_5678,
         },
         VersionRow {
             name: b"unneeded",
@@ -191,11 +191,30 @@ fn objects_of_sheets_are_read_back(rt: HostRuntime) -> Result<(), Fail> {
     assert_export(&rt, &exports[1], b"a_first", None);
     let needs = facts.needs.as_slice();
     assert_eq!(rt; needs.len(), 3);
-    assert_need(&rt, &needs[0], b"printk", false, Some(0x1111_1111));
+    assert_need(&rt, &needs[0], b"printk", false, Some(0x1234_5678));
     assert_need(&rt, &needs[1], b"may-be", true, Some(3));
     assert_need(&rt, &needs[2], b"kfree", false, None);
     assert_eq!(rt; facts.aliases.len(), 2);
     assert_eq!(rt; facts.softdeps.len(), 1);
+    Ok(())
+}
+
+/// A need is found in the facts, and the word that it fills in the object.
+#[test]
+fn a_need_has_its_place(rt: HostRuntime) -> Result<(), Fail> {
+    let path = PathText::from_slice(rt.alloc(), b"kernel/b.ko")?;
+    let bytes = object_of(&rt, rt.alloc(), &ONE_NEED)?;
+    assert!(rt; bytes.len() <= 67_108_864);
+    let module = read_module(rt.alloc(), &path, bytes)?;
+    assert!(rt; module.facts.exports.is_empty());
+    let needs = module.facts.needs.as_slice();
+    assert_eq!(rt; needs.len(), 1);
+    assert_need(&rt, &needs[0], b"fa", false, None);
+    assert_eq!(rt; module.object.place_count(), 1);
+    let place = module.object.place(0);
+    assert_eq!(rt; place.target, 2);
+    assert_eq!(rt; place.offset, 0);
+    assert_eq!(rt; place.kind, 1);
     Ok(())
 }
 
