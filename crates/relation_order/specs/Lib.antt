@@ -1,4 +1,5 @@
 pub mod Builder
+pub mod Closures
 pub mod Cycle
 pub mod Least
 pub mod Nearest

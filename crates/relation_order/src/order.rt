@@ -41,8 +41,8 @@ fn first_open(items: &[usize], from: usize, members: &[bool], listed: &[bool]) -
     at
 }
 
-// Whether an item is a member and isn't listed.
-fn is_open(members: &[bool], listed: &[bool], item: usize) -> bool
+/// Whether an item is marked as a member and not as listed.
+pub(crate) fn is_open(members: &[bool], listed: &[bool], item: usize) -> bool
     requires member { item < length members.now }
     requires listed { item < length listed.now }
     ensures { result ≡ (slice_index_or members.now item false && not (slice_index_or listed.now item false)) }
