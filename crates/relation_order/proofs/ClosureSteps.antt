@@ -3,7 +3,7 @@ use Rattle.std.proofs.Common.{◌≡◌, ℕ, zero, suc, ◌+◌, ◌-◌, ◌*�
 use Rattle.std.specs.Prelude.{◌||◌, ◌⊎◌, filter, map, slice_index_or, All}
 use Rattle.std.specs.List.{sum_by}
 use Rattle.std.specs.Global.{Vec}
-use Rattle.std.proofs.lemmas.Bool.{true≢false, or_cases, or_left, or_right, eqb-true, eq-eqb, cases_eq, cases_lt}
+use Rattle.std.proofs.lemmas.Bool.{true≢false, or_cases, or_left, or_right, eqb-true, eq-eqb, cases_eq}
 use Rattle.std.proofs.lemmas.List.{ext_get_or, take_more, take_all, get_or_default, length-map}
 use Rattle.std.proofs.Math.ListN.{get_or-map}
 use Rattle.std.proofs.lemmas.List.FromFn.{length-range_with_len, get_or-map-range_with_len}
@@ -15,24 +15,18 @@ use Rattle.relation_order.specs.Search.{Inside}
 use Rattle.relation_order.specs.Reached.{reached}
 use Rattle.relation_order.specs.Least.{least_order}
 use Rattle.relation_order.specs.Cycle.{cycle}
-use Rattle.relation_order.specs.Closures.{closure, closures, marked_in, row_of, AreReached, Fitting}
-use Rattle.relation_order.proofs.Lists.{has-range, range-has, all-has, has-at, goes-at, goes-past}
-use Rattle.relation_order.proofs.Saturation.{filter-same, kept}
+use Rattle.relation_order.specs.Closures.{closure, closures, marked_in, row_of, AreReached}
+use Rattle.relation_order.proofs.Lists.{has-range, range-has, all-has, has-at}
+use Rattle.relation_order.proofs.Saturation.{filter-same}
 use Rattle.relation_order.proofs.ReachedLaws.{reached-step, reached-further, reached-only, reached-members}
 use Rattle.relation_order.proofs.LeastLaws.{push-has, least-members, least-distinct, least-after}
 use Rattle.relation_order.proofs.Complete.{all-listed_from_empty}
-use Rattle.relation_order.proofs.Restricted.{least-part}
+use Rattle.relation_order.proofs.Restricted.{least-part, same-tests}
 use Rattle.relation_order.proofs.Ordered.{front-place}
 
 -- what is reached from an item that is reached
 pub reached-through : (r : Relation) (set : List ℕ) (x y z : ℕ) → has (reached r set x) y ≡ true → has (reached r set y) z ≡ true → has (reached r set x) z ≡ true
 reached-through r set x y z there = reached-only r set y (λ z. has (reached r set x) z ≡ true) (λ z m t. reached-further r set x y z there t m) (λ v z h m t. reached-further r set x v z h t m) z
-
--- two tests that pass alike
-same-tests : (a b : Bool) → (a ≡ true → b ≡ true) → (b ≡ true → a ≡ true) → a ≡ b
-same-tests true b f g = sym (f refl)
-same-tests false true f g = g refl
-same-tests false false f g = refl
 
 -- a row with an item and all that is reached from it
 module _ (r : Relation) (n x y : ℕ) (old other new : List Bool) (marks : (z : ℕ) → slice_index_or new z false ≡ (slice_index_or old z false || (eqb z y || slice_index_or other z false))) (known : AreReached r n other y) (goes-y : r x y ≡ true) (inside : has (below n) y ≡ true) where

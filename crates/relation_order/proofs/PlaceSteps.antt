@@ -1,7 +1,6 @@
 -- One item placed, in the code's terms.
-use Rattle.std.proofs.Common.{◌≡◌, ℕ, zero, suc, ◌+◌, ◌<◌, ◌≤◌, Bool, true, false, eqb, List, [], ◌∷◌, ◌++◌, length, get_or, take, drop, set, Some, None, sym, refl, ap, ◌∙◌, subst, inl, inr, arith}
+use Rattle.std.proofs.Common.{◌≡◌, ℕ, zero, suc, ◌+◌, ◌<◌, ◌≤◌, Bool, true, false, eqb, List, [], ◌∷◌, ◌++◌, length, get_or, take, drop, set, sym, refl, ap, ◌∙◌, subst, inl, inr, arith}
 use Rattle.std.specs.Prelude.{◌&&◌, ◌||◌, not, slice_index, slice_index_or, All}
-use Rattle.std.specs.List.{find}
 use Rattle.std.specs.Global.{Vec}
 use Rattle.std.specs.Ordering.{nat_cmp, match_ordering}
 use Rattle.std.specs.declared.cmp.Ordering.TheVariants.{Less, Equal, Greater}
@@ -13,13 +12,13 @@ use Rattle.std.proofs.lemmas.List.Sums.{length-filter, count_by-le-length}
 use Rattle.std.proofs.lemmas.List.FromFn.{length-range_with_len}
 use Rattle.std.proofs.lemmas.List.Elements.{All-head, All-tail}
 use Rattle.relation_order.specs.Least.{with_next}
-use Rattle.std.proofs.lemmas.Bool.{true≢false, and_parts, and_cases, or_cases, or_left, or_right, eqb-true, eq-eqb, ne_eqb, false_from_ne_true, not-true, not-false, cases_eq, cases_order}
+use Rattle.std.proofs.lemmas.Bool.{true≢false, or_cases, or_left, or_right, eqb-true, eq-eqb, ne_eqb, false_from_ne_true, cases_eq, cases_order}
 use Rattle.std.proofs.lemmas.Bool.Decides.{nat_tests}
 use Rattle.relation_order.specs.Sets.{has, below, successors, goes, marked}
 use Rattle.relation_order.specs.Builder.{AllListed}
 use Rattle.relation_order.specs.Placing.{Placing}
 use Rattle.relation_order.proofs.Lists.{has-at, has-marked, seen-inside, goes-at, all-has}
-use Rattle.relation_order.proofs.LeastLaws.{find-some, find-none, push-has}
+use Rattle.relation_order.proofs.LeastLaws.{push-has}
 use Rattle.relation_order.proofs.Placing.{made-listed, first-next, rising-filter, rising-range}
 
 pub has-insert_key : (ks : List ℕ) (k y : ℕ) → has (insert_key nat_cmp ks k) y ≡ (has ks y || eqb y k)

@@ -1,5 +1,5 @@
 -- How an order is made: what the builder keeps beside the order.
-use Rattle.std.specs.Prelude.{ℕ, List, [], Bool, true, false, ◌≡◌, ◌≤◌, length, map, take, All, slice_index, slice_index_or}
+use Rattle.std.specs.Prelude.{ℕ, List, Bool, true, false, ◌≡◌, ◌≤◌, length, take, All, slice_index, slice_index_or}
 use Rattle.std.specs.Global.{Vec}
 use Rattle.relation_order.specs.Sets.{has, successors}
 use Rattle.relation_order.specs.declared.order.OrderBuilder.{OrderBuilder}

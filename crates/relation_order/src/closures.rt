@@ -35,7 +35,11 @@ impl Model for Closures {
 impl Closures {
     /// The closures of the items below `lists.len()`, each of which goes to those in its list, by their least order. No
     /// walk leads back to its start.
-    pub fn new(alloc: Global, lists: &[Vec<usize>], order: Vec<usize>) -> Result<Closures, AllocError>
+    pub fn new(
+        alloc: Global,
+        lists: &[Vec<usize>],
+        order: Vec<usize>,
+    ) -> Result<Closures, AllocError>
         requires inside { Inside (length lists.now) lists.now }
         requires order { order.items ≡ least_order (goes lists.now) (below (length lists.now)) }
         requires acyclic { cycle (goes lists.now) (below (length lists.now)) ≡ [] }

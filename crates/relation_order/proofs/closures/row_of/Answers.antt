@@ -1,9 +1,9 @@
-use Rattle.std.proofs.Common.{◌≡◌, ◌-◌, ◌<◌, ℕ, true, false, length, get_or, sym, ap, ◌∙◌, inl, inr, arith}
+use Rattle.std.proofs.Common.{◌≡◌, ◌-◌, ◌<◌, true, false, length, get_or, sym, ap, ◌∙◌, inl, inr, arith}
 use Rattle.std.specs.Prelude.{slice_index_or}
 use Rattle.std.proofs.lemmas.Bool.{cases_eq}
 use Rattle.std.proofs.lemmas.List.{get_or_default}
-use Rattle.relation_order.specs.Sets.{goes, has, below}
-use Rattle.relation_order.specs.Closures.{row_of, AreReached}
+use Rattle.relation_order.specs.Sets.{goes, has}
+use Rattle.relation_order.specs.Closures.{AreReached}
 use Rattle.relation_order.proofs.Lists.{goes-at, has-range, has-at}
 use Rattle.relation_order.proofs.PlaceSteps.{open-parts}
 use Rattle.relation_order.proofs.ClosureSteps.{row-grown, row-item, row-sound, row-closed, row-complete, row_of-at}

@@ -1,7 +1,7 @@
 use Rattle.std.proofs.Common.{◌∙◌, sym, arith, false}
 use Rattle.std.specs.Prelude.{slice_index_or, true, ◌≡◌}
 use Rattle.std.proofs.lemmas.List.Elements.{All-more}
-use Rattle.relation_order.proofs.PlaceSteps.{closed-listed, open-parts}
+use Rattle.relation_order.proofs.PlaceSteps.{closed-listed}
 use Rattle.relation_order.proofs.order.first_open.Goals as goal
 
 pub loop-at-preserved : goal.loop-at-preserved

@@ -1,4 +1,4 @@
-use Rattle.std.proofs.Common.{◌≡◌, [], length}
+use Rattle.std.proofs.Common.{◌≡◌, []}
 use Rattle.relation_order.specs.Sets.{goes, marked, times}
 use Rattle.relation_order.specs.Least.{with_next}
 use Rattle.relation_order.specs.Builder.{Fits}

@@ -1,4 +1,4 @@
-use Rattle.std.proofs.Common.{◌≡◌, ◌+◌, ◌*◌, ◌≤◌, ℕ, false, length, get_or, sym, ap, ◌∙◌, arith}
+use Rattle.std.proofs.Common.{◌≡◌, false, length, get_or, ap, ◌∙◌, arith}
 use Rattle.std.specs.Prelude.{slice_index_or, filter}
 use Rattle.std.proofs.lemmas.List.{length-map}
 use Rattle.relation_order.specs.Closures.{marked_in}

@@ -1,9 +1,8 @@
-use Rattle.std.proofs.Common.{◌≡◌, ◌+◌, ◌<◌, ℕ, true, length, take, get_or, set, sym, ap, ◌∙◌, subst, arith}
-use Rattle.std.specs.Prelude.{slice_index_or, All}
+use Rattle.std.proofs.Common.{◌≡◌, ◌<◌, length, take, get_or, sym, ap, ◌∙◌, subst, arith}
+use Rattle.std.specs.Prelude.{All}
 use Rattle.std.proofs.lemmas.List.{length-set, get_or_default}
 use Rattle.std.proofs.lemmas.List.Elements.{All-take, All-set}
-use Rattle.relation_order.specs.Sets.{goes, has, below}
-use Rattle.relation_order.specs.Closures.{closures, marked_in, row_of, Fitting}
+use Rattle.relation_order.specs.Sets.{goes, has}
 use Rattle.relation_order.proofs.ClosureSteps.{all-taken, known-more, direct-before, order-inside, order-short, rows-closures, all-in}
 use Rattle.relation_order.proofs.closures.Closures.new.Goals as goal
 

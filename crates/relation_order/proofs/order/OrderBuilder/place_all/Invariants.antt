@@ -1,4 +1,4 @@
-use Rattle.std.proofs.Common.{◌≡◌, length, drop}
+use Rattle.std.proofs.Common.{◌≡◌, drop}
 use Rattle.relation_order.specs.Sets.{goes, marked}
 use Rattle.relation_order.specs.Builder.{Fits}
 use Rattle.relation_order.specs.Placing.{Placing}
