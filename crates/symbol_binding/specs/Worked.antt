@@ -1,6 +1,6 @@
 -- Small trees, whose lines of modules.unmet can be told by hand.
 use Rattle.std.specs.Prelude.{ℕ, Bool, true, false, List, [], ◌∷◌, Option, Some, None, codes}
-use Rattle.symbol_binding.specs.Symbols.{Export, Need, Face, Module, Kernel}
+use Rattle.symbol_binding.specs.Symbols.{Export, Need, Module, Kernel}
 
 -- A kernel that exports `printk` at a version, and one of which nothing is known.
 abbrev pub printing : Kernel
