@@ -9,7 +9,7 @@ use std::alloc::{AllocError, Global};
 use std::marker::Model;
 
 /// The fields of a section, in order. Contracts see it as the list of its fields.
-#[derive(Drop)]
+#[derive(Debug, Drop)]
 pub struct FieldList {
     list: List<Field>,
 }
@@ -63,8 +63,8 @@ impl FieldList {
         self.list.is_empty()
     }
 
-    #[tactic(auto, unfolding(crate::specs::Fields::values_of_key))]
     /// The values of the fields with this key, in order.
+    #[tactic(auto, unfolding(crate::specs::Fields::values_of_key))]
     pub fn values_of(&self, alloc: Global, key: &[u8]) -> Result<Texts, AllocError>
         ensures { IfOk result (λ values. values ≡ values_of_key key.now self.now) }
     {
@@ -78,12 +78,26 @@ impl FieldList {
     }
 }
 
+/// How many pieces between NULs aren't empty.
+fn piece_count(bytes: &[u8]) -> usize {
+    let mut count = 0;
+    let mut after_nul = true;
+    for byte in bytes {
+        if after_nul && *byte != 0 {
+            count += 1;
+        }
+        after_nul = *byte == 0;
+    }
+    count
+}
+
 /// The fields of a `.modinfo` section's bytes: its texts between NULs that aren't empty, in order. The last
-/// text needs no NUL.
+/// text needs no NUL. The list has room for these fields and no more, since a section may have a field for each
+/// two of its bytes.
 pub fn fields(alloc: Global, bytes: &[u8]) -> Result<FieldList, AllocError>
     ensures { IfOk result (λ list. list ≡ fields_of bytes.now) }
 {
-    let mut list = FieldList::new(alloc);
+    let mut list = Vec::with_capacity(alloc, piece_count(bytes))?;
     let mut rest = bytes;
     while !rest.is_empty() {
         let (piece, after) = split_at_byte(rest, 0);
@@ -92,5 +106,7 @@ pub fn fields(alloc: Global, bytes: &[u8]) -> Result<FieldList, AllocError>
         }
         rest = after;
     }
-    Ok(list)
+    Ok(FieldList {
+        list: List::from_vec(list),
+    })
 }
