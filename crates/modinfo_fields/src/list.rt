@@ -1,4 +1,5 @@
 ghost use Rattle.std.specs.Prelude.{◌≡◌, ◌≤◌, ◌<◌, ◌↔◌, ◌==◌, [], ◌∷◌, ◌++◌, length, map, filter, IsNone, OnOk, OnErr, IfOk, slice_get, option_copied};
+ghost use Rattle.std.specs.Option.{option_to_list};
 ghost use Rattle.std.specs.List.{slice_split};
 ghost use Rattle.modinfo_fields.specs.Fields.{fields_of, field_of, is_text, values_of_key};
 
@@ -109,4 +110,34 @@ pub fn fields(alloc: Global, bytes: &[u8]) -> Result<FieldList, AllocError>
     Ok(FieldList {
         list: List::from_vec(list),
     })
+}
+
+/// The value of a piece between NULs, where it is a field with this key.
+#[tactic(auto, unfolding(crate::specs::Fields::values_of_key, crate::specs::Fields::field_of))]
+fn value_of<'a>(piece: &'a [u8], key: &[u8]) -> Option<&'a [u8]>
+    ensures { option_to_list (option_copied result)
+        ≡ values_of_key key.now (map field_of (filter is_text (piece.now ∷ []))) }
+{
+    if piece.is_empty() {
+        return None;
+    }
+    let (name, value) = split_at_byte(piece, b'=');
+    if name == key { Some(value) } else { None }
+}
+
+/// The values of the fields with this key in a `.modinfo` section's bytes, in order. They are those that
+/// [`FieldList::values_of`] gives, without the list of all fields.
+pub fn field_values(alloc: Global, bytes: &[u8], key: &[u8]) -> Result<Texts, AllocError>
+    ensures { IfOk result (λ values. values ≡ values_of_key key.now (fields_of bytes.now)) }
+{
+    let mut values = Texts::new(alloc);
+    let mut rest = bytes;
+    while !rest.is_empty() {
+        let (piece, after) = split_at_byte(rest, 0);
+        if let Some(value) = value_of(piece, key) {
+            values.push(Blob::from_slice(alloc, value)?)?;
+        }
+        rest = after;
+    }
+    Ok(values)
 }
