@@ -1,5 +1,6 @@
 ghost use Rattle.std.specs.Prelude.{◌≡◌, ℕ, ◌≤◌, ◌<◌, ◌-◌, ◌^◌, min, length, IfOk, OnOk, Err};
-ghost use Rattle.index_format.specs.File.{file, largest_file};
+ghost use Rattle.index_format.specs.declared.numbers.TheConstants.{LARGEST_FILE};
+ghost use Rattle.index_format.specs.File.{file};
 ghost use Rattle.index_format.specs.Holds.{Holds};
 
 use crate::bytes::write;
@@ -7,19 +8,17 @@ use crate::fault::WriteFault;
 use crate::key_map::KeyMap;
 use crate::node::nodes;
 use crate::size::file_size;
+use index_format::LARGEST_FILE;
 use km_names::Blob;
 use std::alloc::Global;
-
-/// The most bytes that a file may have, 64 MiB.
-const LARGEST_FILE: u64 = 67_108_864;
 
 /// The file of a map in kmod's index format 2.1. Where it would be longer than 67,108,864 bytes nothing of that
 /// size is built.
 pub fn encode(alloc: Global, map: &KeyMap) -> Result<Blob, WriteFault>
     ensures file { IfOk result (λ b. b ≡ file map.now) }
     ensures holds { IfOk result (λ b. Holds b map.now) }
-    ensures within { OnOk result (length (file map.now) ≤ largest_file) }
-    ensures too_large { (n : ℕ) → result ≡ Err (WriteFault.IndexTooLarge n) → largest_file < length (file map.now) }
+    ensures within { OnOk result (length (file map.now) ≤ LARGEST_FILE) }
+    ensures too_large { (n : ℕ) → result ≡ Err (WriteFault.IndexTooLarge n) → LARGEST_FILE < length (file map.now) }
     ensures length { (n : ℕ) → result ≡ Err (WriteFault.IndexTooLarge n) → n ≡ min (length (file map.now)) (2 ^ 64 - 1) }
 {
     let entries = map.entries(alloc)?;
