@@ -1,5 +1,5 @@
 -- Numbers at a place are numbers at the front of what is left from there.
-use Rattle.std.proofs.Common.{◌≡◌, refl, sym, ap, ◌∙◌, ℕ, zero, suc, ◌+◌, ◌*◌, ◌^◌, ◌<◌, List, [], ◌∷◌, ◌++◌, drop, get_or, arith}
+use Rattle.std.proofs.Common.{◌≡◌, refl, sym, ap, ◌∙◌, ℕ, zero, suc, ◌+◌, ◌*◌, ◌^◌, ◌<◌, List, ◌++◌, drop, get_or, arith}
 use Rattle.std.proofs.lemmas.List.{get_or-drop}
 use Rattle.std.proofs.lemmas.Nat.{from_be_bytes-to_be_bytes_4}
 use Rattle.km_names.specs.Number.{be}
@@ -16,10 +16,6 @@ pub be-at : (b : List ℕ) (o n : ℕ) → be b o n ≡ be (drop o b) 0 n
 be-at b o n =
     let at : o ≡ o + 0 = omega arith in
     ap (λ k. be b k n) at ∙ sym (be-drop b o 0 n)
-
-
-
-
 
 pub be-number : (n : ℕ) (r : List ℕ) → n < 2 ^ 32 → be (number n ++ r) 0 4 ≡ n
 unfolding be

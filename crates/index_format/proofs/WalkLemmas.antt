@@ -1,9 +1,9 @@
 -- The walk of a key, one node on.
-use Rattle.std.proofs.Common.{◌≡◌, refl, sym, ap, ◌∙◌, ℕ, zero, suc, ◌+◌, ◌-◌, ◌<◌, ◌≤◌, nat_eq, true, false, cond, List, [], ◌∷◌, length, drop, Option, Some, None, arith, length-drop}
+use Rattle.std.proofs.Common.{◌≡◌, refl, ap, ◌∙◌, ℕ, zero, suc, ◌+◌, ◌<◌, ◌≤◌, nat_eq, true, false, cond, List, [], ◌∷◌, length, drop, Some, None, arith, length-drop}
 use Rattle.std.specs.List.{starts_with}
 use Rattle.index_format.specs.Map.{Value}
-use Rattle.index_format.specs.Node.{root, prefix, child, values}
-use Rattle.index_format.specs.Walk.{Step, Ends, Enters, Lost, enters, onward, step, by_step, Walk, through, walk_within, walk, values_at, at, visits}
+use Rattle.index_format.specs.Node.{prefix, child, values}
+use Rattle.index_format.specs.Walk.{Step, Ends, Enters, Lost, enters, onward, step, by_step, through, walk_within, walk, values_at}
 
 -- the values that a key reaches, and how many nodes its walk has, by at most so many nodes
 unfoldable pub at_within : List ℕ → ℕ → ℕ → List ℕ → List Value

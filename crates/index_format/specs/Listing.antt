@@ -1,6 +1,6 @@
 -- The values of many keys, each with its key: by the order of the keys' bytes, and those of one key in their
 -- order; and the same values by rising priority.
-use Rattle.std.specs.Prelude.{◌≡◌, ℕ, Bool, List, [], map, filter}
+use Rattle.std.specs.Prelude.{◌≡◌, ℕ, List, [], map, filter}
 use Rattle.std.specs.List.Sorted.{IsSortedByKey, IsStableByKey}
 use Rattle.std.specs.Ordering.{nat_cmp, is_eq}
 use Rattle.std.specs.Cmp.Lexicographic.{slice_cmp}

@@ -9,7 +9,5 @@
 mod numbers;
 mod worked;
 
-pub use numbers::{
-    FIRST_PLACE, HAS_CHILDREN, HAS_PREFIX, HAS_VALUES, LARGEST_FILE, MAGIC, PLACE_MASK, VERSION,
-};
+pub use numbers::{FIRST_PLACE, HAS_CHILDREN, HAS_PREFIX, HAS_VALUES, MAGIC, PLACE_MASK, VERSION};
 pub use worked::{odd_files, refused_files, small_files, small_lookups, small_walks};

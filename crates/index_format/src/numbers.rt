@@ -20,6 +20,3 @@ pub const HAS_VALUES: u32 = 0x4000_0000;
 
 /// The bit of an offset whose node has children.
 pub const HAS_CHILDREN: u32 = 0x2000_0000;
-
-/// The most bytes that a file may have, 64 MiB.
-pub const LARGEST_FILE: u64 = 67_108_864;

@@ -1,7 +1,7 @@
 -- The longest prefix that is common to keys that rise is common to the first and the last of them.
-use Rattle.std.proofs.Common.{◌≡◌, refl, sym, ap, subst, ◌∙◌, ◌⊎◌, inl, inr, ⊎_elim, ℕ, zero, suc, ◌+◌, ◌-◌, ◌<◌, true, cond, ◌==◌, List, [], ◌∷◌, length, drop, Some, None, slice_get, arith}
+use Rattle.std.proofs.Common.{◌≡◌, refl, sym, ap, ◌∙◌, ◌⊎◌, inl, inr, ℕ, ◌-◌, ◌<◌, cond, ◌==◌, List, [], ◌∷◌, length, drop, Some, slice_get, arith}
 use Rattle.std.proofs.lemmas.Bool.{eq-eqb, ne_eqb, lt-ltb}
-use Rattle.std.specs.Ordering.{nat_cmp, ordering_then}
+use Rattle.std.specs.Ordering.{ordering_then}
 use Rattle.std.specs.declared.cmp.Ordering.TheVariants.{Less, Equal, Greater}
 use Rattle.index_format.specs.Tree.{Entry, common, narrowed, common_prefix, Above, Rises}
 use Rattle.index_format.proofs.TreeLemmas.{R, same_byte, goes_on, first_less}
@@ -50,13 +50,13 @@ squeezed (x ∷ a) [] (z ∷ f) h g = absurd (omega (arith, goes_on (x ∷ a) []
 squeezed (x ∷ a) (y ∷ k) (z ∷ f) h g =
     elim (first_less x y a k h) as (λ _. Squeezed (x ∷ a) (y ∷ k) (z ∷ f)) [
       | inl lt ↦ elim (first_less y z k f g) as (λ _. Squeezed (x ∷ a) (y ∷ k) (z ∷ f)) [
-          | inl lz ↦ squeezed_low x y z a k f lt (omega (arith, lt, lz))
-          | inr e ↦ squeezed_low x y z a k f lt (omega (arith, lt, e.0))
-        ]
+        | inl lz ↦ squeezed_low x y z a k f lt (omega (arith, lt, lz))
+        | inr e ↦ squeezed_low x y z a k f lt (omega (arith, lt, e.0))
+      ]
       | inr e ↦ elim (first_less y z k f g) as (λ _. Squeezed (x ∷ a) (y ∷ k) (z ∷ f)) [
-          | inl lz ↦ squeezed_high x y z a k f e.0 lz
-          | inr g ↦ squeezed_same x y z a k f e.0 g.0 (squeezed a k f e.1 g.1)
-        ]
+        | inl lz ↦ squeezed_high x y z a k f e.0 lz
+        | inr g ↦ squeezed_same x y z a k f e.0 g.0 (squeezed a k f e.1 g.1)
+      ]
     ]
 
 -- the same where k may be a itself

@@ -1,5 +1,5 @@
 -- What a reader finds where a node was written.
-use Rattle.std.proofs.Common.{◌≡◌, refl, sym, ap, ◌∙◌, ℕ, zero, suc, ◌+◌, ◌-◌, ◌*◌, ◌/◌, ◌%◌, ◌^◌, ◌<◌, ◌≤◌, false, not, cond, ◌==◌, ◌&&◌, nat_le, ⊎_elim, List, [], ◌∷◌, ◌++◌, length, take, drop, get_or, flat_map, None, arith, append_assoc}
+use Rattle.std.proofs.Common.{◌≡◌, refl, ap, ◌∙◌, ℕ, zero, suc, ◌+◌, ◌-◌, ◌*◌, ◌/◌, ◌%◌, ◌^◌, ◌<◌, ◌≤◌, false, not, cond, ◌==◌, ◌&&◌, nat_le, ⊎_elim, List, [], ◌∷◌, ◌++◌, length, take, drop, get_or, flat_map, None, arith, append_assoc}
 use Rattle.std.proofs.Math.Nat.{zero-mul, one-mul}
 use Rattle.std.proofs.lemmas.Bool.{le-leb, ne_eqb}
 use Rattle.std.proofs.lemmas.Bool.Decides.{eqb_tells}

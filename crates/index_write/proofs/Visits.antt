@@ -3,11 +3,10 @@ use Rattle.std.proofs.Common.{◌≡◌, refl, sym, ap, subst, ◌∙◌, ◌⊎
 use Rattle.std.proofs.lemmas.Bool.{lt-ltb}
 use Rattle.std.proofs.lemmas.Bool.Decides.{eqb_tells}
 use Rattle.std.specs.List.{AllByRecursion, list_any, cons_option}
-use Rattle.km_names.specs.First.{first}
 use Rattle.index_format.specs.Map.{Value}
 use Rattle.index_format.specs.Link.{place_of, link_to}
 use Rattle.index_format.specs.Node.{after_prefix, child, children, upward}
-use Rattle.index_format.specs.Check.{Fault, BadNode, Revisited, Arrival, is_sound, arrival_fault, arrival_faults}
+use Rattle.index_format.specs.Check.{BadNode, Revisited, Arrival, is_sound, arrival_fault, arrival_faults}
 use Rattle.index_format.specs.Tree.{Entry, common_prefix, ending, siblings, nodes_below}
 use Rattle.index_format.specs.File.{Links, offset, last, children_field, node_bytes, written}
 use Rattle.index_format.proofs.TreeLemmas.{behind}

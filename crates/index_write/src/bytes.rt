@@ -1,5 +1,6 @@
 ghost use Rattle.std.specs.Prelude.{◌≡◌, ℕ, ◌≤◌, ◌<◌, ◌+◌, ◌*◌, ◌^◌, ◌++◌, length, take, drop, map, slice_index, OnOk, IfOk};
-ghost use Rattle.index_format.specs.declared.numbers.TheConstants.{FIRST_PLACE, LARGEST_FILE};
+ghost use Rattle.km_names.specs.Limit.{file_limit};
+ghost use Rattle.index_format.specs.declared.numbers.TheConstants.{FIRST_PLACE};
 ghost use Rattle.index_format.specs.File.{number, offset, prefix_field, children_field, values_field, value_bytes};
 ghost use Rattle.index_write.specs.Lists.{value_of, shown_values};
 ghost use Rattle.index_write.specs.Parts.{with_part, with_parts, headed, rooted, offsets_bytes};
@@ -132,8 +133,12 @@ fn link_to(place: u32, has_prefix: bool, has_children: bool, has_values: bool) -
 
 /// Writes a node. It takes the links to its children from the end of those that wait, and its own link waits
 /// in their place.
-fn write_node(out: &mut Vec<u8>, links: &mut Vec<ChildLink>, node: &TreeNode) -> Result<(), AllocError>
-    requires { length (with_part (part_of node.now) (state out.old.items links.old.items)).bytes ≤ LARGEST_FILE }
+fn write_node(
+    out: &mut Vec<u8>,
+    links: &mut Vec<ChildLink>,
+    node: &TreeNode,
+) -> Result<(), AllocError>
+    requires { length (with_part (part_of node.now) (state out.old.items links.old.items)).bytes ≤ file_limit }
     ensures { OnOk result (state out.new.items links.new.items ≡ with_part (part_of node.now) (state out.old.items links.old.items)) }
 {
     let start = links.len().saturating_sub(node.children.count);
@@ -165,8 +170,12 @@ fn put_root(out: &mut [u8], root: u32)
 }
 
 /// The file of these nodes, which take so many bytes.
-pub(crate) fn write(alloc: Global, nodes: &[TreeNode], capacity: usize) -> Result<Vec<u8>, AllocError>
-    requires { length (with_parts (map part_of nodes.now) headed).bytes ≤ LARGEST_FILE }
+pub(crate) fn write(
+    alloc: Global,
+    nodes: &[TreeNode],
+    capacity: usize,
+) -> Result<Vec<u8>, AllocError>
+    requires { length (with_parts (map part_of nodes.now) headed).bytes ≤ file_limit }
     ensures { IfOk result (λ v. v.items ≡ rooted (with_parts (map part_of nodes.now) headed)) }
 {
     let mut out = Vec::with_capacity(alloc, capacity)?;

@@ -1,4 +1,4 @@
-use Rattle.std.proofs.Common.{◌≡◌, refl, sym, ap, ◌∙◌, ℕ, suc, ◌+◌, ◌-◌, ◌<◌, cond, ◌==◌, ⊎_elim, List, length, get_or, drop, arith}
+use Rattle.std.proofs.Common.{◌≡◌, refl, sym, ap, ◌∙◌, ℕ, ◌+◌, ◌-◌, ◌<◌, cond, ◌==◌, ⊎_elim, List, length, get_or, drop, arith}
 use Rattle.std.proofs.Math.ListN.{set}
 use Rattle.std.proofs.lemmas.Bool.{cases_eq, eq-eqb, ne_eqb}
 use Rattle.std.proofs.lemmas.List.{get_or-replicate, get_or-set_same, get_or-set_other, drop_all, drop_more, length-set}
@@ -33,9 +33,9 @@ loop-n-preserved c =
     let d : ChildLink = record { byte = 0; offset = 0 } in (
       length-set table c.from.result (get_or links (c.loop-n.n - 1) d).offset ∙ whole,
       λ byte h.
-      table_set table c.from.result (get_or links (c.loop-n.n - 1) d).offset byte _ (omega (arith, h, whole)) (c.loop-n.invariant.1 byte h)
-      ∙ ap (λ k. cond (k == byte) (get_or links (c.loop-n.n - 1) d).offset (offset (links_of (drop c.loop-n.n links)) byte)) c.from.ensures
-      ∙ sym (next_link links c.loop-n.n byte d c.loop-n-test.true (omega (arith, c.loop-n.auto.n))),
+          table_set table c.from.result (get_or links (c.loop-n.n - 1) d).offset byte _ (omega (arith, h, whole)) (c.loop-n.invariant.1 byte h)
+          ∙ ap (λ k. cond (k == byte) (get_or links (c.loop-n.n - 1) d).offset (offset (links_of (drop c.loop-n.n links)) byte)) c.from.ensures
+          ∙ sym (next_link links c.loop-n.n byte d c.loop-n-test.true (omega (arith, c.loop-n.auto.n))),
     )
 
 pub returns : goal.returns

@@ -1,4 +1,4 @@
-use Rattle.std.proofs.Common.{◌≡◌, ◌∙◌, sym, ap, take, drop, Some, option_copied}
+use Rattle.std.proofs.Common.{◌∙◌, sym}
 use Rattle.index_format.specs.Tree.{common}
 use Rattle.index_write.proofs.Ends.{ends_prefix}
 use Rattle.index_write.proofs.node.common_prefix.Goals as goal
