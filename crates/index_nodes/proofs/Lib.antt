@@ -1,0 +1,5 @@
+pub mod FieldLemmas
+pub mod PlaceLemmas
+pub mod ChildLemmas
+pub mod ArrivalLemmas
+pub mod CheckLemmas
