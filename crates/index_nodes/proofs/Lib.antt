@@ -3,3 +3,5 @@ pub mod PlaceLemmas
 pub mod ChildLemmas
 pub mod ArrivalLemmas
 pub mod CheckLemmas
+pub mod SoundNodes
+pub mod ReadLemmas

@@ -13,9 +13,11 @@ mod check;
 mod fault;
 mod fields;
 mod node;
+mod nodes;
 
 mod place;
 mod place_set;
+mod read;
 mod steps;
 
 
@@ -23,5 +25,6 @@ mod steps;
 pub use fault::IndexFault;
 pub use node::{Node, NodeRef};
 
+pub use nodes::Nodes;
 pub use place::Place;
 pub use steps::Steps;
