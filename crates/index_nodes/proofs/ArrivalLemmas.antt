@@ -1,15 +1,14 @@
 -- The reader's tests at an arrival, and the arrivals after it.
-use Rattle.std.proofs.Common.{◌≡◌, refl, sym, ap, subst, ◌∙◌, ◌⊎◌, inl, inr, ⊎_elim, ℕ, zero, suc, ◌+◌, ◌*◌, ◌-◌, ◌%◌, ◌^◌, ◌<◌, ◌≤◌, Bool, true, false, not, cond, ◌==◌, nat_eq, nat_lt, List, [], ◌∷◌, ◌++◌, length, get_or, flat_map, Option, Some, None, arith, append_assoc}
-use Rattle.std.proofs.lemmas.Bool.{ltb-true, lt-ltb, le-ltb, eq-eqb, ne_eqb, cases_lt, false≢true}
+use Rattle.std.proofs.Common.{◌≡◌, refl, sym, ap, ◌∙◌, ⊎_elim, ℕ, zero, suc, ◌+◌, ◌%◌, ◌<◌, ◌≤◌, Bool, true, false, not, cond, nat_eq, nat_lt, List, [], ◌∷◌, ◌++◌, length, get_or, flat_map, Some, None, arith, append_assoc}
+use Rattle.std.proofs.lemmas.Bool.{lt-ltb, le-ltb, eq-eqb, ne_eqb, cases_lt}
 use Rattle.std.proofs.lemmas.List.{append-nil, get_or_past}
 use Rattle.std.specs.List.{AllByRecursion, list_any, cons_option}
-use Rattle.km_names.specs.First.{first}
 use Rattle.km_names.specs.Number.{be}
 use Rattle.index_format.specs.Link.{place_of}
 use Rattle.index_format.specs.Node.{present, children}
-use Rattle.index_format.specs.Check.{Fault, BadNode, Revisited, Arrival, is_sound, arrival_fault, arrival_faults, arrivals}
+use Rattle.index_format.specs.Check.{BadNode, Revisited, Arrival, is_sound, arrival_fault, arrivals}
 use Rattle.index_nodes.specs.declared.check.Pending.{Pending}
-use Rattle.index_nodes.specs.Pending.{links_at, links_of, child_arrival, child_arrivals, arrivals_left, IsInside}
+use Rattle.index_nodes.specs.Pending.{links_at, links_of, child_arrival, child_arrivals, arrivals_left}
 
 -- ---- the tests
 
@@ -57,6 +56,7 @@ sound_from_none b seen a h =
     seen_false : (t : Bool) → list_any (nat_eq (place_of a.link)) seen ≡ t → place_of a.link < a.above → t ≡ false
     seen_false true e low = absurd (some_none _ (sym (fault_seen b seen a low e) ∙ h))
     seen_false false e low = refl
+
     sound_true : (s : Bool) → is_sound b a ≡ s → place_of a.link < a.above → s ≡ true
     sound_true true e low = refl
     sound_true false e low = absurd (some_none _ (sym (fault_by_sound b seen a false low (seen_false (list_any (nat_eq (place_of a.link)) seen) refl low) e) ∙ h))

@@ -1,5 +1,5 @@
 -- The reader's way through a file: what is left of it decides.
-use Rattle.std.proofs.Common.{◌≡◌, refl, sym, ap, subst, ◌∙◌, ℕ, Bool, true, false, cond, ◌==◌, nat_lt, ◌+◌, ◌*◌, ◌/◌, ◌<◌, ◌≤◌, List, [], ◌∷◌, ◌++◌, length, flat_map, Option, Some, None, vec_len, arith, append_assoc, length-append}
+use Rattle.std.proofs.Common.{◌≡◌, sym, ap, subst, ◌∙◌, ℕ, Bool, true, false, cond, ◌==◌, nat_lt, ◌+◌, ◌/◌, ◌<◌, ◌≤◌, List, [], ◌∷◌, ◌++◌, length, Option, Some, None, vec_len, arith, append_assoc, length-append}
 use Rattle.std.proofs.lemmas.List.{append-nil}
 use Rattle.std.specs.List.{AllByRecursion}
 use Rattle.km_names.specs.First.{first}
@@ -84,7 +84,7 @@ first_walk b link set stack p e passes places pending left room inside =
       seen = place_of link ∷ [];
       places = places;
       rest =
-      ap (λ rs. first (arrival_faults b (place_of link ∷ []) rs)) left
+          ap (λ rs. first (arrival_faults b (place_of link ∷ []) rs)) left
           ∙ sym (passes_next b [] (length b + 1) (at_root b link) [] p low low passes pending)
           ∙ root_rest b link e;
       room = room;
@@ -137,7 +137,7 @@ module _ (b : List ℕ) (set : PlaceSet) (stack ps : List Pending) (p : Pending)
         seen = place_of link ∷ w.seen;
         places = places;
         rest =
-        ap (λ rs. first (arrival_faults b (place_of link ∷ w.seen) rs)) two_is
+            ap (λ rs. first (arrival_faults b (place_of link ∷ w.seen) rs)) two_is
             ∙ sym (passes_next b w.seen p.above a more below low low passes pending)
             ∙ rest_is;
         room = room;

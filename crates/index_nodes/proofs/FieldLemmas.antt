@@ -1,10 +1,9 @@
 -- Where a field ends, and whether it is whole.
-use Rattle.std.proofs.Common.{◌≡◌, refl, sym, ap, subst, ◌∙◌, ⊎_elim, ℕ, zero, suc, ◌+◌, ◌-◌, ◌*◌, ◌<◌, ◌≤◌, Bool, true, false, not, cond, ◌==◌, ◌&&◌, ◌||◌, nat_lt, nat_le, List, [], ◌∷◌, length, take, drop, get_or, arith}
-use Rattle.std.proofs.lemmas.Bool.{eq-eqb, ne_eqb, lt-ltb, le-ltb, le-leb, lt-leb, cases_lt, and_from, and_left, and_right, or_from, not_from_true, not_from_false}
-use Rattle.std.proofs.lemmas.List.{drop-drop, length-drop, length-take, get_or-drop}
-use Rattle.std.specs.List.{list_any, prefix_len}
+use Rattle.std.proofs.Common.{◌≡◌, sym, ap, ◌∙◌, ⊎_elim, ℕ, suc, ◌+◌, ◌-◌, ◌*◌, ◌<◌, ◌≤◌, Bool, true, false, not, cond, ◌==◌, ◌&&◌, ◌||◌, nat_lt, nat_le, List, [], ◌∷◌, length, take, drop, get_or, arith}
+use Rattle.std.proofs.lemmas.Bool.{eq-eqb, ne_eqb, lt-ltb, le-ltb, le-leb, lt-leb, cases_lt, and_from, and_left, and_right}
+use Rattle.std.proofs.lemmas.List.{drop-drop, length-drop, length-take}
+use Rattle.std.specs.List.{prefix_len}
 use Rattle.km_names.specs.Number.{be}
-use Rattle.index_format.specs.declared.numbers.TheConstants.{HAS_PREFIX, HAS_VALUES, HAS_CHILDREN}
 use Rattle.std.specs.Prelude.{bit_and}
 use Rattle.index_format.specs.Link.{place_of, has_prefix, has_values, has_children}
 use Rattle.index_format.specs.Node.{is_nul, text, after_text, prefix, after_prefix, first_byte, last_byte, children_size, after_children}
@@ -86,7 +85,7 @@ with_prefix b link h within lt =
       record {
         within = omega (arith, lt, length-drop (place_of link) b);
         rest =
-        ap (λ n. drop n b) (sym size)
+            ap (λ n. drop n b) (sym size)
             ∙ sym (drop-drop (length (text rest) + 1) (place_of link) b)
             ∙ sym (after_text-drop rest)
             ∙ sym (ap (λ t. cond t (after_text rest) rest) h);
@@ -134,7 +133,7 @@ with_children b link start first last rest h within is rest_is first_is last_is 
       record {
         within = omega (arith, room, ap length rest_is, length-drop start b, within);
         rest =
-        sym (drop-drop (2 + 4 * (last - first + 1)) start b)
+            sym (drop-drop (2 + 4 * (last - first + 1)) start b)
             ∙ ap (drop (2 + 4 * (last - first + 1))) is
             ∙ (λ i. drop (2 + 4 * ((last_is ∙ ap (λ r. get_or r 1 0) all) i - (first_is ∙ ap (λ r. get_or r 0 0) all) i + 1)) (after_prefix b link))
             ∙ sym (ap (λ t. cond t (drop (children_size b link) (after_prefix b link)) (after_prefix b link)) h);

@@ -1,18 +1,17 @@
 -- What stands in the fields of a sound node.
-use Rattle.std.proofs.Common.{◌≡◌, refl, sym, ap, subst, ◌∙◌, ⊎_elim, ℕ, zero, suc, ◌+◌, ◌-◌, ◌*◌, ◌<◌, ◌≤◌, Bool, true, false, cond, ◌==◌, ◌&&◌, nat_lt, nat_le, List, [], ◌∷◌, length, take, drop, get_or, Option, Some, None, slice_get, arith}
+use Rattle.std.proofs.Common.{◌≡◌, sym, ap, ◌∙◌, ℕ, suc, ◌+◌, ◌-◌, ◌*◌, ◌<◌, ◌≤◌, true, false, cond, ◌&&◌, nat_le, List, [], ◌∷◌, length, take, drop, Option, Some, None, arith}
 use Rattle.std.proofs.lemmas.Bool.{lt-leb, le-leb, leb-true, ltb-true, and_parts, and_left, and_right}
 use Rattle.std.proofs.lemmas.List.{drop-drop, length-drop}
 use Rattle.std.specs.Prelude.{IfNone, IfSome}
 use Rattle.km_names.specs.Number.{be}
-use Rattle.index_format.specs.Map.{Value}
 use Rattle.index_format.specs.Link.{place_of, has_prefix, has_values, has_children}
 use Rattle.index_format.specs.Node.{text, after_text, prefix, after_prefix, first_byte, last_byte, present, child, after_children, values_in, values}
 use Rattle.index_format.specs.Check.{has_nul, whole_values, values_fit}
-use Rattle.index_format.specs.Nodes.{IsValuePlace, values_from}
+use Rattle.index_format.specs.Nodes.{values_from}
 use Rattle.index_format.proofs.BigEndian.{be-at, be-drop}
 use Rattle.index_nodes.specs.declared.place.Place.{Place}
 use Rattle.index_nodes.specs.Places.{IsPlaceOf, value_at, values_left}
-use Rattle.index_nodes.proofs.FieldLemmas.{length-text, text_len, text_len-le, text-take, after_text-drop, has_nul-text, with_values}
+use Rattle.index_nodes.proofs.FieldLemmas.{length-text, text_len, text-take, after_text-drop, has_nul-text, with_values}
 
 -- ---- the prefix
 

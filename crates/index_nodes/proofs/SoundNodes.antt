@@ -1,16 +1,16 @@
 -- Each node of an accepted file is sound, and stands above its children.
-use Rattle.std.proofs.Common.{◌≡◌, refl, sym, ap, subst, ◌∙◌, ◌⊎◌, inl, inr, ⊎_elim, ℕ, zero, suc, ◌+◌, ◌-◌, ◌*◌, ◌<◌, ◌≤◌, Bool, true, false, cond, ◌==◌, ◌&&◌, nat_lt, nat_le, List, [], ◌∷◌, ◌++◌, length, filter_map, Option, Some, None, arith}
+use Rattle.std.proofs.Common.{◌≡◌, refl, sym, ap, subst, ◌∙◌, ◌⊎◌, inl, inr, ⊎_elim, ℕ, zero, suc, ◌+◌, ◌-◌, ◌*◌, ◌<◌, ◌≤◌, Bool, true, false, cond, ◌==◌, ◌&&◌, nat_lt, nat_le, List, [], ◌∷◌, length, filter_map, Option, Some, None, arith}
 use Rattle.std.proofs.lemmas.Bool.{cases_eq, leb-true, ltb-false, and_parts}
 use Rattle.std.specs.List.{cons_option}
 use Rattle.km_names.specs.Number.{be}
 use Rattle.index_format.specs.declared.numbers.TheConstants.{MAGIC, VERSION, FIRST_PLACE}
 use Rattle.index_format.specs.Link.{place_of, has_children}
-use Rattle.index_format.specs.Node.{root, after_prefix, first_byte, last_byte, present, child, upward, children}
-use Rattle.index_format.specs.Check.{BadMagic, BadVersion, BadNode, prefix_fits, children_fit, values_fit, Arrival, arrival_fault, arrival_faults, arrivals, root_arrival, index_fault}
+use Rattle.index_format.specs.Node.{after_prefix, first_byte, last_byte, present, child, upward, children}
+use Rattle.index_format.specs.Check.{BadMagic, BadVersion, BadNode, prefix_fits, children_fit, values_fit, Arrival, arrival_fault, arrivals, root_arrival, index_fault}
 use Rattle.index_format.specs.Nodes.{IsNode, top, below}
 use Rattle.index_format.proofs.Passing.{Passes, seen_after, first_none, passes_head, passes_parts}
 use Rattle.index_nodes.specs.Pending.{child_arrival, child_arrivals}
-use Rattle.index_nodes.proofs.ChildLemmas.{SoundParts, sound_parts}
+use Rattle.index_nodes.proofs.ChildLemmas.{sound_parts}
 use Rattle.index_nodes.proofs.ArrivalLemmas.{Sound, sound_from_none, arrivals_head, arrivals_below}
 
 -- ---- members

@@ -127,7 +127,7 @@ fn next_child(bytes: &[u8], pending: &Pending) -> Option<(u32, Pending)>
     requires { IsInside bytes.now pending.now }
     ensures { MatchOption result (links_of bytes.now pending.now ≡ [])
         (λ r. (links_of bytes.now pending.now ≡ r.0 ∷ links_of bytes.now r.1)
-            × (r.1.above ≡ pending.now.above) × IsInside bytes.now r.1) }
+        × (r.1.above ≡ pending.now.above) × IsInside bytes.now r.1) }
 {
     for n in 0..pending.left {
         let next = pending.next + OFFSET_SIZE * n;

@@ -71,7 +71,7 @@ pub(crate) fn node_at(bytes: &[u8], link: u32) -> Option<Node>
     requires { place_of link ≤ length bytes.now }
     ensures { MatchOption result ((prefix_fits bytes.now link && children_fit bytes.now link) ≡ false)
         (λ n. ((prefix_fits bytes.now link && children_fit bytes.now link) ≡ true)
-            × (n.link ≡ link) × HasFields bytes.now n) }
+        × (n.link ≡ link) × HasFields bytes.now n) }
 {
     let children = prefix_end(bytes, link)?;
     let values = children_end(bytes, link, children)?;

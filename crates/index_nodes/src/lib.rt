@@ -8,23 +8,20 @@
 //! on the definitions of `index_format`, and on `thiserror` for the error traits.
 #![tactic(auto)]
 
-
 mod check;
 mod fault;
 mod fields;
 mod node;
 mod nodes;
-
 mod place;
 mod place_set;
 mod read;
 mod steps;
-
-
+#[cfg(test)]
+mod tests;
 
 pub use fault::IndexFault;
 pub use node::{Node, NodeRef};
-
 pub use nodes::Nodes;
 pub use place::Place;
 pub use steps::Steps;

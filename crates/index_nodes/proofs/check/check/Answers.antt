@@ -1,8 +1,8 @@
-use Rattle.std.proofs.Common.{◌≡◌, sym, ap, subst, ◌∙◌, true, false, cond, ◌==◌, nat_lt, ◌<◌, length, List, None, Some, arith}
+use Rattle.std.proofs.Common.{◌≡◌, sym, subst, ◌∙◌, true, false, ◌==◌, nat_lt, length, None}
 use Rattle.std.proofs.lemmas.Bool.{lt-ltb}
 use Rattle.std.specs.Result.{IfErr, OnOk}
 use Rattle.km_names.specs.Number.{be}
-use Rattle.index_format.specs.declared.numbers.TheConstants.{MAGIC, VERSION, FIRST_PLACE}
+use Rattle.index_format.specs.declared.numbers.TheConstants.{VERSION, FIRST_PLACE}
 use Rattle.index_nodes.specs.Faults.{IsFirstFault}
 use Rattle.index_nodes.proofs.CheckLemmas.{header_fault, nodes_decide}
 use Rattle.index_nodes.proofs.check.check.Goals as goal

@@ -1,12 +1,11 @@
-use Rattle.std.proofs.Common.{◌≡◌, refl, sym, ap, subst, ◌∙◌, ◌+◌, ◌<◌, List, [], ◌∷◌, ◌++◌, length, arith}
+use Rattle.std.proofs.Common.{◌≡◌, sym, ap, subst, ◌∙◌, ◌+◌, [], ◌++◌, length, arith}
 use Rattle.std.specs.List.{AllByRecursion}
 use Rattle.std.proofs.lemmas.Result.{err_from_is_err_and}
 use Rattle.std.proofs.lemmas.List.{nil_from_length}
 use Rattle.km_names.specs.First.{first}
-use Rattle.index_format.specs.Link.{place_of}
 use Rattle.index_format.specs.Check.{arrival_faults}
 use Rattle.index_nodes.specs.Pending.{arrivals_left, child_arrivals, links_of, IsInside}
-use Rattle.index_nodes.proofs.CheckLemmas.{Walking, at_root, root_rest, first_fault, first_walk, top_inside, left_none, walk_on, stops_here, walk_below, fewer}
+use Rattle.index_nodes.proofs.CheckLemmas.{at_root, root_rest, first_fault, first_walk, top_inside, left_none, walk_on, stops_here, walk_below, fewer}
 use Rattle.index_nodes.proofs.check.check_nodes.Goals as goal
 
 pub returns-in_err-visit_node-clause-fault : goal.returns-in_err-visit_node-clause-fault

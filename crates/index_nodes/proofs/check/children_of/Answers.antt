@@ -1,8 +1,8 @@
-use Rattle.std.proofs.Common.{◌≡◌, refl, sym, ap, ◌∙◌, ◌+◌, ◌-◌, get_or, length, drop, arith}
+use Rattle.std.proofs.Common.{◌≡◌, sym, ap, ◌∙◌, ◌+◌, ◌-◌, get_or, arith}
 use Rattle.index_format.specs.declared.numbers.TheConstants.{HAS_CHILDREN}
 use Rattle.index_nodes.specs.Pending.{links_at}
 use Rattle.index_nodes.proofs.FieldLemmas.{bit_set, bit_clear}
-use Rattle.index_nodes.proofs.ChildLemmas.{no_children, HasRange, range_of, children_links}
+use Rattle.index_nodes.proofs.ChildLemmas.{no_children, range_of, children_links}
 use Rattle.index_nodes.proofs.check.children_of.Goals as goal
 
 pub returns-then-node-eq0 : goal.returns-then-node-eq0
@@ -33,7 +33,7 @@ returns c =
     record {
       above = c.place-above.ensures.place;
       links =
-      ap (λ k. links_at b (n.children + 2) (k + 1)) size
+          ap (λ k. links_at b (n.children + 2) (k + 1)) size
           ∙ sym (children_links b n.link n.children (bit_set n.link HAS_CHILDREN c.if-node-eq0.false) c.requires.fields.children.rest r);
       inside = omega (arith, r.room, size);
     }

@@ -1,4 +1,4 @@
-use Rattle.std.proofs.Common.{◌≡◌, sym, ◌∙◌, ◌+◌, length}
+use Rattle.std.proofs.Common.{sym, ◌∙◌, ◌+◌, length}
 use Rattle.std.proofs.lemmas.Bool.{lt-leb, ne_eqb}
 use Rattle.km_names.specs.Number.{be}
 use Rattle.index_nodes.proofs.ArrivalLemmas.{cut_number}

@@ -1,4 +1,4 @@
-use Rattle.std.proofs.Common.{◌≡◌, refl, sym, ap, ◌∙◌, suc, ◌+◌, ◌-◌, ◌*◌, List, ◌∷◌, arith}
+use Rattle.std.proofs.Common.{◌≡◌, refl, sym, ap, ◌∙◌, suc, ◌+◌, ◌-◌, ◌*◌, arith}
 use Rattle.std.specs.List.{cons_option}
 use Rattle.index_nodes.specs.Pending.{links_at}
 use Rattle.index_nodes.proofs.ArrivalLemmas.{link_present, link_absent, links_next}

@@ -1,6 +1,6 @@
-use Rattle.std.proofs.Common.{◌≡◌, sym, ap, ◌∙◌, ◌++◌}
+use Rattle.std.proofs.Common.{sym, ap, ◌∙◌, ◌++◌}
 use Rattle.index_nodes.specs.Pending.{arrivals_left}
-use Rattle.index_nodes.proofs.ArrivalLemmas.{arrivals_left-push, none_left, inside-push}
+use Rattle.index_nodes.proofs.ArrivalLemmas.{arrivals_left-push, none_left}
 use Rattle.index_nodes.proofs.check.push_pending.Goals as goal
 
 pub returns-in_ok-push-clause-left : goal.returns-in_ok-push-clause-left

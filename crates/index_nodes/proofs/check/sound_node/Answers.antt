@@ -1,4 +1,4 @@
-use Rattle.std.proofs.Common.{◌≡◌, sym, ap, subst, ◌∙◌, inl, inr, ◌≤◌, arith, true}
+use Rattle.std.proofs.Common.{sym, ap, subst, ◌∙◌, inl, inr, arith}
 use Rattle.std.proofs.lemmas.Bool.{or_left, or_right}
 use Rattle.index_format.specs.Check.{values_fit}
 use Rattle.index_nodes.specs.Pending.{arrival_of, IsPendingOf}
@@ -29,11 +29,11 @@ returns-then-values_are_whole c =
     let place = c.place-at.ensures.place in
     let link = c.in-Some.ensures.1 in (
       sound_from b a (omega (arith, c.if-at-lt-FIRST_PLACE.false, place)) (omega (arith, c.if-at-bytes.false, place)) c.in-Some.ensures.0
-      (ap (values_fit b) (sym link) ∙ sym c.values_are_whole.ensures ∙ c.if-values_are_whole.true)
-      (elim c.else-not-visit.branch [
-        | else-not-visit-via-then-not-visit+else-not-has_field w ↦ or_right a.is_root _ (sym w.has_field.ensures ∙ w.if-not-has_field.false)
-        | else-not-visit-via-else-not-visit w ↦ or_left a.is_root _ w.if-not-visit.false
-      ]),
+          (ap (values_fit b) (sym link) ∙ sym c.values_are_whole.ensures ∙ c.if-values_are_whole.true)
+          (elim c.else-not-visit.branch [
+            | else-not-visit-via-then-not-visit+else-not-has_field w ↦ or_right a.is_root _ (sym w.has_field.ensures ∙ w.if-not-has_field.false)
+            | else-not-visit-via-else-not-visit w ↦ or_left a.is_root _ w.if-not-visit.false
+          ]),
       subst (λ l. IsPendingOf b l c.children_of.result) link c.children_of.ensures,
     )
 

@@ -1,7 +1,6 @@
-use Rattle.std.proofs.Common.{◌≡◌, sym, ap, subst, ◌∙◌, ◌+◌, ◌<◌, true, false, Some, nat_eq, List, ℕ, length, arith}
-use Rattle.std.specs.List.{list_any}
+use Rattle.std.proofs.Common.{sym, ap, ◌∙◌, true, false, Some, arith}
 use Rattle.index_format.specs.Link.{place_of}
-use Rattle.index_format.specs.Check.{BadNode, Revisited, arrival_fault}
+use Rattle.index_format.specs.Check.{BadNode, Revisited}
 use Rattle.index_nodes.specs.Visited.{has_place}
 use Rattle.index_nodes.specs.Pending.{arrival_of}
 use Rattle.index_nodes.proofs.ArrivalLemmas.{fault_above, fault_seen, fault_by_sound}

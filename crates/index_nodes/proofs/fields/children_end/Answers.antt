@@ -1,4 +1,4 @@
-use Rattle.std.proofs.Common.{◌≡◌, refl, sym, ap, subst, ◌∙◌, ◌+◌, ◌-◌, ◌*◌, ◌<◌, ◌≤◌, length, take, drop, get_or, true, false, arith}
+use Rattle.std.proofs.Common.{◌≡◌, refl, sym, subst, ◌∙◌, ◌+◌, ◌-◌, ◌*◌, length, take, drop, get_or, true, arith}
 use Rattle.std.proofs.lemmas.List.{take_rest}
 use Rattle.index_format.specs.declared.numbers.TheConstants.{HAS_CHILDREN}
 use Rattle.index_format.specs.Check.{children_fit}

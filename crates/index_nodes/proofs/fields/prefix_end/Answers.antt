@@ -1,7 +1,6 @@
-use Rattle.std.proofs.Common.{◌≡◌, sym, ap, subst, ◌∙◌, ◌+◌, ◌<◌, ◌≤◌, length, take, drop, true, false, arith}
+use Rattle.std.proofs.Common.{◌≡◌, sym, ap, subst, ◌∙◌, ◌+◌, length, drop, true, arith}
 use Rattle.std.proofs.lemmas.List.{take_rest}
 use Rattle.index_format.specs.declared.numbers.TheConstants.{HAS_PREFIX}
-use Rattle.index_format.specs.Link.{place_of}
 use Rattle.index_format.specs.Node.{text}
 use Rattle.index_format.specs.Check.{prefix_fits}
 use Rattle.index_nodes.specs.Fields.{IsPrefixEnd}

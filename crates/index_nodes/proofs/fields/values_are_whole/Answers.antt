@@ -1,4 +1,4 @@
-use Rattle.std.proofs.Common.{◌≡◌, sym, ap, ◌∙◌, ◌-◌, ◌&&◌, nat_le, length, take, drop, arith}
+use Rattle.std.proofs.Common.{sym, ap, ◌∙◌, ◌-◌, ◌&&◌, length, take, drop}
 use Rattle.std.proofs.lemmas.List.{take_rest}
 use Rattle.std.proofs.lemmas.Bool.{le-leb, lt-leb, and_left}
 use Rattle.km_names.specs.Number.{be}

@@ -1,6 +1,5 @@
 use Rattle.std.proofs.Common.{◌≡◌, sym, ap, ◌∙◌, suc, ◌+◌, ◌-◌, length, take, drop, arith}
 use Rattle.std.proofs.lemmas.List.{take_rest}
-use Rattle.index_format.specs.Node.{text}
 use Rattle.index_format.specs.Check.{whole_values}
 use Rattle.index_nodes.proofs.FieldLemmas.{length-text, text_len-le, whole-short, whole-cut, whole-next}
 use Rattle.index_nodes.proofs.fields.whole_values.Goals as goal

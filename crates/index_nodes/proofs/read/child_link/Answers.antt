@@ -1,6 +1,6 @@
-use Rattle.std.proofs.Common.{◌≡◌, sym, ap, ◌∙◌, ◌+◌, ◌-◌, ◌*◌, ◌≤◌, length, Some, None, arith}
+use Rattle.std.proofs.Common.{◌≡◌, sym, ap, ◌∙◌, ◌+◌, ◌-◌, ◌*◌, arith}
 use Rattle.km_names.specs.Number.{be}
-use Rattle.index_format.specs.Node.{present, child}
+use Rattle.index_format.specs.Node.{present}
 use Rattle.index_nodes.proofs.ArrivalLemmas.{link_present, link_absent}
 use Rattle.index_nodes.proofs.ChildLemmas.{range_of}
 use Rattle.index_nodes.proofs.ReadLemmas.{child_below_range, child_above_range, child_in_range}

@@ -1,12 +1,9 @@
-use Rattle.std.proofs.Common.{◌≡◌, refl, sym, ap, subst, ◌∙◌, ◌+◌, ◌≤◌, [], Some, slice_get, length, drop, arith}
+use Rattle.std.proofs.Common.{◌≡◌, refl, sym, subst, [], Some, slice_get}
 use Rattle.km_names.specs.Number.{be}
-use Rattle.std.specs.Option.{MatchOption}
 use Rattle.std.specs.Prelude.{IfNone, IfSome}
 use Rattle.index_format.specs.declared.numbers.TheConstants.{HAS_VALUES}
-use Rattle.index_format.specs.Node.{values}
 use Rattle.index_nodes.specs.Places.{values_left, value_at}
 use Rattle.index_nodes.proofs.FieldLemmas.{bit_set, bit_clear}
-use Rattle.std.proofs.lemmas.List.{length-drop}
 use Rattle.index_nodes.proofs.ReadLemmas.{no_values, the_values, whole_count, room_for}
 use Rattle.index_nodes.proofs.read.first_place.Goals as goal
 

@@ -1,4 +1,4 @@
-use Rattle.std.proofs.Common.{◌≡◌, ℕ, sym, ⊎_elim, ◌+◌, ◌<◌, ◌≤◌, max, arith}
+use Rattle.std.proofs.Common.{⊎_elim, arith}
 use Rattle.std.proofs.lemmas.Bool.{cases_lt}
 use Rattle.index_nodes.proofs.ReadLemmas.{child_below_range, child_above_range}
 use Rattle.index_nodes.proofs.read.next_link.Goals as goal

@@ -1,5 +1,4 @@
-use Rattle.std.proofs.Common.{◌≡◌, sym, ap, subst, ◌∙◌, ◌+◌, ◌-◌, ◌∷◌, [], length, drop, true, arith}
-use Rattle.std.specs.Prelude.{IfNone, IfSome}
+use Rattle.std.proofs.Common.{◌≡◌, sym, ap, ◌∙◌, ◌+◌, ◌-◌, ◌∷◌, length, drop}
 use Rattle.index_format.specs.Check.{whole_values}
 use Rattle.index_format.specs.Nodes.{values_from}
 use Rattle.index_nodes.specs.Places.{values_left, value_at}

@@ -1,4 +1,4 @@
-use Rattle.std.proofs.Common.{◌≡◌, sym, ap, subst, ◌∙◌, suc, ◌+◌, ◌-◌, ◌<◌, ◌≤◌, drop, [], Some, slice_get, true, arith}
+use Rattle.std.proofs.Common.{◌≡◌, sym, ap, ◌∙◌, suc, ◌+◌, ◌-◌, drop, Some, slice_get, arith}
 use Rattle.index_format.specs.Node.{values_in, text}
 use Rattle.index_format.specs.Check.{whole_values}
 use Rattle.index_format.specs.Nodes.{values_from}

@@ -1,6 +1,5 @@
-use Rattle.std.proofs.Common.{◌≡◌, sym, ap, ◌∙◌, ◌+◌, ◌-◌, length, take, drop, arith}
+use Rattle.std.proofs.Common.{◌≡◌, sym, ◌∙◌, ◌-◌, length, take, drop, arith}
 use Rattle.index_format.specs.declared.numbers.TheConstants.{HAS_PREFIX}
-use Rattle.index_format.specs.Link.{place_of}
 use Rattle.index_format.specs.Node.{prefix}
 use Rattle.index_nodes.proofs.FieldLemmas.{bit_set, bit_clear}
 use Rattle.index_nodes.proofs.ReadLemmas.{no_prefix, the_prefix}
@@ -19,4 +18,3 @@ returns c =
     let place = c.place-start.ensures.place in
     let size : n.children - 1 - c.place-start.result ≡ length (prefix b n.link) = omega (arith, end, place) in
     (λ i. take (size i) (drop (place i) b)) ∙ the_prefix b n.link has
-

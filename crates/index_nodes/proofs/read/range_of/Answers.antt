@@ -1,4 +1,4 @@
-use Rattle.std.proofs.Common.{◌+◌, ◌<◌, length, arith}
+use Rattle.std.proofs.Common.{arith}
 use Rattle.index_format.specs.declared.numbers.TheConstants.{HAS_CHILDREN}
 use Rattle.index_nodes.proofs.FieldLemmas.{bit_set, bit_clear}
 use Rattle.index_nodes.proofs.ChildLemmas.{range_of}

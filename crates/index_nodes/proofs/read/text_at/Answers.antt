@@ -1,4 +1,4 @@
-use Rattle.std.proofs.Common.{◌≡◌, sym, ap, ◌∙◌, ◌+◌, ◌≤◌, length, drop, arith, rules}
+use Rattle.std.proofs.Common.{ap, ◌∙◌, ◌+◌, length, arith, rules}
 use Rattle.std.proofs.lemmas.List.{take_rest}
 use Rattle.index_format.specs.Node.{text}
 use Rattle.index_nodes.proofs.ReadLemmas.{place_parts}

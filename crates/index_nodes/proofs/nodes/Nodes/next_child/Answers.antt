@@ -1,7 +1,7 @@
-use Rattle.std.proofs.Common.{◌≡◌, sym, ap, subst, ◌∙◌, None, Some, true}
+use Rattle.std.proofs.Common.{◌≡◌, sym, ap, subst, ◌∙◌, None, true}
 use Rattle.index_format.specs.Node.{child}
 use Rattle.index_format.specs.Check.{index_fault, children_fit}
-use Rattle.index_format.specs.Nodes.{IsNode, below}
+use Rattle.index_format.specs.Nodes.{below}
 use Rattle.index_nodes.proofs.SoundNodes.{node_sound}
 use Rattle.index_nodes.proofs.nodes.Nodes.next_child.Goals as goal
 

@@ -1,4 +1,4 @@
-use Rattle.std.proofs.Common.{◌≡◌, sym, ap, subst, ◌∙◌, ◌≤◌, length, None, true, ◌&&◌, arith}
+use Rattle.std.proofs.Common.{◌≡◌, sym, ap, subst, ◌∙◌, length, None, true, ◌&&◌, arith}
 use Rattle.std.proofs.lemmas.Bool.{some_since, and_from, true≢false}
 use Rattle.index_format.specs.Link.{place_of}
 use Rattle.index_format.specs.Check.{index_fault, prefix_fits, children_fit}

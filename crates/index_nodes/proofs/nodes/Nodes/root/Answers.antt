@@ -1,4 +1,4 @@
-use Rattle.std.proofs.Common.{◌≡◌, sym, ap, subst, ◌∙◌, ◌≤◌, length, arith}
+use Rattle.std.proofs.Common.{sym, ap, subst, ◌∙◌, length, arith}
 use Rattle.km_names.specs.Number.{be}
 use Rattle.index_format.specs.Node.{root}
 use Rattle.index_format.specs.Nodes.{IsNode, top}
