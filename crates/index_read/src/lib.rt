@@ -11,6 +11,7 @@
 mod index;
 mod reach;
 mod value;
+mod walk;
 
 pub use index::Index;
 pub use index_nodes::{IndexFault, Place, Steps};
