@@ -4,3 +4,5 @@ pub mod Ends
 pub mod LineSteps
 pub mod StatementSteps
 pub mod Trims
+pub mod Positions
+pub mod Digits

@@ -1,7 +1,10 @@
 pub mod AliasForm
+pub mod Ascii
 pub mod First
+pub mod Limit
 pub mod Lines
 pub mod Number
 pub mod Path
 pub mod Space
 pub mod Statements
+pub mod Strings

@@ -1,6 +1,8 @@
 ghost use Rattle.std.specs.Prelude.{◌≡◌, ◌≤◌, ◌↔◌, ◌==◌, [], ◌∷◌, ◌++◌, length, IsNone, OnOk, OnErr, IfOk, slice_get, option_copied};
 
+use bstr::BStr;
 use std::alloc::{AllocError, Global};
+use std::fmt;
 use std::marker::{Model, PhantomData};
 
 /// A growing list of bytes of the kind `K`, an empty enum that tells paths, names and texts apart.
@@ -17,6 +19,13 @@ impl<K> Model for Bytes<K> {
     ghost Value = { List ℕ };
 
     ghost view = { λ b. b.bytes.items };
+}
+
+/// Shown as text in quotes, with escapes where it isn't UTF-8.
+impl<K> fmt::Debug for Bytes<K> {
+    fn fmt<W: fmt::Write>(&self, f: &mut fmt::Formatter<W>) -> fmt::Result {
+        fmt::Debug::fmt(&BStr::new(self.as_bytes()), f)
+    }
 }
 
 /// The kind of bytes that are any text or the content of a file.

@@ -9,7 +9,7 @@ pub struct TreeIndex(pub u32);
 
 /// A line of a configuration file: the number of its first part in the file, from 1, and its text
 /// without white space at either end.
-#[derive(Drop)]
+#[derive(Debug, Drop)]
 pub struct Line {
     pub number: u32,
     pub text: Blob,
@@ -19,7 +19,7 @@ pub struct Line {
 pub type Lines = List<Line>;
 
 /// A configuration file of modprobe.d(5) or depmod.d(5): its path and its content.
-#[derive(Drop)]
+#[derive(Debug, Drop)]
 pub struct ConfFile {
     pub path: PathText,
     pub bytes: Blob,
@@ -29,7 +29,7 @@ pub struct ConfFile {
 pub type ConfFiles = List<ConfFile>;
 
 /// Why configuration files weren't understood.
-#[derive(Drop)]
+#[derive(Debug, Drop)]
 pub enum ConfFault {
     /// The first line that states what isn't understood: its file, and its number there, from 1.
     BadLine { file: PathText, line: u32 },

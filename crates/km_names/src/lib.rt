@@ -1,14 +1,17 @@
 //! The words that every crate above shares: lists that contracts see as the list of their items, byte
-//! lists told apart by what they are for, so that a path can't be passed for a name, and numbers as they
-//! stand in files.
+//! lists told apart by what they are for, so that a path can't be passed for a name, and numbers and strings
+//! as they stand in files.
 //!
-//! It stands on std, on `byteorder` for the numbers and on `memchr` for the ends of lines. Each list keeps its allocator; only `push` and
-//! its kin can be refused, for want of memory, and then the list is as it was.
+//! It stands on std, on `byteorder` for the numbers, on `memchr` for the ends of lines and strings, and on
+//! `bstr` to show bytes. Each list keeps its allocator; only `push` and its kin can be refused, for want of
+//! memory, and then the list is as it was.
 #![tactic(auto)]
 
 mod alias;
+mod ascii;
 mod bytes;
 mod conf;
+mod limit;
 mod lines;
 mod list;
 mod numbers;
@@ -16,13 +19,16 @@ mod path;
 mod space;
 mod split;
 mod statement;
+mod string;
 #[cfg(test)]
 mod tests;
 mod word;
 
 pub use alias::normal_alias;
+pub use ascii::{hexadecimal, is_graphic};
 pub use bytes::{Alias, AliasKind, Blob, BlobKind, Bytes, Name, NameKind, PathKind, PathText};
 pub use conf::{ConfFault, ConfFile, ConfFiles, Line, Lines, TreeIndex};
+pub use limit::FILE_LIMIT;
 pub use lines::{conf_lines, first_line};
 pub use list::{List, Names, Paths, Texts};
 pub use numbers::{be_u16_at, be_u32_at, le_u16_at, le_u32_at, le_u64_at};
@@ -30,4 +36,5 @@ pub use path::{is_compressed, join, module_name, underscored};
 pub use space::{split_word, trimmed, words};
 pub use split::split_at_byte;
 pub use statement::{Statement, parse_files};
+pub use string::{first_string, string_at};
 pub use word::Word;

@@ -1,4 +1,5 @@
 ghost use Rattle.std.specs.Prelude.{◌≡◌, ◌+◌, ◌-◌, ◌<◌, ◌≤◌, ◌++◌, ◌∷◌, [], ℕ, length, take, IfOk, OnOk, IsTrue};
+ghost use Rattle.km_names.specs.Limit.{file_limit};
 ghost use Rattle.km_names.specs.Lines.{lines_of, joined_lines, goes_on as is_going_on, statements, conf_lines as lines_of_conf};
 
 use crate::space::trimmed;
@@ -23,7 +24,7 @@ pub fn first_line(text: &[u8]) -> (&[u8], &[u8])
 /// then white space is taken off at either end, and empty lines and those that begin with `#` are left
 /// out. modprobe.d(5), depmod.d(5).
 pub fn conf_lines(alloc: Global, bytes: &[u8]) -> Result<Lines, AllocError>
-    requires { length bytes.now ≤ 67108864 }
+    requires { length bytes.now ≤ file_limit }
     ensures { IfOk result (λ lines. lines ≡ lines_of_conf bytes.now) }
 {
     let mut lines = Lines::new(alloc);
@@ -48,7 +49,7 @@ struct Joined<'a> {
 
 fn first_joined(alloc: Global, text: &[u8]) -> Result<Joined<'_>, AllocError>
     requires some { 0 < length text.now }
-    requires few { length text.now ≤ 67108864 }
+    requires few { length text.now ≤ file_limit }
     ensures lines { IfOk result (λ joined. (number : ℕ) → joined_lines number (lines_of text.now)
         ≡ record { number = number; text = joined.text } ∷ joined_lines (number + joined.count) (lines_of joined.rest.now)) }
     ensures shorter { IfOk result (λ joined. length joined.rest.now < length text.now) }

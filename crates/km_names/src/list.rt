@@ -6,7 +6,7 @@ use std::marker::Model;
 use std::slice::Iter;
 
 /// A growing list of items. Contracts see it as the list of its items.
-#[derive(Drop)]
+#[derive(Debug, Drop)]
 pub struct List<T> {
     elements: Vec<T>,
 }

@@ -1,5 +1,6 @@
 ghost use Rattle.std.specs.Prelude.{◌≡◌, ◌≤◌, ◌++◌, ◌⊎◌, ℕ, List, Option, length, All, IfOk, IfErr, OnOk};
 ghost use Rattle.km_names.specs.First.{first};
+ghost use Rattle.km_names.specs.Limit.{file_limit};
 ghost use Rattle.km_names.specs.Statements.{parsed, file_faults, file_statements};
 
 use crate::{ConfFault, ConfFile, ConfFiles, List as Items, PathText, conf_lines};
@@ -18,7 +19,7 @@ pub trait Statement: Drop + Sized {
 /// What configuration files state, one statement for each line, in order. `BadLine` comes exactly at the
 /// first line that states what isn't understood.
 pub fn parse_files<S: Statement>(alloc: Global, files: &ConfFiles) -> Result<Items<S>, ConfFault>
-    requires { All (λ file. length file.bytes ≤ 67108864) files.now }
+    requires { All (λ file. length file.bytes ≤ file_limit) files.now }
     ensures ok { IfOk result (λ statements. parsed S.read files.now ≡ Ok statements) }
     ensures err { IfErr result (λ fault.
         (fault ≡ ConfFault.Memory) ⊎ (parsed S.read files.now ≡ Err fault)) }
@@ -36,7 +37,7 @@ fn parse_file<S: Statement>(
     file: &ConfFile,
     statements: &mut Items<S>,
 ) -> Result<(), ConfFault>
-    requires { length file.now.bytes ≤ 67108864 }
+    requires { length file.now.bytes ≤ file_limit }
     ensures ok { OnOk result (first (file_faults S.read file.now) ≡ None) }
     ensures statements { OnOk result (statements.new ≡ statements.old ++ file_statements S.read file.now) }
     ensures err { IfErr result (λ fault.

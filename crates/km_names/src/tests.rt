@@ -1,5 +1,6 @@
 use crate::{
-    PathText, conf_lines, is_compressed, join, module_name, normal_alias, split_word, words,
+    PathText, conf_lines, hexadecimal, is_compressed, is_graphic, join, module_name, normal_alias,
+    split_word, string_at, words,
 };
 use std::test::Fail;
 
@@ -110,6 +111,43 @@ fn words_of_lines(rt: HostRuntime) -> Result<(), Fail> {
     assert_eq!(rt; list.len(), want.len());
     for (word, want) in list.as_slice().iter().zip(&want) {
         assert_eq!(rt; word.as_bytes(), *want);
+    }
+    Ok(())
+}
+
+#[test]
+fn strings_of_a_table(rt: HostRuntime) -> Result<(), Fail> {
+    let table = b"\0.text\0.data\0cut";
+    let rows = [
+        (0, Some(b"".as_slice())),
+        (1, Some(b".text")),
+        (3, Some(b"ext")),
+        (7, Some(b".data")),
+        (13, None),
+        (16, None),
+        (17, None),
+    ];
+    for (at, string) in rows {
+        assert_eq!(rt; string_at(table, at), string);
+    }
+    Ok(())
+}
+
+#[test]
+fn visible_words_and_hexadecimal_numbers(rt: HostRuntime) -> Result<(), Fail> {
+    let rows = [
+        (b"".as_slice(), false, None),
+        (b"ffffffff81000000", true, Some(0xffff_ffff_8100_0000)),
+        (b"0Ff", true, Some(255)),
+        (b"+1", true, None),
+        (b"0x1", true, None),
+        (b"1 ", false, None),
+        (b"\x7f", false, None),
+        (b"00000000000000001", true, None),
+    ];
+    for (text, graphic, number) in rows {
+        assert_eq!(rt; is_graphic(text), graphic);
+        assert_eq!(rt; hexadecimal(text), number);
     }
     Ok(())
 }

@@ -4,7 +4,7 @@ use std::alloc::{AllocError, Global};
 use std::marker::Model;
 
 /// A word of a command line: UTF-8 text. Contracts see it as its bytes.
-#[derive(Drop)]
+#[derive(Debug, Drop)]
 pub struct Word {
     text: String,
 }

@@ -1,0 +1,29 @@
+// Strings that end with a NUL.
+ghost use Rattle.std.specs.Prelude.{◌≡◌, ◌+◌, ◌<◌, length, IfSome, option_copied};
+ghost use Rattle.km_names.specs.Strings.{first_string as string_of, string_at as string_of_table};
+
+use memchr::memchr;
+
+/// The string that the bytes begin with: those before the first NUL. It is `None` exactly where there is
+/// no NUL. gABI 4, "String Table".
+pub fn first_string(bytes: &[u8]) -> Option<&[u8]>
+    ensures string { option_copied result ≡ string_of bytes.now }
+    ensures shorter { IfSome result (λ string. length string.now < length bytes.now) }
+{
+    match memchr(0, bytes) {
+        Some(end) => Some(&bytes[..end]),
+        None => None,
+    }
+}
+
+/// The string at the place `at` of a table of strings: the bytes from there up to the next NUL. It is
+/// `None` exactly where no NUL follows in the table. gABI 4, "String Table".
+pub fn string_at(table: &[u8], at: usize) -> Option<&[u8]>
+    ensures string { option_copied result ≡ string_of_table table.now at }
+    ensures shorter { IfSome result (λ string. at + length string.now < length table.now) }
+{
+    if table.len() <= at {
+        return None;
+    }
+    first_string(&table[at..])
+}
