@@ -9,17 +9,21 @@
 mod bytes;
 mod conditions;
 mod content;
+mod file;
+mod further;
+mod names;
 mod object_file;
+mod part;
+mod parts;
 mod relocations;
-mod section;
 mod sheet;
 mod symbols;
 #[cfg(test)]
 mod tests;
 
 pub use conditions::is_sheet;
-pub use object_file::object;
+pub use object_file::{object, object_more};
 pub use sheet::{
-    Sheet, SheetExport, SheetExports, SheetNeed, SheetNeeds, SheetPlace, SheetPlaces, SheetVersion,
-    SheetVersions,
+    Sheet, SheetExport, SheetExports, SheetMore, SheetNeed, SheetNeeds, SheetPlace, SheetPlaces,
+    SheetSpace, SheetSpaces, SheetVersion, SheetVersions,
 };

@@ -1,6 +1,8 @@
 // Objects by hand: the bytes were worked out from the ELF structures by a program of its own, and readelf
 // shows what the sheets say.
-use crate::{Sheet, SheetExport, SheetNeed, SheetPlace, SheetVersion, is_sheet, object};
+use crate::{
+    Sheet, SheetExport, SheetMore, SheetNeed, SheetPlace, SheetVersion, is_sheet, object,
+};
 use km_names::{Blob, List, Name};
 use std::alloc::{AllocError, Global};
 use std::test::Fail;
@@ -176,13 +178,14 @@ fn unpacked(alloc: Global, length: usize, runs: &[(usize, &[u8])]) -> Result<Vec
 #[test]
 fn objects_have_the_bytes_of_the_structures(rt: HostRuntime) -> Result<(), Fail> {
     let alloc = rt.alloc();
+    let none = SheetMore::none(alloc);
     let sheet = text_alone(alloc)?;
-    assert!(rt; is_sheet(alloc, &sheet)?);
+    assert!(rt; is_sheet(alloc, &sheet, &none)?);
     let got = object(alloc, &sheet)?;
     let want = unpacked(alloc, 760, &TEXT_ALONE)?;
     assert_eq!(rt; got.as_bytes(), want.as_slice());
     let sheet = one_of_each(alloc)?;
-    assert!(rt; is_sheet(alloc, &sheet)?);
+    assert!(rt; is_sheet(alloc, &sheet, &none)?);
     let got = object(alloc, &sheet)?;
     let want = unpacked(alloc, 992, &ONE_OF_EACH)?;
     assert_eq!(rt; got.as_bytes(), want.as_slice());
@@ -192,6 +195,7 @@ fn objects_have_the_bytes_of_the_structures(rt: HostRuntime) -> Result<(), Fail>
 #[test]
 fn sheets_that_are_none(rt: HostRuntime) -> Result<(), Fail> {
     let alloc = rt.alloc();
+    let none = SheetMore::none(alloc);
     for name in [b"".as_slice(), b"f", b"f\0", b"printk"] {
         let mut sheet = one_of_each(alloc)?;
         let export = SheetExport {
@@ -200,10 +204,10 @@ fn sheets_that_are_none(rt: HostRuntime) -> Result<(), Fail> {
         };
         sheet.exports.push(export)?;
         let fits = name.is_empty();
-        assert_eq!(rt; is_sheet(alloc, &sheet)?, fits);
+        assert_eq!(rt; is_sheet(alloc, &sheet, &none)?, fits);
     }
     let mut sheet = one_of_each(alloc)?;
     sheet.needs = List::new(alloc);
-    assert!(rt; !is_sheet(alloc, &sheet)?);
+    assert!(rt; !is_sheet(alloc, &sheet, &none)?);
     Ok(())
 }
