@@ -117,7 +117,7 @@ abbrev pub no_place : RelaPlace
 no_place = record { section = 0; entry = 0; target = 0; offset = 0; symbol = 0; kind = 0; addend = pos 0 }
 
 abbrev pub no_span : Span
-no_span = record { start = 0; end = 0 }
+no_span = record { offset = 0; target = 0; width = 0 }
 
 -- the same counts have the same least shared number
 pub IsLeastShared-same : (f g : ℕ → ℕ) → ((a : ℕ) → f a ≡ g a) → (r : Option ℕ) → IsLeastShared f r → IsLeastShared g r

@@ -1,5 +1,5 @@
--- Bytes that two places change. The bytes of all sections stand in one line here, 2^32 of them for each section,
--- so that a byte has one number.
+-- Bytes that two places change, as the search for them sees them: the bytes of all sections stand in one line, 2^32
+-- of them for each section, so that a byte has one number. No public contract cites it.
 use Rattle.std.specs.Prelude.{◌≡◌, ℕ, ◌+◌, ◌*◌, ◌^◌, ◌<◌, ◌≤◌, ◌&&◌, nat_lt, nat_le, Bool, List, Option, MatchOption}
 use Rattle.std.specs.List.{count_by}
 use Rattle.elf_object.specs.declared.place.RelaPlace.{RelaPlace}
@@ -14,11 +14,12 @@ is_between low high a = nat_le low a && nat_lt a high
 abbrev pub count_at : {X : Type 0} → (X → ℕ) → (X → ℕ) → ℕ → List X → ℕ
 count_at start finish a xs = count_by (λ x. is_between (start x) (finish x) a) xs
 
+-- The number of a span's first byte, and the end of its bytes.
 abbrev pub span_start : Span → ℕ
-span_start s = s.start
+span_start s = s.target * 2 ^ 32 + s.offset
 
 abbrev pub span_end : Span → ℕ
-span_end s = s.end
+span_end s = span_start s + s.width
 
 -- The number of a place's first byte, and the end of its bytes.
 abbrev pub place_start : RelaPlace → ℕ
@@ -33,13 +34,13 @@ IsNear p = 0 < place_width p → (p.target < 2 ^ 16) × (p.offset + place_width 
 
 -- A span has a byte.
 abbrev pub IsLong : Span → Type 0
-IsLong s = s.start < s.end
+IsLong s = 0 < s.width
 
 -- The span has the bytes of the place.
 pub record IsSpanOf (p : RelaPlace) (s : Span) : Type 0 where
-  pub start : s.start ≡ place_start p
-  pub end : s.end ≡ place_end p
-  pub long : 0 < place_width p
+  pub start : span_start s ≡ place_start p
+  pub end : span_end s ≡ place_end p
+  pub long : 0 < s.width
 
 -- No number is counted twice, or a is the least that is.
 abbrev pub IsLeastShared : (ℕ → ℕ) → Option ℕ → Type 0

@@ -1,18 +1,20 @@
 // One symbol, and the symbol table.
 
-ghost use Rattle.std.specs.Prelude.{◌≡◌, ◌+◌, ◌*◌, ◌<◌, ◌≤◌, ◌⊎◌, length, All, None, Some, IfOk, IfErr, OnOk};
+ghost use Rattle.std.specs.Prelude.{◌≡◌, ◌+◌, ◌*◌, ◌≤◌, ◌⊎◌, length, None, Some, IfOk, IfErr, OnOk};
 ghost use Rattle.std.specs.Result.{result_err};
+ghost use Rattle.km_names.specs.Limit.{file_limit};
 ghost use Rattle.km_names.specs.First.{first};
 ghost use Rattle.elf_object.specs.Shape.{each};
-ghost use Rattle.elf_object.specs.Symbols.{IsSectionBelow, entries, is_bad_symbol, kind_test, symbol_entry, symbol_in, symbol_test_in, symbols_in};
+ghost use Rattle.elf_object.specs.Inner.{HasStrings};
+ghost use Rattle.elf_object.specs.Symbols.{entries, is_bad_symbol, kind_test, symbol_entry, symbol_in, symbol_test_in, symbols_in};
 
-use crate::format::{
-    SHN_ABS, SHN_COMMON, SHN_LORESERVE, SHN_UNDEF, SHN_XINDEX, STB_LOCAL, STB_WEAK,
-};
-use crate::strings::text_at;
+use crate::strings::{NAME_LIMIT, string_within};
 use crate::{ObjectFault, SectionFault};
-use km_names::{List, Name, le_u16_at, le_u32_at, le_u64_at};
-use std::alloc::Global;
+use elf_format::{
+    SHN_ABS, SHN_COMMON, SHN_LORESERVE, SHN_UNDEF, SHN_XINDEX, STB_LOCAL, STB_WEAK, SYM_SIZE,
+};
+use km_names::{List, Name, le_u16_at, le_u32_at, le_u64_at, string_at};
+use std::alloc::{AllocError, Global};
 
 /// A symbol of a file. gABI 4, "Symbol Table", Elf64_Sym.
 #[derive(Drop)]
@@ -36,16 +38,13 @@ pub(crate) struct SymbolEntry {
     pub(crate) value: u64,
 }
 
-/// The bytes of an entry of a symbol table, and of a relocation.
-pub(crate) const ENTRY: usize = 24;
-
 /// The entry `index` of a symbol table.
 #[tactic(auto, unfolding(crate::specs::Symbols::symbol_entry))]
 fn symbol_entry(table: &[u8], index: u32) -> SymbolEntry
     requires { 24 * index + 24 ≤ length table.now }
     ensures { result ≡ symbol_entry table.now index }
 {
-    let at = ENTRY * index as usize;
+    let at = SYM_SIZE * index as usize;
     SymbolEntry {
         name: le_u32_at(table, at),
         info: table[at + 4],
@@ -83,21 +82,59 @@ fn check_kind(count: u32, name: &[u8], index: u32, entry: &SymbolEntry) -> Resul
     Ok(())
 }
 
-/// The symbol `index` of a table, by its string table and the count of sections.
-#[tactic(auto, unfolding(crate::specs::Symbols::symbol_in, crate::specs::Symbols::symbol_test_in))]
-fn read_symbol(
-    alloc: Global,
+/// Tests the symbol `index` of a table, by its string table and the count of sections, and answers
+/// how many bytes its name has. It may have `left` bytes at most.
+#[tactic(auto, unfolding(crate::specs::Symbols::symbol_test_in))]
+fn check_symbol(
     table: &[u8],
     names: &[u8],
     count: u32,
     index: u32,
-) -> Result<Symbol, ObjectFault>
-    requires { 24 * index + 24 ≤ length table.now }
-    ensures symbol { IfOk result (λ s. s ≡ symbol_in table.now names.now index) }
+    left: usize,
+) -> Result<usize, ObjectFault>
+    requires entry { 24 * index + 24 ≤ length table.now }
+    requires left { left ≤ NAME_LIMIT }
+    ensures length { IfOk result (λ n. n ≤ left) }
     ensures passed { OnOk result (symbol_test_in table.now names.now count index ≡ None) }
     ensures fault { IfErr result
         (λ e. (e ≡ ObjectFault.Memory)
         ⊎ (symbol_test_in table.now names.now count index ≡ Some e)) }
+{
+    if index == 0 {
+        return Ok(0);
+    }
+    let entry = symbol_entry(table, index);
+    let Some(name) = string_within(names, entry.name, left)? else {
+        return Err(ObjectFault::Shape(SectionFault::BadString {
+            offset: u64::from(entry.name),
+        }));
+    };
+    check_kind(count, name, index, &entry)?;
+    Ok(name.len())
+}
+
+/// Tests the symbols of a table, by its string table and the count of sections, and that all their
+/// names together aren't too long to be kept.
+pub(crate) fn check_symbols(table: &[u8], names: &[u8], count: u32) -> Result<(), ObjectFault>
+    requires { length table.now ≤ file_limit }
+    ensures passed { OnOk result
+        (first (each (entries table.now) (symbol_test_in table.now names.now count)) ≡ None) }
+    ensures fault { IfErr result
+        (λ e. (e ≡ ObjectFault.Memory)
+        ⊎ (first (each (entries table.now) (symbol_test_in table.now names.now count)) ≡ Some e)) }
+{
+    let mut left = NAME_LIMIT;
+    for index in 0..(table.len() / SYM_SIZE) as u32 {
+        left -= check_symbol(table, names, count, index, left)?;
+    }
+    Ok(())
+}
+
+/// The symbol `index` of a table, by its string table.
+#[tactic(auto, unfolding(crate::specs::Symbols::symbol_in))]
+fn read_symbol(alloc: Global, table: &[u8], names: &[u8], index: u32) -> Result<Symbol, AllocError>
+    requires { 24 * index + 24 ≤ length table.now }
+    ensures { IfOk result (λ s. s ≡ symbol_in table.now names.now index) }
 {
     if index == 0 {
         return Ok(Symbol {
@@ -108,41 +145,31 @@ fn read_symbol(
         });
     }
     let entry = symbol_entry(table, index);
-    let Some(name) = text_at(names, entry.name) else {
-        return Err(ObjectFault::Shape(SectionFault::BadString {
-            offset: u64::from(entry.name),
-        }));
+    let name = match string_at(names, entry.name as usize) {
+        Some(name) => Name::from_slice(alloc, name)?,
+        None => Name::new(alloc),
     };
-    check_kind(count, name, index, &entry)?;
     Ok(Symbol {
-        name: Name::from_slice(alloc, name)?,
+        name,
         binding: entry.info / 16,
         section: entry.section,
         value: entry.value,
     })
 }
 
-/// The symbols of a table, by its string table and the count of sections.
+/// The symbols of a table, by its string table.
 pub(crate) fn read_symbols(
     alloc: Global,
     table: &[u8],
     names: &[u8],
-    count: u32,
-) -> Result<List<Symbol>, ObjectFault>
-    requires small { length table.now ≤ 67108864 }
-    requires some { 0 < count }
-    ensures inside { IfOk result (All (IsSectionBelow count)) }
-    ensures symbols { IfOk result (λ l. l ≡ symbols_in table.now names.now) }
-    ensures passed { OnOk result
-        (first (each (entries table.now) (symbol_test_in table.now names.now count)) ≡ None) }
-    ensures fault { IfErr result
-        (λ e. (e ≡ ObjectFault.Memory)
-        ⊎ (first (each (entries table.now) (symbol_test_in table.now names.now count)) ≡ Some e)) }
+) -> Result<List<Symbol>, AllocError>
+    requires { length table.now ≤ file_limit }
+    ensures { IfOk result (λ l. l ≡ symbols_in table.now names.now) }
 {
-    let entries = table.len() / ENTRY;
+    let entries = table.len() / SYM_SIZE;
     let mut symbols = Vec::with_capacity(alloc, entries)?;
     for index in 0..entries as u32 {
-        symbols.push(read_symbol(alloc, table, names, count, index)?)?;
+        symbols.push(read_symbol(alloc, table, names, index)?)?;
     }
     Ok(List::from_vec(symbols))
 }
