@@ -2,7 +2,6 @@
 use Rattle.std.proofs.Common.{◌≡◌, ℕ, ◌+◌, ◌-◌, ◌≤◌, List, [], ◌∷◌, ◌++◌, length, take, drop, fold, refl, sym, ap, ◌∙◌, arith}
 use Rattle.std.proofs.lemmas.List.{append-nil, append_assoc, length-append, length-replicate, length-drop, take_rest, take_at, drop-drop, drop_all}
 use borrow.Rule.Slice.PartMut.{put_mid}
-use Rattle.elf_format.specs.declared.file_header.TheConstants.{EHDR_SIZE}
 use Rattle.tree_gen.specs.declared.file.ObjectFile.{ObjectFile}
 use Rattle.tree_gen.specs.declared.part.Part.{Part}
 use Rattle.tree_gen.specs.Number.{zeros, half, word, xword, with_nul}

@@ -1,5 +1,5 @@
 -- What the conditions of a sheet say to its writer.
-use Rattle.std.proofs.Common.{◌≡◌, ℕ, ◌<◌, ◌≤◌, ◌^◌, Bool, true, false, not, ◌&&◌, ◌==◌, nat_le, nat_lt, List, [], ◌∷◌, ◌++◌, length, map, All, sym, true≢false, refl, ap, ◌∙◌}
+use Rattle.std.proofs.Common.{◌≡◌, ℕ, ◌<◌, ◌≤◌, ◌^◌, Bool, true, false, not, ◌&&◌, ◌==◌, nat_le, nat_lt, List, [], ◌∷◌, length, map, All, sym, true≢false, refl, ◌∙◌}
 use Rattle.std.proofs.lemmas.Bool.{leb-true, ltb-true}
 use Rattle.std.proofs.lemmas.List.Elements.{All-nil, All-cons}
 use Rattle.std.proofs.lemmas.List.Folds.{list_all-append, list_all-map}
@@ -10,7 +10,7 @@ use Rattle.tree_gen.specs.declared.sheet.SheetMore.{SheetMore}
 use Rattle.tree_gen.specs.declared.sheet.SheetNeed.{SheetNeed}
 use Rattle.tree_gen.specs.declared.sheet.SheetSpace.{SheetSpace}
 use Rattle.tree_gen.specs.declared.sheet.SheetVersion.{SheetVersion}
-use Rattle.tree_gen.specs.Sheet.{is_few, is_text, is_version, is_extended, is_space, is_among, are_few, are_texts, are_known, are_distinct, is_sheet, symbol_names, export_names, place_names, spaced_names}
+use Rattle.tree_gen.specs.Sheet.{is_few, is_text, is_version, is_extended, is_space, are_few, are_texts, are_known, is_sheet, symbol_names, export_names}
 
 -- how long the lists, names and texts are at most
 pub record Fits (s : Sheet) (m : SheetMore) : Type 0 where

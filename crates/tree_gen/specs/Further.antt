@@ -1,6 +1,6 @@
 -- The sections that a sheet has for what is more, each only where its list isn't empty: extended versions, GPL-only
 -- exports and the texts of namespaces. The kernel's include/linux/export.h, scripts/mod/modpost.c.
-use Rattle.std.specs.Prelude.{ℕ, ◌+◌, ◌*◌, List, [], ◌∷◌, ◌++◌, length, map, take, codes, Option, option_map, position}
+use Rattle.std.specs.Prelude.{ℕ, ◌+◌, ◌*◌, List, [], ◌∷◌, ◌++◌, length, take, codes, Option, option_map, position}
 use Rattle.std.specs.List.{flat_map}
 use Rattle.std.specs.Str.{bytes_eq}
 use Rattle.elf_format.specs.declared.section.TheConstants.{SHT_PROGBITS, SHF_ALLOC}

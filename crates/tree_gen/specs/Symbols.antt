@@ -9,7 +9,7 @@ use Rattle.tree_gen.specs.declared.sheet.SheetExport.{SheetExport}
 use Rattle.tree_gen.specs.declared.sheet.SheetMore.{SheetMore}
 use Rattle.tree_gen.specs.declared.sheet.SheetNeed.{SheetNeed}
 use Rattle.tree_gen.specs.Sheet.{is_among, symbol_names}
-use Rattle.tree_gen.specs.Number.{half, word, xword, zeros, with_nul}
+use Rattle.tree_gen.specs.Number.{half, word, xword, with_nul}
 use Rattle.tree_gen.specs.Further.{gpl_section, strings_section, space_place}
 
 -- A symbol, by its name and its numbers.

@@ -67,11 +67,7 @@ fn further_part(alloc: Global, name: &[u8], content: Vec<u8>) -> Result<Part, Al
 }
 
 /// Puts the sections of extended versions at the end.
-fn push_versions(
-    alloc: Global,
-    parts: &mut Vec<Part>,
-    more: &SheetMore,
-) -> Result<(), AllocError>
+fn push_versions(alloc: Global, parts: &mut Vec<Part>, more: &SheetMore) -> Result<(), AllocError>
     requires { All (λ v. v.crc < 2 ^ 32) more.now.ext }
     ensures { OnOk result (parts.new.items ≡ parts.old.items ++ version_parts more.now) }
 {

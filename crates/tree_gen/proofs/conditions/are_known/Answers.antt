@@ -1,15 +1,14 @@
-use Rattle.std.proofs.Common.{◌≡◌, ℕ, ◌≤◌, List, ◌&&◌, length, map, ap, ◌∙◌, arith}
+use Rattle.std.proofs.Common.{◌≡◌, ℕ, List, ◌&&◌, length, map, ap, ◌∙◌, arith}
 use Rattle.std.specs.List.{list_all}
 use Rattle.tree_gen.specs.declared.sheet.SheetExport.{SheetExport}
 use Rattle.tree_gen.specs.declared.sheet.SheetPlace.{SheetPlace}
 use Rattle.tree_gen.specs.declared.sheet.SheetSpace.{SheetSpace}
-use Rattle.tree_gen.specs.Sheet.{are_chosen, are_distinct, are_known, export_names, is_among, place_names, spaced_names, symbol_names}
+use Rattle.tree_gen.specs.Sheet.{are_chosen, are_distinct, are_known, export_names, is_among, place_names, spaced_names}
 use Rattle.tree_gen.specs.Writing.{names_of}
 use Rattle.tree_gen.proofs.NameLemmas.{map-same}
-use Rattle.tree_gen.proofs.SheetLemmas.{Few, few}
+use Rattle.tree_gen.proofs.SheetLemmas.{few}
 use Rattle.tree_gen.proofs.SymbolLemmas.{length-named, length-names_of, length-symbol_names}
 use Rattle.tree_gen.proofs.conditions.are_known.Goals as goal
-
 
 pub are_distinct-requires : goal.are_distinct-requires
 are_distinct-requires c =

@@ -1,4 +1,4 @@
-use Rattle.std.proofs.Common.{◌≡◌, ◌≤◌, ◌*◌, map, length}
+use Rattle.std.proofs.Common.{◌≡◌, ◌≤◌, ◌*◌, map}
 use Rattle.std.specs.List.{range_with_len}
 use Rattle.tree_gen.specs.Further.{text_place}
 use Rattle.tree_gen.proofs.further.text_places.Given as goal

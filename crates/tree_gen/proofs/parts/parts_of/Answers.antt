@@ -1,4 +1,4 @@
-use Rattle.tree_gen.proofs.SheetLemmas.{Fits, fits}
+use Rattle.tree_gen.proofs.SheetLemmas.{fits}
 use Rattle.tree_gen.proofs.parts.parts_of.Goals as goal
 
 pub new-requires-clause-gpl : goal.new-requires-clause-gpl

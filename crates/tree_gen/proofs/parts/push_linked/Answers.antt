@@ -1,9 +1,9 @@
-use Rattle.std.proofs.Common.{◌≡◌, ℕ, ◌+◌, ◌++◌, ◌∷◌, [], codes, length, ap, ◌∙◌, arith}
+use Rattle.std.proofs.Common.{◌≡◌, ◌+◌, ◌++◌, ◌∷◌, [], codes, length, ap, ◌∙◌, arith}
 use Rattle.std.specs.List.{flat_map}
 use Rattle.tree_gen.specs.Symbols.{local_symbols, local_count, locals}
 use Rattle.tree_gen.specs.Object.{linked_parts, table}
 use Rattle.tree_gen.proofs.PartLemmas.{part, three-more}
-use Rattle.tree_gen.proofs.SheetLemmas.{Fits, fits}
+use Rattle.tree_gen.proofs.SheetLemmas.{fits}
 use Rattle.tree_gen.proofs.parts.push_linked.Goals as goal
 
 pub local_count-locals-requires : goal.local_count-locals-requires

@@ -1,4 +1,4 @@
-use Rattle.std.proofs.Common.{◌≡◌, ℕ, List, ◌+◌, ◌*◌, ◌<◌, ◌≤◌, ◌++◌, length, map, get_or, take, Some, ap, sym, subst, ◌∙◌, arith}
+use Rattle.std.proofs.Common.{◌≡◌, ◌+◌, ◌*◌, ◌++◌, length, map, get_or, take, Some, ap, sym, subst, ◌∙◌, arith}
 use Rattle.std.proofs.lemmas.List.{take_all}
 use Rattle.std.specs.List.{flat_map}
 use Rattle.std.specs.Int.{w64, cast_unsigned}
@@ -9,7 +9,7 @@ use Rattle.tree_gen.specs.Symbols.{local_symbols, symbol_number}
 use Rattle.tree_gen.specs.Contents.{places_bytes}
 use Rattle.tree_gen.specs.Writing.{names_of}
 use Rattle.tree_gen.proofs.NameLemmas.{name-within}
-use Rattle.tree_gen.proofs.SheetLemmas.{Fits, fits}
+use Rattle.tree_gen.proofs.SheetLemmas.{fits}
 use Rattle.tree_gen.proofs.SymbolLemmas.{length-symbol_names, length-names_of, number-is, places-all, places-next}
 use Rattle.tree_gen.proofs.relocations.relocations.Goals as goal
 

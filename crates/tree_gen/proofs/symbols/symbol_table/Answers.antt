@@ -2,7 +2,7 @@ use Rattle.std.proofs.Common.{◌≤◌, All, length, map, sym, subst, ap, arith
 use Rattle.std.specs.List.{flat_map}
 use Rattle.tree_gen.specs.Symbols.{local_symbols, export_symbols, need_symbol}
 use Rattle.tree_gen.specs.Writing.{Adds}
-use Rattle.tree_gen.proofs.SheetLemmas.{Fits, fits}
+use Rattle.tree_gen.proofs.SheetLemmas.{fits}
 use Rattle.tree_gen.proofs.SymbolLemmas.{table-adds, table-entries, table-names}
 use Rattle.tree_gen.proofs.symbols.symbol_table.Goals as goal
 

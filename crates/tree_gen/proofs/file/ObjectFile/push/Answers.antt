@@ -1,4 +1,4 @@
-use Rattle.std.proofs.Common.{◌≡◌, ℕ, ◌++◌, length, ap, ◌∙◌, arith}
+use Rattle.std.proofs.Common.{◌++◌, length, ap, ◌∙◌, arith}
 use Rattle.tree_gen.proofs.FileLemmas.{put-content, put-header, put-name}
 use Rattle.tree_gen.proofs.file.ObjectFile.push.Goals as goal
 

@@ -2,7 +2,6 @@ use Rattle.std.proofs.Common.{◌≡◌, ℕ, List, map, Some, ap, subst, ◌∙
 use Rattle.name_table.specs.NameTable.{IsTableOf}
 use Rattle.tree_gen.specs.declared.sheet.SheetSpace.{SheetSpace}
 use Rattle.tree_gen.specs.Sheet.{spaced_names}
-use Rattle.tree_gen.specs.Further.{text_place}
 use Rattle.tree_gen.specs.Writing.{names_of}
 use Rattle.tree_gen.proofs.NameLemmas.{map-same}
 use Rattle.tree_gen.proofs.further.Further.new.Goals as goal
