@@ -89,8 +89,3 @@ string_at-same table n past at =
 -- what is said of a string of a table under another that has the same strings
 pub HasStrings-cut : (table : List ℕ) (n : ℕ) → ((k : ℕ) → n ≤ k → k < length table → is_nul (get_or table k 0) ≡ false) → HasStrings table (take n table)
 HasStrings-cut table n past = record { strings = string_at-same table n past }
-
--- a string of what is left is one of the table
-pub string_at-cut : (table : List ℕ) (n at : ℕ) (s : List ℕ) → string_at (take n table) at ≡ Some s → string_at table at ≡ Some s
-string_at-cut table n at s found =
-    first_string-front_at (drop at (take n table)) (drop at table) (position is_nul (drop at (take n table))) refl (IsFront-cut table n at) s found

@@ -1,8 +1,9 @@
 -- Bytes that two places change, as the search for them sees them: the bytes of all sections stand in one line, 2^32
 -- of them for each section, so that a byte has one number. No public contract cites it.
-use Rattle.std.specs.Prelude.{◌≡◌, ℕ, ◌+◌, ◌*◌, ◌^◌, ◌<◌, ◌≤◌, ◌&&◌, nat_lt, nat_le, Bool, List, Option, MatchOption}
+use Rattle.std.specs.Prelude.{◌≡◌, ℕ, ◌+◌, ◌*◌, ◌^◌, ◌<◌, ◌≤◌, ◌&&◌, nat_lt, nat_le, Bool, true, List, Option, MatchOption}
 use Rattle.std.specs.List.{count_by}
 use Rattle.elf_object.specs.declared.place.RelaPlace.{RelaPlace}
+use Rattle.elf_object.specs.declared.overlap.Order.{Order}
 use Rattle.elf_object.specs.declared.overlap.Span.{Span}
 use Rattle.elf_object.specs.Places.{place_width}
 
@@ -35,6 +36,15 @@ IsNear p = 0 < place_width p → (p.target < 2 ^ 16) × (p.offset + place_width 
 -- A span has a byte.
 abbrev pub IsLong : Span → Type 0
 IsLong s = 0 < s.width
+
+-- No number is counted twice, and none from `end` on is counted.
+pub record IsApart {X : Type 0} (start finish : X → ℕ) (xs : List X) (end : ℕ) : Type 0 where
+  pub once : (a : ℕ) → count_at start finish a xs ≤ 1
+  pub past : (a : ℕ) → end ≤ a → count_at start finish a xs ≡ 0
+
+-- Where the order holds, the places stand apart and before its end.
+abbrev pub IsOrderOf : Order → List RelaPlace → Type 0
+IsOrderOf order places = order.holds ≡ true → IsApart place_start place_end places order.end
 
 -- The span has the bytes of the place.
 pub record IsSpanOf (p : RelaPlace) (s : Span) : Type 0 where

@@ -14,7 +14,7 @@ ghost use Rattle.elf_object.specs.Inner.{TablesFit};
 
 use crate::places::{check_alignments, check_overlaps, read_places};
 use crate::strings::up_to_last_nul;
-use crate::symbol::{check_symbols, read_symbols};
+use crate::symbol::{check_name_sum, read_symbols};
 use crate::tables::{check_rel, check_tables, symbol_table, symbol_tables};
 use crate::{ObjectFault, RelaPlace, Section, Sections, Symbol};
 use km_names::{Blob, List};
@@ -22,7 +22,7 @@ use std::alloc::Global;
 use std::marker::Model;
 
 /// The sections, the symbols and the places of an object file, with its bytes. Contracts see all four.
-#[derive(Drop)]
+#[derive(Debug, Drop)]
 pub struct Object {
     sections: Sections,
     symbols: List<Symbol>,
@@ -59,8 +59,8 @@ fn read_symbol_table(alloc: Global, sections: &Sections) -> Result<List<Symbol>,
     check_tables(sections, number)?;
     let (table, strings) = symbol_tables(sections, number);
     let names = up_to_last_nul(strings);
-    check_symbols(table, names, count)?;
-    Ok(read_symbols(alloc, table, names)?)
+    check_name_sum(table, names)?;
+    read_symbols(alloc, table, names, count)
 }
 
 /// Reads the places of a file, with the tests of the sections that they change.
@@ -79,8 +79,8 @@ fn read_all_places(
         (λ e. (e ≡ ObjectFault.Memory) ⊎ (first (place_tests sections.now.file) ≡ Some e)) }
 {
     check_alignments(sections)?;
-    let places = read_places(alloc, sections, symbols)?;
-    check_overlaps(alloc, sections, places.as_slice())?;
+    let (places, order) = read_places(alloc, sections, symbols)?;
+    check_overlaps(alloc, sections, places.as_slice(), &order)?;
     Ok(places)
 }
 

@@ -1,9 +1,10 @@
 // Bytes that two places change.
 
-ghost use Rattle.std.specs.Prelude.{◌≡◌, ◌≤◌, All, IfOk, IsTrue, MatchOption, ℕ};
+ghost use Rattle.std.specs.Prelude.{◌≡◌, [], ◌∷◌, ◌++◌, All, IfOk, List, MatchOption, ℕ};
 ghost use Rattle.std.specs.List.Sorted.{IsNonDecreasingBy};
 ghost use Rattle.elf_object.specs.Places.{place_width};
-ghost use Rattle.elf_object.specs.Overlap.{IsLeastShared, IsLong, IsNear, IsSpanOf, count_at, place_end, place_start, span_end, span_start};
+ghost use Rattle.elf_object.specs.Overlap.{IsLeastShared, IsLong, IsNear, IsOrderOf, IsSpanOf, count_at, place_end, place_start, span_end, span_start};
+ghost use Rattle.elf_object.specs.declared.place.RelaPlace.{RelaPlace};
 
 use crate::RelaPlace;
 use elf_format::width;
@@ -11,6 +12,46 @@ use std::alloc::{AllocError, Global};
 
 /// How many bytes each section has where the bytes of all stand in one line.
 pub(crate) const SECTION: u64 = 1 << 32;
+
+/// Whether the places that were met stand in order and apart, and where the last of them ends in the line of all
+/// sections' bytes. No two places in order share a byte.
+#[derive(Clone, Copy)]
+pub(crate) struct Order {
+    pub(crate) end: u64,
+    pub(crate) holds: bool,
+}
+
+impl Order {
+    ghost use Rattle.elf_object.specs.Overlap.{IsNear, IsOrderOf};
+    ghost use Rattle.elf_object.specs.Places.{place_width};
+
+    /// The order of no place.
+    pub(crate) fn new() -> Self
+        ensures { IsOrderOf result [] }
+    {
+        Order {
+            end: 0,
+            holds: true,
+        }
+    }
+
+    /// Meets the next place, which changes `width` bytes.
+    pub(crate) fn meet(&mut self, place: &RelaPlace, width: u8)
+        requires near { IsNear place.now }
+        requires width { place_width place.now ≡ width }
+        ensures { (places : List RelaPlace) → IsOrderOf self.old places
+            → IsOrderOf self.new (places ++ place.now ∷ []) }
+    {
+        if width == 0 {
+            return;
+        }
+        let start = u64::from(place.target) * SECTION + place.offset;
+        if start < self.end {
+            self.holds = false;
+        }
+        self.end = start + u64::from(width);
+    }
+}
 
 /// The bytes that a place changes: `width` bytes from `offset` on of the section `target`. It is small, since
 /// there may be one for each relocation of a file.
@@ -55,23 +96,6 @@ fn span_of(place: &RelaPlace) -> Option<Span>
     })
 }
 
-/// Whether the places stand in order and apart. Where they do, no two share a byte.
-fn are_apart(places: &[RelaPlace]) -> bool
-    requires { All IsNear places.now }
-    ensures { IsTrue result → (a : ℕ) → count_at place_start place_end a places.now ≤ 1 }
-{
-    let mut end = 0;
-    for place in places {
-        if let Some(span) = span_of(place) {
-            if span.start() < end {
-                return false;
-            }
-            end = span.end();
-        }
-    }
-    true
-}
-
 /// The bytes of each place that changes any.
 fn spans_of(alloc: Global, places: &[RelaPlace]) -> Result<Vec<Span>, AllocError>
     requires { All IsNear places.now }
@@ -107,12 +131,17 @@ fn first_shared(spans: &[Span]) -> Option<u64>
 }
 
 /// The least byte that two places share. Places in order, as tools write them, take no memory.
-pub(crate) fn find_shared(alloc: Global, places: &[RelaPlace]) -> Result<Option<u64>, AllocError>
-    requires { All IsNear places.now }
+pub(crate) fn find_shared(
+    alloc: Global,
+    places: &[RelaPlace],
+    order: &Order,
+) -> Result<Option<u64>, AllocError>
+    requires near { All IsNear places.now }
+    requires order { IsOrderOf order.now places.now }
     ensures { IfOk result
         (λ r. IsLeastShared (λ a. count_at place_start place_end a places.now) r) }
 {
-    if are_apart(places) {
+    if order.holds {
         return Ok(None);
     }
     let mut spans = spans_of(alloc, places)?;

@@ -1,10 +1,10 @@
 // One place that a relocation changes.
 
-ghost use Rattle.std.specs.Prelude.{◌≡◌, ◌+◌, ◌*◌, ◌<◌, ◌≤◌, length, Some};
+ghost use Rattle.std.specs.Prelude.{◌≡◌, ◌+◌, ◌*◌, ◌<◌, ◌≤◌, length, IfOk, Some};
 ghost use Rattle.std.specs.Result.{result_err};
 ghost use Rattle.km_names.specs.Number.{signed};
 ghost use Rattle.elf_format.specs.Relocation.{width};
-ghost use Rattle.elf_object.specs.Places.{is_bad_place, is_unkept, place_in, place_test};
+ghost use Rattle.elf_object.specs.Places.{is_bad_place, is_unkept, place_in, place_test, place_width};
 
 use crate::{ObjectFault, Section, Symbol};
 use elf_format::{R_X86_64_NONE, RELA_SIZE, SHN_UNDEF, SHT_NOBITS, width};
@@ -87,15 +87,17 @@ fn is_bad_place(
         || is_unkept(sections, symbols, place.symbol)
 }
 
-/// Tests a place in its section.
+/// Tests a place in its section, and answers how many bytes it changes.
 #[tactic(auto, unfolding(crate::specs::Places::place_test))]
 pub(crate) fn check_place(
     sections: &[Section],
     symbols: &[Symbol],
     target: &Section,
     place: &RelaPlace,
-) -> Result<(), ObjectFault>
-    ensures { result_err result ≡ place_test sections.now symbols.now target.now place.now }
+) -> Result<u8, ObjectFault>
+    ensures fault { result_err result
+        ≡ place_test sections.now symbols.now target.now place.now }
+    ensures width { IfOk result (λ size. place_width place.now ≡ size) }
 {
     let (section, entry) = (place.section, place.entry);
     if symbols.len() <= place.symbol as usize {
@@ -111,5 +113,5 @@ pub(crate) fn check_place(
     if place.kind != R_X86_64_NONE && is_bad_place(sections, symbols, target, place, size) {
         return Err(ObjectFault::BadRela { section, entry });
     }
-    Ok(())
+    Ok(size)
 }

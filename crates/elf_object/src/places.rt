@@ -9,8 +9,9 @@ ghost use Rattle.elf_object.specs.Sections.{IsRead};
 ghost use Rattle.elf_object.specs.Symbols.{symbols_of};
 ghost use Rattle.elf_object.specs.Places.{align_test, is_alignment, is_applied, overlap_test, places_of, rela_test, section_places};
 ghost use Rattle.elf_object.specs.Inner.{TablesFit};
+ghost use Rattle.elf_object.specs.Overlap.{IsOrderOf};
 
-use crate::overlap::{SECTION, find_shared};
+use crate::overlap::{Order, SECTION, find_shared};
 use crate::place::{check_place, place_at};
 use crate::{ObjectFault, RelaPlace, Sections, Symbol};
 use elf_format::{PAGE, RELA_SIZE, SHT_RELA};
@@ -82,13 +83,17 @@ fn read_section_places(
     symbols: &[Symbol],
     index: u32,
     places: &mut Vec<RelaPlace>,
+    order: &mut Order,
 ) -> Result<(), ObjectFault>
     requires small { length sections.now.file ≤ file_limit }
+    requires read { IsRead sections.now.file sections.now.list }
+    requires order { IsOrderOf order.old places.old.items }
     requires fit { TablesFit sections.now.file }
     requires index { index < length sections.now.list }
     requires symbols { symbols.now ≡ symbols_of sections.now.file }
     ensures places { OnOk result
         (places.new.items ≡ places.old.items ++ section_places sections.now.file index) }
+    ensures order { OnOk result (IsOrderOf order.new places.new.items) }
     ensures passed { OnOk result (rela_test sections.now.file index ≡ None) }
     ensures fault { IfErr result (λ e. (e ≡ ObjectFault.Memory)
         ⊎ (rela_test sections.now.file index ≡ Some e)) }
@@ -101,22 +106,25 @@ fn read_section_places(
     let table = sections.section_bytes(index);
     for entry in 0..(table.len() / RELA_SIZE) as u32 {
         let place = place_at(table, index, number, entry);
-        check_place(sections.list(), symbols, target, &place)?;
+        let width = check_place(sections.list(), symbols, target, &place)?;
+        order.meet(&place, width);
         places.push(place)?;
     }
     Ok(())
 }
 
-/// Reads the places of a file.
+/// Reads the places of a file, and says whether they stand in order.
 pub(crate) fn read_places(
     alloc: Global,
     sections: &Sections,
     symbols: &[Symbol],
-) -> Result<List<RelaPlace>, ObjectFault>
+) -> Result<(List<RelaPlace>, Order), ObjectFault>
     requires small { length sections.now.file ≤ file_limit }
+    requires read { IsRead sections.now.file sections.now.list }
     requires fit { TablesFit sections.now.file }
     requires symbols { symbols.now ≡ symbols_of sections.now.file }
-    ensures places { IfOk result (λ l. l ≡ places_of sections.now.file) }
+    ensures places { IfOk result (λ r. r.0 ≡ places_of sections.now.file) }
+    ensures order { IfOk result (λ r. IsOrderOf r.1 r.0) }
     ensures passed { OnOk result
         (first (each (section_count sections.now.file) (rela_test sections.now.file)) ≡ None) }
     ensures fault { IfErr result
@@ -124,10 +132,11 @@ pub(crate) fn read_places(
         ⊎ (first (each (section_count sections.now.file) (rela_test sections.now.file)) ≡ Some e)) }
 {
     let mut places = Vec::with_capacity(alloc, relocation_count(sections)?)?;
+    let mut order = Order::new();
     for index in 0..sections.section_count() {
-        read_section_places(sections, symbols, index, &mut places)?;
+        read_section_places(sections, symbols, index, &mut places, &mut order)?;
     }
-    Ok(List::from_vec(places))
+    Ok((List::from_vec(places), order))
 }
 
 /// Tests that no byte is changed by two places.
@@ -135,11 +144,13 @@ pub(crate) fn check_overlaps(
     alloc: Global,
     sections: &Sections,
     places: &[RelaPlace],
+    order: &Order,
 ) -> Result<(), ObjectFault>
     requires small { length sections.now.file ≤ file_limit }
     requires fit { TablesFit sections.now.file }
     requires read { IsRead sections.now.file sections.now.list }
     requires places { places.now ≡ places_of sections.now.file }
+    requires order { IsOrderOf order.now places.now }
     requires passed { first (each (section_count sections.now.file) (rela_test sections.now.file))
         ≡ None }
     ensures passed { OnOk result
@@ -148,7 +159,7 @@ pub(crate) fn check_overlaps(
         (λ e. (e ≡ ObjectFault.Memory)
         ⊎ (first (each (section_count sections.now.file) (overlap_test sections.now.file)) ≡ Some e)) }
 {
-    match find_shared(alloc, places)? {
+    match find_shared(alloc, places, order)? {
         None => Ok(()),
         Some(byte) => Err(ObjectFault::OverlappingPlaces {
             section: (byte / SECTION) as u32,

@@ -1,19 +1,19 @@
 // One section.
 
-ghost use Rattle.std.specs.Prelude.{◌≡◌, ◌<◌, ◌≤◌, ◌⊎◌, None, Some, IfOk, IfErr, OnOk};
-ghost use Rattle.elf_object.specs.Shape.{HasTable, contents, is_for_loading, is_kept, name_in, name_table, name_test_in, section_count};
+ghost use Rattle.std.specs.Prelude.{◌≡◌, ◌<◌, ◌⊎◌, None, Some, IfOk, IfErr};
+ghost use Rattle.std.specs.Result.{result_err};
+ghost use Rattle.elf_object.specs.Shape.{HasTable, contents, is_for_loading, is_kept, name_in, name_table, name_test, name_test_in, section_count};
 ghost use Rattle.elf_object.specs.Sections.{section_of};
 ghost use Rattle.elf_object.specs.Inner.{HasStrings};
 
 use crate::SectionFault;
-use crate::header::{SectionHeader, section_header};
-use crate::strings::{NAME_LIMIT, string_within};
+use crate::header::section_header;
 use elf_format::{SHF_ALLOC, SHT_NULL};
 use km_names::{Name, string_at};
-use std::alloc::{AllocError, Global};
+use std::alloc::Global;
 
 /// A section of a file. gABI 4, "Sections", Elf64_Shdr.
-#[derive(Drop)]
+#[derive(Debug, Drop)]
 pub struct Section {
     /// The text at `sh_name` of the names; empty for a section of type NULL.
     pub name: Name,
@@ -55,41 +55,20 @@ fn is_kept(kind: u32, flags: u64, name: &[u8]) -> bool
     kind != SHT_NULL && flags & SHF_ALLOC != 0 && !is_for_loading(name)
 }
 
-/// How many bytes the name of a section has, by the table of names. It may have `left` bytes at most.
-#[tactic(auto, unfolding(crate::specs::Shape::name_test_in))]
-pub(crate) fn name_length(
-    names: &[u8],
-    header: &SectionHeader,
-    left: usize,
-) -> Result<usize, SectionFault>
-    requires { left ≤ NAME_LIMIT }
-    ensures length { IfOk result (λ n. n ≤ left) }
-    ensures passed { OnOk result (name_test_in names.now header.now.kind header.now.name ≡ None) }
-    ensures fault { IfErr result (λ e. (e ≡ SectionFault.Memory)
-        ⊎ (name_test_in names.now header.now.kind header.now.name ≡ Some e)) }
-{
-    if header.kind == SHT_NULL {
-        return Ok(0);
-    }
-    match string_within(names, header.name, left)? {
-        Some(name) => Ok(name.len()),
-        None => Err(SectionFault::BadString {
-            offset: u64::from(header.name),
-        }),
-    }
-}
-
-/// The name of a section, by the table of names, where it has one.
-#[tactic(auto, unfolding(crate::specs::Shape::name_in))]
-fn section_name(names: &[u8], kind: u32, at: u32) -> &[u8]
-    ensures { result.now ≡ name_in names.now kind at }
+/// The name of a section, by the table of names.
+#[tactic(auto, unfolding(crate::specs::Shape::name_in, crate::specs::Shape::name_test_in))]
+fn section_name<'a>(names: &'a [u8], kind: u32, at: u32) -> Result<&'a [u8], SectionFault>
+    ensures name { IfOk result (λ name. name.now ≡ name_in names.now kind at) }
+    ensures fault { result_err result ≡ name_test_in names.now kind at }
 {
     if kind == SHT_NULL {
-        return &[];
+        return Ok(&[]);
     }
     match string_at(names, at as usize) {
-        Some(name) => name,
-        None => &[],
+        Some(name) => Ok(name),
+        None => Err(SectionFault::BadString {
+            offset: u64::from(at),
+        }),
     }
 }
 
@@ -100,14 +79,17 @@ pub(crate) fn read_section(
     bytes: &[u8],
     names: &[u8],
     index: u16,
-) -> Result<Section, AllocError>
+) -> Result<Section, SectionFault>
     requires table { HasTable bytes.now }
     requires index { index < section_count bytes.now }
     requires names { HasStrings (contents bytes.now (name_table bytes.now)) names.now }
-    ensures { IfOk result (λ s. s ≡ section_of bytes.now index) }
+    ensures section { IfOk result (λ s. s ≡ section_of bytes.now index) }
+    ensures passed { IfOk result (λ _. name_test bytes.now index ≡ None) }
+    ensures fault { IfErr result (λ e. (e ≡ SectionFault.Memory)
+        ⊎ (name_test bytes.now index ≡ Some e)) }
 {
     let header = section_header(bytes, index);
-    let name = section_name(names, header.kind, header.name);
+    let name = section_name(names, header.kind, header.name)?;
     Ok(Section {
         name: Name::from_slice(alloc, name)?,
         kind: header.kind,

@@ -13,7 +13,7 @@ use std::alloc::Global;
 use std::marker::Model;
 
 /// The sections of an object file, with its bytes. Contracts see both.
-#[derive(Drop)]
+#[derive(Debug, Drop)]
 pub struct Sections {
     bytes: Blob,
     sections: List<Section>,

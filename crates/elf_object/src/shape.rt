@@ -10,8 +10,8 @@ ghost use Rattle.elf_object.specs.Inner.{HasStrings};
 use crate::header::{
     SectionHeader, check_header, is_within, name_table, section_count, section_header,
 };
-use crate::section::{name_length, read_section};
-use crate::strings::{NAME_LIMIT, up_to_last_nul};
+use crate::section::read_section;
+use crate::strings::{NAME_LIMIT, are_within_limit, left_after, up_to_last_nul};
 use crate::{Section, SectionFault};
 use elf_format::{SHT_NOBITS, SHT_NULL, SHT_STRTAB};
 use km_names::List;
@@ -96,29 +96,34 @@ pub(crate) fn contents(bytes: &[u8], index: u16) -> &[u8]
     content(bytes, header.kind, header.offset, header.size)
 }
 
-/// Tests that each section has its name in the table of names, and that all names together aren't too long to
-/// be kept.
-fn check_names(bytes: &[u8], names: &[u8]) -> Result<(), SectionFault>
+/// Tests that the names of all sections together aren't too long to be kept.
+fn check_name_sum(bytes: &[u8], names: &[u8]) -> Result<(), AllocError>
+    requires { HasTable bytes.now }
+{
+    let count = section_count(bytes);
+    if are_within_limit(usize::from(count), names) {
+        return Ok(());
+    }
+    let mut left = NAME_LIMIT;
+    for index in 0..count {
+        let header = section_header(bytes, index);
+        if header.kind != SHT_NULL {
+            left = left_after(names, header.name, left)?;
+        }
+    }
+    Ok(())
+}
+
+/// Reads the sections, by the table of names.
+fn read_sections(alloc: Global, bytes: &[u8], names: &[u8]) -> Result<List<Section>, SectionFault>
     requires table { HasTable bytes.now }
     requires names { HasStrings (contents bytes.now (name_table bytes.now)) names.now }
+    ensures sections { IfOk result (λ l. l ≡ sections_of bytes.now) }
     ensures passed { OnOk result
         (first (each (section_count bytes.now) (name_test bytes.now)) ≡ None) }
     ensures fault { IfErr result
         (λ e. (e ≡ SectionFault.Memory)
         ⊎ (first (each (section_count bytes.now) (name_test bytes.now)) ≡ Some e)) }
-{
-    let mut left = NAME_LIMIT;
-    for index in 0..section_count(bytes) {
-        left -= name_length(names, &section_header(bytes, index), left)?;
-    }
-    Ok(())
-}
-
-/// The sections of a file, by the texts of the table of names.
-fn read_sections(alloc: Global, bytes: &[u8], names: &[u8]) -> Result<List<Section>, AllocError>
-    requires table { HasTable bytes.now }
-    requires names { HasStrings (contents bytes.now (name_table bytes.now)) names.now }
-    ensures { IfOk result (λ l. l ≡ sections_of bytes.now) }
 {
     let count = section_count(bytes);
     let mut sections = Vec::with_capacity(alloc, count as usize)?;
@@ -139,6 +144,6 @@ pub(crate) fn read_shape(alloc: Global, bytes: &[u8]) -> Result<List<Section>, S
     check_places(bytes)?;
     check_name_table(bytes)?;
     let names = up_to_last_nul(contents(bytes, name_table(bytes)));
-    check_names(bytes, names)?;
-    Ok(read_sections(alloc, bytes, names)?)
+    check_name_sum(bytes, names)?;
+    read_sections(alloc, bytes, names)
 }

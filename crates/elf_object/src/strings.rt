@@ -1,7 +1,6 @@
 // Strings in string tables. gABI 4, "String Table".
 
-ghost use Rattle.std.specs.Prelude.{◌≡◌, ◌≤◌, length, IfOk, IfSome, option_copied};
-ghost use Rattle.km_names.specs.Strings.{string_at};
+ghost use Rattle.std.specs.Prelude.{◌<◌, ◌≤◌, IfOk};
 ghost use Rattle.elf_object.specs.Inner.{HasStrings};
 
 use km_names::{FILE_LIMIT, string_at};
@@ -13,24 +12,30 @@ use std::alloc::AllocError;
 /// real module together have less than a tenth of this.
 pub const NAME_LIMIT: usize = 4 * FILE_LIMIT;
 
-/// The string at the place `at` of a string table, where it has at most `left` bytes. No more than one byte past
-/// them is looked at.
+/// How many bytes names may still have after the string at the place `at` of a table, of which there were `left`.
+/// No more than one byte past those is looked at.
 ///
 /// # Errors
 ///
 /// Where the string is longer.
-pub(crate) fn string_within(table: &[u8], at: u32, left: usize) -> Result<Option<&[u8]>, AllocError>
+pub(crate) fn left_after(table: &[u8], at: u32, left: usize) -> Result<usize, AllocError>
     requires { left ≤ NAME_LIMIT }
-    ensures string { IfOk result (λ found. option_copied found ≡ string_at table.now at) }
-    ensures short { IfOk result (λ found. IfSome found (λ s. length s.now ≤ left)) }
+    ensures { IfOk result (λ rest. rest ≤ left) }
 {
     let at = at as usize;
     let end = (at + left + 1).min(table.len());
     match string_at(&table[..end], at) {
-        Some(found) => Ok(Some(found)),
+        Some(name) => Ok(left - name.len()),
         None if end < table.len() => Err(AllocError),
-        None => Ok(None),
+        None => Ok(left),
     }
+}
+
+/// Whether `count` strings of a table are together within the limit, whichever they are.
+pub(crate) fn are_within_limit(count: usize, table: &[u8]) -> bool
+    requires { 0 < count }
+{
+    table.len() <= NAME_LIMIT / count
 }
 
 /// A string table up to its last NUL. It has the same strings, and past its end none is searched for.

@@ -5,10 +5,9 @@ ghost use Rattle.std.specs.Result.{result_err};
 ghost use Rattle.km_names.specs.Limit.{file_limit};
 ghost use Rattle.km_names.specs.First.{first};
 ghost use Rattle.elf_object.specs.Shape.{each};
-ghost use Rattle.elf_object.specs.Inner.{HasStrings};
 ghost use Rattle.elf_object.specs.Symbols.{entries, is_bad_symbol, kind_test, symbol_entry, symbol_in, symbol_test_in, symbols_in};
 
-use crate::strings::{NAME_LIMIT, string_within};
+use crate::strings::{NAME_LIMIT, are_within_limit, left_after};
 use crate::{ObjectFault, SectionFault};
 use elf_format::{
     SHN_ABS, SHN_COMMON, SHN_LORESERVE, SHN_UNDEF, SHN_XINDEX, STB_LOCAL, STB_WEAK, SYM_SIZE,
@@ -17,7 +16,7 @@ use km_names::{List, Name, le_u16_at, le_u32_at, le_u64_at, string_at};
 use std::alloc::{AllocError, Global};
 
 /// A symbol of a file. gABI 4, "Symbol Table", Elf64_Sym.
-#[derive(Drop)]
+#[derive(Debug, Drop)]
 pub struct Symbol {
     /// The text at `st_name` of the symbol table's string table.
     pub name: Name,
@@ -82,59 +81,36 @@ fn check_kind(count: u32, name: &[u8], index: u32, entry: &SymbolEntry) -> Resul
     Ok(())
 }
 
-/// Tests the symbol `index` of a table, by its string table and the count of sections, and answers
-/// how many bytes its name has. It may have `left` bytes at most.
-#[tactic(auto, unfolding(crate::specs::Symbols::symbol_test_in))]
-fn check_symbol(
-    table: &[u8],
-    names: &[u8],
-    count: u32,
-    index: u32,
-    left: usize,
-) -> Result<usize, ObjectFault>
-    requires entry { 24 * index + 24 ≤ length table.now }
-    requires left { left ≤ NAME_LIMIT }
-    ensures length { IfOk result (λ n. n ≤ left) }
-    ensures passed { OnOk result (symbol_test_in table.now names.now count index ≡ None) }
-    ensures fault { IfErr result
-        (λ e. (e ≡ ObjectFault.Memory)
-        ⊎ (symbol_test_in table.now names.now count index ≡ Some e)) }
-{
-    if index == 0 {
-        return Ok(0);
-    }
-    let entry = symbol_entry(table, index);
-    let Some(name) = string_within(names, entry.name, left)? else {
-        return Err(ObjectFault::Shape(SectionFault::BadString {
-            offset: u64::from(entry.name),
-        }));
-    };
-    check_kind(count, name, index, &entry)?;
-    Ok(name.len())
-}
-
-/// Tests the symbols of a table, by its string table and the count of sections, and that all their
-/// names together aren't too long to be kept.
-pub(crate) fn check_symbols(table: &[u8], names: &[u8], count: u32) -> Result<(), ObjectFault>
+/// Tests that the names of all symbols of a table together aren't too long to be kept.
+pub(crate) fn check_name_sum(table: &[u8], names: &[u8]) -> Result<(), AllocError>
     requires { length table.now ≤ file_limit }
-    ensures passed { OnOk result
-        (first (each (entries table.now) (symbol_test_in table.now names.now count)) ≡ None) }
-    ensures fault { IfErr result
-        (λ e. (e ≡ ObjectFault.Memory)
-        ⊎ (first (each (entries table.now) (symbol_test_in table.now names.now count)) ≡ Some e)) }
 {
+    let entries = table.len() / SYM_SIZE;
+    if entries == 0 || are_within_limit(entries, names) {
+        return Ok(());
+    }
     let mut left = NAME_LIMIT;
-    for index in 0..(table.len() / SYM_SIZE) as u32 {
-        left -= check_symbol(table, names, count, index, left)?;
+    for index in 1..entries as u32 {
+        left = left_after(names, symbol_entry(table, index).name, left)?;
     }
     Ok(())
 }
 
-/// The symbol `index` of a table, by its string table.
-#[tactic(auto, unfolding(crate::specs::Symbols::symbol_in))]
-fn read_symbol(alloc: Global, table: &[u8], names: &[u8], index: u32) -> Result<Symbol, AllocError>
+/// The symbol `index` of a table, by its string table and the count of sections.
+#[tactic(auto, unfolding(crate::specs::Symbols::symbol_in, crate::specs::Symbols::symbol_test_in))]
+fn read_symbol(
+    alloc: Global,
+    table: &[u8],
+    names: &[u8],
+    count: u32,
+    index: u32,
+) -> Result<Symbol, ObjectFault>
     requires { 24 * index + 24 ≤ length table.now }
-    ensures { IfOk result (λ s. s ≡ symbol_in table.now names.now index) }
+    ensures symbol { IfOk result (λ s. s ≡ symbol_in table.now names.now index) }
+    ensures passed { OnOk result (symbol_test_in table.now names.now count index ≡ None) }
+    ensures fault { IfErr result
+        (λ e. (e ≡ ObjectFault.Memory)
+        ⊎ (symbol_test_in table.now names.now count index ≡ Some e)) }
 {
     if index == 0 {
         return Ok(Symbol {
@@ -145,31 +121,39 @@ fn read_symbol(alloc: Global, table: &[u8], names: &[u8], index: u32) -> Result<
         });
     }
     let entry = symbol_entry(table, index);
-    let name = match string_at(names, entry.name as usize) {
-        Some(name) => Name::from_slice(alloc, name)?,
-        None => Name::new(alloc),
+    let Some(name) = string_at(names, entry.name as usize) else {
+        return Err(ObjectFault::Shape(SectionFault::BadString {
+            offset: u64::from(entry.name),
+        }));
     };
+    check_kind(count, name, index, &entry)?;
     Ok(Symbol {
-        name,
+        name: Name::from_slice(alloc, name)?,
         binding: entry.info / 16,
         section: entry.section,
         value: entry.value,
     })
 }
 
-/// The symbols of a table, by its string table.
+/// The symbols of a table, by its string table and the count of sections.
 pub(crate) fn read_symbols(
     alloc: Global,
     table: &[u8],
     names: &[u8],
-) -> Result<List<Symbol>, AllocError>
+    count: u32,
+) -> Result<List<Symbol>, ObjectFault>
     requires { length table.now ≤ file_limit }
-    ensures { IfOk result (λ l. l ≡ symbols_in table.now names.now) }
+    ensures symbols { IfOk result (λ l. l ≡ symbols_in table.now names.now) }
+    ensures passed { OnOk result
+        (first (each (entries table.now) (symbol_test_in table.now names.now count)) ≡ None) }
+    ensures fault { IfErr result
+        (λ e. (e ≡ ObjectFault.Memory)
+        ⊎ (first (each (entries table.now) (symbol_test_in table.now names.now count)) ≡ Some e)) }
 {
     let entries = table.len() / SYM_SIZE;
     let mut symbols = Vec::with_capacity(alloc, entries)?;
     for index in 0..entries as u32 {
-        symbols.push(read_symbol(alloc, table, names, index)?)?;
+        symbols.push(read_symbol(alloc, table, names, count, index)?)?;
     }
     Ok(List::from_vec(symbols))
 }

@@ -2,7 +2,7 @@ use Rattle.std.proofs.Common.{◌<◌, get_or, arith}
 use Rattle.std.proofs.lemmas.List.{get_or_default, take_all}
 use Rattle.std.proofs.lemmas.List.Elements.{All-get_or}
 use Rattle.elf_object.specs.Overlap.{IsLong, span_end, span_start}
-use Rattle.elf_object.proofs.SpanLemmas.{Apart-more, IsLeastShared-found, Reaches-more, no_span}
+use Rattle.elf_object.proofs.SpanLemmas.{IsApart-more, IsLeastShared-found, Reaches-more, no_span}
 use Rattle.elf_object.proofs.overlap.first_shared.Goals as goal
 
 pub returns-then-start-end : goal.returns-then-start-end
@@ -24,7 +24,7 @@ loop-span-preserved c =
     let is = get_or_default spans i no_span s c.loop-span-test.true in
     let long : 0 < s.width = All-get_or IsLong spans i no_span c.loop-span-test.true c.requires.long in
     rw c.end-end.ensures (record {
-      apart = Apart-more span_start span_end spans i s c.loop-span.end c.loop-span-test.true is c.loop-span.invariant.apart
+      apart = IsApart-more span_start span_end spans i s c.loop-span.end c.loop-span-test.true is c.loop-span.invariant.apart
           (rw c.start-start.ensures at c.if-start-end.false) (omega arith);
       reaches = Reaches-more span_start span_end spans i s c.loop-span-test.true is;
     })

@@ -7,8 +7,8 @@ use Rattle.elf_object.proofs.OverlapLemmas.{IsNear-inside, overlaps-found, overl
 use Rattle.elf_object.proofs.PlaceLemmas.{All-places_of}
 use Rattle.elf_object.proofs.places.check_overlaps.Goals as goal
 
-pub find_shared-requires : goal.find_shared-requires
-find_shared-requires c =
+pub find_shared-requires-clause-near : goal.find_shared-requires-clause-near
+find_shared-requires-clause-near c =
     let b = c.args.sections.now.file in
     let inside = All-places_of b c.requires.read.table c.requires.read.within c.requires.fit c.requires.passed in
     rw c.requires.places

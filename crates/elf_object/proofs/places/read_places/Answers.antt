@@ -22,6 +22,7 @@ loop-index-preserved c =
     let b = c.args.sections.now.file in
     record {
       tests = below_more _ _ c.loop-index.invariant.tests c.in_ok-read_section_places.ensures.passed;
+      in_order = c.in_ok-read_section_places.ensures.order;
       places_are =
           c.in_ok-read_section_places.ensures.places
           ∙ rw c.loop-index.invariant.places_are (sym (places-more b c.loop-index.index));

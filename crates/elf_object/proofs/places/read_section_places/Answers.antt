@@ -6,8 +6,9 @@ use Rattle.elf_object.specs.Shape.{contents}
 use Rattle.elf_object.specs.Sections.{section_of, sections_of}
 use Rattle.elf_object.specs.Symbols.{entries, symbols_of}
 use Rattle.elf_object.specs.Places.{place_of, place_test}
+use Rattle.elf_object.proofs.OverlapLemmas.{IsNear-inside}
 use Rattle.elf_object.proofs.TestLemmas.{each-failed, each-passed}
-use Rattle.elf_object.proofs.PlaceLemmas.{is_applied-kind, rela_test-none, rela_test-some, section_places-none, section_places-some}
+use Rattle.elf_object.proofs.PlaceLemmas.{IsInSection-place, is_applied-kind, rela_test-none, rela_test-some, section_places-none, section_places-some}
 use Rattle.elf_object.proofs.places.read_section_places.Goals as goal
 
 pub returns-then-not-is_applied-clause-places : goal.returns-then-not-is_applied-clause-places
@@ -27,12 +28,12 @@ section-target-requires c =
     let index = c.requires.index in
     rw (← count, c.section.ensures.header) (c.requires.fit.targets c.args.index (omega arith) (is_applied-kind b c.args.index applied))
 
-pub returns-in_err-check_place-clause-fault : goal.returns-in_err-check_place-clause-fault
-returns-in_err-check_place-clause-fault c =
+pub returns-in_err-width-clause-fault : goal.returns-in_err-width-clause-fault
+returns-in_err-width-clause-fault c =
     let b = c.args.sections.now.file in
     let i = c.args.index in
     let applied = sym c.is_applied.ensures ∙ c.if-not-is_applied.false in
-    let failed = rw (c.list.ensures, c.requires.symbols, c.section-target.ensures.header, c.place_at-place.ensures, c.section_bytes-table.ensures.header, c.section.ensures.header) at (sym c.in_err-check_place.ensures) in
+    let failed = rw (c.list.ensures, c.requires.symbols, c.section-target.ensures.header, c.place_at-place.ensures, c.section_bytes-table.ensures.header, c.section.ensures.header) at (sym c.in_err-width.ensures.fault) in
     let table = ap length c.section_bytes-table.ensures.header in
     let p = err_from_is_err_and c.from_residual.result c.from_residual.ensures.1 in
     rw (p.1, p.2)
@@ -46,15 +47,30 @@ loop-entry-preserved c =
     let b = c.args.sections.now.file in
     let i = c.args.index in
     let n = c.loop-entry.entry in
-    let passed = rw (c.list.ensures, c.requires.symbols, c.section-target.ensures.header, c.place_at-place.ensures, c.section_bytes-table.ensures.header, c.section.ensures.header) at (sym c.in_ok-check_place.ensures) in
+    let passed = rw (c.list.ensures, c.requires.symbols, c.section-target.ensures.header, c.place_at-place.ensures, c.section_bytes-table.ensures.header, c.section.ensures.header) at (sym c.in_ok-width.ensures.fault) in
     let place = rw (c.section_bytes-table.ensures.header, c.section.ensures.header) at c.place_at-place.ensures in
     record {
       tests = below_more _ _ c.loop-entry.invariant.tests passed;
+      in_order = rw c.in_ok-push.ensures.items (c.meet.ensures c.loop-entry.places.items c.loop-entry.invariant.in_order);
       places_are =
           c.in_ok-push.ensures.items
           ∙ rw (c.loop-entry.invariant.places_are, place, map-range_with_len_more (place_of b i) 0 n n (omega arith))
           (append_assoc c.args.places.now.items _ _);
     }
+
+pub meet-requires-clause-near : goal.meet-requires-clause-near
+meet-requires-clause-near c =
+    let b = c.args.sections.now.file in
+    let i = c.args.index in
+    let n = c.loop-entry.entry in
+    let passed = rw (c.list.ensures, c.requires.symbols, c.section-target.ensures.header, c.place_at-place.ensures, c.section_bytes-table.ensures.header, c.section.ensures.header) at (sym c.in_ok-width.ensures.fault) in
+    let place = rw (c.section_bytes-table.ensures.header, c.section.ensures.header) at c.place_at-place.ensures in
+    let applied = sym c.is_applied.ensures ∙ c.if-not-is_applied.false in
+    let count = c.section.ensures.count in
+    let index = c.requires.index in
+    let target = c.requires.fit.targets i (omega arith) (is_applied-kind b i applied) in
+    rw place (IsNear-inside b (place_of b i n) c.requires.small
+    (IsInSection-place b i n c.requires.read.table c.requires.read.within applied target passed))
 
 pub returns-clause-places : goal.returns-clause-places
 returns-clause-places c =

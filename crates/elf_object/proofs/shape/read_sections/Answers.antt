@@ -1,18 +1,40 @@
-use Rattle.std.proofs.Common.{◌≡◌, sym, ◌∙◌, arith}
+use Rattle.std.proofs.Common.{◌≡◌, sym, ◌∙◌, inl, inr, below_more, arith}
+use Rattle.std.proofs.lemmas.Result.{err_from_is_err_and}
 use Rattle.std.proofs.lemmas.List.FromFn.{map-range_with_len_more}
-use Rattle.elf_object.specs.Shape.{section_count}
+use Rattle.elf_object.specs.Shape.{name_test, section_count}
 use Rattle.elf_object.specs.Sections.{section_of, sections_of}
+use Rattle.elf_object.proofs.TestLemmas.{each-failed, each-passed}
 use Rattle.elf_object.proofs.shape.read_sections.Goals as goal
+
+pub returns-in_err-read_section-clause-fault : goal.returns-in_err-read_section-clause-fault
+returns-in_err-read_section-clause-fault c =
+    let b = c.args.bytes.now in
+    let p = err_from_is_err_and c.from_residual-in_err-read_section.result c.from_residual-in_err-read_section.ensures.1 in
+    rw (p.1, p.2)
+    (elim c.in_err-read_section.ensures.fault [
+      | inl memory ↦ inl memory
+      | inr failed ↦ inr (each-failed (section_count b) (name_test b) c.loop-index.index _ (omega arith) c.loop-index.invariant.tests failed)
+    ])
 
 pub loop-index-preserved : goal.loop-index-preserved
 loop-index-preserved c =
+    let b = c.args.bytes.now in
     let i = c.loop-index.index in
-    c.in_ok-push.ensures.items
-    ∙ rw (c.loop-index.invariant, c.in_ok-read_section.ensures)
-    (sym (map-range_with_len_more (section_of c.args.bytes.now) 0 i i (omega arith)))
+    record {
+      tests = below_more _ _ c.loop-index.invariant.tests c.in_ok-read_section.ensures.passed;
+      sections_are =
+          c.in_ok-push.ensures.items
+          ∙ rw (c.loop-index.invariant.sections_are, c.in_ok-read_section.ensures.section)
+          (sym (map-range_with_len_more (section_of b) 0 i i (omega arith)));
+    }
 
-pub returns : goal.returns
+pub returns-clause-sections : goal.returns-clause-sections
 unfolding sections_of
-returns c =
+returns-clause-sections c =
     let end : c.loop-index.index ≡ section_count c.args.bytes.now = omega arith in
-    c.from_vec.ensures ∙ rw end at c.loop-index.invariant
+    c.from_vec.ensures ∙ rw end at c.loop-index.invariant.sections_are
+
+pub returns-clause-passed : goal.returns-clause-passed
+returns-clause-passed c =
+    let b = c.args.bytes.now in
+    each-passed (section_count b) (name_test b) (λ k less. c.loop-index.invariant.tests k (omega arith))

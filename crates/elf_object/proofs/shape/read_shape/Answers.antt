@@ -1,9 +1,12 @@
-use Rattle.std.proofs.Common.{◌≡◌, ℕ, List, None, sym, ◌∙◌, inl, inr}
-use Rattle.std.proofs.lemmas.Result.{err_from_is_err_and}
+use Rattle.std.proofs.Common.{◌≡◌, Some, sym, ◌∙◌, ◌⊎◌, inl, inr}
+use Rattle.std.proofs.lemmas.Result.{IfErr-weaker, IfOk-weaker, err_from_is_err_and, on_ok_weaker}
 use Rattle.elf_object.proofs.ShapeLemmas.{shape_fault-header, shape_fault-names, shape_fault-places}
 use Rattle.km_names.specs.First.{first}
-use Rattle.elf_object.specs.Shape.{each, header_tests, name_table_test, name_test, place_test, section_count, shape_fault}
+use Rattle.elf_object.specs.declared.fault.SectionFault.TheVariants.{Memory}
+use Rattle.elf_object.specs.Shape.{each, name_test, section_count, shape_fault}
+use Rattle.elf_object.specs.Sections.{IsRead, sections_of}
 use Rattle.elf_object.proofs.shape.read_shape.Goals as goal
+use Rattle.elf_object.proofs.shape.read_shape.Goals.{After-read_sections}
 
 pub returns-in_err-check_header-clause-fault : goal.returns-in_err-check_header-clause-fault
 returns-in_err-check_header-clause-fault c =
@@ -25,29 +28,32 @@ returns-in_err-check_name_table-clause-fault c =
     let names = shape_fault-names b (sym c.in_ok-check_header.ensures.fault) (sym c.in_ok-check_places.ensures.fault) in
     rw (p.1, p.2) (inr (rw (← c.in_err-check_name_table.ensures) at names))
 
--- what is left to test once the header, the places and the table of names are
-names_left : (b : List ℕ) → first (header_tests b) ≡ None → first (each (section_count b) (place_test b)) ≡ None → name_table_test b ≡ None → shape_fault b ≡ first (each (section_count b) (name_test b))
-names_left b header places table = rw table at (shape_fault-names b header places)
-
-pub returns-in_err-check_names-clause-fault : goal.returns-in_err-check_names-clause-fault
-returns-in_err-check_names-clause-fault c =
-    let b = c.args.bytes.now in
-    let p = err_from_is_err_and c.from_residual-in_err-check_names.result c.from_residual-in_err-check_names.ensures.1 in
-    let left = names_left b (sym c.in_ok-check_header.ensures.fault) (sym c.in_ok-check_places.ensures.fault) (sym c.in_ok-check_name_table.ensures) in
-    rw (p.1, p.2)
-    (elim c.in_err-check_names.ensures.fault [
-      | inl memory ↦ inl memory
-      | inr failed ↦ inr (left ∙ failed)
-    ])
-
 pub returns-clause-read : goal.returns-clause-read
-returns-clause-read c = record {
-  list_is = c.in_ok-read_sections.ensures;
-  table = c.in_ok-check_header.ensures.table;
-  within = c.in_ok-check_places.ensures.within;
-}
+returns-clause-read c =
+    let b = c.args.bytes.now in
+    IfOk-weaker c.read_sections.result (λ l. l ≡ sections_of b) (λ l. IsRead b l)
+    (λ l is. record {
+      list_is = is;
+      table = c.in_ok-check_header.ensures.table;
+      within = c.in_ok-check_places.ensures.within;
+    })
+    c.read_sections.ensures.sections
+
+-- what is left to test once the header and the places are
+names_left : (c : After-read_sections) → shape_fault c.args.bytes.now ≡ first (each (section_count c.args.bytes.now) (name_test c.args.bytes.now))
+names_left c =
+    let names = shape_fault-names c.args.bytes.now (sym c.in_ok-check_header.ensures.fault) (sym c.in_ok-check_places.ensures.fault) in
+    rw (← c.in_ok-check_name_table.ensures) at names
 
 pub returns-clause-passed : goal.returns-clause-passed
 returns-clause-passed c =
-    names_left c.args.bytes.now (sym c.in_ok-check_header.ensures.fault) (sym c.in_ok-check_places.ensures.fault) (sym c.in_ok-check_name_table.ensures)
-    ∙ c.in_ok-check_names.ensures.passed
+    on_ok_weaker c.read_sections.result (λ passed. names_left c ∙ passed) c.read_sections.ensures.passed
+
+pub returns-clause-fault : goal.returns-clause-fault
+returns-clause-fault c =
+    let b = c.args.bytes.now in
+    IfErr-weaker c.read_sections.result
+    (λ e. (e ≡ Memory) ⊎ (first (each (section_count b) (name_test b)) ≡ Some e))
+    (λ e. (e ≡ Memory) ⊎ (shape_fault b ≡ Some e))
+    (λ e h. elim h [ inl memory ↦ inl memory | inr failed ↦ inr (names_left c ∙ failed) ])
+    c.read_sections.ensures.fault
