@@ -1,9 +1,9 @@
 use crate::transfer::read_limited;
 use crate::{
-    CallKind, DiskFiles, FILE_LIMIT, FileAnswer, Files, MemFiles, MemOut, Out, OutFailed, StdErr,
+    CallKind, DiskFiles, FileAnswer, Files, MemFiles, MemOut, Out, OutFailed, StdErr,
     StdOut, Stream,
 };
-use km_names::{Blob, PathText};
+use km_names::{Blob, FILE_LIMIT, PathText};
 use std::alloc::Global;
 use std::fs::File;
 use std::io::{ErrorKind, Read, Write};

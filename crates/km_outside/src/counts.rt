@@ -1,35 +1,44 @@
 ghost use Rattle.std.specs.Prelude.{◌≡◌};
-ghost use Rattle.km_outside.specs.CausesSeen.{no_causes, refused};
+ghost use Rattle.km_outside.specs.CallCounts.{made, no_counts, refused};
 
-use crate::FileAnswer;
+use crate::{FileAnswer, ReplaceAnswer};
 use std::marker::Model;
 
-/// How often calls of files were refused, by the cause. A count stands still at its type's end.
+/// How often calls of files were made, and refused by the cause. A count stands still at its type's end.
 #[derive(Drop)]
-pub(crate) struct Causes {
+pub(crate) struct Counts {
+    calls: u64,
     faults: u64,
     absences: u64,
     excesses: u64,
 }
 
-impl Model for Causes {
-    ghost use Rattle.km_outside.specs.CausesSeen.{CausesSeen};
+impl Model for Counts {
+    ghost use Rattle.km_outside.specs.CallCounts.{CallCounts};
 
-    ghost Value = { CausesSeen };
+    ghost Value = { CallCounts };
 
-    ghost view = { λ c. record { faults = c.faults; absences = c.absences; excesses = c.excesses } };
+    ghost view = { λ c. record { calls = c.calls; faults = c.faults; absences = c.absences; excesses = c.excesses } };
 }
 
-impl Causes {
+impl Counts {
     /// Nothing counted.
     pub(crate) fn new() -> Self
-        ensures { result ≡ no_causes }
+        ensures { result ≡ no_counts }
     {
-        Causes {
+        Counts {
+            calls: 0,
             faults: 0,
             absences: 0,
             excesses: 0,
         }
+    }
+
+    /// Counts one more call.
+    pub(crate) fn make(&mut self)
+        ensures { self.new ≡ made self.old }
+    {
+        self.calls = self.calls.saturating_add(1);
     }
 
     /// Counts the cause of a refusal, which is handed on.
