@@ -107,9 +107,11 @@ pub record Follows {T X : Type 0} (view : T → X) (stage : Stage X) (old new : 
   pub told : (shown : Shown) → Tells old shown → Told view (stage.run shown.files) shown new result
 
 -- What a check that knows nothing of files and outputs may answer, where this is what it is to come to: the
--- value, the end, or want of memory.
+-- value, the end, which isn't one that the objects are to blame for, or want of memory.
 abbrev pub Answers : {T X : Type 0} → (T → X) → Outcome X → Result T Stop → Type 0
 Answers view outcome (Ok x) = outcome ≡ value (view x)
+Answers view outcome (Err (Ended (NoFile path))) = ⊥
+Answers view outcome (Err (Ended (TooLarge path))) = ⊥
 Answers view outcome (Err (Ended e)) = outcome ≡ end e
 Answers view outcome (Err Memory) = ⊤
 Answers view outcome (Err _) = ⊥

@@ -114,16 +114,17 @@ impl MemFiles {
         if self.kinds.make(listing.kind()) {
             return Err(self.counts.refuse(FileAnswer::Failed));
         }
-        let prefix = join(alloc, dir, b"")?;
-        if count_listed(&self.files, Listing::Tree, prefix.as_bytes()) == 0 {
+        let folder = join(alloc, dir, b"")?;
+        let prefix = folder.as_bytes();
+        if count_listed(&self.files, Listing::Tree, prefix) == 0 {
             return Err(self.counts.refuse(FileAnswer::Absent));
         }
-        let count = count_listed(&self.files, listing, prefix.as_bytes());
+        let count = count_listed(&self.files, listing, prefix);
         if count > LIST_LIMIT {
             let length = count as u64;
             return Err(self.counts.refuse(FileAnswer::TooLarge { length }));
         }
-        Ok(collect_listed(alloc, &self.files, listing, prefix.as_bytes())?)
+        Ok(collect_listed(alloc, &self.files, listing, prefix)?)
     }
 }
 

@@ -2,6 +2,8 @@
 
 ghost use Rattle.std.specs.Prelude.{◌≡◌, IfOk, map, length};
 ghost use Rattle.std.specs.BTreeMap as tree;
+ghost use Rattle.std.specs.List.Sorted.{IsStrictlySortedBy};
+ghost use Rattle.km_outside.specs.Contents.{by_bytes};
 ghost use Rattle.km_outside.specs.Listing.{test_of, listed_of};
 
 use crate::listing::Listing;
@@ -15,7 +17,8 @@ pub(crate) fn count_listed(
     listing: Listing,
     prefix: &[u8],
 ) -> usize
-    ensures { result ≡ length (listed_of (test_of listing) prefix.now (map (λ path. path.items) (tree.keys files.now))) }
+    ensures count { result ≡ length (listed_of (test_of listing) prefix.now (map (λ path. path.items) (tree.keys files.now))) }
+    ensures rising { IsStrictlySortedBy by_bytes (map (λ path. path.items) (tree.keys files.now)) }
 {
     let mut count = 0;
     for path in files.keys() {

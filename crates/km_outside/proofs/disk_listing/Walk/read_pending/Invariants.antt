@@ -1,15 +1,9 @@
-use Rattle.std.proofs.Common.{◌≡◌, ◌≤◌, All, Bool, IfErr, IfOk, List, OnOk, length, map, true, vec_len, ℕ, ◌+◌, ◌-◌, ◌*◌, ◌<◌}
-use Rattle.std.specs.List.Sorted.{IsStrictlySortedBy}
-use Rattle.km_outside.specs.Contents.{by_bytes}
-use Rattle.km_outside.specs.DiskSeen.{IsPast}
+use Rattle.std.proofs.Common.{◌≡◌}
 use Rattle.km_outside.specs.WalkSeen.{IsSoundWalk, walk_left}
-use Rattle.km_outside.specs.declared.files.FileAnswer.TheVariants.{Memory}
-use Rattle.km_outside.specs.FilesSeen.{list_limit}
-use Rattle.km_outside.specs.Listing.{test_of}
 use Rattle.km_outside.proofs.disk_listing.Walk.read_pending.Given as goal
 
 abbrev pub invariant-loop-folder : goal.invariant-loop-folder
-invariant-loop-folder g l = ?
+invariant-loop-folder g l = IsSoundWalk l.self × (l.self.listing ≡ l.initial.self.listing)
 
 abbrev pub decreases-loop-folder : goal.decreases-loop-folder
-decreases-loop-folder g l = ?
+decreases-loop-folder g l = walk_left l.self
