@@ -1,4 +1,3 @@
 pub mod Steps
 pub mod Primitives
 pub mod Writes
-pub mod Carried

@@ -296,11 +296,11 @@ forgets view stage old new e f = record {
 }
 
 -- The exits of the branches of a choice.
-pub chosen : {T X : Type 0} (view : T → X) (test : Bool) (yes no : Stage X) (old new : World) (r : Result T Stop) → true ≡ test → Follows view yes old new r → Follows view (when test then yes else no) old new r
-chosen view test yes no old new r h f = subst (λ b. Follows view (when b then yes else no) old new r) h f
+pub chosen : {T X : Type 0} (view : T → X) (test : Bool) (first second : Stage X) (old new : World) (r : Result T Stop) → true ≡ test → Follows view first old new r → Follows view (when test then first else second) old new r
+chosen view test first second old new r h f = subst (λ b. Follows view (when b then first else second) old new r) h f
 
-pub passed_over : {T X : Type 0} (view : T → X) (test : Bool) (yes no : Stage X) (old new : World) (r : Result T Stop) → false ≡ test → Follows view no old new r → Follows view (when test then yes else no) old new r
-passed_over view test yes no old new r h f = subst (λ b. Follows view (when b then yes else no) old new r) h f
+pub passed_over : {T X : Type 0} (view : T → X) (test : Bool) (first second : Stage X) (old new : World) (r : Result T Stop) → false ≡ test → Follows view second old new r → Follows view (when test then first else second) old new r
+passed_over view test first second old new r h f = subst (λ b. Follows view (when b then first else second) old new r) h f
 
 -- Whatever follows the rest of a stage from here follows the whole from where it began: what a loop keeps.
 abbrev pub LeadsTo : {T X : Type 0} → (T → X) → Stage X → World → Stage X → World → Type 0

@@ -70,12 +70,16 @@ given outcome = record {
   possible = λ other. other ≡ outcome;
 }
 
--- this act, and no value worth naming
-unfoldable pub acts_alone : Act → Stage ⊤
-acts_alone act = record {
-  run = λ files. record { acts = act ∷ []; outcome = value tt };
-  possible = λ outcome. outcome ≡ value tt;
+-- this act, and the outcome that the files make of it; it is one of the possible ones
+unfoldable pub act_with : {X : Type 0} → Act → (Contents → Outcome X) → (Outcome X → Type 0) → Stage X
+act_with act outcome possible = record {
+  run = λ files. record { acts = act ∷ []; outcome = outcome files };
+  possible = possible;
 }
+
+-- this act, and no value worth naming
+abbrev pub acts_alone : Act → Stage ⊤
+acts_alone act = act_with act (λ files. value tt) (λ outcome. outcome ≡ value tt)
 
 -- no act, and this value
 abbrev pub gives : {X : Type 0} → X → Stage X
@@ -85,10 +89,11 @@ gives x = given (value x)
 abbrev pub ends : {X : Type 0} → End → Stage X
 ends e = given (end e)
 
--- the one stage where the test holds, else the other
+infix 1 when◌then◌else◌
+-- the first stage where the test holds, else the second
 abbrev pub when◌then◌else◌ : {X : Type 0} → Bool → Stage X → Stage X → Stage X
-when◌then◌else◌ true yes no = yes
-when◌then◌else◌ false yes no = no
+when◌then◌else◌ true first second = first
+when◌then◌else◌ false first second = second
 
 -- what reading the path comes to where these bytes, or nothing, are there; absent is what it comes to where
 -- nothing is
@@ -97,12 +102,11 @@ read_outcome absent path None = absent
 read_outcome absent path (Some bytes) = if nat_lt file_limit (length bytes) then end (TooLarge path) else value bytes
 
 -- the bytes of the file at the path, and this outcome where nothing is there
-unfoldable pub reads_or : Outcome (List ℕ) → List ℕ → Stage (List ℕ)
-reads_or absent path = record {
-  run = λ files. record { acts = read path ∷ []; outcome = read_outcome absent path (map.get files path) };
-  possible = λ outcome. (outcome ≡ absent) ⊎ (outcome ≡ end (TooLarge path))
-      ⊎ ((bytes : List ℕ) × (length bytes ≤ file_limit) × (outcome ≡ value bytes));
-}
+abbrev pub reads_or : Outcome (List ℕ) → List ℕ → Stage (List ℕ)
+reads_or absent path =
+    act_with (read path) (λ files. read_outcome absent path (map.get files path))
+    (λ outcome. (outcome ≡ absent) ⊎ (outcome ≡ end (TooLarge path))
+        ⊎ ((bytes : List ℕ) × (length bytes ≤ file_limit) × (outcome ≡ value bytes)))
 
 -- the bytes of the file at the path, which is needed
 abbrev pub reads : List ℕ → Stage (List ℕ)
@@ -119,16 +123,12 @@ list_outcome absent folder [] names = absent
 list_outcome absent folder (_ ∷ _) names = if nat_lt list_limit (length names) then end (TooLarge folder) else value names
 
 -- the names below the folder that pass the test, and this outcome where nothing lies below it
-unfoldable pub lists_or : Outcome (List (List ℕ)) → (List ℕ → Bool) → List ℕ → Stage (List (List ℕ))
-lists_or absent fits folder = record {
-  run = λ files. record {
-    acts = list folder ∷ [];
-    outcome = list_outcome absent folder (listed is_path folder files) (listed fits folder files);
-  };
-  possible = λ outcome. (outcome ≡ absent) ⊎ (outcome ≡ end (TooLarge folder))
-      ⊎ ((names : List (List ℕ)) × IsStrictlySortedBy by_bytes names × All (λ name. fits name ≡ true) names
-        × (length names ≤ list_limit) × (outcome ≡ value names));
-}
+abbrev pub lists_or : Outcome (List (List ℕ)) → (List ℕ → Bool) → List ℕ → Stage (List (List ℕ))
+lists_or absent fits folder =
+    act_with (list folder) (λ files. list_outcome absent folder (listed is_path folder files) (listed fits folder files))
+    (λ outcome. (outcome ≡ absent) ⊎ (outcome ≡ end (TooLarge folder))
+        ⊎ ((names : List (List ℕ)) × IsStrictlySortedBy by_bytes names × All (λ name. fits name ≡ true) names
+            × (length names ≤ list_limit) × (outcome ≡ value names)))
 
 -- the names of the configuration files in the folder, which is needed
 abbrev pub lists_conf : List ℕ → Stage (List (List ℕ))

@@ -51,7 +51,7 @@ inner room course files = given (inner_outcome room (course.run files) files)
 -- course left is told; with 1 or 2 it came to an end, whose line ends what err tells; with 3 an output was
 -- full.
 pub record InnerCame (room : ℕ) (run : Run ⊤) (files : Contents) (new : World) (status : ℕ) : Type 0 where
-  pub done : status ≡ 0 → (left : Left) × (inner_outcome room run files ≡ value left)
+  pub ended : status ≡ 0 → (left : Left) × (inner_outcome room run files ≡ value left)
       × (new.files.contents ≡ Some left.files) × (new.out.told ≡ Some left.out)
   pub refused : status ≡ 1 → (e : End) × (end_status e ≡ 1) × (inner_outcome room run files ≡ end (inner_end e))
       × (new.err.told ≡ Some ((done run.acts (bare files)).err ++ end_line e))

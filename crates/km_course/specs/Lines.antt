@@ -3,7 +3,7 @@ use Rattle.std.specs.Prelude.{ℕ, List, [], ◌∷◌, ◌++◌, codes}
 use Rattle.std.specs.List.{flat_map}
 use Rattle.std.specs.Fmt.{decimal}
 use Rattle.km_course.specs.declared.refusal.Refusal.{Refusal}
-use Rattle.km_course.specs.declared.refusal.Refusal.TheVariants.{BadModule, Compressed, Cycle, NotFound, Missing, Version, Double, BadIndex, BadDependencyLine, BadLine, InstallChosen, KernelWithoutAddress, ListedNotFound, ListedRefused, LoadRefused, TooManyModules, TooManyDependencies, TooManyDoubles, OutputTooLarge, BadPath, InnerOutputFull}
+use Rattle.km_course.specs.declared.refusal.Refusal.TheVariants.{BadModule, Compressed, Cycle, NotFound, Missing, Gpl, Version, Namespace, Double, BadIndex, BadDependencyLine, BadLine, InstallChosen, KernelWithoutAddress, ListedNotFound, ListedRefused, LoadRefused, TooManyModules, TooManyDependencies, TooManyDoubles, OutputTooLarge, BadPath, InnerOutputFull}
 use Rattle.km_course.specs.declared.end.End.{End}
 use Rattle.km_course.specs.declared.end.End.TheVariants.{Refused, NotUnderstood, NoFile, TooLarge, Inner}
 
@@ -49,6 +49,10 @@ refusal_text (NotFound name) = codes "not found " ++ name
 refusal_text (Missing path symbol) = codes "missing " ++ (path ++ (codes " " ++ symbol))
 refusal_text (Version path symbol provider) =
     codes "version " ++ (path ++ (codes " " ++ (symbol ++ (codes " " ++ provider))))
+refusal_text (Gpl path symbol provider) =
+    codes "gpl " ++ (path ++ (codes " " ++ (symbol ++ (codes " " ++ provider))))
+refusal_text (Namespace path symbol provider) =
+    codes "namespace " ++ (path ++ (codes " " ++ (symbol ++ (codes " " ++ provider))))
 refusal_text (Double symbol first second) =
     codes "double " ++ (symbol ++ (codes " " ++ (first ++ (codes " " ++ second))))
 refusal_text (BadIndex file text) = file ++ (codes ": " ++ text)

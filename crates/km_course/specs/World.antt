@@ -1,5 +1,5 @@
 -- What is seen of the three objects that the program is handed, and what acts do to what they tell.
-use Rattle.std.specs.Prelude.{◌≡◌, ℕ, ◌≤◌, List, [], ◌∷◌, ◌++◌, take, Option, Some, None, is_some}
+use Rattle.std.specs.Prelude.{◌≡◌, ℕ, zero, suc, ◌≤◌, List, [], ◌∷◌, ◌++◌, take, Option, Some, None, is_some}
 use Rattle.km_outside.specs.CallCounts.{NoneFell}
 use Rattle.km_outside.specs.Contents.{Contents}
 use Rattle.km_outside.specs.Counts.{one_more}

@@ -25,6 +25,19 @@ pub enum Refusal {
         symbol: Name,
         provider: PathText,
     },
+    /// The module at the path has no free licence, and needs a symbol that its provider, the path of a
+    /// module or `vmlinux`, exports to free modules alone.
+    Gpl {
+        path: PathText,
+        symbol: Name,
+        provider: PathText,
+    },
+    /// The module at the path needs a symbol of a namespace that it doesn't import.
+    Namespace {
+        path: PathText,
+        symbol: Name,
+        provider: PathText,
+    },
     /// Two modules, or the kernel and a module, export one symbol.
     Double {
         symbol: Name,
@@ -74,21 +87,28 @@ impl Refusal {
             Refusal::Missing { path, symbol } => {
                 spaced(alloc, b"missing ", path.as_bytes(), symbol.as_bytes())
             }
+            Refusal::Gpl {
+                path,
+                symbol,
+                provider,
+            } => unmet(alloc, b"gpl ", path, symbol, provider),
             Refusal::Version {
                 path,
                 symbol,
                 provider,
-            } => {
-                let pair = three(alloc, symbol.as_bytes(), b" ", provider.as_bytes())?;
-                spaced(alloc, b"version ", path.as_bytes(), pair.as_bytes())
-            }
+            } => unmet(alloc, b"version ", path, symbol, provider),
+            Refusal::Namespace {
+                path,
+                symbol,
+                provider,
+            } => unmet(alloc, b"namespace ", path, symbol, provider),
             Refusal::Double {
                 symbol,
                 first,
                 second,
             } => {
-                let pair = three(alloc, first.as_bytes(), b" ", second.as_bytes())?;
-                spaced(alloc, b"double ", symbol.as_bytes(), pair.as_bytes())
+                let sides = three(alloc, first.as_bytes(), b" ", second.as_bytes())?;
+                spaced(alloc, b"double ", symbol.as_bytes(), sides.as_bytes())
             }
             Refusal::BadIndex { file, text } => three(alloc, file.as_bytes(), b": ", text.as_bytes()),
             Refusal::BadDependencyLine { name } => {
@@ -148,6 +168,20 @@ fn spaced(alloc: Global, word: &[u8], first: &[u8], second: &[u8]) -> Result<Blo
     text.push(b' ')?;
     text.extend(second)?;
     Ok(text)
+}
+
+/// A word, the path of a module, a symbol that it needs and the symbol's provider.
+fn unmet(
+    alloc: Global,
+    word: &[u8],
+    path: &PathText,
+    symbol: &Name,
+    provider: &PathText,
+) -> Result<Blob, AllocError>
+    ensures { IfOk result (λ text. text ≡ word.now ++ (path.now ++ (codes " " ++ (symbol.now ++ (codes " " ++ provider.now))))) }
+{
+    let need = three(alloc, symbol.as_bytes(), b" ", provider.as_bytes())?;
+    spaced(alloc, word, path.as_bytes(), need.as_bytes())
 }
 
 /// The names along a cycle, an arrow between each two, and the first one again.
