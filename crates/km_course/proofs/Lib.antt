@@ -1,3 +1,5 @@
 pub mod Steps
 pub mod Primitives
 pub mod Writes
+pub mod Carried
+pub mod Inside

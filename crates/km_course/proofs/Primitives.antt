@@ -7,7 +7,7 @@ use Rattle.std.specs.Option.{option_map}
 use Rattle.std.specs.FinMap as map
 use Rattle.km_names.specs.Limit.{file_limit}
 use Rattle.km_outside.specs.CallCounts.{CallCounts, NoneFell, made, refused, answered}
-use Rattle.km_outside.specs.Contents.{Contents, listed, rests_below, is_path}
+use Rattle.km_outside.specs.Contents.{Contents, listed, rests_below, is_path, is_conf_name}
 use Rattle.km_outside.specs.Counts.{count_end, one_more}
 use Rattle.km_outside.specs.FilesSeen.{FilesSeen, ReadAnswers, IsReadAt, ListAnswers, IsListOf, ReplaceAnswers, list_limit}
 use Rattle.km_outside.specs.OutSeen.{OutSeen, WriteAnswers, LacksRoom}
@@ -180,6 +180,11 @@ fewer fits (rest ∷ rests) paths = by_tests (fits rest) (is_path rest) refl ref
     by_tests f true ef ep more e = cc
     by_tests false false ef ep more e = more e
     by_tests true false ef ep more e = absurd (differ (sym ep ∙ paths rest ef))
+
+-- the name of a configuration file has a byte
+pub conf_is_path : (name : List ℕ) → is_conf_name name ≡ true → is_path name ≡ true
+conf_is_path [] e = cc
+conf_is_path (byte ∷ name) e = lt-ltb 0 (length (byte ∷ name)) (omega arith)
 
 -- what is told of a listing decides its outcome
 list_few : (absent : Outcome (List (List ℕ))) (folder : List ℕ) (below names : List (List ℕ)) → below ≢ [] → length names ≤ list_limit → list_outcome absent folder below names ≡ value names

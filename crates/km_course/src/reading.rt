@@ -31,8 +31,10 @@ pub fn read_optional<F: Reads>(alloc: Global, files: &mut F, path: PathText) -> 
 {
     match files.read(alloc, &path) {
         Ok(bytes) => Ok(bytes),
-        Err(FileAnswer::Absent) => Ok(Blob::new(alloc)),
-        Err(answer) => Err(stop_at(answer, path)),
+        Err(answer) => match answer {
+            FileAnswer::Absent => Ok(Blob::new(alloc)),
+            _ => Err(stop_at(answer, path)),
+        },
     }
 }
 
@@ -62,8 +64,10 @@ pub fn list_conf_optional<F: Reads>(
 {
     match files.list_conf(alloc, &dir) {
         Ok(names) => Ok(names),
-        Err(FileAnswer::Absent) => Ok(Names::new(alloc)),
-        Err(answer) => Err(stop_at(answer, dir)),
+        Err(answer) => match answer {
+            FileAnswer::Absent => Ok(Names::new(alloc)),
+            _ => Err(stop_at(answer, dir)),
+        },
     }
 }
 

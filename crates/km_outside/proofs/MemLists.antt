@@ -92,8 +92,10 @@ found_list fits folder files =
   where
     below : List (List ℕ)
     below = listed is_path folder files.contents
+
     names : List (List ℕ)
     names = listed fits folder files.contents
+
     by_limit : (b : Bool) → nat_lt list_limit (length names) ≡ b → (length below == 0) ≡ false → IsListOf fits folder (mem_files_seen files) (if b then Err (TooLarge (min (length names) count_end)) else Ok names)
     by_limit true many some = (let over = ltb-true _ _ many in omega (arith, over), refl)
     by_limit false few some = (
@@ -102,6 +104,7 @@ found_list fits folder files =
       ltb-false _ _ few,
       (refl, some_names below some),
     )
+
     by_below : (b : Bool) → (length below == 0) ≡ b → IsListOf fits folder (mem_files_seen files) (if b then Err Absent else (if nat_lt list_limit (length names) then Err (TooLarge (min (length names) count_end)) else Ok names))
     by_below true none = no_names below none
     by_below false some = by_limit (nat_lt list_limit (length names)) refl some

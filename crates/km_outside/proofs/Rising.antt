@@ -99,6 +99,7 @@ after-is p path rest =
   where
     same : (a b : List ℕ) → Some a ≡ Some b → a ≡ b
     same a b e = cc
+
     by_test : (b : Bool) → bytes_eq (take (length p) path) p ≡ b → cond b (Some (drop (length p) path)) None ≡ Some rest → path ≡ p ++ rest
     by_test true is e = begins p path true is refl ∙ ap (λ r. p ++ r) (same _ _ e)
     by_test false is e = cc
@@ -136,6 +137,7 @@ filter-passes p xs = All-from_recursion (λ x. p x ≡ true) (filter p xs) (pass
     kept : (b : Bool) (x : List ℕ) (xs : List (List ℕ)) → p x ≡ b → AllByRecursion (λ y. p y ≡ true) xs → AllByRecursion (λ y. p y ≡ true) (cond b (x ∷ xs) xs)
     kept true x xs e h = (e, h)
     kept false x xs e h = h
+
     passes : (xs : List (List ℕ)) → AllByRecursion (λ y. p y ≡ true) (filter p xs)
     passes [] = tt
     passes (x ∷ xs) = kept (p x) x (filter p xs) refl (passes xs)
@@ -149,6 +151,7 @@ listed_of-listed fits prefix (path ∷ paths) =
     chosen : {xs ys : List (List ℕ)} (b : Bool) (rest : List ℕ) → xs ≡ ys → cons_option (cond b (Some rest) None) xs ≡ cond b (rest ∷ ys) ys
     chosen true rest e = ap (λ l. rest ∷ l) e
     chosen false rest e = e
+
     by_rest : (xs ys : List (List ℕ)) (o : Option (List ℕ)) → xs ≡ filter fits ys → cons_option (passing fits o) xs ≡ filter fits (cons_option o ys)
     by_rest xs ys None e = e
     by_rest xs ys (Some rest) e = chosen (fits rest) rest e

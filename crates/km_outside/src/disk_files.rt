@@ -93,12 +93,7 @@ impl<R: rt::Files + AllocGlobal + Clone + Drop> Writes for DiskFiles<R> {
     /// Writes a new file beside the old one, flushes it to the disk and gives it the old one's name. On
     /// any failure the new file is removed again. A link at the path is replaced itself, and what it led
     /// to stays as it was.
-    fn replace(
-        &mut self,
-        alloc: Global,
-        path: &PathText,
-        bytes: &[u8],
-    ) -> Result<(), ReplaceAnswer>
+    fn replace(&mut self, alloc: Global, path: &PathText, bytes: &[u8]) -> Result<(), ReplaceAnswer>
         ensures answers { ReplaceAnswers path.now bytes.now (disk_seen self.old) (disk_seen self.new) result }
         ensures after { self.new ≡ replied self.old result }
     {

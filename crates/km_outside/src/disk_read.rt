@@ -4,8 +4,8 @@ ghost use Rattle.std.specs.Prelude.{◌≡◌, ◌<◌, ◌≤◌, length, IfOk,
 ghost use Rattle.km_outside.specs.DiskSeen.{answer_of, IsPast};
 ghost use Rattle.km_names.specs.Limit.{file_limit};
 
-use crate::transfer::read_limited;
 use crate::FileAnswer;
+use crate::transfer::read_limited;
 use km_names::{Blob, FILE_LIMIT, PathText};
 use std::alloc::Global;
 use std::fs::{File, Metadata, OpenFile};

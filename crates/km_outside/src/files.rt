@@ -88,12 +88,7 @@ pub trait Reads {
 /// Files that can be replaced also.
 pub trait Writes: Reads {
     /// Puts a file of these bytes at the path, in place of what was there: whole, or not at all.
-    fn replace(
-        &mut self,
-        alloc: Global,
-        path: &PathText,
-        bytes: &[u8],
-    ) -> Result<(), ReplaceAnswer>
+    fn replace(&mut self, alloc: Global, path: &PathText, bytes: &[u8]) -> Result<(), ReplaceAnswer>
         ensures answers { ReplaceAnswers path.now bytes.now (Self.seen self.old) (Self.seen self.new) result };
 }
 

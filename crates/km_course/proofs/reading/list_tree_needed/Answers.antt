@@ -10,4 +10,4 @@ returns-in-Ok g c = λ out err. list_ok (end (NoFile c.args.dir)) is_path c.args
 
 pub returns-in-Err : goal.returns-in-Err
 returns-in-Err g c = λ out err. rw c.stop_at.ensures
-    (list_refused (end (NoFile c.args.dir)) is_path c.args.dir c.in-Err.answer (g.F.Reads.seen c.args.files.now) (g.F.Reads.seen c.list_tree.new.self) out err ? (λ _. refl) c.in-Err.ensures.answers)
+    (list_refused (end (NoFile c.args.dir)) is_path c.args.dir c.in-Err.answer (g.F.Reads.seen c.args.files.now) (g.F.Reads.seen c.list_tree.new.self) out err (λ name is. is) (λ _. refl) c.in-Err.ensures.answers)

@@ -1,6 +1,5 @@
 use Rattle.std.proofs.Common.{◌≡◌, All, true, sym, ap, subst, ◌∙◌, arith}
 use Rattle.std.proofs.lemmas.List.Elements.{All-push}
-
 use Rattle.km_outside.specs.Listing.{test_of}
 use Rattle.km_outside.proofs.disk_listing.Walk.take.Goals as goal
 
