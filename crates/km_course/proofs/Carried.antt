@@ -117,8 +117,10 @@ unfailing acts shown old new sure room cut = by_rest cut.rest cut.split cut.beca
   where
     differ : {b : Bool} → b ≡ true → b ≡ false → ⊥
     differ e f = cc
+
     at : (act : Act) (rest : List Act) → acts ≡ cut.before ++ act ∷ rest → done acts shown ≡ done rest (act_done act (done cut.before shown))
     at act rest split = ap (λ a. done a shown) split ∙ done-append cut.before (act ∷ rest) shown
+
     by_rest : (rest : List Act) → acts ≡ cut.before ++ rest → ActFailed old new cut.count (done cut.before shown) (next_act rest) → ⊥
     by_rest [] split h = h
     by_rest (read path ∷ rest) split h = differ sure h.2
@@ -159,6 +161,7 @@ carried_done course old mid x rooms f = record {
     unlined None e = tt
     unlined (Some err) e =
         let more = subst (λ o. Extends o mid.err.told) e f.keeps.err.told in (more.0, more.1 ∙ ap Some (sym (append-nil (err ++ more.0))))
+
     came : (shown : Shown) → Tells old shown → HasEnded (course.run shown.files) shown old mid 0
     came shown h =
         let t = f.told shown h in
@@ -236,6 +239,7 @@ carried_unwritten course old mid err e failure rooms f a =
   where
     rose : Rose old.err.faults err.faults
     rose = Rose-from old.err.faults mid.err.faults err.faults f.keeps.err.faults (counted (end_line e) mid err failure a)
+
     cut : (shown : Shown) → Tells old shown → CutShort (whole_acts (course.run shown.files)) shown old (closed mid err) failed_line (ActFailed old (closed mid err))
     cut shown h =
         let t = f.told shown h in

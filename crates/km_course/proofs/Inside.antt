@@ -40,9 +40,11 @@ filling room run files full = by_out (nat_lt room (length told.out)) refl
   where
     told : Shown
     told = inner_told run files
+
     by_err : (b : Bool) → nat_lt room (length told.err) ≡ b → length told.out ≤ room → (if b then end (ends.Refused InnerOutputFull) else inner_fitting run.outcome told) ≡ end (ends.Refused InnerOutputFull)
     by_err true e out = refl
     by_err false e out = absurd (full out (ltb-false _ _ e))
+
     by_out : (b : Bool) → nat_lt room (length told.out) ≡ b → (if b || nat_lt room (length told.err) then end (ends.Refused InnerOutputFull) else inner_fitting run.outcome told) ≡ end (ends.Refused InnerOutputFull)
     by_out true e = refl
     by_out false e = by_err (nat_lt room (length told.err)) refl (ltb-false _ _ e)
@@ -77,15 +79,19 @@ inner_came room course files old new status handed c = record {
   where
     run : Run ⊤
     run = course.run files
+
     told : Shown
     told = inner_told run files
+
     came : status ≤ 2 → HasEnded run (bare files) old new status
     came le = c.ended le (bare files) handed.tells
+
     fits : status ≤ 2 → inner_outcome room run files ≡ inner_fitting run.outcome told
     fits le =
         fitting room run files
         (within-told new.out room told.out c.rooms.1.out (c.keeps.out.room ∙ handed.out) (came le).tells.out)
         (within-told new.err room told.err c.rooms.1.err (c.keeps.err.room ∙ handed.err) (came le).tells.err)
+
     by_value : (o : Outcome ⊤) → run.outcome ≡ o → status ≡ 0 → (left : Left) × (inner_outcome room run files ≡ value left) × (new.files.contents ≡ Some left.files) × (new.out.told ≡ Some left.out)
     by_value (value x) e zero =
         let le : status ≤ 2 = omega (arith, zero) in
@@ -93,6 +99,7 @@ inner_came room course files old new status handed c = record {
     by_value (end x) e zero =
         let le : status ≤ 2 = omega (arith, zero) in
         absurd (omega (arith, zero, (some_status x).0, (came le).status_is ∙ ap outcome_status e))
+
     by_end : (o : Outcome ⊤) → run.outcome ≡ o → status ≡ 1 → (e : End) × (end_status e ≡ 1) × (inner_outcome room run files ≡ end (inner_end e)) × (new.err.told ≡ Some ((done run.acts (bare files)).err ++ end_line e))
     by_end (value x) e one =
         let le : status ≤ 2 = omega (arith, one) in
@@ -104,6 +111,7 @@ inner_came room course files old new status handed c = record {
           fits le ∙ ap (λ o. inner_fitting o told) e,
           (came le).tells.err ∙ ap (λ o. Some (done (run.acts ++ closing_acts o) (bare files)).err) e ∙ ap (λ w. Some w.err) (done-append run.acts (warn (end_line x) ∷ []) (bare files)),
         )
+
     by_words : (o : Outcome ⊤) → run.outcome ≡ o → status ≡ 2 → inner_outcome room run files ≡ end ends.NotUnderstood
     by_words (value x) e two =
         let le : status ≤ 2 = omega (arith, two) in
@@ -111,6 +119,7 @@ inner_came room course files old new status handed c = record {
     by_words (end x) e two =
         let le : status ≤ 2 = omega (arith, two) in
         fits le ∙ ap (λ o. inner_fitting o told) (e ∙ ap end (two-is x (sym ((came le).status_is ∙ ap outcome_status e) ∙ two)))
+
     unfull : status ≡ 3 → length told.out ≤ room → length told.err ≤ room → ⊥
     unfull three out err = by_status (c.complete (bare files) handed.tells handed.sure has)
       where
@@ -119,6 +128,7 @@ inner_came room course files old new status handed c = record {
           out = subst (λ o. IsSomeAnd o (λ n. length told.out ≤ n)) (sym handed.out) out;
           err = subst (λ o. IsSomeAnd o (λ n. length told.err ≤ n)) (sym handed.err) err;
         }
+
         by_status : (status ≡ outcome_status run.outcome) ⊎ (status ≡ 4) → ⊥
         by_status (inl e) = absurd (omega (arith, three, e, low run.outcome))
         by_status (inr e) = absurd (omega (arith, three, e))

@@ -176,6 +176,7 @@ fewer fits (rest ∷ rests) paths = by_tests (fits rest) (is_path rest) refl ref
   where
     differ : false ≡ true → ⊥
     differ e = cc
+
     by_tests : (f p : Bool) → fits rest ≡ f → is_path rest ≡ p → (filter is_path rests ≡ [] → filter fits rests ≡ []) → cond p (rest ∷ filter is_path rests) (filter is_path rests) ≡ [] → cond f (rest ∷ filter fits rests) (filter fits rests) ≡ []
     by_tests f true ef ep more e = cc
     by_tests false false ef ep more e = more e

@@ -106,7 +106,7 @@ abbrev pub reads_or : Outcome (List ℕ) → List ℕ → Stage (List ℕ)
 reads_or absent path =
     act_with (read path) (λ files. read_outcome absent path (map.get files path))
     (λ outcome. (outcome ≡ absent) ⊎ (outcome ≡ end (TooLarge path))
-        ⊎ ((bytes : List ℕ) × (length bytes ≤ file_limit) × (outcome ≡ value bytes)))
+    ⊎ ((bytes : List ℕ) × (length bytes ≤ file_limit) × (outcome ≡ value bytes)))
 
 -- the bytes of the file at the path, which is needed
 abbrev pub reads : List ℕ → Stage (List ℕ)
@@ -127,8 +127,8 @@ abbrev pub lists_or : Outcome (List (List ℕ)) → (List ℕ → Bool) → List
 lists_or absent fits folder =
     act_with (list folder) (λ files. list_outcome absent folder (listed is_path folder files) (listed fits folder files))
     (λ outcome. (outcome ≡ absent) ⊎ (outcome ≡ end (TooLarge folder))
-        ⊎ ((names : List (List ℕ)) × IsStrictlySortedBy by_bytes names × All (λ name. fits name ≡ true) names
-            × (length names ≤ list_limit) × (outcome ≡ value names)))
+    ⊎ ((names : List (List ℕ)) × IsStrictlySortedBy by_bytes names × All (λ name. fits name ≡ true) names
+    × (length names ≤ list_limit) × (outcome ≡ value names)))
 
 -- the names of the configuration files in the folder, which is needed
 abbrev pub lists_conf : List ℕ → Stage (List (List ℕ))

@@ -97,9 +97,7 @@ fn write_end<E: Out>(err: &mut E, end: &End, text: &[u8]) -> Result<(), OutFaile
 {
     match end {
         End::Refused(_) => write_around(err, b"kmod: ", text, b"\n"),
-        End::NotUnderstood => err.write(
-            b"kmod: usage: kmod depmod|modprobe|modinfo|trial WORDS\n",
-        ),
+        End::NotUnderstood => err.write(b"kmod: usage: kmod depmod|modprobe|modinfo|trial WORDS\n"),
         End::NoFile { path } => write_around(err, b"kmod: no file ", path.as_bytes(), b"\n"),
         End::TooLarge { path } => write_around(err, b"kmod: ", path.as_bytes(), b": too large\n"),
         End::Inner { line } => err.write(line.as_bytes()),

@@ -9,15 +9,27 @@ use std::alloc::{AllocError, Global};
 #[derive(Debug, Drop)]
 pub enum Refusal {
     /// The module at the path is bad: the text of its fault.
-    BadModule { path: PathText, text: Blob },
+    BadModule {
+        path: PathText,
+        text: Blob,
+    },
     /// The module at the path is compressed.
-    Compressed { path: PathText },
+    Compressed {
+        path: PathText,
+    },
     /// Modules need each other: their names in order, the first one named once.
-    Cycle { names: Names },
+    Cycle {
+        names: Names,
+    },
     /// No module, command or built-in of the name is known.
-    NotFound { name: Name },
+    NotFound {
+        name: Name,
+    },
     /// The module at the path needs a symbol that nobody provides.
-    Missing { path: PathText, symbol: Name },
+    Missing {
+        path: PathText,
+        symbol: Name,
+    },
     /// The module at the path needs a symbol in another version than its provider has, the path of a
     /// module or `vmlinux`.
     Version {
@@ -45,21 +57,41 @@ pub enum Refusal {
         second: PathText,
     },
     /// The file is no index: the text of its fault.
-    BadIndex { file: PathText, text: Blob },
+    BadIndex {
+        file: PathText,
+        text: Blob,
+    },
     /// The value of a module's name in modules.dep.bin is no dependency line.
-    BadDependencyLine { name: Name },
+    BadDependencyLine {
+        name: Name,
+    },
     /// A line of the file isn't understood, counted from 1.
-    BadLine { file: PathText, number: u32 },
+    BadLine {
+        file: PathText,
+        number: u32,
+    },
     /// A load was asked, and the plan has an install command for this module.
-    InstallChosen { name: Name },
+    InstallChosen {
+        name: Name,
+    },
     /// The kernel exports the symbol without an address.
-    KernelWithoutAddress { name: Name },
+    KernelWithoutAddress {
+        name: Name,
+    },
     /// A module that is listed as loaded isn't in modules.dep.bin.
-    ListedNotFound { name: Name },
+    ListedNotFound {
+        name: Name,
+    },
     /// A module that is listed as loaded can't be: the text of its fault.
-    ListedRefused { name: Name, text: Blob },
+    ListedRefused {
+        name: Name,
+        text: Blob,
+    },
     /// The module can't be loaded: the text of its fault.
-    LoadRefused { name: Name, text: Blob },
+    LoadRefused {
+        name: Name,
+        text: Blob,
+    },
     /// The tree has more modules than the limit.
     TooManyModules,
     /// The closures have more members than the limit.
@@ -67,9 +99,13 @@ pub enum Refusal {
     /// More symbols are exported twice than the limit.
     TooManyDoubles,
     /// The output file of the name would have more bytes than the limit.
-    OutputTooLarge { file: Name },
+    OutputTooLarge {
+        file: Name,
+    },
     /// The path can't be one of a module.
-    BadPath { path: PathText },
+    BadPath {
+        path: PathText,
+    },
     /// An output of an inner command is full.
     InnerOutputFull,
 }
@@ -80,7 +116,12 @@ impl Refusal {
         ensures { IfOk result (λ text. text ≡ refusal_text self.now) }
     {
         match self {
-            Refusal::BadModule { path, text } => three(alloc, path.as_bytes(), b": ", text.as_bytes()),
+            Refusal::BadModule { path, text } => three(
+                alloc,
+                path.as_bytes(),
+                b": ",
+                text.as_bytes(),
+            ),
             Refusal::Compressed { path } => two(alloc, path.as_bytes(), b": compressed"),
             Refusal::Cycle { names } => two(alloc, b"cycle ", cycle_text(alloc, names)?.as_bytes()),
             Refusal::NotFound { name } => two(alloc, b"not found ", name.as_bytes()),
@@ -110,7 +151,12 @@ impl Refusal {
                 let sides = three(alloc, first.as_bytes(), b" ", second.as_bytes())?;
                 spaced(alloc, b"double ", symbol.as_bytes(), sides.as_bytes())
             }
-            Refusal::BadIndex { file, text } => three(alloc, file.as_bytes(), b": ", text.as_bytes()),
+            Refusal::BadIndex { file, text } => three(
+                alloc,
+                file.as_bytes(),
+                b": ",
+                text.as_bytes(),
+            ),
             Refusal::BadDependencyLine { name } => {
                 two(alloc, b"bad dependency line ", name.as_bytes())
             }
@@ -129,7 +175,12 @@ impl Refusal {
                 let load = three(alloc, name.as_bytes(), b": ", text.as_bytes())?;
                 two(alloc, b"listed module ", load.as_bytes())
             }
-            Refusal::LoadRefused { name, text } => three(alloc, name.as_bytes(), b": ", text.as_bytes()),
+            Refusal::LoadRefused { name, text } => three(
+                alloc,
+                name.as_bytes(),
+                b": ",
+                text.as_bytes(),
+            ),
             Refusal::TooManyModules => Blob::from_slice(alloc, b"too many modules"),
             Refusal::TooManyDependencies => Blob::from_slice(alloc, b"too many dependencies"),
             Refusal::TooManyDoubles => Blob::from_slice(alloc, b"too many doubles"),
