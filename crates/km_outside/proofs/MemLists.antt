@@ -1,13 +1,12 @@
 -- What listing files in memory answers.
-use Rattle.std.proofs.Common.{◌≡◌, ◌≢◌, ℕ, ◌+◌, ◌≤◌, ◌<◌, ◌⊎◌, ◌&&◌, Bool, true, false, cond, nat_lt, ◌==◌, List, [], ◌∷◌, map, length, min, filter, filter_map, All, Some, None, Option, Result, Ok, Err, IfOk, refl, sym, ap, subst, ◌∙◌, arith, inl, inr, if◌then◌else◌}
-use Rattle.std.specs.Prelude.{⊤}
+use Rattle.std.proofs.Common.{◌≡◌, ◌≢◌, ℕ, ◌≤◌, ◌<◌, ◌⊎◌, ◌&&◌, Bool, true, false, nat_lt, ◌==◌, List, [], ◌∷◌, map, length, min, filter, filter_map, Result, Ok, Err, refl, sym, ap, subst, ◌∙◌, arith, inl, inr, if◌then◌else◌}
 use Rattle.std.specs.Global.{Vec}
 use Rattle.std.specs.List.{list_any}
 use Rattle.std.specs.List.Sorted.{IsStrictlySortedBy}
 use Rattle.std.proofs.lemmas.Bool.{le-ltb, lt-ltb, ltb-true, ltb-false, eqb-true, false_from_ne_true}
 use Rattle.km_names.specs.Path.{path_below}
 use Rattle.km_outside.specs.CallsSeen.{CallsSeen, next_fails, none_listed}
-use Rattle.km_outside.specs.Contents.{Contents, by_bytes, rest_after, rests_below, listed, is_path}
+use Rattle.km_outside.specs.Contents.{by_bytes, rest_after, rests_below, listed, is_path}
 use Rattle.km_outside.specs.Counts.{count_end}
 use Rattle.km_outside.specs.Entries.{files_of}
 use Rattle.km_outside.specs.FilesSeen.{IsListOf, list_limit}

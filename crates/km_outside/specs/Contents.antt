@@ -1,5 +1,5 @@
 -- The files of a machine, and what is listed of a folder.
-use Rattle.std.specs.Prelude.{ℕ, ◌+◌, nat_lt, nat_eq, ◌==◌, ◌&&◌, Bool, not, List, [], length, take, drop, codes, Option, Some, None, if◌then◌else◌}
+use Rattle.std.specs.Prelude.{ℕ, nat_lt, nat_eq, ◌==◌, ◌&&◌, Bool, not, List, [], length, take, drop, codes, Option, Some, None, if◌then◌else◌}
 use Rattle.std.specs.List.{filter, filter_map, ends_with, list_any}
 use Rattle.std.specs.Str.{bytes_eq}
 use Rattle.std.specs.Ordering.{nat_cmp}

@@ -1,5 +1,4 @@
-use Rattle.std.proofs.Common.{◌≡◌, map, ◌∷◌, ◌++◌, [], List, ℕ, Some, None, Vec, sym, ap, subst, ◌∙◌, append-nil}
-use Rattle.std.specs.BTreeMap as tree
+use Rattle.std.proofs.Common.{◌≡◌, map, ◌∷◌, ◌++◌, [], List, ℕ, Some, None, sym, ap, ◌∙◌, append-nil}
 use Rattle.std.specs.Map.Iter.{deref}
 use Rattle.std.specs.Option.{option_map}
 use Rattle.std.specs.Prelude.{Option}

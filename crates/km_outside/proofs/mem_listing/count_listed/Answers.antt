@@ -1,8 +1,7 @@
-use Rattle.std.proofs.Common.{◌≡◌, ◌+◌, map, length, List, ℕ, true, false, Some, None, sym, ap, ◌∙◌, arith}
+use Rattle.std.proofs.Common.{◌≡◌, ◌+◌, map, length, List, ℕ, true, false, sym, ap, ◌∙◌, arith}
 use Rattle.std.specs.Prelude.{Option, is_some}
 use Rattle.std.specs.BTreeMap as tree
 use Rattle.std.specs.Map.Iter.{deref}
-use Rattle.std.specs.Option.{option_map}
 use Rattle.std.proofs.lemmas.Map.Iter.{rest_more, rest_all}
 use Rattle.km_outside.specs.Contents.{rest_after}
 use Rattle.km_outside.specs.Listing.{test_of, listed_of, passing}

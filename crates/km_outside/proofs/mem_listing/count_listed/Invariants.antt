@@ -1,4 +1,4 @@
-use Rattle.std.proofs.Common.{◌≡◌, ◌+◌, ◌<◌, ◌≤◌, ◌^◌, ◌-◌, map, length}
+use Rattle.std.proofs.Common.{◌≡◌, ◌+◌, ◌<◌, ◌≤◌, ◌^◌, map, length}
 use Rattle.std.specs.BTreeMap as tree
 use Rattle.km_outside.specs.Listing.{test_of, listed_of}
 use Rattle.km_outside.proofs.mem_listing.count_listed.Given as goal

@@ -1,7 +1,6 @@
-use Rattle.std.proofs.Common.{◌≡◌, ◌==◌, false, length, min, Ok, Err, inl, inr, sym, ap, ◌∙◌, arith}
+use Rattle.std.proofs.Common.{◌≡◌, false, length, min, Ok, Err, inl, sym, ap, ◌∙◌, arith}
 use Rattle.std.proofs.lemmas.Bool.{eqb-true, false_from_ne_true}
 use Rattle.km_outside.specs.CallsSeen.{next_fails}
-use Rattle.km_outside.specs.Contents.{is_path}
 use Rattle.km_outside.specs.Counts.{count_end}
 use Rattle.km_outside.specs.Listing.{kind_of, test_of, listed_of}
 use Rattle.km_outside.specs.MemFilesSeen.{MemFilesSeen, calls_of, kind_fails}
