@@ -1,20 +1,23 @@
 -- A command that followed its course and was concluded carries it.
-use Rattle.std.proofs.Common.{◌≡◌, ℕ, ◌≤◌, List, [], ◌∷◌, ◌++◌, take, length, refl, sym, ◌∙◌, ap, subst, arith, append_assoc, append-nil, inl, inr}
+use Rattle.std.proofs.Common.{◌≡◌, ℕ, ◌+◌, ◌≤◌, ◌<◌, Bool, true, false, List, [], ◌∷◌, ◌++◌, take, length, refl, sym, ◌∙◌, ap, subst, arith, append_assoc, append-nil, length-append, inl, inr}
 use Rattle.std.proofs.Math.Seq.{take-append_seam}
-use Rattle.std.specs.Prelude.{Option, Some, None, Result, Ok, Err, ⊤, ◌⊎◌}
+use Rattle.std.specs.Prelude.{Option, Some, None, Result, Ok, Err, IfSome, IsSomeAnd, ⊤, ◌⊎◌}
+use Rattle.std.specs.Option.{option_map}
 use Rattle.km_outside.specs.Counts.{Rose}
-use Rattle.km_outside.specs.OutSeen.{OutSeen, WriteAnswers}
+use Rattle.km_outside.specs.OutSeen.{OutSeen, Within, WriteAnswers}
 use Rattle.km_outside.specs.declared.out.OutFailed.{OutFailed}
-use Rattle.km_course.specs.Lines.{no_file, too_large, file_fault, output_fault, out_of_memory, usage}
-use Rattle.km_course.specs.Course.{Act, Stage}
+use Rattle.km_course.specs.Lines.{end_line, end_status, file_fault, output_fault, out_of_memory}
+use Rattle.km_course.specs.Course.{Act, Outcome, Run, Stage}
 use Rattle.km_course.specs.Course.Act.{read, list, say, warn, put}
-use Rattle.km_course.specs.Course.Outcome.{end}
-use Rattle.km_course.specs.World.{World, world, Shown, Tells, Keeps, KeepsOut, Extends, NoFault, act_done, act_begun, done, begun}
-use Rattle.km_course.specs.Follows.{StopsAt, next_act, CallFailed, OutputFailed, WarningFailed, Free, PassesRoom, Follows}
-use Rattle.km_course.specs.Carries.{Carries, CutShort, HasCause, ActFailed, fault_line, closing_acts, end_status, Concludes, closed_status, stop_status, unwritten_status}
+use Rattle.km_course.specs.Course.Outcome.{value, end}
+use Rattle.km_course.specs.World.{World, world, Shown, Tells, Keeps, KeepsOut, Extends, NoFault, FitsRooms, act_done, act_begun, done, begun}
+use Rattle.km_course.specs.Follows.{StopsAt, next_act, CallFailed, OutputFailed, WarningFailed, Free, PassesRoom, EndCounts, Follows}
+use Rattle.km_course.specs.Carries.{Carries, CutShort, MayCome, HasEnded, HasRoomFor, OutcomeCounts, ActFailed, failed_line, closing_acts, whole_acts, outcome_status, outcome_line, Closes, Concludes, IsRefused, closed_status, stop_status, unwritten_status}
+use Rattle.km_course.specs.declared.end.End.{End}
+use Rattle.km_course.specs.declared.end.End.TheVariants.{Refused, NotUnderstood, NoFile, TooLarge, Inner}
 use Rattle.km_course.specs.declared.stop.Stop.{Stop}
-use Rattle.km_course.specs.declared.stop.Stop.TheVariants.{Refused, NotUnderstood, NoFile, TooLarge, FileFault, OutputFault, WarningFault, Memory}
-use Rattle.km_course.proofs.Steps.{done-append, Keeps-same, KeepsFiles-same, KeepsOut-same, Keeps-trans, NoFault-trans}
+use Rattle.km_course.specs.declared.stop.Stop.TheVariants.{Ended, FileFault, OutputFault, WarningFault, Memory}
+use Rattle.km_course.proofs.Steps.{done-append, Keeps-same, KeepsFiles-same, KeepsOut-same, Keeps-trans, NoFault-trans, forgets}
 use Rattle.km_course.proofs.Primitives.{keeps_written, told_more, passes}
 
 all_taken : (l : List ℕ) → take (length l) l ≡ l
@@ -38,6 +41,7 @@ wrote_all text mid err a =
       keeps = record { files = KeepsFiles-same mid.files; out = KeepsOut-same mid.out; err = keeps_written mid.err err text told room (omega arith) };
       tells = λ shown h. record {
         files = h.files;
+        calls = h.calls;
         out = h.out;
         err = told ∙ told_more mid.err.told shown.err text h.err ∙ ap (λ t. Some (shown.err ++ t)) (sym (all_taken text));
       };
@@ -46,18 +50,19 @@ wrote_all text mid err a =
 wrote_part : (text : List ℕ) (mid : World) (err : OutSeen) (e : OutFailed) (a : WriteAnswers text mid.err err (Err e)) → Wrote text mid err a.0.0
 wrote_part text mid err e a =
     let part = take a.0.0 text in
-    let told = ap (λ o. o.told) a.0.3 in
-    let room = ap (λ o. o.room) a.0.3 in
+    let told = ap (λ o. o.told) a.0.2 in
+    let room = ap (λ o. o.room) a.0.2 in
+    let faults = ap (λ o. o.faults) a.0.2 in
     record {
-      keeps = record { files = KeepsFiles-same mid.files; out = KeepsOut-same mid.out; err = keeps_written mid.err err part told room (omega (arith, a.1)) };
-      tells = λ shown h. record { files = h.files; out = h.out; err = told ∙ told_more mid.err.told shown.err part h.err };
+      keeps = record { files = KeepsFiles-same mid.files; out = KeepsOut-same mid.out; err = keeps_written mid.err err part told room (omega (arith, faults)) };
+      tells = λ shown h. record { files = h.files; calls = h.calls; out = h.out; err = told ∙ told_more mid.err.told shown.err part h.err };
     }
 
 -- nothing was written
 wrote_none : (mid : World) (err : OutSeen) → err ≡ mid.err → Wrote [] mid err 0
 wrote_none mid err e = record {
   keeps = subst (λ o. Keeps mid (closed mid o)) (sym e) (Keeps-same mid);
-  tells = λ shown h. record { files = h.files; out = h.out; err = ap (λ o. o.told) e ∙ h.err ∙ ap Some (sym (append-nil shown.err)) };
+  tells = λ shown h. record { files = h.files; calls = h.calls; out = h.out; err = ap (λ o. o.told) e ∙ h.err ∙ ap Some (sym (append-nil shown.err)) };
 }
 
 -- an err that wrote all counted no fault
@@ -70,89 +75,196 @@ Rose-from a b c h r = omega arith
 Rose-on : (a b c : ℕ) → Rose a b → b ≤ c → Rose a c
 Rose-on a b c r h = omega arith
 
--- the line that was written and its cause
-caused : (refusals : List ℕ → Type 0) (old mid : World) (err : OutSeen) (text : List ℕ) → KeepsOut old.err mid.err → WriteAnswers text mid.err err (Ok tt) → HasCause refusals old (closed mid err) text → (shown : List ℕ) → old.err.told ≡ Some shown →
-    (warned : List ℕ) × (line : List ℕ) × (err.told ≡ Some ((shown ++ warned) ++ line)) × HasCause refusals old (closed mid err) line
-caused refusals old mid err text k a cause shown h =
-    let more = subst (λ o. Extends o mid.err.told) h k.told in
-    (more.0, text, ap (λ o. o.told) a.0 ∙ told_more mid.err.told (shown ++ more.0) text more.1, cause)
+-- a failed write was counted
+counted : (text : List ℕ) (mid : World) (err : OutSeen) (e : OutFailed) → WriteAnswers text mid.err err (Err e) → Rose mid.err.faults err.faults
+counted text mid err e a = let faults = ap (λ o. o.faults) a.0.2 in omega (arith, faults)
+
+-- an end's cause is seen in the counts after its line was written
+EndCounts-closed : (old mid : World) (err : OutSeen) (e : End) → EndCounts old mid e → EndCounts old (closed mid err) e
+EndCounts-closed old mid err (Refused refusal) h = tt
+EndCounts-closed old mid err NotUnderstood h = tt
+EndCounts-closed old mid err (NoFile path) h = h
+EndCounts-closed old mid err (TooLarge path) h = h
+EndCounts-closed old mid err (Inner line) h = tt
+
+-- err ends in what was written last
+line_told : (old mid new : OutSeen) (text : List ℕ) → KeepsOut old mid → new.told ≡ option_map (λ bytes. bytes ++ text) mid.told → IfSome old.told (λ err. (warned : List ℕ) × (new.told ≡ Some ((err ++ warned) ++ text)))
+line_told old mid new text k told = by_told old.told refl
+  where
+    by_told : (o : Option (List ℕ)) → old.told ≡ o → IfSome o (λ err. (warned : List ℕ) × (new.told ≡ Some ((err ++ warned) ++ text)))
+    by_told None e = tt
+    by_told (Some err) e =
+        let more = subst (λ o. Extends o mid.told) e k.told in (more.0, told ∙ told_more mid.told (err ++ more.0) text more.1)
+
+-- What was done is no less than what was told before.
+grows : (acts : List Act) (shown : Shown) → (length shown.out ≤ length (done acts shown).out) × (length shown.err ≤ length (done acts shown).err)
+grows [] shown = (omega arith, omega arith)
+grows (say bytes ∷ acts) shown =
+    let h = grows acts (act_done (say bytes) shown) in (omega (arith, h.0, length-append shown.out bytes), h.1)
+grows (warn bytes ∷ acts) shown =
+    let h = grows acts (act_done (warn bytes) shown) in (h.0, omega (arith, h.1, length-append shown.err bytes))
+grows (read path ∷ acts) shown = grows acts (act_done (read path) shown)
+grows (list path ∷ acts) shown = grows acts (act_done (list path) shown)
+grows (put path bytes ∷ acts) shown = grows acts (act_done (put path bytes) shown)
+
+fits_not : (room : Option ℕ) (written bytes all : List ℕ) → IsSomeAnd room (λ n. length all ≤ n) → length (written ++ bytes) ≤ length all → PassesRoom room written bytes → ⊥
+fits_not None written bytes all fit grow past = fit
+fits_not (Some n) written bytes all fit grow past = absurd (omega (arith, fit, grow, past, length-append written bytes))
+
+-- With sure files and room for all, no act can fail.
+unfailing : (acts : List Act) (shown : Shown) (old new : World) → old.files.sure ≡ true → HasRoomFor old (done acts shown) → CutShort acts shown old new failed_line (ActFailed old new) → ⊥
+unfailing acts shown old new sure room cut = by_rest cut.rest cut.split cut.because
+  where
+    differ : {b : Bool} → b ≡ true → b ≡ false → ⊥
+    differ e f = cc
+
+    at : (act : Act) (rest : List Act) → acts ≡ cut.before ++ act ∷ rest → done acts shown ≡ done rest (act_done act (done cut.before shown))
+    at act rest split = ap (λ a. done a shown) split ∙ done-append cut.before (act ∷ rest) shown
+
+    by_rest : (rest : List Act) → acts ≡ cut.before ++ rest → ActFailed old new cut.count (done cut.before shown) (next_act rest) → ⊥
+    by_rest [] split h = h
+    by_rest (read path ∷ rest) split h = differ sure h.2
+    by_rest (list path ∷ rest) split h = differ sure h.2
+    by_rest (put path bytes ∷ rest) split h = differ sure h.2
+    by_rest (say bytes ∷ rest) split h =
+        let whole = at (say bytes) rest split in
+        let more = grows rest (act_done (say bytes) (done cut.before shown)) in
+        fits_not old.out.room (done cut.before shown).out bytes (done acts shown).out room.out (subst (λ w. length ((done cut.before shown).out ++ bytes) ≤ length w.out) (sym whole) more.0) h.1
+    by_rest (warn bytes ∷ rest) split h =
+        let whole = at (warn bytes) rest split in
+        let more = grows rest (act_done (warn bytes) (done cut.before shown)) in
+        fits_not old.err.room (done cut.before shown).err bytes (done acts shown).err room.err (subst (λ w. length ((done cut.before shown).err ++ bytes) ≤ length w.err) (sym whole) more.1) h.1
 
 -- a course that came to its end
-carried_done : (course : Stage ⊤) (refusals : List ℕ → Type 0) (old mid : World) (x : ⊤) → Follows (λ (y : ⊤). y) course old mid (Ok x) → Carries course refusals old mid 0
-carried_done course refusals old mid x f = record {
+carried_done : (course : Stage ⊤) (old mid : World) (x : ⊤) → FitsRooms old × FitsRooms mid → Follows (λ (y : ⊤). y) course old mid (Ok x) → Carries course old mid 0
+carried_done course old mid x rooms f = record {
   statuses = omega arith;
   keeps = f.keeps;
+  rooms = rooms;
   no_fault = λ _. f.counts;
-  ended = λ _ shown h.
-      let t = f.told shown h in
-      subst (λ o. (0 ≡ end_status o) × Tells mid (done ((course shown.files).acts ++ closing_acts o) shown)) (sym t.0)
-      (refl, subst (λ acts. Tells mid (done acts shown)) (sym (append-nil (course shown.files).acts)) t.1);
-  refused = λ h. absurd (omega arith);
+  may_come = λ _. record {
+    outcome = value x;
+    possible = f.comes;
+    status_is = refl;
+    counts = tt;
+    line_is = unlined old.err.told refl;
+  };
+  ended = λ _ shown h. came shown h;
   fault = λ h. absurd (omega arith);
   faulted = λ h. absurd (omega arith);
   memory = λ h. absurd (omega arith);
   wanting = λ h. absurd (omega arith);
+  complete = λ shown h sure room. inl (came shown h).status_is;
 }
+  where
+    unlined : (o : Option (List ℕ)) → old.err.told ≡ o → IfSome o (λ err. (warned : List ℕ) × (mid.err.told ≡ Some ((err ++ warned) ++ [])))
+    unlined None e = tt
+    unlined (Some err) e =
+        let more = subst (λ o. Extends o mid.err.told) e f.keeps.err.told in (more.0, more.1 ∙ ap Some (sym (append-nil (err ++ more.0))))
 
--- an end with a line, which was written
-carried_end : (course : Stage ⊤) (refusals : List ℕ → Type 0) (old mid : World) (err : OutSeen) (status : ℕ) (text : List ℕ) → status ≤ 2 → Keeps old mid → NoFault old mid → ((shown : Shown) → Tells old shown → ((course shown.files).outcome ≡ end status text) × Tells mid (done (course shown.files).acts shown)) → (status ≡ 1 → HasCause refusals old (closed mid err) text) → WriteAnswers text mid.err err (Ok tt) → Carries course refusals old (closed mid err) status
-carried_end course refusals old mid err status text le k n told cause a =
+    came : (shown : Shown) → Tells old shown → HasEnded (course.run shown.files) shown old mid 0
+    came shown h =
+        let t = f.told shown h in
+        let run = course.run shown.files in
+        record {
+          status_is = ap outcome_status (sym t.0);
+          counts = subst (OutcomeCounts old mid) (sym t.0) tt;
+          tells = subst (λ o. Tells mid (done (run.acts ++ closing_acts o) shown)) (sym t.0) (subst (λ acts. Tells mid (done acts shown)) (sym (append-nil run.acts)) t.1);
+        }
+
+low_status : (e : End) → end_status e ≤ 2
+low_status (Refused refusal) = omega arith
+low_status NotUnderstood = omega arith
+low_status (NoFile path) = omega arith
+low_status (TooLarge path) = omega arith
+low_status (Inner line) = omega arith
+
+-- an end with its line, which was written
+carried_end : (course : Stage ⊤) (old mid : World) (err : OutSeen) (e : End) → FitsRooms old × FitsRooms (closed mid err) → Follows (λ (y : ⊤). y) course old mid (Err (Ended e)) → WriteAnswers (end_line e) mid.err err (Ok tt) → Carries course old (closed mid err) (end_status e)
+carried_end course old mid err e rooms f a =
+    let text = end_line e in
     let w = wrote_all text mid err a in
+    let low = low_status e in
     record {
-      statuses = omega arith;
-      keeps = Keeps-trans k w.keeps;
-      no_fault = λ _. NoFault-trans n (unfailed text mid err a);
-      ended = λ _ shown h.
-          let t = told shown h in
-          subst (λ o. (status ≡ end_status o) × Tells (closed mid err) (done ((course shown.files).acts ++ closing_acts o) shown)) (sym t.0) (
-            refl,
-            subst (Tells (closed mid err)) (sym (done-append (course shown.files).acts (warn text ∷ []) shown))
-                (subst (λ b. Tells (closed mid err) (act_done (warn b) (done (course shown.files).acts shown))) (all_taken text) (w.tells _ t.1)),
-          );
-      refused = λ one shown h. caused refusals old mid err text k.err a (cause one) shown h;
-      fault = λ h. absurd (omega arith);
-      faulted = λ h. absurd (omega arith);
-      memory = λ h. absurd (omega arith);
-      wanting = λ h. absurd (omega arith);
+      statuses = omega (arith, low);
+      keeps = Keeps-trans f.keeps w.keeps;
+      rooms = rooms;
+      no_fault = λ _. NoFault-trans f.counts.0 (unfailed text mid err a);
+      may_come = λ _. record {
+        outcome = end e;
+        possible = f.comes;
+        status_is = refl;
+        counts = EndCounts-closed old mid err e f.counts.1;
+        line_is = line_told old.err mid.err err text f.keeps.err (ap (λ o. o.told) a.0);
+      };
+      ended = λ _ shown h. came shown h;
+      fault = λ h. absurd (omega (arith, low, h));
+      faulted = λ h. absurd (omega (arith, low, h));
+      memory = λ h. absurd (omega (arith, low, h));
+      wanting = λ h. absurd (omega (arith, low, h));
+      complete = λ shown h sure room. inl (came shown h).status_is;
     }
+  where
+    came : (shown : Shown) → Tells old shown → HasEnded (course.run shown.files) shown old (closed mid err) (end_status e)
+    came shown h =
+        let t = f.told shown h in
+        let run = course.run shown.files in
+        let w = wrote_all (end_line e) mid err a in
+        record {
+          status_is = ap outcome_status (sym t.0);
+          counts = subst (OutcomeCounts old (closed mid err)) (sym t.0) (EndCounts-closed old mid err e f.counts.1);
+          tells = subst (λ o. Tells (closed mid err) (done (run.acts ++ closing_acts o) shown)) (sym t.0)
+              (subst (Tells (closed mid err)) (sym (done-append run.acts (warn (end_line e) ∷ []) shown))
+              (subst (λ b. Tells (closed mid err) (act_done (warn b) (done run.acts shown))) (all_taken (end_line e)) (w.tells _ t.1)));
+        }
 
--- an end with a line, whose writing failed
-carried_unwritten : (course : Stage ⊤) (refusals : List ℕ → Type 0) (old mid : World) (err : OutSeen) (status : ℕ) (text : List ℕ) (e : OutFailed) → Keeps old mid → ((shown : Shown) → Tells old shown → ((course shown.files).outcome ≡ end status text) × Tells mid (done (course shown.files).acts shown)) → WriteAnswers text mid.err err (Err e) → Carries course refusals old (closed mid err) 3
-carried_unwritten course refusals old mid err status text e k told a =
-    let w = wrote_part text mid err e a in
-    let rose : Rose old.err.faults err.faults = Rose-from old.err.faults mid.err.faults err.faults k.err.faults a.1 in
+-- an end with its line, whose writing failed
+carried_unwritten : (course : Stage ⊤) (old mid : World) (err : OutSeen) (e : End) (failure : OutFailed) → FitsRooms old × FitsRooms (closed mid err) → Follows (λ (y : ⊤). y) course old mid (Err (Ended e)) → WriteAnswers (end_line e) mid.err err (Err failure) → Carries course old (closed mid err) 3
+carried_unwritten course old mid err e failure rooms f a =
+    let text = end_line e in
+    let w = wrote_part text mid err failure a in
     record {
       statuses = omega arith;
-      keeps = Keeps-trans k w.keeps;
+      keeps = Keeps-trans f.keeps w.keeps;
+      rooms = rooms;
       no_fault = λ h. absurd (omega arith);
+      may_come = λ h. absurd (omega arith);
       ended = λ h. absurd (omega arith);
-      refused = λ h. absurd (omega arith);
       fault = λ _. inr (inr rose);
-      faulted = λ _ shown h.
-          let t = told shown h in
-          record {
-            before = (course shown.files).acts;
-            rest = warn text ∷ [];
-            count = a.0.0;
-            written = 0;
-            split = ap (λ o. (course shown.files).acts ++ closing_acts o) t.0;
-            tells = let d = w.tells _ t.1 in record { files = d.files; out = d.out; err = d.err ∙ ap Some (sym (append-nil _)) };
-            whole = inl (omega arith);
-            because = (rose, passes mid.err old.err.room _ text (sym k.err.room) t.1.err a.2);
-          };
+      faulted = λ _ shown h. cut shown h;
       memory = λ h. absurd (omega arith);
       wanting = λ h. absurd (omega arith);
+      complete = λ shown h sure room. absurd (unfailing (whole_acts (course.run shown.files)) shown old (closed mid err) sure room (cut shown h));
     }
+  where
+    rose : Rose old.err.faults err.faults
+    rose = Rose-from old.err.faults mid.err.faults err.faults f.keeps.err.faults (counted (end_line e) mid err failure a)
+
+    cut : (shown : Shown) → Tells old shown → CutShort (whole_acts (course.run shown.files)) shown old (closed mid err) failed_line (ActFailed old (closed mid err))
+    cut shown h =
+        let t = f.told shown h in
+        let run = course.run shown.files in
+        let w = wrote_part (end_line e) mid err failure a in
+        record {
+          before = run.acts;
+          rest = warn (end_line e) ∷ [];
+          count = a.0.0;
+          written = 0;
+          split = ap (λ o. run.acts ++ closing_acts o) t.0;
+          tells = let d = w.tells _ t.1 in record { files = d.files; calls = d.calls; out = d.out; err = d.err ∙ ap Some (sym (append-nil _)) };
+          whole = inl (omega arith);
+          because = (rose, passes mid.err old.err.room _ (end_line e) (sym f.keeps.err.room) t.1.err a.2);
+        }
 
 -- acts cut short where one failed, and then a line of status 3
-cut_short : (acts more : List Act) (shown : Shown) (old mid : World) (err : OutSeen) (text : List ℕ) (n : ℕ) (cause : Shown → Option Act → Type 0) → StopsAt acts shown mid cause → ((w : Shown) → cause w None → ⊥) → ((w : Shown) (act : Act) → cause w (Some act) → (text ≡ fault_line (Some act)) × ActFailed old (closed mid err) w (Some act)) → Wrote text mid err n → (length text ≤ n) ⊎ Rose old.err.faults err.faults → CutShort (acts ++ more) shown old (closed mid err) fault_line (ActFailed old (closed mid err))
+cut_short : (acts more : List Act) (shown : Shown) (old mid : World) (err : OutSeen) (text : List ℕ) (n : ℕ) (cause : ℕ → Shown → Option Act → Type 0) → StopsAt acts shown mid cause → ((n : ℕ) (w : Shown) → cause n w None → ⊥) → ((n : ℕ) (w : Shown) (act : Act) → cause n w (Some act) → (text ≡ failed_line (Some act)) × ActFailed old (closed mid err) n w (Some act)) → Wrote text mid err n → (length text ≤ n) ⊎ Rose old.err.faults err.faults → CutShort (acts ++ more) shown old (closed mid err) failed_line (ActFailed old (closed mid err))
 cut_short acts more shown old mid err text n cause s none some w whole =
     by_rest s.rest s.count (ap (λ l. l ++ more) s.split ∙ append_assoc s.before s.rest more) s.tells s.because
   where
-    by_rest : (rest : List Act) (count : ℕ) → acts ++ more ≡ s.before ++ (rest ++ more) → Tells mid (begun count rest (done s.before shown)) → cause (done s.before shown) (next_act rest) → CutShort (acts ++ more) shown old (closed mid err) fault_line (ActFailed old (closed mid err))
-    by_rest [] count split tells because = absurd (none _ because)
+    by_rest : (rest : List Act) (count : ℕ) → acts ++ more ≡ s.before ++ (rest ++ more) → Tells mid (begun count rest (done s.before shown)) → cause count (done s.before shown) (next_act rest) → CutShort (acts ++ more) shown old (closed mid err) failed_line (ActFailed old (closed mid err))
+    by_rest [] count split tells because = absurd (none _ _ because)
     by_rest (act ∷ rest) count split tells because =
-        let why = some _ act because in
+        let why = some _ _ act because in
         record {
           before = s.before;
           rest = act ∷ (rest ++ more);
@@ -165,31 +277,37 @@ cut_short acts more shown old mid err text n cause s none some w whole =
         }
 
 -- a stop with status 3
-carried_fault : (course : Stage ⊤) (refusals : List ℕ → Type 0) (old mid : World) (err : OutSeen) (text : List ℕ) (n : ℕ) (cause : Shown → Option Act → Type 0) → Keeps old mid → Rose old.files.faults mid.files.faults ⊎ Rose old.out.faults mid.out.faults ⊎ Rose old.err.faults err.faults → ((shown : Shown) → Tells old shown → StopsAt (course shown.files).acts shown mid cause) → ((w : Shown) → cause w None → ⊥) → ((w : Shown) (act : Act) → cause w (Some act) → (text ≡ fault_line (Some act)) × ActFailed old (closed mid err) w (Some act)) → Wrote text mid err n → (length text ≤ n) ⊎ Rose old.err.faults err.faults → Carries course refusals old (closed mid err) 3
-carried_fault course refusals old mid err text n cause k rose told none some w whole = record {
+carried_fault : (course : Stage ⊤) (old mid : World) (err : OutSeen) (text : List ℕ) (n : ℕ) (cause : ℕ → Shown → Option Act → Type 0) → FitsRooms old × FitsRooms (closed mid err) → Keeps old mid → Rose old.files.counts.faults mid.files.counts.faults ⊎ Rose old.out.faults mid.out.faults ⊎ Rose old.err.faults err.faults → ((shown : Shown) → Tells old shown → StopsAt (course.run shown.files).acts shown mid cause) → ((n : ℕ) (w : Shown) → cause n w None → ⊥) → ((n : ℕ) (w : Shown) (act : Act) → cause n w (Some act) → (text ≡ failed_line (Some act)) × ActFailed old (closed mid err) n w (Some act)) → Wrote text mid err n → (length text ≤ n) ⊎ Rose old.err.faults err.faults → Carries course old (closed mid err) 3
+carried_fault course old mid err text n cause rooms k rose told none some w whole = record {
   statuses = omega arith;
   keeps = Keeps-trans k w.keeps;
+  rooms = rooms;
   no_fault = λ h. absurd (omega arith);
+  may_come = λ h. absurd (omega arith);
   ended = λ h. absurd (omega arith);
-  refused = λ h. absurd (omega arith);
   fault = λ _. rose;
-  faulted = λ _ shown h. cut_short (course shown.files).acts (closing_acts (course shown.files).outcome) shown old mid err text n cause (told shown h) none some w whole;
+  faulted = λ _ shown h. cut shown h;
   memory = λ h. absurd (omega arith);
   wanting = λ h. absurd (omega arith);
+  complete = λ shown h sure room. absurd (unfailing (whole_acts (course.run shown.files)) shown old (closed mid err) sure room (cut shown h));
 }
+  where
+    cut : (shown : Shown) → Tells old shown → CutShort (whole_acts (course.run shown.files)) shown old (closed mid err) failed_line (ActFailed old (closed mid err))
+    cut shown h = cut_short (course.run shown.files).acts (closing_acts (course.run shown.files).outcome) shown old mid err text n cause (told shown h) none some w whole
 
 -- a stop for want of memory
-carried_memory : (course : Stage ⊤) (refusals : List ℕ → Type 0) (old mid : World) (err : OutSeen) (n : ℕ) → Keeps old mid → NoFault old mid → ((shown : Shown) → Tells old shown → StopsAt (course shown.files).acts shown mid Free) → Wrote out_of_memory mid err n → (length out_of_memory ≤ n) ⊎ Rose old.err.faults err.faults → Carries course refusals old (closed mid err) 4
-carried_memory course refusals old mid err n k none told w whole = record {
+carried_memory : (course : Stage ⊤) (old mid : World) (err : OutSeen) (n : ℕ) → FitsRooms old × FitsRooms (closed mid err) → Follows (λ (y : ⊤). y) course old mid (Err Memory) → Wrote out_of_memory mid err n → (length out_of_memory ≤ n) ⊎ Rose old.err.faults err.faults → Carries course old (closed mid err) 4
+carried_memory course old mid err n rooms f w whole = record {
   statuses = omega arith;
-  keeps = Keeps-trans k w.keeps;
+  keeps = Keeps-trans f.keeps w.keeps;
+  rooms = rooms;
   no_fault = λ h. absurd (omega arith);
+  may_come = λ h. absurd (omega arith);
   ended = λ h. absurd (omega arith);
-  refused = λ h. absurd (omega arith);
   fault = λ h. absurd (omega arith);
   faulted = λ h. absurd (omega arith);
-  memory = λ _. (none.files, none.out);
-  wanting = λ _ shown h. let s = told shown h in record {
+  memory = λ _. (f.counts.files, f.counts.out);
+  wanting = λ _ shown h. let s = f.told shown h in record {
     before = s.before;
     rest = s.rest;
     count = s.count;
@@ -199,99 +317,101 @@ carried_memory course refusals old mid err n k none told w whole = record {
     whole = whole;
     because = tt;
   };
+  complete = λ shown h sure room. inr refl;
 }
 
 -- the status of an end, whose line was written or not
-abbrev chosen : ℕ → Result ⊤ OutFailed → ℕ
-chosen s (Ok _) = s
-chosen s (Err _) = 3
+end_unwritten : (e : End) → unwritten_status (Ended e) ≡ 3
+end_unwritten (Refused refusal) = refl
+end_unwritten NotUnderstood = refl
+end_unwritten (NoFile path) = refl
+end_unwritten (TooLarge path) = refl
+end_unwritten (Inner line) = refl
 
-closed_ends : (s : ℕ) (stop : Stop) → stop_status stop ≡ s → unwritten_status stop ≡ 3 → (answer : Result ⊤ OutFailed) → closed_status stop answer ≡ chosen s answer
-closed_ends s stop e u (Ok x) = e
-closed_ends s stop e u (Err d) = u
+-- the two ways in which an end's line may go
+at_end : (course : Stage ⊤) (old mid : World) (err : OutSeen) (e : End) (status : ℕ) (answer : Result ⊤ OutFailed) → FitsRooms old × FitsRooms (closed mid err) → Follows (λ (y : ⊤). y) course old mid (Err (Ended e)) → WriteAnswers (end_line e) mid.err err answer → status ≡ closed_status (Ended e) answer → Carries course old (closed mid err) status
+at_end course old mid err e status (Ok x) rooms f a is =
+    subst (Carries course old (closed mid err)) (sym is) (carried_end course old mid err e rooms f a)
+at_end course old mid err e status (Err d) rooms f a is =
+    subst (Carries course old (closed mid err)) (sym (is ∙ end_unwritten e)) (carried_unwritten course old mid err e d rooms f a)
 
 closed_three : (stop : Stop) → stop_status stop ≡ 3 → unwritten_status stop ≡ 3 → (answer : Result ⊤ OutFailed) → closed_status stop answer ≡ 3
 closed_three stop e u (Ok x) = e
 closed_three stop e u (Err d) = u
 
--- the two ways in which an end's line may go
-at_end : (course : Stage ⊤) (refusals : List ℕ → Type 0) (old mid : World) (err : OutSeen) (s : ℕ) (text : List ℕ) (status : ℕ) (answer : Result ⊤ OutFailed) → s ≤ 2 → Keeps old mid → NoFault old mid → ((shown : Shown) → Tells old shown → ((course shown.files).outcome ≡ end s text) × Tells mid (done (course shown.files).acts shown)) → (s ≡ 1 → HasCause refusals old (closed mid err) text) → WriteAnswers text mid.err err answer → status ≡ chosen s answer → Carries course refusals old (closed mid err) status
-at_end course refusals old mid err s text status (Ok x) le k n told cause a e =
-    subst (Carries course refusals old (closed mid err)) (sym e) (carried_end course refusals old mid err s text le k n told cause a)
-at_end course refusals old mid err s text status (Err d) le k n told cause a e =
-    subst (Carries course refusals old (closed mid err)) (sym e) (carried_unwritten course refusals old mid err s text d k told a)
-
 -- the two ways in which the line of status 3 may go
-at_fault : (course : Stage ⊤) (refusals : List ℕ → Type 0) (old mid : World) (err : OutSeen) (text : List ℕ) (status : ℕ) (answer : Result ⊤ OutFailed) (cause : Shown → Option Act → Type 0) → Keeps old mid → Rose old.files.faults mid.files.faults ⊎ Rose old.out.faults mid.out.faults → ((shown : Shown) → Tells old shown → StopsAt (course shown.files).acts shown mid cause) → ((w : Shown) → cause w None → ⊥) → ((w : Shown) (act : Act) → cause w (Some act) → (text ≡ fault_line (Some act)) × ActFailed old (closed mid err) w (Some act)) → WriteAnswers text mid.err err answer → status ≡ 3 → Carries course refusals old (closed mid err) status
-at_fault course refusals old mid err text status (Ok x) cause k rose told none some a e =
-    subst (Carries course refusals old (closed mid err)) (sym e)
-    (carried_fault course refusals old mid err text (length text) cause k (wider rose) told none some (wrote_all text mid err a) (inl (omega arith)))
+at_fault : (course : Stage ⊤) (old mid : World) (err : OutSeen) (text : List ℕ) (status : ℕ) (answer : Result ⊤ OutFailed) (cause : ℕ → Shown → Option Act → Type 0) → FitsRooms old × FitsRooms (closed mid err) → Keeps old mid → Rose old.files.counts.faults mid.files.counts.faults ⊎ Rose old.out.faults mid.out.faults → ((shown : Shown) → Tells old shown → StopsAt (course.run shown.files).acts shown mid cause) → ((n : ℕ) (w : Shown) → cause n w None → ⊥) → ((n : ℕ) (w : Shown) (act : Act) → cause n w (Some act) → (text ≡ failed_line (Some act)) × ActFailed old (closed mid err) n w (Some act)) → WriteAnswers text mid.err err answer → status ≡ 3 → Carries course old (closed mid err) status
+at_fault course old mid err text status (Ok x) cause rooms k rose told none some a e =
+    subst (Carries course old (closed mid err)) (sym e)
+    (carried_fault course old mid err text (length text) cause rooms k (wider rose) told none some (wrote_all text mid err a) (inl (omega arith)))
   where
-    wider : Rose old.files.faults mid.files.faults ⊎ Rose old.out.faults mid.out.faults → Rose old.files.faults mid.files.faults ⊎ Rose old.out.faults mid.out.faults ⊎ Rose old.err.faults err.faults
+    wider : Rose old.files.counts.faults mid.files.counts.faults ⊎ Rose old.out.faults mid.out.faults → Rose old.files.counts.faults mid.files.counts.faults ⊎ Rose old.out.faults mid.out.faults ⊎ Rose old.err.faults err.faults
     wider (inl r) = inl r
     wider (inr r) = inr (inl r)
-at_fault course refusals old mid err text status (Err d) cause k rose told none some a e =
-    subst (Carries course refusals old (closed mid err)) (sym e)
-    (carried_fault course refusals old mid err text a.0.0 cause k (wider rose) told none some (wrote_part text mid err d a) (inr (Rose-from old.err.faults mid.err.faults err.faults k.err.faults a.1)))
+at_fault course old mid err text status (Err d) cause rooms k rose told none some a e =
+    subst (Carries course old (closed mid err)) (sym e)
+    (carried_fault course old mid err text a.0.0 cause rooms k (wider rose) told none some (wrote_part text mid err d a) (inr (Rose-from old.err.faults mid.err.faults err.faults k.err.faults (counted text mid err d a))))
   where
-    wider : Rose old.files.faults mid.files.faults ⊎ Rose old.out.faults mid.out.faults → Rose old.files.faults mid.files.faults ⊎ Rose old.out.faults mid.out.faults ⊎ Rose old.err.faults err.faults
+    wider : Rose old.files.counts.faults mid.files.counts.faults ⊎ Rose old.out.faults mid.out.faults → Rose old.files.counts.faults mid.files.counts.faults ⊎ Rose old.out.faults mid.out.faults ⊎ Rose old.err.faults err.faults
     wider (inl r) = inl r
     wider (inr r) = inr (inl r)
 
-at_memory : (course : Stage ⊤) (refusals : List ℕ → Type 0) (old mid : World) (err : OutSeen) (status : ℕ) (answer : Result ⊤ OutFailed) → Keeps old mid → NoFault old mid → ((shown : Shown) → Tells old shown → StopsAt (course shown.files).acts shown mid Free) → WriteAnswers out_of_memory mid.err err answer → status ≡ closed_status Memory answer → Carries course refusals old (closed mid err) status
-at_memory course refusals old mid err status (Ok x) k n told a e =
-    subst (Carries course refusals old (closed mid err)) (sym e)
-    (carried_memory course refusals old mid err (length out_of_memory) k n told (wrote_all out_of_memory mid err a) (inl (omega arith)))
-at_memory course refusals old mid err status (Err d) k n told a e =
-    subst (Carries course refusals old (closed mid err)) (sym e)
-    (carried_memory course refusals old mid err a.0.0 k n told (wrote_part out_of_memory mid err d a) (inr (Rose-from old.err.faults mid.err.faults err.faults k.err.faults a.1)))
+at_memory : (course : Stage ⊤) (old mid : World) (err : OutSeen) (status : ℕ) (answer : Result ⊤ OutFailed) → FitsRooms old × FitsRooms (closed mid err) → Follows (λ (y : ⊤). y) course old mid (Err Memory) → WriteAnswers out_of_memory mid.err err answer → status ≡ closed_status Memory answer → Carries course old (closed mid err) status
+at_memory course old mid err status (Ok x) rooms f a e =
+    subst (Carries course old (closed mid err)) (sym e)
+    (carried_memory course old mid err (length out_of_memory) rooms f (wrote_all out_of_memory mid err a) (inl (omega arith)))
+at_memory course old mid err status (Err d) rooms f a e =
+    subst (Carries course old (closed mid err)) (sym e)
+    (carried_memory course old mid err a.0.0 rooms f (wrote_part out_of_memory mid err d a) (inr (Rose-from old.err.faults mid.err.faults err.faults f.keeps.err.faults (counted out_of_memory mid err d a))))
 
 -- why a call on files failed, seen of the whole
-call_failed : (path : List ℕ) (old mid new : World) (w : Shown) (act : Act) → Rose old.files.faults new.files.faults → mid.files.sure ≡ old.files.sure → CallFailed path mid w (Some act) → (file_fault path ≡ fault_line (Some act)) × ActFailed old new w (Some act)
-call_failed path old mid new w (read other) rose sure c = (ap file_fault c.0, (rose, sym sure ∙ c.1))
-call_failed path old mid new w (list other) rose sure c = (ap file_fault c.0, (rose, sym sure ∙ c.1))
-call_failed path old mid new w (put other bytes) rose sure c = (ap file_fault c.0, (rose, sym sure ∙ c.1))
-call_failed path old mid new w (say bytes) rose sure c = absurd c.0
-call_failed path old mid new w (warn bytes) rose sure c = absurd c.0
+call_failed : (path : List ℕ) (old mid new : World) (n : ℕ) (w : Shown) (act : Act) → Rose old.files.counts.faults new.files.counts.faults → mid.files.sure ≡ old.files.sure → CallFailed path mid n w (Some act) → (file_fault path ≡ failed_line (Some act)) × ActFailed old new n w (Some act)
+call_failed path old mid new n w (read other) rose sure c = (ap file_fault c.0, (c.1, rose, sym sure ∙ c.2))
+call_failed path old mid new n w (list other) rose sure c = (ap file_fault c.0, (c.1, rose, sym sure ∙ c.2))
+call_failed path old mid new n w (put other bytes) rose sure c = (ap file_fault c.0, (c.1, rose, sym sure ∙ c.2))
+call_failed path old mid new n w (say bytes) rose sure c = absurd c.0
+call_failed path old mid new n w (warn bytes) rose sure c = absurd c.0
 
-output_failed : (old mid new : World) (w : Shown) (act : Act) → Rose old.out.faults new.out.faults → mid.out.room ≡ old.out.room → OutputFailed mid w (Some act) → (output_fault ≡ fault_line (Some act)) × ActFailed old new w (Some act)
-output_failed old mid new w (say bytes) rose room c = (refl, (rose, subst (λ r. PassesRoom r w.out bytes) room c))
-output_failed old mid new w (read other) rose room c = absurd c
-output_failed old mid new w (list other) rose room c = absurd c
-output_failed old mid new w (put other bytes) rose room c = absurd c
-output_failed old mid new w (warn bytes) rose room c = absurd c
+output_failed : (old mid new : World) (n : ℕ) (w : Shown) (act : Act) → Rose old.out.faults new.out.faults → mid.out.room ≡ old.out.room → OutputFailed mid n w (Some act) → (output_fault ≡ failed_line (Some act)) × ActFailed old new n w (Some act)
+output_failed old mid new n w (say bytes) rose room c = (refl, (rose, subst (λ r. PassesRoom r w.out bytes) room c))
+output_failed old mid new n w (read other) rose room c = absurd c
+output_failed old mid new n w (list other) rose room c = absurd c
+output_failed old mid new n w (put other bytes) rose room c = absurd c
+output_failed old mid new n w (warn bytes) rose room c = absurd c
 
-warning_failed : (old mid new : World) (w : Shown) (act : Act) → Rose old.err.faults new.err.faults → mid.err.room ≡ old.err.room → WarningFailed mid w (Some act) → ([] ≡ fault_line (Some act)) × ActFailed old new w (Some act)
-warning_failed old mid new w (warn bytes) rose room c = (refl, (rose, subst (λ r. PassesRoom r w.err bytes) room c))
-warning_failed old mid new w (read other) rose room c = absurd c
-warning_failed old mid new w (list other) rose room c = absurd c
-warning_failed old mid new w (put other bytes) rose room c = absurd c
-warning_failed old mid new w (say bytes) rose room c = absurd c
+warning_failed : (old mid new : World) (n : ℕ) (w : Shown) (act : Act) → Rose old.err.faults new.err.faults → mid.err.room ≡ old.err.room → WarningFailed mid n w (Some act) → ([] ≡ failed_line (Some act)) × ActFailed old new n w (Some act)
+warning_failed old mid new n w (warn bytes) rose room c = (refl, (rose, subst (λ r. PassesRoom r w.err bytes) room c))
+warning_failed old mid new n w (read other) rose room c = absurd c
+warning_failed old mid new n w (list other) rose room c = absurd c
+warning_failed old mid new n w (put other bytes) rose room c = absurd c
+warning_failed old mid new n w (say bytes) rose room c = absurd c
 
--- A command followed its course, its result was concluded, and its refusals have their causes: so it
--- carries the course.
-pub carried : (course : Stage ⊤) (refusals : List ℕ → Type 0) (old mid : World) (err : OutSeen) (result : Result ⊤ Stop) (status : ℕ) → Follows (λ (x : ⊤). x) course old mid result → Concludes result mid.err err status → ((text : List ℕ) → result ≡ Err (Refused text) → refusals text) → Carries course refusals old (closed mid err) status
-carried course refusals old mid err (Ok x) status f c r =
-    subst (λ o. Carries course refusals old (closed mid o) status) (sym c.0)
-    (subst (Carries course refusals old mid) (sym c.1) (carried_done course refusals old mid x f))
-carried course refusals old mid err (Err (Refused text)) status f c r =
-    at_end course refusals old mid err 1 text status c.0 (omega arith) f.keeps f.counts f.told (λ _. inr (inr (r text refl))) c.1 (c.2 ∙ closed_ends 1 (Refused text) refl refl c.0)
-carried course refusals old mid err (Err NotUnderstood) status f c r =
-    at_end course refusals old mid err 2 usage status c.0 (omega arith) f.keeps f.counts f.told (λ h. absurd (omega arith)) c.1 (c.2 ∙ closed_ends 2 NotUnderstood refl refl c.0)
-carried course refusals old mid err (Err (NoFile path)) status f c r =
-    at_end course refusals old mid err 1 (no_file path) status c.0 (omega arith) f.keeps f.counts.0 f.told (λ _. inl (path, refl, f.counts.1)) c.1 (c.2 ∙ closed_ends 1 (NoFile path) refl refl c.0)
-carried course refusals old mid err (Err (TooLarge path)) status f c r =
-    at_end course refusals old mid err 1 (too_large path) status c.0 (omega arith) f.keeps f.counts.0 f.told (λ _. inr (inl (path, refl, f.counts.1))) c.1 (c.2 ∙ closed_ends 1 (TooLarge path) refl refl c.0)
-carried course refusals old mid err (Err (FileFault path)) status f c r =
-    at_fault course refusals old mid err (file_fault path) status c.0 (CallFailed path mid) f.keeps (inl f.counts.0) f.told (λ w h. h)
-    (λ w act h. call_failed path old mid (closed mid err) w act f.counts.0 f.keeps.files.sure h) c.1 (c.2 ∙ closed_three (FileFault path) refl refl c.0)
-carried course refusals old mid err (Err OutputFault) status f c r =
-    at_fault course refusals old mid err output_fault status c.0 (OutputFailed mid) f.keeps (inr f.counts.0) f.told (λ w h. h)
-    (λ w act h. output_failed old mid (closed mid err) w act f.counts.0 f.keeps.out.room h) c.1 (c.2 ∙ closed_three OutputFault refl refl c.0)
-carried course refusals old mid err (Err WarningFault) status f c r =
+-- a stop was closed by its line
+closed_stop : (course : Stage ⊤) (old mid : World) (err : OutSeen) (stop : Stop) (status : ℕ) → FitsRooms old × FitsRooms (closed mid err) → Follows (λ (x : ⊤). x) course old mid (Err stop) → Closes stop mid.err err status → Carries course old (closed mid err) status
+closed_stop course old mid err (Ended e) status rooms f c = at_end course old mid err e status c.0 rooms f c.1 c.2
+closed_stop course old mid err (FileFault path) status rooms f c =
+    at_fault course old mid err (file_fault path) status c.0 (CallFailed path mid) rooms f.keeps (inl f.counts.0) f.told (λ n w h. h)
+    (λ n w act h. call_failed path old mid (closed mid err) n w act f.counts.0 f.keeps.files.sure h) c.1 (c.2 ∙ closed_three (FileFault path) refl refl c.0)
+closed_stop course old mid err OutputFault status rooms f c =
+    at_fault course old mid err output_fault status c.0 (OutputFailed mid) rooms f.keeps (inr f.counts.0) f.told (λ n w h. h)
+    (λ n w act h. output_failed old mid (closed mid err) n w act f.counts.0 f.keeps.out.room h) c.1 (c.2 ∙ closed_three OutputFault refl refl c.0)
+closed_stop course old mid err WarningFault status rooms f c =
     let rose : Rose old.err.faults err.faults = subst (λ o. Rose old.err.faults o.faults) (sym c.1.0) f.counts.0 in
-    subst (Carries course refusals old (closed mid err)) (sym (c.2 ∙ closed_three WarningFault refl refl c.0))
-    (carried_fault course refusals old mid err [] 0 (WarningFailed mid) f.keeps (inr (inr rose)) f.told (λ w h. h)
-    (λ w act h. warning_failed old mid (closed mid err) w act rose f.keeps.err.room h) (wrote_none mid err c.1.0) (inl (omega arith)))
-carried course refusals old mid err (Err Memory) status f c r =
-    at_memory course refusals old mid err status c.0 f.keeps f.counts f.told c.1 c.2
+    subst (Carries course old (closed mid err)) (sym (c.2 ∙ closed_three WarningFault refl refl c.0))
+    (carried_fault course old mid err [] 0 (WarningFailed mid) rooms f.keeps (inr (inr rose)) f.told (λ n w h. h)
+    (λ n w act h. warning_failed old mid (closed mid err) n w act rose f.keeps.err.room h) (wrote_none mid err c.1.0) (inl (omega arith)))
+closed_stop course old mid err Memory status rooms f c = at_memory course old mid err status c.0 rooms f c.1 c.2
+
+-- A command followed its course and its result was concluded: so it carries the course.
+pub carried : (course : Stage ⊤) (old mid : World) (err : OutSeen) (result : Result ⊤ Stop) (status : ℕ) → FitsRooms old × FitsRooms (closed mid err) → Follows (λ (x : ⊤). x) course old mid result → Concludes result mid.err err status → Carries course old (closed mid err) status
+carried course old mid err (Ok x) status rooms f c =
+    subst (λ s. Carries course old (closed mid err) s) (sym c.1) (by_err err c.0 rooms)
+  where
+    by_err : (err : OutSeen) → err ≡ mid.err → FitsRooms old × FitsRooms (closed mid err) → Carries course old (closed mid err) 0
+    by_err err e = subst (λ o. FitsRooms old × FitsRooms (closed mid o) → Carries course old (closed mid o) 0) (sym e) (λ rooms. carried_done course old mid x rooms f)
+carried course old mid err (Err stop) status rooms f (inl c) = closed_stop course old mid err stop status rooms f c
+carried course old mid err (Err (Ended e)) status rooms f (inr c) = closed_stop course old mid err Memory status rooms (forgets (λ (x : ⊤). x) course old mid e f) c.1
+carried course old mid err (Err (FileFault path)) status rooms f (inr c) = absurd c.0
+carried course old mid err (Err OutputFault) status rooms f (inr c) = absurd c.0
+carried course old mid err (Err WarningFault) status rooms f (inr c) = absurd c.0
+carried course old mid err (Err Memory) status rooms f (inr c) = absurd c.0

@@ -2,3 +2,4 @@ pub mod Steps
 pub mod Primitives
 pub mod Writes
 pub mod Carried
+pub mod Inside

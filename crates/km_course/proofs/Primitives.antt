@@ -1,127 +1,273 @@
 -- Each call of the traits follows its stage.
-use Rattle.std.proofs.Common.{◌≡◌, ℕ, ◌+◌, ◌≤◌, ◌<◌, List, [], ◌∷◌, ◌++◌, take, length, refl, sym, ◌∙◌, ap, subst, arith, min, if◌then◌else◌, true, false}
-use Rattle.std.specs.Prelude.{◌==◌}
+use Rattle.std.proofs.Common.{◌≡◌, ◌≢◌, ℕ, ◌+◌, ◌≤◌, ◌<◌, List, [], ◌∷◌, ◌++◌, take, length, refl, sym, ◌∙◌, ap, subst, arith, min, max, if◌then◌else◌, true, false, Bool, cond, filter, inl, inr}
+use Rattle.std.specs.Prelude.{◌==◌, ◌⊎◌, nat_lt}
 use Rattle.std.proofs.lemmas.Bool.{le-ltb, lt-ltb, eqb-true}
 use Rattle.std.specs.Prelude.{Option, Some, None, Result, Ok, Err, is_some, IfSome, IsSomeAnd, ⊤}
 use Rattle.std.specs.Option.{option_map}
 use Rattle.std.specs.FinMap as map
-use Rattle.km_outside.specs.Counts.{count_end}
-use Rattle.km_outside.specs.FilesSeen.{Contents, FilesSeen, ReadAnswers, file_limit}
+use Rattle.km_names.specs.Limit.{file_limit}
+use Rattle.km_outside.specs.CallCounts.{CallCounts, NoneFell, made, refused, answered}
+use Rattle.km_outside.specs.Contents.{Contents, listed, rests_below, is_path, is_conf_name}
+use Rattle.km_outside.specs.Counts.{count_end, one_more}
+use Rattle.km_outside.specs.FilesSeen.{FilesSeen, ReadAnswers, IsReadAt, ListAnswers, IsListOf, ReplaceAnswers, list_limit}
 use Rattle.km_outside.specs.OutSeen.{OutSeen, WriteAnswers, LacksRoom}
 use Rattle.km_outside.specs.declared.files.FileAnswer.{FileAnswer}
 use Rattle.km_outside.specs.declared.files.FileAnswer.TheVariants as answers
+use Rattle.km_outside.specs.declared.files.ReplaceAnswer.{ReplaceAnswer}
+use Rattle.km_outside.specs.declared.files.ReplaceAnswer.TheVariants as replaces
 use Rattle.km_outside.specs.declared.out.OutFailed.{OutFailed}
-use Rattle.km_course.specs.Lines.{no_file, too_large}
-use Rattle.km_course.specs.Course.{reads, read_outcome, acts_alone, says, warns, says_any}
-use Rattle.km_course.specs.Course.Act.{read, say, warn}
+use Rattle.km_course.specs.Course.{Act, Outcome, Stage, act_with, reads_or, read_outcome, lists_or, list_outcome, says, warns, says_any, puts}
+use Rattle.km_course.specs.Course.Act.{read, list, say, warn, put}
 use Rattle.km_course.specs.Course.Outcome.{value, end}
-use Rattle.km_course.specs.World.{World, world, Shown, Tells, Keeps, KeepsOut, Extends}
-use Rattle.km_course.specs.Follows.{Follows, PassesRoom, stop_for}
+use Rattle.km_course.specs.World.{World, world, Shown, Tells, Keeps, KeepsOut, Extends, NoFault, act_done, act_begun}
+use Rattle.km_course.specs.Follows.{StopsAt, CallFailed, IsCallAt, EndCounts, Follows, PassesRoom, stop_for}
+use Rattle.km_course.specs.declared.end.End.{End}
+use Rattle.km_course.specs.declared.end.End.TheVariants.{NoFile, TooLarge}
 use Rattle.km_course.specs.declared.stop.Stop.{Stop}
-use Rattle.km_course.specs.declared.stop.Stop.TheVariants.{NoFile, TooLarge, FileFault, OutputFault, WarningFault, Memory}
+use Rattle.km_course.specs.declared.stop.Stop.TheVariants.{Ended, FileFault, OutputFault, WarningFault, Memory}
 use Rattle.km_course.proofs.Steps.{KeepsFiles-same, KeepsOut-same, no_memory, gave}
 
-id : List ℕ → List ℕ
-id x = x
+-- the files with these counts and nothing else changed
+abbrev pub counting : FilesSeen → CallCounts → FilesSeen
+counting files counts = record files { counts = counts }
 
--- a call on files changes nothing else
-keeps_files : (old new : FilesSeen) (out err : OutSeen) → new.contents ≡ old.contents → new.sure ≡ old.sure → old.faults ≤ new.faults → old.absences ≤ new.absences → old.excesses ≤ new.excesses → Keeps (world old out err) (world new out err)
-keeps_files old new out err c s f a e = record {
-  files = record { told = ap is_some c; sure = s; faults = f; absences = a; excesses = e };
+-- a call on files changes nothing but counts, none of which falls
+keeps_counting : (old : FilesSeen) (counts : CallCounts) (out err : OutSeen) → NoneFell old.counts counts → Keeps (world old out err) (world (counting old counts) out err)
+keeps_counting old counts out err n = record {
+  files = record { told = refl; sure = refl; counts = n };
   out = KeepsOut-same out;
   err = KeepsOut-same err;
 }
 
-tells_files : (old new : FilesSeen) (out err : OutSeen) (shown : Shown) → new.contents ≡ old.contents → Tells (world old out err) shown → Tells (world new out err) shown
-tells_files old new out err shown same h = record { files = same ∙ h.files; out = h.out; err = h.err }
+one_more-later : (n : ℕ) → n ≤ one_more n
+one_more-later n = omega arith
+
+-- what each answer leaves of the counts
+fell_ok : (counts : CallCounts) → NoneFell counts (made counts)
+fell_ok counts = record { calls = one_more-later counts.calls; faults = omega arith; absences = omega arith; excesses = omega arith }
+
+fell : (counts : CallCounts) (answer : FileAnswer) → NoneFell counts (refused (made counts) answer)
+fell counts answers.Absent = record { calls = one_more-later counts.calls; faults = omega arith; absences = one_more-later counts.absences; excesses = omega arith }
+fell counts answers.Failed = record { calls = one_more-later counts.calls; faults = one_more-later counts.faults; absences = omega arith; excesses = omega arith }
+fell counts (answers.TooLarge n) = record { calls = one_more-later counts.calls; faults = omega arith; absences = omega arith; excesses = one_more-later counts.excesses }
+fell counts answers.Memory = fell_ok counts
+
+-- no fault is counted
+no_fault : (old : FilesSeen) (counts : CallCounts) (out err : OutSeen) → counts.faults ≡ old.counts.faults → NoFault (world old out err) (world (counting old counts) out err)
+no_fault old counts out err e = record { files = e; out = refl; err = refl }
+
+-- what is told after a call that was made, with these counts
+tells_called : (old : FilesSeen) (counts : CallCounts) (out err : OutSeen) (shown : Shown) → counts.calls ≡ one_more old.counts.calls → Tells (world old out err) shown → Tells (world (counting old counts) out err) (record shown { calls = one_more shown.calls })
+tells_called old counts out err shown e h = record { files = h.files; calls = e ∙ ap one_more h.calls; out = h.out; err = h.err }
 
 some_at : (P : Contents → Type 0) (contents : Option Contents) (files : Contents) → contents ≡ Some files → IfSome contents P → P files
 some_at P contents files e h = subst (λ o. IfSome o P) e h
 
-pub read_ok : (path bytes : List ℕ) (old new : FilesSeen) (out err : OutSeen) → ReadAnswers path old new (Ok bytes) → Follows (λ (x : List ℕ). x) (reads path) (world old out err) (world new out err) (Ok bytes)
-unfolding reads
-read_ok path bytes old new out err a =
-    let contents = ap (λ f. f.contents) a.0 in
-    let faults = ap (λ f. f.faults) a.0 in
-    let absences = ap (λ f. f.absences) a.0 in
-    let excesses = ap (λ f. f.excesses) a.0 in
+-- an act that is a call on files and leaves them as they were
+abbrev pub IsQuiet : Act → Type 0
+IsQuiet act = (shown : Shown) → act_done act shown ≡ record shown { calls = one_more shown.calls }
+
+-- such a call gave a value
+call_gave : {T X : Type 0} (view : T → X) (act : Act) (outcome : Contents → Outcome X) (possible : Outcome X → Type 0) (old : FilesSeen) (counts : CallCounts) (out err : OutSeen) (x : T) → IsQuiet act → NoneFell old.counts counts → counts.faults ≡ old.counts.faults → counts.calls ≡ one_more old.counts.calls → possible (value (view x)) → ((files : Contents) → old.contents ≡ Some files → outcome files ≡ value (view x)) → Follows view (act_with act outcome possible) (world old out err) (world (counting old counts) out err) (Ok x)
+unfolding act_with
+call_gave view act outcome possible old counts out err x quiet n faults calls may told = record {
+  keeps = keeps_counting old counts out err n;
+  counts = no_fault old counts out err faults;
+  comes = may;
+  told = λ shown h. (told shown.files h.files, subst (Tells (world (counting old counts) out err)) (sym (quiet shown)) (tells_called old counts out err shown calls h));
+}
+
+-- such a call came to an end
+call_ended : {T X : Type 0} (view : T → X) (act : Act) (outcome : Contents → Outcome X) (possible : Outcome X → Type 0) (old : FilesSeen) (counts : CallCounts) (out err : OutSeen) (e : End) → IsQuiet act → NoneFell old.counts counts → counts.faults ≡ old.counts.faults → counts.calls ≡ one_more old.counts.calls → EndCounts (world old out err) (world (counting old counts) out err) e → possible (end e) → ((files : Contents) → old.contents ≡ Some files → outcome files ≡ end e) → Follows view (act_with act outcome possible) (world old out err) (world (counting old counts) out err) (Err (Ended e))
+unfolding act_with
+call_ended view act outcome possible old counts out err e quiet n faults calls cause may told = record {
+  keeps = keeps_counting old counts out err n;
+  counts = (no_fault old counts out err faults, cause);
+  comes = may;
+  told = λ shown h. (told shown.files h.files, subst (Tells (world (counting old counts) out err)) (sym (quiet shown)) (tells_called old counts out err shown calls h));
+}
+
+-- an act that is a call on files at this path
+abbrev pub IsCall : List ℕ → Act → Type 0
+IsCall path act = ((shown : Shown) → act_begun 1 act shown ≡ record shown { calls = one_more shown.calls }) × IsCallAt path act
+
+-- a call on files failed
+call_failed : {T X : Type 0} (view : T → X) (path : List ℕ) (act : Act) (outcome : Contents → Outcome X) (possible : Outcome X → Type 0) (old : FilesSeen) (out err : OutSeen) → IsCall path act → old.sure ≡ false → Follows view (act_with act outcome possible) (world old out err) (world (counting old (refused (made old.counts) answers.Failed)) out err) (Err (FileFault path))
+unfolding act_with
+call_failed view path act outcome possible old out err is sure =
+    let counts = refused (made old.counts) answers.Failed in
     record {
-      keeps = keeps_files old new out err contents (ap (λ f. f.sure) a.0) (omega arith) (omega arith) (omega arith);
-      counts = record { files = faults; out = refl; err = refl };
-      told = λ shown h. (
-        ap (read_outcome path) (some_at (λ files. map.get files path ≡ Some bytes) old.contents shown.files h.files a.2)
-            ∙ ap (λ b. if b then end 1 (too_large path) else value bytes) (le-ltb file_limit (length bytes) a.1),
-        tells_files old new out err shown contents h,
-      );
-    }
-
-pub read_absent : (path owned : List ℕ) (old new : FilesSeen) (out err : OutSeen) → owned ≡ path → ReadAnswers path old new (Err answers.Absent) → Follows (λ (x : List ℕ). x) (reads path) (world old out err) (world new out err) (Err (NoFile owned))
-unfolding reads
-read_absent path owned old new out err same a =
-    let contents = ap (λ f. f.contents) a.0 in
-    let faults = ap (λ f. f.faults) a.0 in
-    let excesses = ap (λ f. f.excesses) a.0 in
-    record {
-      keeps = keeps_files old new out err contents (ap (λ f. f.sure) a.0) (omega arith) (omega (arith, a.1)) (omega arith);
-      counts = (record { files = faults; out = refl; err = refl }, a.1);
-      told = λ shown h. (
-        ap (read_outcome path) (some_at (λ files. map.get files path ≡ None) old.contents shown.files h.files a.2) ∙ ap (λ p. end 1 (no_file p)) (sym same),
-        tells_files old new out err shown contents h,
-      );
-    }
-
-long : (bytes : List ℕ) (n : ℕ) → file_limit < n → n ≡ min (length bytes) count_end → file_limit < length bytes
-long bytes n h e = omega arith
-
-too_long : (path : List ℕ) (n : ℕ) (found : Option (List ℕ)) → file_limit < n → IsSomeAnd found (λ bytes. n ≡ min (length bytes) count_end) → read_outcome path found ≡ end 1 (too_large path)
-too_long path n None h is = absurd is
-too_long path n (Some bytes) h is = ap (λ b. if b then end 1 (too_large path) else value bytes) (lt-ltb file_limit (length bytes) (long bytes n h is))
-
-pub read_too_large : (path owned : List ℕ) (n : ℕ) (old new : FilesSeen) (out err : OutSeen) → owned ≡ path → ReadAnswers path old new (Err (answers.TooLarge n)) → Follows (λ (x : List ℕ). x) (reads path) (world old out err) (world new out err) (Err (TooLarge owned))
-unfolding reads
-read_too_large path owned n old new out err same a =
-    let contents = ap (λ f. f.contents) a.0 in
-    let faults = ap (λ f. f.faults) a.0 in
-    let absences = ap (λ f. f.absences) a.0 in
-    record {
-      keeps = keeps_files old new out err contents (ap (λ f. f.sure) a.0) (omega arith) (omega arith) (omega (arith, a.1));
-      counts = (record { files = faults; out = refl; err = refl }, a.1);
-      told = λ shown h. (
-        too_long path n (map.get shown.files path) a.2 (some_at (λ files. IsSomeAnd (map.get files path) (λ bytes. n ≡ min (length bytes) count_end)) old.contents shown.files h.files a.3) ∙ ap (λ p. end 1 (too_large p)) (sym same),
-        tells_files old new out err shown contents h,
-      );
-    }
-
-pub read_failed : (path owned : List ℕ) (old new : FilesSeen) (out err : OutSeen) → owned ≡ path → ReadAnswers path old new (Err answers.Failed) → Follows (λ (x : List ℕ). x) (reads path) (world old out err) (world new out err) (Err (FileFault owned))
-unfolding reads
-read_failed path owned old new out err same a =
-    let contents = ap (λ f. f.contents) a.0 in
-    let sure = ap (λ f. f.sure) a.0 in
-    let absences = ap (λ f. f.absences) a.0 in
-    let excesses = ap (λ f. f.excesses) a.0 in
-    record {
-      keeps = keeps_files old new out err contents sure (omega (arith, a.1)) (omega arith) (omega arith);
-      counts = (a.1, refl, refl);
+      keeps = keeps_counting old counts out err (fell old.counts answers.Failed);
+      counts = (omega arith, refl, refl);
+      comes = tt;
       told = λ shown h. record {
         before = [];
-        rest = read path ∷ [];
-        count = 0;
+        rest = act ∷ [];
+        count = 1;
         split = refl;
-        tells = tells_files old new out err shown contents h;
-        because = (same, sure ∙ a.2);
+        tells = subst (Tells (world (counting old counts) out err)) (sym (is.0 shown)) (tells_called old counts out err shown refl h);
+        because = (is.1, refl, sure);
       };
     }
 
-pub read_no_memory : (path : List ℕ) (old new : FilesSeen) (out err : OutSeen) → ReadAnswers path old new (Err answers.Memory) → Follows (λ (x : List ℕ). x) (reads path) (world old out err) (world new out err) (Err Memory)
-read_no_memory path old new out err a =
-    subst (λ f. Follows (λ (x : List ℕ). x) (reads path) (world old out err) (world f out err) (Err Memory)) (sym a) (no_memory (λ (x : List ℕ). x) (reads path) (world old out err))
+-- a call on files wanted memory
+call_wanting : {T X : Type 0} (view : T → X) (path : List ℕ) (act : Act) (outcome : Contents → Outcome X) (possible : Outcome X → Type 0) (old : FilesSeen) (out err : OutSeen) → IsCall path act → Follows view (act_with act outcome possible) (world old out err) (world (counting old (made old.counts)) out err) (Err Memory)
+unfolding act_with
+call_wanting view path act outcome possible old out err is =
+    let counts = made old.counts in
+    record {
+      keeps = keeps_counting old counts out err (fell_ok old.counts);
+      counts = no_fault old counts out err refl;
+      comes = tt;
+      told = λ shown h. record {
+        before = [];
+        rest = act ∷ [];
+        count = 1;
+        split = refl;
+        tells = subst (Tells (world (counting old counts) out err)) (sym (is.0 shown)) (tells_called old counts out err shown refl h);
+        because = tt;
+      };
+    }
+
+long : (n m limit : ℕ) → limit < n → n ≡ min m count_end → limit < m
+long n m limit h e = omega arith
+
+-- what is told of a read decides its outcome
+read_told : (absent : Outcome (List ℕ)) (path bytes : List ℕ) (files : FilesSeen) → IsReadAt path files (Ok bytes) → (told : Contents) → files.contents ≡ Some told → read_outcome absent path (map.get told path) ≡ value bytes
+read_told absent path bytes files a told h =
+    ap (read_outcome absent path) (some_at (λ t. map.get t path ≡ Some bytes) files.contents told h a.1)
+    ∙ ap (λ b. if b then end (TooLarge path) else value bytes) (le-ltb file_limit (length bytes) a.0)
+
+read_long : (absent : Outcome (List ℕ)) (path : List ℕ) (n : ℕ) (found : Option (List ℕ)) → file_limit < n → IsSomeAnd found (λ bytes. n ≡ min (length bytes) count_end) → read_outcome absent path found ≡ end (TooLarge path)
+read_long absent path n None h is = absurd is
+read_long absent path n (Some bytes) h is = ap (λ b. if b then end (TooLarge path) else value bytes) (lt-ltb file_limit (length bytes) (long n (length bytes) file_limit h is))
+
+pub read_ok : (absent : Outcome (List ℕ)) (path bytes : List ℕ) (old new : FilesSeen) (out err : OutSeen) → ReadAnswers path old new (Ok bytes) → Follows (λ (x : List ℕ). x) (reads_or absent path) (world old out err) (world new out err) (Ok bytes)
+read_ok absent path bytes old new out err a =
+    subst (λ f. Follows (λ (x : List ℕ). x) (reads_or absent path) (world old out err) (world f out err) (Ok bytes)) (sym a.0)
+    (call_gave (λ (x : List ℕ). x) _ _ _ old (made old.counts) out err bytes (λ shown. refl) (fell_ok old.counts) refl refl (inr (inr (bytes, a.1.0, refl))) (read_told absent path bytes old a.1))
+
+-- nothing was there, which gives a value
+pub read_absent : (path default : List ℕ) (old new : FilesSeen) (out err : OutSeen) → ReadAnswers path old new (Err answers.Absent) → Follows (λ (x : List ℕ). x) (reads_or (value default) path) (world old out err) (world new out err) (Ok default)
+read_absent path default old new out err a =
+    subst (λ f. Follows (λ (x : List ℕ). x) (reads_or (value default) path) (world old out err) (world f out err) (Ok default)) (sym a.0)
+    (call_gave (λ (x : List ℕ). x) _ _ _ old (refused (made old.counts) answers.Absent) out err default (λ shown. refl) (fell old.counts answers.Absent) refl refl (inl refl)
+    (λ told h. ap (read_outcome (value default) path) (some_at (λ t. map.get t path ≡ None) old.contents told h a.1)))
 
 -- whatever a refused read answers, the stop is its stage's
-pub read_refused : (path owned : List ℕ) (answer : FileAnswer) (old new : FilesSeen) (out err : OutSeen) → owned ≡ path → ReadAnswers path old new (Err answer) → Follows (λ (x : List ℕ). x) (reads path) (world old out err) (world new out err) (Err (stop_for answer owned))
-read_refused path owned answers.Absent old new out err same a = read_absent path owned old new out err same a
-read_refused path owned answers.Failed old new out err same a = read_failed path owned old new out err same a
-read_refused path owned (answers.TooLarge n) old new out err same a = read_too_large path owned n old new out err same a
-read_refused path owned answers.Memory old new out err same a = read_no_memory path old new out err a
+pub read_refused : (absent : Outcome (List ℕ)) (path : List ℕ) (answer : FileAnswer) (old new : FilesSeen) (out err : OutSeen) → (answer ≡ answers.Absent → absent ≡ end (NoFile path)) → ReadAnswers path old new (Err answer) → Follows (λ (x : List ℕ). x) (reads_or absent path) (world old out err) (world new out err) (Err (stop_for answer path))
+read_refused absent path answer old new out err needed a =
+    subst (λ f. Follows (λ (x : List ℕ). x) (reads_or absent path) (world old out err) (world f out err) (Err (stop_for answer path))) (sym a.0) (by_answer answer needed a.1)
+  where
+    by_answer : (answer : FileAnswer) → (answer ≡ answers.Absent → absent ≡ end (NoFile path)) → IsReadAt path old (Err answer) → Follows (λ (x : List ℕ). x) (reads_or absent path) (world old out err) (world (counting old (refused (made old.counts) answer)) out err) (Err (stop_for answer path))
+    by_answer answers.Absent needed a =
+        call_ended (λ (x : List ℕ). x) _ _ _ old (refused (made old.counts) answers.Absent) out err (NoFile path) (λ shown. refl) (fell old.counts answers.Absent) refl refl (omega arith) (inl (sym (needed refl)))
+        (λ told h. ap (read_outcome absent path) (some_at (λ t. map.get t path ≡ None) old.contents told h a) ∙ needed refl)
+    by_answer answers.Failed needed a = call_failed (λ (x : List ℕ). x) path (read path) _ _ old out err ((λ shown. refl), refl) a
+    by_answer (answers.TooLarge n) needed a =
+        call_ended (λ (x : List ℕ). x) _ _ _ old (refused (made old.counts) (answers.TooLarge n)) out err (TooLarge path) (λ shown. refl) (fell old.counts (answers.TooLarge n)) refl refl (omega arith) (inr (inl refl))
+        (λ told h. read_long absent path n (map.get told path) a.0 (some_at (λ t. IsSomeAnd (map.get t path) (λ bytes. n ≡ min (length bytes) count_end)) old.contents told h a.1))
+    by_answer answers.Memory needed a = call_wanting (λ (x : List ℕ). x) path (read path) _ _ old out err ((λ shown. refl), refl)
+
+-- where nothing is a path, nothing that is one is listed
+fewer : (fits : List ℕ → Bool) (rests : List (List ℕ)) → ((name : List ℕ) → fits name ≡ true → is_path name ≡ true) → filter is_path rests ≡ [] → filter fits rests ≡ []
+fewer fits [] paths = λ e. refl
+fewer fits (rest ∷ rests) paths = by_tests (fits rest) (is_path rest) refl refl (fewer fits rests paths)
+  where
+    differ : false ≡ true → ⊥
+    differ e = cc
+
+    by_tests : (f p : Bool) → fits rest ≡ f → is_path rest ≡ p → (filter is_path rests ≡ [] → filter fits rests ≡ []) → cond p (rest ∷ filter is_path rests) (filter is_path rests) ≡ [] → cond f (rest ∷ filter fits rests) (filter fits rests) ≡ []
+    by_tests f true ef ep more e = cc
+    by_tests false false ef ep more e = more e
+    by_tests true false ef ep more e = absurd (differ (sym ep ∙ paths rest ef))
+
+-- the name of a configuration file has a byte
+pub conf_is_path : (name : List ℕ) → is_conf_name name ≡ true → is_path name ≡ true
+conf_is_path [] e = cc
+conf_is_path (byte ∷ name) e = lt-ltb 0 (length (byte ∷ name)) (omega arith)
+
+-- what is told of a listing decides its outcome
+list_few : (absent : Outcome (List (List ℕ))) (folder : List ℕ) (below names : List (List ℕ)) → below ≢ [] → length names ≤ list_limit → list_outcome absent folder below names ≡ value names
+list_few absent folder [] names some few = absurd (some refl)
+list_few absent folder (x ∷ below) names some few = ap (λ b. if b then end (TooLarge folder) else value names) (le-ltb list_limit (length names) few)
+
+list_many : (absent : Outcome (List (List ℕ))) (fits : List ℕ → Bool) (folder : List ℕ) (n : ℕ) (below names : List (List ℕ)) → (below ≡ [] → names ≡ []) → list_limit < n → n ≡ min (length names) count_end → list_outcome absent folder below names ≡ end (TooLarge folder)
+list_many absent fits folder n [] names none h e =
+    let no : length names ≡ 0 = ap length (none refl) in absurd (omega (arith, no, h, e))
+list_many absent fits folder n (x ∷ below) names none h e = ap (λ b. if b then end (TooLarge folder) else value names) (lt-ltb list_limit (length names) (long n (length names) list_limit h e))
+
+list_told : (absent : Outcome (List (List ℕ))) (fits : List ℕ → Bool) (folder : List ℕ) (names : List (List ℕ)) (files : FilesSeen) → IsListOf fits folder files (Ok names) → (told : Contents) → files.contents ≡ Some told → list_outcome absent folder (listed is_path folder told) (listed fits folder told) ≡ value names
+list_told absent fits folder names files a told h =
+    let t = some_at (λ t. (names ≡ listed fits folder t) × (listed is_path folder t ≢ [])) files.contents told h a.3 in
+    ap (list_outcome absent folder (listed is_path folder told)) (sym t.0) ∙ list_few absent folder (listed is_path folder told) names t.1 a.2
+
+pub list_ok : (absent : Outcome (List (List ℕ))) (fits : List ℕ → Bool) (folder : List ℕ) (names : List (List ℕ)) (old new : FilesSeen) (out err : OutSeen) → ListAnswers fits folder old new (Ok names) → Follows (λ (x : List (List ℕ)). x) (lists_or absent fits folder) (world old out err) (world new out err) (Ok names)
+list_ok absent fits folder names old new out err a =
+    subst (λ f. Follows (λ (x : List (List ℕ)). x) (lists_or absent fits folder) (world old out err) (world f out err) (Ok names)) (sym a.0)
+    (call_gave (λ (x : List (List ℕ)). x) _ _ _ old (made old.counts) out err names (λ shown. refl) (fell_ok old.counts) refl refl (inr (inr (names, a.1.0, a.1.1, a.1.2, refl))) (list_told absent fits folder names old a.1))
+
+pub list_absent : (fits : List ℕ → Bool) (folder : List ℕ) (default : List (List ℕ)) (old new : FilesSeen) (out err : OutSeen) → ListAnswers fits folder old new (Err answers.Absent) → Follows (λ (x : List (List ℕ)). x) (lists_or (value default) fits folder) (world old out err) (world new out err) (Ok default)
+list_absent fits folder default old new out err a =
+    subst (λ f. Follows (λ (x : List (List ℕ)). x) (lists_or (value default) fits folder) (world old out err) (world f out err) (Ok default)) (sym a.0)
+    (call_gave (λ (x : List (List ℕ)). x) _ _ _ old (refused (made old.counts) answers.Absent) out err default (λ shown. refl) (fell old.counts answers.Absent) refl refl (inl refl)
+    (λ told h. ap (λ below. list_outcome (value default) folder below (listed fits folder told)) (some_at (λ t. listed is_path folder t ≡ []) old.contents told h a.1)))
+
+-- whatever a refused listing answers, the stop is its stage's
+pub list_refused : (absent : Outcome (List (List ℕ))) (fits : List ℕ → Bool) (folder : List ℕ) (answer : FileAnswer) (old new : FilesSeen) (out err : OutSeen) → ((name : List ℕ) → fits name ≡ true → is_path name ≡ true) → (answer ≡ answers.Absent → absent ≡ end (NoFile folder)) → ListAnswers fits folder old new (Err answer) → Follows (λ (x : List (List ℕ)). x) (lists_or absent fits folder) (world old out err) (world new out err) (Err (stop_for answer folder))
+list_refused absent fits folder answer old new out err paths needed a =
+    subst (λ f. Follows (λ (x : List (List ℕ)). x) (lists_or absent fits folder) (world old out err) (world f out err) (Err (stop_for answer folder))) (sym a.0) (by_answer answer needed a.1)
+  where
+    by_answer : (answer : FileAnswer) → (answer ≡ answers.Absent → absent ≡ end (NoFile folder)) → IsListOf fits folder old (Err answer) → Follows (λ (x : List (List ℕ)). x) (lists_or absent fits folder) (world old out err) (world (counting old (refused (made old.counts) answer)) out err) (Err (stop_for answer folder))
+    by_answer answers.Absent needed a =
+        call_ended (λ (x : List (List ℕ)). x) _ _ _ old (refused (made old.counts) answers.Absent) out err (NoFile folder) (λ shown. refl) (fell old.counts answers.Absent) refl refl (omega arith) (inl (sym (needed refl)))
+        (λ told h. ap (λ below. list_outcome absent folder below (listed fits folder told)) (some_at (λ t. listed is_path folder t ≡ []) old.contents told h a) ∙ needed refl)
+    by_answer answers.Failed needed a = call_failed (λ (x : List (List ℕ)). x) folder (list folder) _ _ old out err ((λ shown. refl), refl) a
+    by_answer (answers.TooLarge n) needed a =
+        call_ended (λ (x : List (List ℕ)). x) _ _ _ old (refused (made old.counts) (answers.TooLarge n)) out err (TooLarge folder) (λ shown. refl) (fell old.counts (answers.TooLarge n)) refl refl (omega arith) (inr (inl refl))
+        (λ told h. list_many absent fits folder n (listed is_path folder told) (listed fits folder told) (fewer fits (rests_below folder told) paths) a.0 (some_at (λ t. n ≡ min (length (listed fits folder t)) count_end) old.contents told h a.1))
+    by_answer answers.Memory needed a = call_wanting (λ (x : List (List ℕ)). x) folder (list folder) _ _ old out err ((λ shown. refl), refl)
+
+-- a file was put
+put_follows : (path bytes : List ℕ) (old new : FilesSeen) (out err : OutSeen) → ReplaceAnswers path bytes old new (Ok tt) → Follows (λ (x : ⊤). x) (puts path bytes) (world old out err) (world new out err) (Ok tt)
+unfolding act_with
+put_follows path bytes old new out err a =
+    subst (λ f. Follows (λ (x : ⊤). x) (puts path bytes) (world old out err) (world f out err) (Ok tt)) (sym a)
+    (record {
+      keeps = record {
+        files = record { told = kept old.contents; sure = refl; counts = fell_ok old.counts };
+        out = KeepsOut-same out;
+        err = KeepsOut-same err;
+      };
+      counts = record { files = refl; out = refl; err = refl };
+      comes = refl;
+      told = λ shown h. (
+        refl,
+        record {
+          files = ap (option_map (λ told. map.insert told path bytes)) h.files;
+          calls = ap one_more h.calls;
+          out = h.out;
+          err = h.err;
+        },
+      );
+    })
+  where
+    kept : (o : Option Contents) → is_some (option_map (λ told. map.insert told path bytes) o) ≡ is_some o
+    kept None = refl
+    kept (Some told) = refl
+
+pub put_ok : (path bytes : List ℕ) (old new : FilesSeen) (out err : OutSeen) → ReplaceAnswers path bytes old new (Ok tt) → Follows (λ (x : ⊤). x) (puts path bytes) (world old out err) (world new out err) (Ok tt)
+put_ok path bytes old new out err a = put_follows path bytes old new out err a
+
+pub put_failed : (path bytes : List ℕ) (old new : FilesSeen) (out err : OutSeen) → ReplaceAnswers path bytes old new (Err replaces.Failed) → Follows (λ (x : ⊤). x) (puts path bytes) (world old out err) (world new out err) (Err (FileFault path))
+put_failed path bytes old new out err a =
+    subst (λ f. Follows (λ (x : ⊤). x) (puts path bytes) (world old out err) (world f out err) (Err (FileFault path))) (sym a.0)
+    (call_failed (λ (x : ⊤). x) path (put path bytes) _ _ old out err ((λ shown. refl), refl) a.1)
+
+pub put_wanting : (path bytes : List ℕ) (old new : FilesSeen) (out err : OutSeen) → ReplaceAnswers path bytes old new (Err replaces.Memory) → Follows (λ (x : ⊤). x) (puts path bytes) (world old out err) (world new out err) (Err Memory)
+put_wanting path bytes old new out err a =
+    subst (λ f. Follows (λ (x : ⊤). x) (puts path bytes) (world old out err) (world f out err) (Err Memory)) (sym a)
+    (call_wanting (λ (x : ⊤). x) path (put path bytes) _ _ old out err ((λ shown. refl), refl))
 
 extended : (old : Option (List ℕ)) (piece : List ℕ) → Extends old (option_map (λ bytes. bytes ++ piece) old)
 extended None piece = refl
@@ -138,8 +284,11 @@ pub passes : (out : OutSeen) (room : Option ℕ) (written piece : List ℕ) → 
 passes out room written piece same told lacks =
     subst (λ r. PassesRoom r written piece) (sym same) (subst (λ t. IfSome t (λ bytes. IfSome out.room (λ n. n < length bytes + length piece))) told lacks)
 
+pub rose_by_one : (n : ℕ) → one_more n ≤ one_more n
+rose_by_one n = omega arith
+
 pub say_ok : (piece : List ℕ) (files : FilesSeen) (old new err : OutSeen) → WriteAnswers piece old new (Ok tt) → Follows (λ (x : ⊤). x) (says piece) (world files old err) (world files new err) (Ok tt)
-unfolding acts_alone
+unfolding act_with
 say_ok piece files old new err a =
     let told = ap (λ o. o.told) a.0 in
     let room = ap (λ o. o.room) a.0 in
@@ -147,30 +296,33 @@ say_ok piece files old new err a =
     record {
       keeps = record { files = KeepsFiles-same files; out = keeps_written old new piece told room (omega arith); err = KeepsOut-same err };
       counts = record { files = refl; out = faults; err = refl };
-      told = λ shown h. (refl, record { files = h.files; out = told ∙ told_more old.told shown.out piece h.out; err = h.err });
+      comes = refl;
+      told = λ shown h. (refl, record { files = h.files; calls = h.calls; out = told ∙ told_more old.told shown.out piece h.out; err = h.err });
     }
 
 pub say_failed : (piece : List ℕ) (e : OutFailed) (files : FilesSeen) (old new err : OutSeen) → WriteAnswers piece old new (Err e) → Follows (λ (x : ⊤). x) (says piece) (world files old err) (world files new err) (Err OutputFault)
-unfolding acts_alone
+unfolding act_with
 say_failed piece e files old new err a =
     let part = take a.0.0 piece in
-    let told = ap (λ o. o.told) a.0.3 in
-    let room = ap (λ o. o.room) a.0.3 in
+    let told = ap (λ o. o.told) a.0.2 in
+    let room = ap (λ o. o.room) a.0.2 in
+    let faults = ap (λ o. o.faults) a.0.2 in
     record {
-      keeps = record { files = KeepsFiles-same files; out = keeps_written old new part told room (omega (arith, a.1)); err = KeepsOut-same err };
-      counts = (a.1, refl, refl);
+      keeps = record { files = KeepsFiles-same files; out = keeps_written old new part told room (omega (arith, faults)); err = KeepsOut-same err };
+      counts = (omega (arith, faults), refl, refl);
+      comes = tt;
       told = λ shown h. record {
         before = [];
         rest = say piece ∷ [];
         count = a.0.0;
         split = refl;
-        tells = record { files = h.files; out = told ∙ told_more old.told shown.out part h.out; err = h.err };
+        tells = record { files = h.files; calls = h.calls; out = told ∙ told_more old.told shown.out part h.out; err = h.err };
         because = passes old new.room shown.out piece room h.out a.2;
       };
     }
 
 pub warn_ok : (piece : List ℕ) (files : FilesSeen) (out old new : OutSeen) → WriteAnswers piece old new (Ok tt) → Follows (λ (x : ⊤). x) (warns piece) (world files out old) (world files out new) (Ok tt)
-unfolding acts_alone
+unfolding act_with
 warn_ok piece files out old new a =
     let told = ap (λ o. o.told) a.0 in
     let room = ap (λ o. o.room) a.0 in
@@ -178,24 +330,27 @@ warn_ok piece files out old new a =
     record {
       keeps = record { files = KeepsFiles-same files; out = KeepsOut-same out; err = keeps_written old new piece told room (omega arith) };
       counts = record { files = refl; out = refl; err = faults };
-      told = λ shown h. (refl, record { files = h.files; out = h.out; err = told ∙ told_more old.told shown.err piece h.err });
+      comes = refl;
+      told = λ shown h. (refl, record { files = h.files; calls = h.calls; out = h.out; err = told ∙ told_more old.told shown.err piece h.err });
     }
 
 pub warn_failed : (piece : List ℕ) (e : OutFailed) (files : FilesSeen) (out old new : OutSeen) → WriteAnswers piece old new (Err e) → Follows (λ (x : ⊤). x) (warns piece) (world files out old) (world files out new) (Err WarningFault)
-unfolding acts_alone
+unfolding act_with
 warn_failed piece e files out old new a =
     let part = take a.0.0 piece in
-    let told = ap (λ o. o.told) a.0.3 in
-    let room = ap (λ o. o.room) a.0.3 in
+    let told = ap (λ o. o.told) a.0.2 in
+    let room = ap (λ o. o.room) a.0.2 in
+    let faults = ap (λ o. o.faults) a.0.2 in
     record {
-      keeps = record { files = KeepsFiles-same files; out = KeepsOut-same out; err = keeps_written old new part told room (omega (arith, a.1)) };
-      counts = (a.1, refl, refl);
+      keeps = record { files = KeepsFiles-same files; out = KeepsOut-same out; err = keeps_written old new part told room (omega (arith, faults)) };
+      counts = (omega (arith, faults), refl, refl);
+      comes = tt;
       told = λ shown h. record {
         before = [];
         rest = warn piece ∷ [];
         count = a.0.0;
         split = refl;
-        tells = record { files = h.files; out = h.out; err = told ∙ told_more old.told shown.err part h.err };
+        tells = record { files = h.files; calls = h.calls; out = h.out; err = told ∙ told_more old.told shown.err part h.err };
         because = passes old new.room shown.err piece room h.err a.2;
       };
     }

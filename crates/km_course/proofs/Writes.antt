@@ -6,7 +6,7 @@ use Rattle.std.specs.Prelude.{codes}
 use Rattle.km_course.specs.Lines.{too_large}
 use Rattle.std.specs.Prelude.{Option, Some, None, Result, Ok, Err, IfSome, ⊤}
 use Rattle.std.specs.Option.{option_map}
-use Rattle.km_outside.specs.OutSeen.{OutSeen, WriteAnswers, HasRoom, appended}
+use Rattle.km_outside.specs.OutSeen.{OutSeen, WriteAnswers, Within, appended, failed}
 use Rattle.km_outside.specs.declared.out.OutFailed.{OutFailed}
 
 told-twice : (told : Option (List ℕ)) (a b : List ℕ) → option_map (λ bytes. bytes ++ b) (option_map (λ bytes. bytes ++ a) told) ≡ option_map (λ bytes. bytes ++ (a ++ b)) told
@@ -16,32 +16,22 @@ told-twice (Some bytes) a b = ap Some (append_assoc bytes a b)
 appended-twice : (out : OutSeen) (a b : List ℕ) → appended (appended out a) b ≡ appended out (a ++ b)
 appended-twice out a b = ap (λ t. record out { told = t }) (told-twice out.told a b)
 
-room_on : (told : Option (List ℕ)) (room : Option ℕ) (a b : List ℕ) → IfSome (option_map (λ bytes. bytes ++ a) told) (λ bytes. IfSome room (λ n. length bytes + length b ≤ n)) → IfSome told (λ bytes. IfSome room (λ n. length bytes + length (a ++ b) ≤ n))
-room_on None room a b h = h
-room_on (Some bytes) None a b h = h
-room_on (Some bytes) (Some n) a b h = omega (arith, length-append bytes a, length-append a b)
-
 lacks_on : (told : Option (List ℕ)) (room : Option ℕ) (a b : List ℕ) → IfSome (option_map (λ bytes. bytes ++ a) told) (λ bytes. IfSome room (λ n. n < length bytes + length b)) → IfSome told (λ bytes. IfSome room (λ n. n < length bytes + length (a ++ b)))
 lacks_on None room a b h = h
 lacks_on (Some bytes) None a b h = h
 lacks_on (Some bytes) (Some n) a b h = omega (arith, length-append bytes a, length-append a b)
-
--- the output as it is, but for its count of faults
-abbrev counted : ℕ → OutSeen → OutSeen
-counted n out = record out { faults = n }
 
 -- a piece was written, and then a second one was written or failed
 pub writes_on : (a b : List ℕ) (old mid new : OutSeen) (r : Result ⊤ OutFailed) → WriteAnswers a old mid (Ok tt) → WriteAnswers b mid new r → WriteAnswers (a ++ b) old new r
 writes_on a b old mid new r h k = onto r (subst (λ m. WriteAnswers b m new r) h.0 k)
   where
     onto : (r : Result ⊤ OutFailed) → WriteAnswers b (appended old a) new r → WriteAnswers (a ++ b) old new r
-    onto (Ok _) k = (k.0 ∙ appended-twice old a b, room_on old.told old.room a b k.1)
+    onto (Ok _) k = (k.0 ∙ appended-twice old a b, k.1)
     onto (Err e) k = (
       (
         length a + k.0.0,
         omega (arith, length-append a b, k.0.1),
-        subst (HasRoom old) (sym (take-append-add a b k.0.0)) (room_on old.told old.room a (take k.0.0 b) k.0.2),
-        k.0.3 ∙ ap (counted new.faults) (appended-twice old a (take k.0.0 b)) ∙ ap (λ piece. counted new.faults (appended old piece)) (sym (take-append-add a b k.0.0)),
+        k.0.2 ∙ ap failed (appended-twice old a (take k.0.0 b)) ∙ ap (λ piece. failed (appended old piece)) (sym (take-append-add a b k.0.0)),
       ),
       k.1,
       lacks_on old.told old.room a b k.2,
@@ -54,8 +44,7 @@ writes_cut a b old new e k =
       (
         k.0.0,
         omega (arith, length-append a b, k.0.1),
-        subst (HasRoom old) (sym same) k.0.2,
-        k.0.3 ∙ ap (λ piece. counted new.faults (appended old piece)) (sym same),
+        k.0.2 ∙ ap (λ piece. failed (appended old piece)) (sym same),
       ),
       k.1,
       lacks_more old.told old.room a b k.2,

@@ -1,53 +1,81 @@
 -- What the top call promises of its status, for every kind of object that it is handed.
-use Rattle.std.specs.Prelude.{◌≡◌, ◌⊎◌, ℕ, ◌≤◌, ◌==◌, false, if◌then◌else◌, List, [], ◌∷◌, ◌++◌, length, Option, Some, None, Result, Ok, Err, ⊤}
+use Rattle.std.specs.Prelude.{◌≡◌, ◌⊎◌, ℕ, ◌≤◌, ◌==◌, true, false, if◌then◌else◌, List, [], ◌∷◌, ◌++◌, length, Option, Some, None, IfSome, IsSomeAnd, Result, Ok, Err, ⊤}
 use Rattle.km_outside.specs.Counts.{Rose}
 use Rattle.km_outside.specs.OutSeen.{OutSeen, WriteAnswers}
 use Rattle.km_outside.specs.declared.out.OutFailed.{OutFailed}
-use Rattle.km_course.specs.Lines.{no_file, too_large, file_fault, output_fault, out_of_memory, usage}
+use Rattle.km_course.specs.Lines.{end_line, end_status, refusal_text, file_fault, output_fault, out_of_memory}
 use Rattle.km_course.specs.Course.{Act, Outcome, Run, Stage}
 use Rattle.km_course.specs.Course.Act.{read, list, say, warn, put}
 use Rattle.km_course.specs.Course.Outcome.{value, end}
-use Rattle.km_course.specs.World.{World, Shown, Tells, Keeps, NoFault, act_begun, done, begun}
-use Rattle.km_course.specs.Follows.{next_act, PassesRoom, Free}
+use Rattle.km_course.specs.World.{World, Shown, Tells, Keeps, NoFault, FitsRooms, act_begun, done, begun}
+use Rattle.km_course.specs.Follows.{next_act, PassesRoom, Free, EndCounts}
+use Rattle.km_course.specs.declared.end.End.{End}
+use Rattle.km_course.specs.declared.end.End.TheVariants.{Refused}
 use Rattle.km_course.specs.declared.stop.Stop.{Stop}
-use Rattle.km_course.specs.declared.stop.Stop.TheVariants.{Refused, NotUnderstood, NoFile, TooLarge, FileFault, OutputFault, WarningFault, Memory}
+use Rattle.km_course.specs.declared.stop.Stop.TheVariants.{Ended, FileFault, OutputFault, WarningFault, Memory}
+
+-- the status of a course that came to this: 0 where it came to its end
+abbrev pub outcome_status : Outcome ⊤ → ℕ
+outcome_status (value _) = 0
+outcome_status (end e) = end_status e
+
+-- the line of an outcome, which only an end has
+abbrev pub outcome_line : Outcome ⊤ → List ℕ
+outcome_line (value _) = []
+outcome_line (end e) = end_line e
+
+-- the count that is the cause of an outcome
+abbrev pub OutcomeCounts : World → World → Outcome ⊤ → Type 0
+OutcomeCounts old new (value _) = ⊤
+OutcomeCounts old new (end e) = EndCounts old new e
 
 -- the line of an end is written to err as one act more; a course that comes to its end has none
 abbrev pub closing_acts : Outcome ⊤ → List Act
 closing_acts (value _) = []
-closing_acts (end status text) = warn text ∷ []
+closing_acts (end e) = warn (end_line e) ∷ []
 
 -- all acts of a course, with the line of its end
 abbrev pub whole_acts : Run ⊤ → List Act
 whole_acts run = run.acts ++ closing_acts run.outcome
 
--- the status of a course: 0 where it comes to its end
-abbrev pub end_status : Outcome ⊤ → ℕ
-end_status (value _) = 0
-end_status (end status text) = status
+-- The line of a stop; after a failed write to err there is none.
+abbrev pub stop_line : Stop → Option (List ℕ)
+stop_line (Ended e) = Some (end_line e)
+stop_line (FileFault path) = Some (file_fault path)
+stop_line OutputFault = Some output_fault
+stop_line WarningFault = None
+stop_line Memory = Some out_of_memory
 
--- the line of status 3 after this act failed; after a failed write to err there is none
-abbrev pub fault_line : Option Act → List ℕ
-fault_line None = []
-fault_line (Some (read path)) = file_fault path
-fault_line (Some (list path)) = file_fault path
-fault_line (Some (put path bytes)) = file_fault path
-fault_line (Some (say bytes)) = output_fault
-fault_line (Some (warn bytes)) = []
+-- the stop that an act which fails comes to
+abbrev pub failed_act : Act → Stop
+failed_act (read path) = FileFault path
+failed_act (list path) = FileFault path
+failed_act (put path bytes) = FileFault path
+failed_act (say bytes) = OutputFault
+failed_act (warn bytes) = WarningFault
+
+-- the bytes of a line, if there is one
+abbrev pub line_bytes : Option (List ℕ) → List ℕ
+line_bytes None = []
+line_bytes (Some text) = text
+
+-- the line of status 3 after this act failed
+abbrev pub failed_line : Option Act → List ℕ
+failed_line None = []
+failed_line (Some act) = line_bytes (stop_line (failed_act act))
 
 -- Why an act failed: the count of its object rose. Files that are sure have no failing call, and an output
 -- that tells its room fails only past it.
-abbrev pub ActFailed : World → World → Shown → Option Act → Type 0
-ActFailed old new shown None = ⊥
-ActFailed old new shown (Some (read path)) = Rose old.files.faults new.files.faults × (old.files.sure ≡ false)
-ActFailed old new shown (Some (list path)) = Rose old.files.faults new.files.faults × (old.files.sure ≡ false)
-ActFailed old new shown (Some (put path bytes)) = Rose old.files.faults new.files.faults × (old.files.sure ≡ false)
-ActFailed old new shown (Some (say bytes)) = Rose old.out.faults new.out.faults × PassesRoom old.out.room shown.out bytes
-ActFailed old new shown (Some (warn bytes)) = Rose old.err.faults new.err.faults × PassesRoom old.err.room shown.err bytes
+abbrev pub ActFailed : World → World → ℕ → Shown → Option Act → Type 0
+ActFailed old new count shown None = ⊥
+ActFailed old new count shown (Some (say bytes)) = Rose old.out.faults new.out.faults × PassesRoom old.out.room shown.out bytes
+ActFailed old new count shown (Some (warn bytes)) = Rose old.err.faults new.err.faults × PassesRoom old.err.room shown.err bytes
+ActFailed old new count shown (Some call) =
+    (count ≡ 1) × Rose old.files.counts.faults new.files.counts.faults × (old.files.sure ≡ false)
 
 -- A first part of the acts was done and the next one begun. Then a line was written to err, all of it
 -- unless the count of err rose, and then a first part of it. Nothing else was done.
-pub record CutShort (acts : List Act) (shown : Shown) (old new : World) (text : Option Act → List ℕ) (cause : Shown → Option Act → Type 0) : Type 0 where
+pub record CutShort (acts : List Act) (shown : Shown) (old new : World) (text : Option Act → List ℕ) (cause : ℕ → Shown → Option Act → Type 0) : Type 0 where
   pub before : List Act
   pub rest : List Act
   pub count : ℕ
@@ -55,44 +83,57 @@ pub record CutShort (acts : List Act) (shown : Shown) (old new : World) (text : 
   pub split : acts ≡ before ++ rest
   pub tells : Tells new (act_begun written (warn (text (next_act rest))) (begun count rest (done before shown)))
   pub whole : (length (text (next_act rest)) ≤ written) ⊎ Rose old.err.faults new.err.faults
-  pub because : cause (done before shown) (next_act rest)
+  pub because : cause count (done before shown) (next_act rest)
 
--- What a line of status 1 came from: a needed file that wasn't there, one past its limit, or one of the
--- refusals that the command's own checks have.
-abbrev pub HasCause : (List ℕ → Type 0) → World → World → List ℕ → Type 0
-HasCause refusals old new text =
-    ((path : List ℕ) × (text ≡ no_file path) × Rose old.files.absences new.files.absences)
-    ⊎ ((path : List ℕ) × (text ≡ too_large path) × Rose old.files.excesses new.files.excesses)
-    ⊎ refusals text
+-- The outputs tell rooms in which all bytes fit that are told.
+pub record HasRoomFor (seen : World) (shown : Shown) : Type 0 where
+  pub out : IsSomeAnd seen.out.room (λ room. length shown.out ≤ room)
+  pub err : IsSomeAnd seen.err.room (λ room. length shown.err ≤ room)
+
+-- The status is that of an outcome to which the course may come, whatever the calls on files answer. The
+-- count that is its cause rose, and err ends in its line where it tells what it holds.
+pub record MayCome (course : Stage ⊤) (old new : World) (status : ℕ) : Type 0 where
+  pub outcome : Outcome ⊤
+  pub possible : course.possible outcome
+  pub status_is : status ≡ outcome_status outcome
+  pub counts : OutcomeCounts old new outcome
+  pub line_is : IfSome old.err.told (λ err. (warned : List ℕ) × (new.err.told ≡ Some ((err ++ warned) ++ outcome_line outcome)))
+
+-- The course came to its end over the files that are told: with this status, for the cause that its count
+-- shows, and all its acts and the line of its end were done, and nothing else.
+pub record HasEnded (run : Run ⊤) (shown : Shown) (old new : World) (status : ℕ) : Type 0 where
+  pub status_is : status ≡ outcome_status run.outcome
+  pub counts : OutcomeCounts old new run.outcome
+  pub tells : Tells new (done (whole_acts run) shown)
 
 -- The call carried out the course: it left the world new and answered the status. Over objects that tell all,
 -- the course over their files says what was done; over others the counts say what didn't happen.
-pub record Carries (course : Stage ⊤) (refusals : List ℕ → Type 0) (old new : World) (status : ℕ) : Type 0 where
+pub record Carries (course : Stage ⊤) (old new : World) (status : ℕ) : Type 0 where
   pub statuses : status ≤ 4
   -- what each object tells, whether the files are sure, and the rooms are as before, and no count fell
   pub keeps : Keeps old new
-  -- statuses 0, 1 and 2: nothing failed, all acts were done, and the line of the end was written
+  -- no output passes a room that it tells
+  pub rooms : FitsRooms old × FitsRooms new
+  -- statuses 0, 1 and 2: nothing failed, the course may come to this, and over told objects it did
   pub no_fault : status ≤ 2 → NoFault old new
-  pub ended : status ≤ 2 → (shown : Shown) → Tells old shown →
-      (status ≡ end_status (course shown.files).outcome) × Tells new (done (whole_acts (course shown.files)) shown)
-  -- status 1: the line has its cause
-  pub refused : status ≡ 1 → (err : List ℕ) → old.err.told ≡ Some err →
-      (warned : List ℕ) × (text : List ℕ) × (new.err.told ≡ Some ((err ++ warned) ++ text)) × HasCause refusals old new text
+  pub may_come : status ≤ 2 → MayCome course old new status
+  pub ended : status ≤ 2 → (shown : Shown) → Tells old shown → HasEnded (course.run shown.files) shown old new status
   -- status 3: a count of faults rose, and the acts were cut short where one failed
-  pub fault : status ≡ 3 → Rose old.files.faults new.files.faults ⊎ Rose old.out.faults new.out.faults ⊎ Rose old.err.faults new.err.faults
+  pub fault : status ≡ 3 → Rose old.files.counts.faults new.files.counts.faults ⊎ Rose old.out.faults new.out.faults ⊎ Rose old.err.faults new.err.faults
   pub faulted : status ≡ 3 → (shown : Shown) → Tells old shown →
-      CutShort (whole_acts (course shown.files)) shown old new fault_line (ActFailed old new)
+      CutShort (whole_acts (course.run shown.files)) shown old new failed_line (ActFailed old new)
   -- status 4: neither the files nor the output failed, and the acts were cut short anywhere
-  pub memory : status ≡ 4 → (new.files.faults ≡ old.files.faults) × (new.out.faults ≡ old.out.faults)
+  pub memory : status ≡ 4 → (new.files.counts.faults ≡ old.files.counts.faults) × (new.out.faults ≡ old.out.faults)
   pub wanting : status ≡ 4 → (shown : Shown) → Tells old shown →
-      CutShort (course shown.files).acts shown old new (λ _. out_of_memory) Free
+      CutShort (course.run shown.files).acts shown old new (λ _. out_of_memory) Free
+  -- files that are sure, and outputs that have room for all of the course: its status, or want of memory
+  pub complete : (shown : Shown) → Tells old shown → old.files.sure ≡ true →
+      HasRoomFor old (done (whole_acts (course.run shown.files)) shown) →
+      (status ≡ outcome_status (course.run shown.files).outcome) ⊎ (status ≡ 4)
 
 -- the status of a stop whose line was written
 abbrev pub stop_status : Stop → ℕ
-stop_status (Refused text) = 1
-stop_status NotUnderstood = 2
-stop_status (NoFile path) = 1
-stop_status (TooLarge path) = 1
+stop_status (Ended e) = end_status e
 stop_status (FileFault path) = 3
 stop_status OutputFault = 3
 stop_status WarningFault = 3
@@ -102,24 +143,33 @@ stop_status Memory = 4
 abbrev pub unwritten_status : Stop → ℕ
 unwritten_status stop = if stop_status stop == 4 then 4 else 3
 
--- What writing a stop's line may answer: a failed write to err has no line, and nothing is written.
-abbrev pub Closes : Stop → OutSeen → OutSeen → Result ⊤ OutFailed → Type 0
-Closes (Refused text) old new answer = WriteAnswers text old new answer
-Closes NotUnderstood old new answer = WriteAnswers usage old new answer
-Closes (NoFile path) old new answer = WriteAnswers (no_file path) old new answer
-Closes (TooLarge path) old new answer = WriteAnswers (too_large path) old new answer
-Closes (FileFault path) old new answer = WriteAnswers (file_fault path) old new answer
-Closes OutputFault old new answer = WriteAnswers output_fault old new answer
-Closes WarningFault old new answer = (new ≡ old) × (answer ≡ Ok tt)
-Closes Memory old new answer = WriteAnswers out_of_memory old new answer
+-- What writing a line may answer: where there is none, nothing is written.
+abbrev pub WritesLine : Option (List ℕ) → OutSeen → OutSeen → Result ⊤ OutFailed → Type 0
+WritesLine (Some text) old new answer = WriteAnswers text old new answer
+WritesLine None old new answer = (new ≡ old) × (answer ≡ Ok tt)
 
 -- the status after the line was written or not
 abbrev pub closed_status : Stop → Result ⊤ OutFailed → ℕ
 closed_status stop (Ok _) = stop_status stop
 closed_status stop (Err _) = unwritten_status stop
 
--- How a command's result becomes its status and what is written to err.
+-- How a stop becomes a status and what is written to err.
+abbrev pub Closes : Stop → OutSeen → OutSeen → ℕ → Type 0
+Closes stop old new status =
+    (answer : Result ⊤ OutFailed) × WritesLine (stop_line stop) old new answer × (status ≡ closed_status stop answer)
+
+-- The stop is a refusal with a text of the program's own.
+abbrev pub IsRefused : Stop → Type 0
+IsRefused (Ended (Refused refusal)) = ⊤
+IsRefused _ = ⊥
+
+-- The text is what the refusal says that the stop is, if it is one.
+abbrev pub SaysOf : Stop → List ℕ → Type 0
+SaysOf (Ended (Refused refusal)) text = text ≡ refusal_text refusal
+SaysOf _ text = ⊤
+
+-- How a command's result becomes its status and what is written to err. Memory may be wanting for what a
+-- refusal says, and then the command stops for that.
 abbrev pub Concludes : Result ⊤ Stop → OutSeen → OutSeen → ℕ → Type 0
 Concludes (Ok _) old new status = (new ≡ old) × (status ≡ 0)
-Concludes (Err stop) old new status =
-    (answer : Result ⊤ OutFailed) × Closes stop old new answer × (status ≡ closed_status stop answer)
+Concludes (Err stop) old new status = Closes stop old new status ⊎ (IsRefused stop × Closes Memory old new status)

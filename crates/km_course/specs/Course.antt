@@ -1,8 +1,12 @@
 -- What the program is to do: acts on the files and outputs, in order, and how they end.
-use Rattle.std.specs.Prelude.{ℕ, nat_lt, if◌then◌else◌, List, [], ◌∷◌, ◌++◌, length, Option, Some, None, ⊤}
+use Rattle.std.specs.Prelude.{◌≡◌, ◌⊎◌, ℕ, ◌≤◌, nat_lt, Bool, true, false, All, if◌then◌else◌, List, [], ◌∷◌, ◌++◌, length, Option, Some, None, ⊤}
+use Rattle.std.specs.List.Sorted.{IsStrictlySortedBy}
 use Rattle.std.specs.FinMap as map
-use Rattle.km_outside.specs.FilesSeen.{Contents, file_limit}
-use Rattle.km_course.specs.Lines.{no_file, too_large}
+use Rattle.km_outside.specs.Contents.{Contents, by_bytes, listed, is_path, is_conf_name}
+use Rattle.km_names.specs.Limit.{file_limit}
+use Rattle.km_outside.specs.FilesSeen.{list_limit}
+use Rattle.km_course.specs.declared.end.End.{End}
+use Rattle.km_course.specs.declared.end.End.TheVariants.{NoFile, TooLarge}
 
 -- One act: to read a file, to list a folder, to write bytes to the output, to write bytes to err, to
 -- put a file of these bytes at a path.
@@ -13,61 +17,130 @@ pub data Act : Type 0 where
   warn : List ℕ → Act
   put : List ℕ → List ℕ → Act
 
--- How acts end: with a value for what comes next, or for good, with a status and its line.
+-- How acts end: with a value for what comes next, or for good.
 pub data Outcome (X : Type 0) : Type 0 where
   value : X → Outcome X
-  end : ℕ → List ℕ → Outcome X
+  end : End → Outcome X
 
 -- acts, and how they end
 pub record Run (X : Type 0) : Type 0 where
   pub acts : List Act
   pub outcome : Outcome X
 
--- A stage reads the files and says what is to be done: a part of a command, or all of it.
-abbrev pub Stage : Type 0 → Type 0
-Stage X = Contents → Run X
+-- A part of a command, or all of it. Over files that are told it says which acts are done, in order, and
+-- how they end. Over others, whose files may change from call to call, it says how the acts may end,
+-- whatever the calls answer.
+pub record Stage (X : Type 0) : Type 1 where
+  pub run : Contents → Run X
+  pub possible : Outcome X → Type 0
 
--- the files after the acts: each file that was put stands at its path
+-- the files after the act: a file that is put stands at its path
+abbrev pub file_done : Act → Contents → Contents
+file_done (put path bytes) files = map.insert files path bytes
+file_done _ files = files
+
+-- the files after the acts
 abbrev pub after : List Act → Contents → Contents
 after [] files = files
-after (put path bytes ∷ acts) files = after acts (map.insert files path bytes)
-after (_ ∷ acts) files = after acts files
+after (act ∷ acts) files = after acts (file_done act files)
 
 -- acts with this outcome, and on a value the acts of what is made of it, over the files that they leave
 unfoldable pub continued : {X Y : Type 0} → List Act → Outcome X → (X → Stage Y) → Contents → Run Y
 continued acts (value x) next files =
-    record { acts = acts ++ (next x (after acts files)).acts; outcome = (next x (after acts files)).outcome }
-continued acts (end status text) next files = record { acts = acts; outcome = end status text }
+    record { acts = acts ++ ((next x).run (after acts files)).acts; outcome = ((next x).run (after acts files)).outcome }
+continued acts (end e) next files = record { acts = acts; outcome = end e }
+
+-- the outcomes that may follow these: of what is made of a value, or the end that came first
+unfoldable pub possible_after : {X Y : Type 0} → (Outcome X → Type 0) → (X → Stage Y) → Outcome Y → Type 0
+possible_after {X} possible next outcome =
+    ((x : X) × possible (value x) × (next x).possible outcome) ⊎ ((e : End) × possible (end e) × (outcome ≡ end e))
 
 infixl 10 ◌>>=◌
 -- a stage, and then the one that is made of its value
 unfoldable pub ◌>>=◌ : {X Y : Type 0} → Stage X → (X → Stage Y) → Stage Y
-(stage >>= next) files = continued (stage files).acts (stage files).outcome next files
+stage >>= next = record {
+  run = λ files. continued (stage.run files).acts (stage.run files).outcome next files;
+  possible = possible_after stage.possible next;
+}
 
 -- no act, and this outcome
 unfoldable pub given : {X : Type 0} → Outcome X → Stage X
-given outcome files = record { acts = []; outcome = outcome }
+given outcome = record {
+  run = λ files. record { acts = []; outcome = outcome };
+  possible = λ other. other ≡ outcome;
+}
+
+-- this act, and the outcome that the files make of it; it is one of the possible ones
+unfoldable pub act_with : {X : Type 0} → Act → (Contents → Outcome X) → (Outcome X → Type 0) → Stage X
+act_with act outcome possible = record {
+  run = λ files. record { acts = act ∷ []; outcome = outcome files };
+  possible = possible;
+}
 
 -- this act, and no value worth naming
-unfoldable pub acts_alone : Act → Stage ⊤
-acts_alone act files = record { acts = act ∷ []; outcome = value tt }
+abbrev pub acts_alone : Act → Stage ⊤
+acts_alone act = act_with act (λ files. value tt) (λ outcome. outcome ≡ value tt)
 
 -- no act, and this value
 abbrev pub gives : {X : Type 0} → X → Stage X
 gives x = given (value x)
 
 -- no act, and this end
-abbrev pub ends : {X : Type 0} → ℕ → List ℕ → Stage X
-ends status text = given (end status text)
+abbrev pub ends : {X : Type 0} → End → Stage X
+ends e = given (end e)
 
--- what reading the path comes to where this is there: the bytes, or an end with status 1
-abbrev pub read_outcome : List ℕ → Option (List ℕ) → Outcome (List ℕ)
-read_outcome path None = end 1 (no_file path)
-read_outcome path (Some bytes) = if nat_lt file_limit (length bytes) then end 1 (too_large path) else value bytes
+infix 1 when◌then◌else◌
+-- the first stage where the test holds, else the second
+abbrev pub when◌then◌else◌ : {X : Type 0} → Bool → Stage X → Stage X → Stage X
+when◌then◌else◌ true first second = first
+when◌then◌else◌ false first second = second
+
+-- what reading the path comes to where these bytes, or nothing, are there; absent is what it comes to where
+-- nothing is
+abbrev pub read_outcome : Outcome (List ℕ) → List ℕ → Option (List ℕ) → Outcome (List ℕ)
+read_outcome absent path None = absent
+read_outcome absent path (Some bytes) = if nat_lt file_limit (length bytes) then end (TooLarge path) else value bytes
+
+-- the bytes of the file at the path, and this outcome where nothing is there
+abbrev pub reads_or : Outcome (List ℕ) → List ℕ → Stage (List ℕ)
+reads_or absent path =
+    act_with (read path) (λ files. read_outcome absent path (map.get files path))
+    (λ outcome. (outcome ≡ absent) ⊎ (outcome ≡ end (TooLarge path))
+    ⊎ ((bytes : List ℕ) × (length bytes ≤ file_limit) × (outcome ≡ value bytes)))
 
 -- the bytes of the file at the path, which is needed
-unfoldable pub reads : List ℕ → Stage (List ℕ)
-reads path files = record { acts = read path ∷ []; outcome = read_outcome path (map.get files path) }
+abbrev pub reads : List ℕ → Stage (List ℕ)
+reads path = reads_or (end (NoFile path)) path
+
+-- the bytes of the file at the path, and none where nothing is there
+abbrev pub reads_any : List ℕ → Stage (List ℕ)
+reads_any path = reads_or (value []) path
+
+-- what listing the folder comes to where these paths lie below it and these names are listed; absent is what
+-- it comes to where nothing lies below it
+abbrev pub list_outcome : Outcome (List (List ℕ)) → List ℕ → List (List ℕ) → List (List ℕ) → Outcome (List (List ℕ))
+list_outcome absent folder [] names = absent
+list_outcome absent folder (_ ∷ _) names = if nat_lt list_limit (length names) then end (TooLarge folder) else value names
+
+-- the names below the folder that pass the test, and this outcome where nothing lies below it
+abbrev pub lists_or : Outcome (List (List ℕ)) → (List ℕ → Bool) → List ℕ → Stage (List (List ℕ))
+lists_or absent fits folder =
+    act_with (list folder) (λ files. list_outcome absent folder (listed is_path folder files) (listed fits folder files))
+    (λ outcome. (outcome ≡ absent) ⊎ (outcome ≡ end (TooLarge folder))
+    ⊎ ((names : List (List ℕ)) × IsStrictlySortedBy by_bytes names × All (λ name. fits name ≡ true) names
+    × (length names ≤ list_limit) × (outcome ≡ value names)))
+
+-- the names of the configuration files in the folder, which is needed
+abbrev pub lists_conf : List ℕ → Stage (List (List ℕ))
+lists_conf folder = lists_or (end (NoFile folder)) is_conf_name folder
+
+-- the names of the configuration files in the folder, and none where nothing is there
+abbrev pub lists_any_conf : List ℕ → Stage (List (List ℕ))
+lists_any_conf folder = lists_or (value []) is_conf_name folder
+
+-- the paths of all files below the folder, relative to it, which is needed
+abbrev pub lists_tree : List ℕ → Stage (List (List ℕ))
+lists_tree folder = lists_or (end (NoFile folder)) is_path folder
 
 -- these bytes to the output
 abbrev pub says : List ℕ → Stage ⊤
@@ -85,3 +158,8 @@ puts path bytes = acts_alone (put path bytes)
 abbrev pub says_any : List ℕ → Stage ⊤
 says_any [] = gives tt
 says_any (byte ∷ bytes) = says (byte ∷ bytes)
+
+-- The stage of each item in turn, which takes what the one before it gave; and what the last one gave.
+abbrev pub each_from : {A S : Type 0} → (S → A → Stage S) → S → List A → Stage S
+each_from step state [] = gives state
+each_from step state (item ∷ items) = step state item >>= λ next. each_from step next items

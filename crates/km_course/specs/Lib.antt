@@ -3,3 +3,4 @@ pub mod Course
 pub mod World
 pub mod Follows
 pub mod Carries
+pub mod Inner

@@ -1,11 +1,17 @@
 -- The lines that the program writes on err. Each is the program's name, a text and a line end.
 use Rattle.std.specs.Prelude.{ℕ, List, [], ◌∷◌, ◌++◌, codes}
+use Rattle.std.specs.List.{flat_map}
+use Rattle.std.specs.Fmt.{decimal}
+use Rattle.km_course.specs.declared.refusal.Refusal.{Refusal}
+use Rattle.km_course.specs.declared.refusal.Refusal.TheVariants.{BadModule, Compressed, Cycle, NotFound, Missing, Gpl, Version, Namespace, Double, BadIndex, BadDependencyLine, BadLine, InstallChosen, KernelWithoutAddress, ListedNotFound, ListedRefused, LoadRefused, TooManyModules, TooManyDependencies, TooManyDoubles, OutputTooLarge, BadPath, InnerOutputFull}
+use Rattle.km_course.specs.declared.end.End.{End}
+use Rattle.km_course.specs.declared.end.End.TheVariants.{Refused, NotUnderstood, NoFile, TooLarge, Inner}
 
 -- the line of a text
 abbrev pub line : List ℕ → List ℕ
 line text = (codes "kmod: " ++ text) ++ 10 ∷ []
 
--- A file that is needed isn't there.
+-- A file or folder that is needed isn't there.
 abbrev pub no_file : List ℕ → List ℕ
 no_file path = line (codes "no file " ++ path)
 
@@ -28,3 +34,54 @@ out_of_memory = line (codes "out of memory")
 -- The words of the command line weren't understood.
 abbrev pub usage : List ℕ
 usage = line (codes "usage: kmod depmod|modprobe|modinfo|trial WORDS")
+
+-- Names along a cycle: each leads to the next, and the last to the first, which is named again.
+abbrev pub cycle_text : List (List ℕ) → List ℕ
+cycle_text [] = []
+cycle_text (first ∷ rest) = flat_map (λ name. name ++ codes " -> ") (first ∷ rest) ++ first
+
+-- What a refusal says.
+abbrev pub refusal_text : Refusal → List ℕ
+refusal_text (BadModule path text) = path ++ (codes ": " ++ text)
+refusal_text (Compressed path) = path ++ codes ": compressed"
+refusal_text (Cycle names) = codes "cycle " ++ cycle_text names
+refusal_text (NotFound name) = codes "not found " ++ name
+refusal_text (Missing path symbol) = codes "missing " ++ (path ++ (codes " " ++ symbol))
+refusal_text (Version path symbol provider) =
+    codes "version " ++ (path ++ (codes " " ++ (symbol ++ (codes " " ++ provider))))
+refusal_text (Gpl path symbol provider) =
+    codes "gpl " ++ (path ++ (codes " " ++ (symbol ++ (codes " " ++ provider))))
+refusal_text (Namespace path symbol provider) =
+    codes "namespace " ++ (path ++ (codes " " ++ (symbol ++ (codes " " ++ provider))))
+refusal_text (Double symbol first second) =
+    codes "double " ++ (symbol ++ (codes " " ++ (first ++ (codes " " ++ second))))
+refusal_text (BadIndex file text) = file ++ (codes ": " ++ text)
+refusal_text (BadDependencyLine name) = codes "bad dependency line " ++ name
+refusal_text (BadLine file number) = file ++ (codes ": bad line " ++ decimal number)
+refusal_text (InstallChosen name) = codes "install chosen " ++ name
+refusal_text (KernelWithoutAddress name) = codes "kernel without address " ++ name
+refusal_text (ListedNotFound name) = codes "listed module " ++ (name ++ codes ": not found")
+refusal_text (ListedRefused name text) = codes "listed module " ++ (name ++ (codes ": " ++ text))
+refusal_text (LoadRefused name text) = name ++ (codes ": " ++ text)
+refusal_text TooManyModules = codes "too many modules"
+refusal_text TooManyDependencies = codes "too many dependencies"
+refusal_text TooManyDoubles = codes "too many doubles"
+refusal_text (OutputTooLarge file) = file ++ codes ": output too large"
+refusal_text (BadPath path) = codes "bad path " ++ path
+refusal_text InnerOutputFull = codes "inner output full"
+
+-- The line of an end.
+abbrev pub end_line : End → List ℕ
+end_line (Refused refusal) = line (refusal_text refusal)
+end_line NotUnderstood = usage
+end_line (NoFile path) = no_file path
+end_line (TooLarge path) = too_large path
+end_line (Inner whole) = whole
+
+-- The status of an end.
+abbrev pub end_status : End → ℕ
+end_status (Refused refusal) = 1
+end_status NotUnderstood = 2
+end_status (NoFile path) = 1
+end_status (TooLarge path) = 1
+end_status (Inner whole) = 1

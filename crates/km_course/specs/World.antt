@@ -1,9 +1,11 @@
 -- What is seen of the three objects that the program is handed, and what acts do to what they tell.
-use Rattle.std.specs.Prelude.{◌≡◌, ℕ, ◌≤◌, List, [], ◌∷◌, ◌++◌, take, Option, Some, None, is_some}
-use Rattle.std.specs.FinMap as map
-use Rattle.km_outside.specs.FilesSeen.{Contents, FilesSeen}
-use Rattle.km_outside.specs.OutSeen.{OutSeen}
-use Rattle.km_course.specs.Course.{Act}
+use Rattle.std.specs.Prelude.{◌≡◌, ℕ, zero, suc, ◌≤◌, List, [], ◌∷◌, ◌++◌, take, Option, Some, None, is_some}
+use Rattle.km_outside.specs.CallCounts.{NoneFell}
+use Rattle.km_outside.specs.Contents.{Contents}
+use Rattle.km_outside.specs.Counts.{one_more}
+use Rattle.km_outside.specs.FilesSeen.{FilesSeen}
+use Rattle.km_outside.specs.OutSeen.{OutSeen, Within}
+use Rattle.km_course.specs.Course.{Act, file_done}
 use Rattle.km_course.specs.Course.Act.{read, list, say, warn, put}
 
 -- the files, the output and err, as seen
@@ -15,40 +17,68 @@ pub record World : Type 0 where
 abbrev pub world : FilesSeen → OutSeen → OutSeen → World
 world files out err = record { files = files; out = out; err = err }
 
--- what three objects tell that tell all: the files, and the bytes written to each output
+-- what three objects tell that tell all: the files, how many calls were made on them, and the bytes written
+-- to each output
 pub record Shown : Type 0 where
   pub files : Contents
+  pub calls : ℕ
   pub out : List ℕ
   pub err : List ℕ
 
 -- The three objects tell this.
 pub record Tells (seen : World) (shown : Shown) : Type 0 where
   pub files : seen.files.contents ≡ Some shown.files
+  pub calls : seen.files.counts.calls ≡ shown.calls
   pub out : seen.out.told ≡ Some shown.out
   pub err : seen.err.told ≡ Some shown.err
 
+-- the count of calls on files after the act
+abbrev pub calls_done : Act → ℕ → ℕ
+calls_done (read path) calls = one_more calls
+calls_done (list folder) calls = one_more calls
+calls_done (put path bytes) calls = one_more calls
+calls_done (say bytes) calls = calls
+calls_done (warn bytes) calls = calls
+
+-- the bytes of the output after the act
+abbrev pub out_done : Act → List ℕ → List ℕ
+out_done (say bytes) out = out ++ bytes
+out_done _ out = out
+
+-- the bytes of err after the act
+abbrev pub err_done : Act → List ℕ → List ℕ
+err_done (warn bytes) err = err ++ bytes
+err_done _ err = err
+
 -- what is told after the act
 abbrev pub act_done : Act → Shown → Shown
-act_done (read path) shown = shown
-act_done (list folder) shown = shown
-act_done (say bytes) shown = record shown { out = shown.out ++ bytes }
-act_done (warn bytes) shown = record shown { err = shown.err ++ bytes }
-act_done (put path bytes) shown = record shown { files = map.insert shown.files path bytes }
+act_done act shown = record {
+  files = file_done act shown.files;
+  calls = calls_done act shown.calls;
+  out = out_done act shown.out;
+  err = err_done act shown.err;
+}
 
 -- what is told after the acts
 abbrev pub done : List Act → Shown → Shown
 done [] shown = shown
 done (act ∷ acts) shown = done acts (act_done act shown)
 
--- what is told after the first n bytes of the act: a write can be cut, and nothing else has parts
+-- the call on files that an act is when n parts of it were done: it was made, or it wasn't
+abbrev pub call_begun : ℕ → ℕ → ℕ
+call_begun zero calls = calls
+call_begun (suc n) calls = one_more calls
+
+-- What is told after a first part of the act. Of a write these are its first n bytes. A call on files was
+-- made unless n is 0, and left the files as they were.
 abbrev pub act_begun : ℕ → Act → Shown → Shown
-act_begun n (read path) shown = shown
-act_begun n (list folder) shown = shown
+act_begun n (read path) shown = record shown { calls = call_begun n shown.calls }
+act_begun n (list folder) shown = record shown { calls = call_begun n shown.calls }
+act_begun n (put path bytes) shown = record shown { calls = call_begun n shown.calls }
 act_begun n (say bytes) shown = record shown { out = shown.out ++ take n bytes }
 act_begun n (warn bytes) shown = record shown { err = shown.err ++ take n bytes }
-act_begun n (put path bytes) shown = shown
 
--- what is told after the first n bytes of the first of the acts
+-- what is told after a first part of the first of the acts
 abbrev pub begun : ℕ → List Act → Shown → Shown
 begun n [] shown = shown
 begun n (act ∷ acts) shown = act_begun n act shown
@@ -63,9 +93,7 @@ Extends (Some bytes) new = (more : List ℕ) × (new ≡ Some (bytes ++ more))
 pub record KeepsFiles (old new : FilesSeen) : Type 0 where
   pub told : is_some new.contents ≡ is_some old.contents
   pub sure : new.sure ≡ old.sure
-  pub faults : old.faults ≤ new.faults
-  pub absences : old.absences ≤ new.absences
-  pub excesses : old.excesses ≤ new.excesses
+  pub counts : NoneFell old.counts new.counts
 
 -- The same of an output.
 pub record KeepsOut (old new : OutSeen) : Type 0 where
@@ -81,6 +109,11 @@ pub record Keeps (old new : World) : Type 0 where
 
 -- No count of faults rose.
 pub record NoFault (old new : World) : Type 0 where
-  pub files : new.files.faults ≡ old.files.faults
+  pub files : new.files.counts.faults ≡ old.files.counts.faults
   pub out : new.out.faults ≡ old.out.faults
   pub err : new.err.faults ≡ old.err.faults
+
+-- The bytes of both outputs are within the rooms that are told.
+pub record FitsRooms (seen : World) : Type 0 where
+  pub out : Within seen.out
+  pub err : Within seen.err

@@ -1,33 +1,59 @@
-ghost use Rattle.std.specs.Prelude.{◌≡◌, ◌++◌};
+ghost use Rattle.std.specs.Prelude.{◌≡◌, ◌++◌, IfOk, OnErr};
 ghost use Rattle.km_outside.specs.OutSeen.{WriteAnswers};
-ghost use Rattle.km_course.specs.Carries.{Closes, Concludes, stop_status, unwritten_status};
+ghost use Rattle.km_course.specs.Carries.{Closes, Concludes, IsRefused, SaysOf, WritesLine, stop_line, stop_status, unwritten_status};
+ghost use Rattle.km_course.specs.Lines.{end_line};
+ghost use Rattle.km_course.specs.declared.stop.Stop.TheVariants.{Ended};
 
-use crate::Stop;
+use crate::{End, Stop};
+use km_names::Blob;
 use km_outside::{Out, OutFailed};
+use std::alloc::{AllocError, Global};
 
 /// The status of a command that came to its end.
-pub const DONE: u8 = 0;
+const DONE: u8 = 0;
 /// The status of a refusal.
-pub const REFUSED: u8 = 1;
+const REFUSED: u8 = 1;
 /// The status of words that weren't understood.
-pub const NOT_UNDERSTOOD: u8 = 2;
+const NOT_UNDERSTOOD: u8 = 2;
 /// The status after a call on files or an output failed.
-pub const FAULT: u8 = 3;
+const FAULT: u8 = 3;
 /// The status after memory was wanting.
-pub const OUT_OF_MEMORY: u8 = 4;
+const OUT_OF_MEMORY: u8 = 4;
 
-/// The exit status of a command that ended so, after the line of its stop was written to err. The line is
-/// written in pieces and takes no memory. Where it can't be written the status is 3, or 4 after want of
-/// memory.
-pub fn conclude<E: Out>(outcome: Result<(), Stop>, err: &mut E) -> u8
+/// The exit status of a command that ended so, after the line of its stop was written to err. Where the
+/// line can't be written the status is 3, or 4 after want of memory, which may also be wanting for what a
+/// refusal says. The line of a failed call is written in pieces and takes no memory.
+pub fn conclude<E: Out>(alloc: Global, outcome: Result<(), Stop>, err: &mut E) -> u8
     ensures { Concludes outcome (E.seen err.old) (E.seen err.new) result }
 {
     match outcome {
         Ok(()) => DONE,
-        Err(stop) => match write_line(err, &stop) {
-            Ok(()) => status(&stop),
-            Err(_) => status_unwritten(&stop),
+        Err(stop) => match said(alloc, &stop) {
+            Ok(text) => close(err, &stop, text.as_bytes()),
+            Err(_) => close(err, &Stop::Memory, b""),
         },
+    }
+}
+
+/// What the refusal says that the stop is, and nothing where it is none.
+fn said(alloc: Global, stop: &Stop) -> Result<Blob, AllocError>
+    ensures ok { IfOk result (SaysOf stop.now) }
+    ensures err { OnErr result (IsRefused stop.now) }
+{
+    match stop {
+        Stop::Ended(End::Refused(refusal)) => refusal.text(alloc),
+        _ => Ok(Blob::new(alloc)),
+    }
+}
+
+/// The status of the stop, after its line was written to err. The text is what it says, if it is a refusal.
+fn close<E: Out>(err: &mut E, stop: &Stop, text: &[u8]) -> u8
+    requires { SaysOf stop.now text.now }
+    ensures { Closes stop.now (E.seen err.old) (E.seen err.new) result }
+{
+    match write_line(err, stop, text) {
+        Ok(()) => status(stop),
+        Err(_) => status_unwritten(stop),
     }
 }
 
@@ -35,8 +61,8 @@ fn status(stop: &Stop) -> u8
     ensures { result ≡ stop_status stop.now }
 {
     match stop {
-        Stop::Refused { .. } | Stop::NoFile { .. } | Stop::TooLarge { .. } => REFUSED,
-        Stop::NotUnderstood => NOT_UNDERSTOOD,
+        Stop::Ended(End::NotUnderstood) => NOT_UNDERSTOOD,
+        Stop::Ended(_) => REFUSED,
         Stop::FileFault { .. } | Stop::OutputFault | Stop::WarningFault => FAULT,
         Stop::Memory => OUT_OF_MEMORY,
     }
@@ -52,20 +78,29 @@ fn status_unwritten(stop: &Stop) -> u8
     }
 }
 
-fn write_line<E: Out>(err: &mut E, stop: &Stop) -> Result<(), OutFailed>
-    ensures { Closes stop.now (E.seen err.old) (E.seen err.new) result }
+fn write_line<E: Out>(err: &mut E, stop: &Stop, text: &[u8]) -> Result<(), OutFailed>
+    requires { SaysOf stop.now text.now }
+    ensures { WritesLine (stop_line stop.now) (E.seen err.old) (E.seen err.new) result }
 {
     match stop {
-        Stop::Refused { line } => err.write(line.as_bytes()),
-        Stop::NotUnderstood => err.write(
-            b"kmod: usage: kmod depmod|modprobe|modinfo|trial WORDS\n",
-        ),
-        Stop::NoFile { path } => write_around(err, b"kmod: no file ", path.as_bytes(), b"\n"),
-        Stop::TooLarge { path } => write_around(err, b"kmod: ", path.as_bytes(), b": too large\n"),
+        Stop::Ended(end) => write_end(err, end, text),
         Stop::FileFault { path } => write_around(err, b"kmod: file fault ", path.as_bytes(), b"\n"),
         Stop::OutputFault => err.write(b"kmod: output fault\n"),
         Stop::WarningFault => Ok(()),
         Stop::Memory => err.write(b"kmod: out of memory\n"),
+    }
+}
+
+fn write_end<E: Out>(err: &mut E, end: &End, text: &[u8]) -> Result<(), OutFailed>
+    requires { SaysOf (Ended end.now) text.now }
+    ensures { WriteAnswers (end_line end.now) (E.seen err.old) (E.seen err.new) result }
+{
+    match end {
+        End::Refused(_) => write_around(err, b"kmod: ", text, b"\n"),
+        End::NotUnderstood => err.write(b"kmod: usage: kmod depmod|modprobe|modinfo|trial WORDS\n"),
+        End::NoFile { path } => write_around(err, b"kmod: no file ", path.as_bytes(), b"\n"),
+        End::TooLarge { path } => write_around(err, b"kmod: ", path.as_bytes(), b": too large\n"),
+        End::Inner { line } => err.write(line.as_bytes()),
     }
 }
 

@@ -4,11 +4,19 @@
 #![tactic(auto)]
 
 mod conclusion;
+mod end;
 mod reading;
+mod refusal;
 mod stop;
+#[cfg(test)]
+mod tests;
 mod writing;
 
-pub use conclusion::{DONE, FAULT, NOT_UNDERSTOOD, OUT_OF_MEMORY, REFUSED, conclude};
-pub use reading::read_needed;
+pub use conclusion::conclude;
+pub use end::End;
+pub use reading::{
+    list_conf_needed, list_conf_optional, list_tree_needed, read_needed, read_optional,
+};
+pub use refusal::Refusal;
 pub use stop::Stop;
-pub use writing::{say, say_any, warn};
+pub use writing::{put, say, say_any, warn};

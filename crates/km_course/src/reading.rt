@@ -1,39 +1,99 @@
-ghost use Rattle.std.specs.Prelude.{◌≡◌, ◌≤◌, length, IfOk, IfErr};
-ghost use Rattle.km_outside.specs.FilesSeen.{file_limit};
+ghost use Rattle.std.specs.Prelude.{◌≡◌, ◌≤◌, [], length, IfOk};
+ghost use Rattle.km_names.specs.Limit.{file_limit};
 ghost use Rattle.km_outside.specs.OutSeen.{OutSeen};
-ghost use Rattle.km_course.specs.Course.{reads};
+ghost use Rattle.km_course.specs.Course.{reads, reads_any, lists_conf, lists_any_conf, lists_tree};
 ghost use Rattle.km_course.specs.World.{world};
-ghost use Rattle.km_course.specs.Follows.{Follows, IsUnrefused, stop_for};
+ghost use Rattle.km_course.specs.Follows.{Follows, stop_for};
 
-use crate::Stop;
-use km_names::{Blob, PathText};
-use km_outside::{FileAnswer, Reads};
+use crate::{End, Stop};
+use km_names::{Blob, Names, PathText, Paths};
+use km_outside::{FileAnswer, Files, Reads};
 use std::alloc::Global;
 
-/// The bytes of the file at the path, which is needed: an absent file and one past the limit stop the
-/// command with status 1, and a failed read with status 3.
-pub fn read_needed<F: Reads>(alloc: Global, files: &mut F, path: &PathText) -> Result<Blob, Stop>
-    ensures follows { (out err : OutSeen) → Follows (λ bytes. bytes) (reads path.now)
+/// The bytes of the file at the path, which is needed: an absent file and one past the limit end the
+/// command with status 1, and a failed read stops it with status 3.
+pub fn read_needed<F: Reads>(alloc: Global, files: &mut F, path: PathText) -> Result<Blob, Stop>
+    ensures follows { (out err : OutSeen) → Follows (λ bytes. bytes) (reads path)
         (world (F.seen files.old) out err) (world (F.seen files.new) out err) result }
     ensures limit { IfOk result (λ bytes. length bytes ≤ file_limit) }
-    ensures unrefused { IfErr result IsUnrefused }
 {
-    // The stop owns the path, and its line is to take no memory.
-    let owned = PathText::from_slice(alloc, path.as_bytes())?;
-    match files.read(alloc, path) {
+    match files.read(alloc, &path) {
         Ok(bytes) => Ok(bytes),
-        Err(answer) => Err(stop_at(answer, owned)),
+        Err(answer) => Err(stop_at(answer, path)),
     }
 }
 
-/// How a refused call on files at the path stops the command.
+/// The bytes of the file at the path, and none where nothing is there.
+pub fn read_optional<F: Reads>(alloc: Global, files: &mut F, path: PathText) -> Result<Blob, Stop>
+    ensures follows { (out err : OutSeen) → Follows (λ bytes. bytes) (reads_any path)
+        (world (F.seen files.old) out err) (world (F.seen files.new) out err) result }
+    ensures limit { IfOk result (λ bytes. length bytes ≤ file_limit) }
+{
+    match files.read(alloc, &path) {
+        Ok(bytes) => Ok(bytes),
+        Err(answer) => match answer {
+            FileAnswer::Absent => Ok(Blob::new(alloc)),
+            _ => Err(stop_at(answer, path)),
+        },
+    }
+}
+
+/// The names of the configuration files in the folder, which is needed.
+pub fn list_conf_needed<F: Reads>(
+    alloc: Global,
+    files: &mut F,
+    dir: PathText,
+) -> Result<Names, Stop>
+    ensures { (out err : OutSeen) → Follows (λ names. names) (lists_conf dir)
+        (world (F.seen files.old) out err) (world (F.seen files.new) out err) result }
+{
+    match files.list_conf(alloc, &dir) {
+        Ok(names) => Ok(names),
+        Err(answer) => Err(stop_at(answer, dir)),
+    }
+}
+
+/// The names of the configuration files in the folder, and none where nothing is there.
+pub fn list_conf_optional<F: Reads>(
+    alloc: Global,
+    files: &mut F,
+    dir: PathText,
+) -> Result<Names, Stop>
+    ensures { (out err : OutSeen) → Follows (λ names. names) (lists_any_conf dir)
+        (world (F.seen files.old) out err) (world (F.seen files.new) out err) result }
+{
+    match files.list_conf(alloc, &dir) {
+        Ok(names) => Ok(names),
+        Err(answer) => match answer {
+            FileAnswer::Absent => Ok(Names::new(alloc)),
+            _ => Err(stop_at(answer, dir)),
+        },
+    }
+}
+
+/// The paths of all files below the folder, relative to it, which is needed.
+pub fn list_tree_needed<F: Files>(
+    alloc: Global,
+    files: &mut F,
+    dir: PathText,
+) -> Result<Paths, Stop>
+    ensures { (out err : OutSeen) → Follows (λ paths. paths) (lists_tree dir)
+        (world (F.seen files.old) out err) (world (F.seen files.new) out err) result }
+{
+    match files.list_tree(alloc, &dir) {
+        Ok(paths) => Ok(paths),
+        Err(answer) => Err(stop_at(answer, dir)),
+    }
+}
+
+/// How a refused call on files at the path stops the command, where what it asks for is needed.
 fn stop_at(answer: FileAnswer, path: PathText) -> Stop
     ensures { result ≡ stop_for answer path }
 {
     match answer {
-        FileAnswer::Absent => Stop::NoFile { path },
+        FileAnswer::Absent => Stop::Ended(End::NoFile { path }),
         FileAnswer::Failed => Stop::FileFault { path },
-        FileAnswer::TooLarge { length: _ } => Stop::TooLarge { path },
+        FileAnswer::TooLarge { length: _ } => Stop::Ended(End::TooLarge { path }),
         FileAnswer::Memory => Stop::Memory,
     }
 }

@@ -1,21 +1,17 @@
 ghost use Rattle.std.specs.Prelude.{◌≡◌};
-ghost use Rattle.km_course.specs.declared.stop.Stop.TheVariants.{Memory};
+ghost use Rattle.km_course.specs.declared.stop.Stop.TheVariants.{Ended, Memory};
+ghost use Rattle.km_course.specs.declared.end.End.TheVariants.{Refused};
 
-use km_names::{Blob, PathText};
+use crate::{End, Refusal};
+use km_names::PathText;
 use std::alloc::{AllocError, AllocFailed};
 
-/// Why a command stopped before its end. Each stop owns what its line on err needs, so that the line takes
-/// no memory.
-#[derive(Drop)]
+/// Why a command stopped before its last act. A stop owns the path that its line on err names, so that
+/// the line of a failed call takes no memory.
+#[derive(Debug, Drop)]
 pub enum Stop {
-    /// Refused with status 1 and this whole line.
-    Refused { line: Blob },
-    /// The words weren't understood: status 2 with the usage line.
-    NotUnderstood,
-    /// A needed file isn't there: status 1.
-    NoFile { path: PathText },
-    /// A file or a folder passes its limit: status 1.
-    TooLarge { path: PathText },
+    /// The course came to this end: status 1 or 2.
+    Ended(End),
     /// A call on files at this path failed: status 3.
     FileFault { path: PathText },
     /// A write to the output failed: status 3.
@@ -39,5 +35,21 @@ impl<T: Drop> From<AllocFailed<T>> for Stop {
 
     fn from(_: AllocFailed<T>) -> Self {
         Stop::Memory
+    }
+}
+
+impl From<End> for Stop {
+    ghost from_gives = { λ e stop. stop ≡ Ended e };
+
+    fn from(end: End) -> Self {
+        Stop::Ended(end)
+    }
+}
+
+impl From<Refusal> for Stop {
+    ghost from_gives = { λ refusal stop. stop ≡ Ended (Refused refusal) };
+
+    fn from(refusal: Refusal) -> Self {
+        Stop::Ended(End::Refused(refusal))
     }
 }

@@ -1,18 +1,19 @@
-ghost use Rattle.std.specs.Prelude.{⊤, IfErr};
+ghost use Rattle.std.specs.Prelude.{⊤};
 ghost use Rattle.km_outside.specs.FilesSeen.{FilesSeen};
 ghost use Rattle.km_outside.specs.OutSeen.{OutSeen};
-ghost use Rattle.km_course.specs.Course.{says, says_any, warns};
+ghost use Rattle.km_course.specs.Course.{says, says_any, warns, puts};
 ghost use Rattle.km_course.specs.World.{world};
-ghost use Rattle.km_course.specs.Follows.{Follows, IsUnrefused};
+ghost use Rattle.km_course.specs.Follows.{Follows};
 
 use crate::Stop;
-use km_outside::Out;
+use km_names::PathText;
+use km_outside::{Out, ReplaceAnswer, Writes};
+use std::alloc::Global;
 
 /// Writes the bytes to the output, in one piece. A failed write stops the command with status 3.
 pub fn say<O: Out>(out: &mut O, bytes: &[u8]) -> Result<(), Stop>
-    ensures follows { (files : FilesSeen) (err : OutSeen) → Follows (λ x. x) (says bytes.now)
+    ensures { (files : FilesSeen) (err : OutSeen) → Follows (λ x. x) (says bytes.now)
         (world files (O.seen out.old) err) (world files (O.seen out.new) err) result }
-    ensures unrefused { IfErr result IsUnrefused }
 {
     match out.write(bytes) {
         Ok(()) => Ok(()),
@@ -22,9 +23,8 @@ pub fn say<O: Out>(out: &mut O, bytes: &[u8]) -> Result<(), Stop>
 
 /// Writes the bytes to the output if there are any.
 pub fn say_any<O: Out>(out: &mut O, bytes: &[u8]) -> Result<(), Stop>
-    ensures follows { (files : FilesSeen) (err : OutSeen) → Follows (λ x. x) (says_any bytes.now)
+    ensures { (files : FilesSeen) (err : OutSeen) → Follows (λ x. x) (says_any bytes.now)
         (world files (O.seen out.old) err) (world files (O.seen out.new) err) result }
-    ensures unrefused { IfErr result IsUnrefused }
 {
     if bytes.is_empty() {
         return Ok(());
@@ -34,12 +34,29 @@ pub fn say_any<O: Out>(out: &mut O, bytes: &[u8]) -> Result<(), Stop>
 
 /// Writes the bytes to err, in one piece. A failed write stops the command with status 3.
 pub fn warn<E: Out>(err: &mut E, bytes: &[u8]) -> Result<(), Stop>
-    ensures follows { (files : FilesSeen) (out : OutSeen) → Follows (λ x. x) (warns bytes.now)
+    ensures { (files : FilesSeen) (out : OutSeen) → Follows (λ x. x) (warns bytes.now)
         (world files out (E.seen err.old)) (world files out (E.seen err.new)) result }
-    ensures unrefused { IfErr result IsUnrefused }
 {
     match err.write(bytes) {
         Ok(()) => Ok(()),
         Err(_) => Err(Stop::WarningFault),
+    }
+}
+
+/// Puts a file of these bytes at the path, whole or not at all. A failed replacement stops the command
+/// with status 3.
+pub fn put<F: Writes>(
+    alloc: Global,
+    files: &mut F,
+    path: PathText,
+    bytes: &[u8],
+) -> Result<(), Stop>
+    ensures { (out err : OutSeen) → Follows (λ x. x) (puts path bytes.now)
+        (world (F.seen files.old) out err) (world (F.seen files.new) out err) result }
+{
+    match files.replace(alloc, &path, bytes) {
+        Ok(()) => Ok(()),
+        Err(ReplaceAnswer::Failed) => Err(Stop::FileFault { path }),
+        Err(ReplaceAnswer::Memory) => Err(Stop::Memory),
     }
 }

@@ -1,2 +1,5 @@
 pub mod Entries
 pub mod Reading
+pub mod Listed
+pub mod Rising
+pub mod MemLists

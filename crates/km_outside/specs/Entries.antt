@@ -2,7 +2,7 @@
 use Rattle.std.specs.Prelude.{ℕ, List, map}
 use Rattle.std.specs.FinMap.{from_entries}
 use Rattle.std.specs.Global.{Vec}
-use Rattle.km_outside.specs.FilesSeen.{Contents}
+use Rattle.km_outside.specs.Contents.{Contents}
 
 -- the files by their paths, where each key is a vector of a path's bytes
 abbrev pub files_of : List (Vec ℕ × List ℕ) → Contents

@@ -1,41 +1,71 @@
--- What a contract sees of the files that a program is handed, and what a read may answer.
-use Rattle.std.specs.Prelude.{◌≡◌, ℕ, ◌≤◌, ◌<◌, min, Bool, false, List, length, Option, Some, None, Result, Ok, Err, IfSome, IsSomeAnd}
-use Rattle.std.specs.Ordering.{nat_cmp}
-use Rattle.std.specs.Cmp.Lexicographic.{slice_cmp}
+-- What a contract sees of the files that a program is handed, and what each call may answer and leave.
+use Rattle.std.specs.Prelude.{◌≡◌, ◌≢◌, ℕ, ◌≤◌, ◌<◌, min, Bool, true, false, List, [], length, Option, Some, None, Result, Ok, Err, IfSome, IsSomeAnd, All, ⊤}
+use Rattle.std.specs.Option.{option_map}
+use Rattle.std.specs.List.Sorted.{IsStrictlySortedBy}
 use Rattle.std.specs.FinMap as map
-use Rattle.km_outside.specs.Counts.{Rose, count_end}
+use Rattle.km_names.specs.Limit.{file_limit}
+use Rattle.km_outside.specs.CallCounts.{CallCounts, answered, replied}
+use Rattle.km_outside.specs.Contents.{Contents, by_bytes, listed, is_path}
+use Rattle.km_outside.specs.Counts.{count_end}
 use Rattle.km_outside.specs.declared.files.FileAnswer.{FileAnswer}
 use Rattle.km_outside.specs.declared.files.FileAnswer.TheVariants.{Absent, Failed, TooLarge, Memory}
+use Rattle.km_outside.specs.declared.files.ReplaceAnswer.{ReplaceAnswer}
+use Rattle.km_outside.specs.declared.files.ReplaceAnswer.TheVariants as replaces
 
--- the files of a machine: from the bytes of a path to the bytes of the file there
-abbrev pub Contents : Type 0
-Contents = map.FinMap (slice_cmp nat_cmp) (List ℕ)
+-- No folder with more names is listed.
+abbrev pub list_limit : ℕ
+list_limit = 1000000
 
--- No file of more bytes is read.
-abbrev pub file_limit : ℕ
-file_limit = 67108864
-
--- What is seen of files: how often a call failed, found nothing and met too much, the contents where the
--- object tells them, and whether it is sure, which means that no call fails.
+-- What is seen of files: how often calls were made and refused, the contents where the object tells them,
+-- and whether it is sure, which means that no call fails.
 pub record FilesSeen : Type 0 where
-  pub faults : ℕ
-  pub absences : ℕ
-  pub excesses : ℕ
+  pub counts : CallCounts
   pub contents : Option Contents
   pub sure : Bool
 
--- What a read of the path may answer, and what it leaves of the files as seen. An object that tells its
--- contents answers by them: the file's bytes, that it isn't there, or how long it is. Only the count of
--- the answer's own cause rises, and the contents stay. Want of memory leaves everything.
+-- What a read of the path may answer: over told contents the file's bytes, that it isn't there, or how long
+-- it is; that the call failed, where the files aren't sure; or want of memory.
+abbrev pub IsReadAt : List ℕ → FilesSeen → Result (List ℕ) FileAnswer → Type 0
+IsReadAt path files (Ok bytes) = (length bytes ≤ file_limit) × IfSome files.contents (λ told. map.get told path ≡ Some bytes)
+IsReadAt path files (Err Absent) = IfSome files.contents (λ told. map.get told path ≡ None)
+IsReadAt path files (Err Failed) = files.sure ≡ false
+IsReadAt path files (Err (TooLarge n)) =
+    (file_limit < n) × IfSome files.contents (λ told. IsSomeAnd (map.get told path) (λ bytes. n ≡ min (length bytes) count_end))
+IsReadAt path files (Err Memory) = ⊤
+
+-- What a listing of the folder for the names that pass the test may answer: the names, each once and rising
+-- by their bytes, over told contents just those below the folder; that nothing lies below it; how many
+-- there are; that the call failed, where the files aren't sure; or want of memory.
+abbrev pub IsListOf : (List ℕ → Bool) → List ℕ → FilesSeen → Result (List (List ℕ)) FileAnswer → Type 0
+IsListOf fits folder files (Ok names) =
+    IsStrictlySortedBy by_bytes names × All (λ name. fits name ≡ true) names × (length names ≤ list_limit)
+    × IfSome files.contents (λ told. (names ≡ listed fits folder told) × (listed is_path folder told ≢ []))
+IsListOf fits folder files (Err Absent) = IfSome files.contents (λ told. listed is_path folder told ≡ [])
+IsListOf fits folder files (Err Failed) = files.sure ≡ false
+IsListOf fits folder files (Err (TooLarge n)) =
+    (list_limit < n) × IfSome files.contents (λ told. n ≡ min (length (listed fits folder told)) count_end)
+IsListOf fits folder files (Err Memory) = ⊤
+
+-- What a read answers and leaves: one call more is counted, with its cause where it is refused, and nothing
+-- else changes.
 abbrev pub ReadAnswers : List ℕ → FilesSeen → FilesSeen → Result (List ℕ) FileAnswer → Type 0
-ReadAnswers path old new (Ok bytes) =
-    (new ≡ old) × (length bytes ≤ file_limit) × IfSome old.contents (λ files. map.get files path ≡ Some bytes)
-ReadAnswers path old new (Err Absent) =
-    (new ≡ record old { absences = new.absences }) × Rose old.absences new.absences
-    × IfSome old.contents (λ files. map.get files path ≡ None)
-ReadAnswers path old new (Err Failed) =
-    (new ≡ record old { faults = new.faults }) × Rose old.faults new.faults × (old.sure ≡ false)
-ReadAnswers path old new (Err (TooLarge n)) =
-    (new ≡ record old { excesses = new.excesses }) × Rose old.excesses new.excesses × (file_limit < n)
-    × IfSome old.contents (λ files. IsSomeAnd (map.get files path) (λ bytes. n ≡ min (length bytes) count_end))
-ReadAnswers path old new (Err Memory) = new ≡ old
+ReadAnswers path old new result = (new ≡ record old { counts = answered old.counts result }) × IsReadAt path old result
+
+-- The same of a listing.
+abbrev pub ListAnswers : (List ℕ → Bool) → List ℕ → FilesSeen → FilesSeen → Result (List (List ℕ)) FileAnswer → Type 0
+ListAnswers fits folder old new result =
+    (new ≡ record old { counts = answered old.counts result }) × IsListOf fits folder old result
+
+-- the files with these bytes at the path, where they are told
+abbrev pub with_file_at : List ℕ → List ℕ → FilesSeen → FilesSeen
+with_file_at path bytes files = record files { contents = option_map (λ told. map.insert told path bytes) files.contents }
+
+-- What a replacement of the file at the path answers and leaves: the bytes stand there and nothing else
+-- changes, or all contents are as before.
+abbrev pub ReplaceAnswers : List ℕ → List ℕ → FilesSeen → FilesSeen → Result ⊤ ReplaceAnswer → Type 0
+ReplaceAnswers path bytes old new (Ok done) =
+    new ≡ record (with_file_at path bytes old) { counts = replied old.counts (Ok done) }
+ReplaceAnswers path bytes old new (Err replaces.Failed) =
+    (new ≡ record old { counts = replied {T = ⊤} old.counts (Err replaces.Failed) }) × (old.sure ≡ false)
+ReplaceAnswers path bytes old new (Err replaces.Memory) =
+    new ≡ record old { counts = replied {T = ⊤} old.counts (Err replaces.Memory) }

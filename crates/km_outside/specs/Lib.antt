@@ -1,11 +1,14 @@
 pub mod CallsSeen
-pub mod CausesSeen
+pub mod CallCounts
 pub mod Codes
+pub mod Contents
 pub mod Counts
 pub mod DiskSeen
 pub mod Entries
 pub mod FilesSeen
+pub mod Listing
 pub mod MemFilesSeen
 pub mod MemOutSeen
 pub mod OutSeen
 pub mod StreamSeen
+pub mod WalkSeen

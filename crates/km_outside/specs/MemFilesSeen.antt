@@ -1,42 +1,81 @@
 -- What a contract sees of files that are kept in memory.
-use Rattle.std.specs.Prelude.{ℕ, nat_lt, List, length, min, Option, Some, None, Result, Ok, Err, if◌then◌else◌}
+use Rattle.std.specs.Prelude.{ℕ, nat_lt, ◌==◌, ◌&&◌, Bool, List, length, min, Option, Some, None, Result, Ok, Err, ⊤, if◌then◌else◌}
 use Rattle.std.specs.FinMap as map
-use Rattle.km_outside.specs.CausesSeen.{CausesSeen, no_causes, answered}
+use Rattle.km_names.specs.Limit.{file_limit}
+use Rattle.km_outside.specs.CallCounts.{CallCounts, no_counts, answered, replied}
+use Rattle.km_outside.specs.Contents.{Contents, listed, is_path}
 use Rattle.km_outside.specs.Counts.{count_end}
 use Rattle.km_outside.specs.CallsSeen.{CallsSeen, no_calls, next_fails, called, with_failing, none_listed}
-use Rattle.km_outside.specs.FilesSeen.{FilesSeen, Contents, file_limit}
+use Rattle.km_outside.specs.FilesSeen.{FilesSeen, list_limit}
 use Rattle.km_outside.specs.declared.files.FileAnswer.{FileAnswer}
 use Rattle.km_outside.specs.declared.files.FileAnswer.TheVariants.{Absent, Failed, TooLarge}
+use Rattle.km_outside.specs.declared.files.ReplaceAnswer.{ReplaceAnswer}
 use Rattle.km_outside.specs.declared.mem_files.CallKind.{CallKind}
-use Rattle.km_outside.specs.declared.mem_files.CallKind.TheVariants.{Read}
+use Rattle.km_outside.specs.declared.mem_files.CallKind.TheVariants.{Read, ListConf, ListTree, Replace}
 
--- The files, the reads by number, and how often calls were refused.
+-- The calls of each kind, by number.
+pub record KindsSeen : Type 0 where
+  pub reads : CallsSeen
+  pub conf_lists : CallsSeen
+  pub tree_lists : CallsSeen
+  pub replaces : CallsSeen
+
+-- The files, the calls by kind and number, and how often calls were made and refused.
 pub record MemFilesSeen : Type 0 where
   pub contents : Contents
-  pub reads : CallsSeen
-  pub causes : CausesSeen
+  pub kinds : KindsSeen
+  pub counts : CallCounts
+
+-- whether no call is listed to fail
+abbrev pub no_kind_listed : KindsSeen → Bool
+no_kind_listed kinds =
+    none_listed kinds.reads && none_listed kinds.conf_lists && none_listed kinds.tree_lists && none_listed kinds.replaces
 
 -- What is seen of them as files. They tell their contents, and are sure where no call is listed to fail.
 abbrev pub mem_files_seen : MemFilesSeen → FilesSeen
 mem_files_seen files = record {
-  faults = files.causes.faults;
-  absences = files.causes.absences;
-  excesses = files.causes.excesses;
+  counts = files.counts;
   contents = Some files.contents;
-  sure = none_listed files.reads;
+  sure = no_kind_listed files.kinds;
 }
+
+-- no calls, and none that is to fail
+abbrev pub no_kinds : KindsSeen
+no_kinds = record { reads = no_calls; conf_lists = no_calls; tree_lists = no_calls; replaces = no_calls }
 
 -- no files, no calls, and none that is to fail
 abbrev pub no_files : MemFilesSeen
-no_files = record { contents = map.empty; reads = no_calls; causes = no_causes }
+no_files = record { contents = map.empty; kinds = no_kinds; counts = no_counts }
 
 -- with these bytes at the path, in place of what was there
 abbrev pub with_file : MemFilesSeen → List ℕ → List ℕ → MemFilesSeen
 with_file files path bytes = record files { contents = map.insert files.contents path bytes }
 
+-- the calls of this kind
+abbrev pub calls_of : KindsSeen → CallKind → CallsSeen
+calls_of kinds Read = kinds.reads
+calls_of kinds ListConf = kinds.conf_lists
+calls_of kinds ListTree = kinds.tree_lists
+calls_of kinds Replace = kinds.replaces
+
+-- these calls of this kind, and those of the other kinds as before
+abbrev pub with_calls : KindsSeen → CallKind → CallsSeen → KindsSeen
+with_calls kinds Read calls = record kinds { reads = calls }
+with_calls kinds ListConf calls = record kinds { conf_lists = calls }
+with_calls kinds ListTree calls = record kinds { tree_lists = calls }
+with_calls kinds Replace calls = record kinds { replaces = calls }
+
 -- with the call of this kind and number listed to fail
 abbrev pub with_failing_call : MemFilesSeen → CallKind → ℕ → MemFilesSeen
-with_failing_call files Read n = record files { reads = with_failing files.reads n }
+with_failing_call files kind n = record files { kinds = with_calls files.kinds kind (with_failing (calls_of files.kinds kind) n) }
+
+-- whether the next call of this kind fails
+abbrev pub kind_fails : MemFilesSeen → CallKind → Bool
+kind_fails files kind = next_fails (calls_of files.kinds kind)
+
+-- after one more call of this kind
+abbrev pub kind_called : KindsSeen → CallKind → KindsSeen
+kind_called kinds kind = with_calls kinds kind (called (calls_of kinds kind))
 
 -- the answer to a read where these bytes, or nothing, are at the path
 abbrev pub found : Option (List ℕ) → Result (List ℕ) FileAnswer
@@ -45,8 +84,31 @@ found (Some bytes) = if nat_lt file_limit (length bytes) then Err (TooLarge (min
 
 -- the answer to the next read of the path with ample memory
 abbrev pub mem_read : MemFilesSeen → List ℕ → Result (List ℕ) FileAnswer
-mem_read files path = if next_fails files.reads then Err Failed else found (map.get files.contents path)
+mem_read files path = if kind_fails files Read then Err Failed else found (map.get files.contents path)
 
--- after the next read, which had this answer
-abbrev pub after_read : MemFilesSeen → Result (List ℕ) FileAnswer → MemFilesSeen
-after_read files answer = record files { reads = called files.reads; causes = answered files.causes answer }
+-- the answer to a listing where so many paths lie below the folder and these names are listed
+abbrev pub found_names : ℕ → List (List ℕ) → Result (List (List ℕ)) FileAnswer
+found_names below names =
+    if below == 0 then Err Absent
+    else if nat_lt list_limit (length names) then Err (TooLarge (min (length names) count_end)) else Ok names
+
+-- the answer to the next listing of this kind with ample memory
+abbrev pub mem_list : MemFilesSeen → CallKind → (List ℕ → Bool) → List ℕ → Result (List (List ℕ)) FileAnswer
+mem_list files kind fits folder =
+    if kind_fails files kind then Err Failed
+    else found_names (length (listed is_path folder files.contents)) (listed fits folder files.contents)
+
+-- after the next call of this kind, which read or listed with this answer
+abbrev pub after_call : {T : Type 0} → MemFilesSeen → CallKind → Result T FileAnswer → MemFilesSeen
+after_call files kind answer = record files { kinds = kind_called files.kinds kind; counts = answered files.counts answer }
+
+-- after the next replacement, which had this answer
+abbrev pub after_replace : MemFilesSeen → List ℕ → List ℕ → Result ⊤ ReplaceAnswer → MemFilesSeen
+after_replace files path bytes (Ok done) = record (with_file files path bytes) {
+  kinds = kind_called files.kinds Replace;
+  counts = replied files.counts (Ok done);
+}
+after_replace files path bytes (Err refusal) = record files {
+  kinds = kind_called files.kinds Replace;
+  counts = replied {T = ⊤} files.counts (Err refusal);
+}

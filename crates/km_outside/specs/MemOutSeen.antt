@@ -1,13 +1,14 @@
 -- What a contract sees of an output that is kept in memory.
-use Rattle.std.specs.Prelude.{ℕ, ◌+◌, Bool, ◌||◌, nat_lt, List, ◌++◌, length, Some, None, if◌then◌else◌}
+use Rattle.std.specs.Prelude.{ℕ, ◌+◌, ◌-◌, ◌≤◌, Bool, true, false, ◌||◌, nat_lt, List, [], ◌++◌, length, Some, None, IfSome, if◌then◌else◌}
+use Rattle.std.proofs.Math.Nat.{le-add_right}
 use Rattle.km_outside.specs.Counts.{one_more}
-use Rattle.km_outside.specs.CallsSeen.{CallsSeen, next_fails, called, with_failing, none_listed}
-use Rattle.km_outside.specs.OutSeen.{OutSeen}
+use Rattle.km_outside.specs.CallsSeen.{CallsSeen, no_calls, next_fails, called, with_failing, none_listed}
+use Rattle.km_outside.specs.OutSeen.{OutSeen, Within}
 
--- The bytes written so far, the room for them, the writes by number, and how many of them failed.
+-- The bytes written so far, the room that is left after them, the writes by number, and how many failed.
 pub record MemOutSeen : Type 0 where
   pub bytes : List ℕ
-  pub room : ℕ
+  pub left : ℕ
   pub writes : CallsSeen
   pub faults : ℕ
 
@@ -16,20 +17,32 @@ abbrev pub mem_out_seen : MemOutSeen → OutSeen
 mem_out_seen out = record {
   faults = out.faults;
   told = Some out.bytes;
-  room = if none_listed out.writes then Some out.room else None;
+  room = if none_listed out.writes then Some (length out.bytes + out.left) else None;
 }
+
+-- an empty output with this room
+abbrev pub empty_with_room : ℕ → MemOutSeen
+empty_with_room room = record { bytes = []; left = room; writes = no_calls; faults = 0 }
 
 -- whether the next write fails: its number is listed, or the piece is longer than the room left
 abbrev pub write_fails : MemOutSeen → List ℕ → Bool
-write_fails out piece = next_fails out.writes || nat_lt out.room (length out.bytes + length piece)
+write_fails out piece = next_fails out.writes || nat_lt out.left (length piece)
 
 -- after the next write, which appends the piece unless it fails
 abbrev pub after_write : MemOutSeen → List ℕ → MemOutSeen
 after_write out piece =
     if write_fails out piece
     then record out { writes = called out.writes; faults = one_more out.faults }
-    else record out { writes = called out.writes; bytes = out.bytes ++ piece }
+    else record out { writes = called out.writes; bytes = out.bytes ++ piece; left = out.left - length piece }
 
 -- with the write of number n listed to fail
 abbrev pub with_failing_write : MemOutSeen → ℕ → MemOutSeen
 with_failing_write out n = record out { writes = with_failing out.writes n }
+
+-- The bytes written are within the room that is told.
+pub mem_out-within : (out : MemOutSeen) → Within (mem_out_seen out)
+mem_out-within out =
+    elim (none_listed out.writes) as (λ told. IfSome (if told then Some (length out.bytes + out.left) else None) (λ room. length out.bytes ≤ room)) [
+      | true ↦ le-add_right (length out.bytes) out.left
+      | false ↦ tt
+    ]

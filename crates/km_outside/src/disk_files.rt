@@ -1,87 +1,118 @@
 ghost use Rattle.std.specs.Prelude.{◌≡◌};
-ghost use Rattle.km_outside.specs.CausesSeen.{no_causes, answered};
-ghost use Rattle.km_outside.specs.DiskSeen.{disk_seen, answer_of};
-ghost use Rattle.km_outside.specs.FilesSeen.{ReadAnswers};
+ghost use Rattle.km_outside.specs.CallCounts.{no_counts, answered, replied};
+ghost use Rattle.km_outside.specs.Contents.{is_conf_name, is_path};
+ghost use Rattle.km_outside.specs.DiskSeen.{disk_seen};
+ghost use Rattle.km_outside.specs.FilesSeen.{ListAnswers, ReadAnswers, ReplaceAnswers};
+ghost use Rattle.km_outside.specs.Listing.{test_of};
 
-use crate::causes::Causes;
-use crate::transfer::read_limited;
-use crate::{FILE_LIMIT, FileAnswer, Files, Reads};
-use km_names::{Blob, PathText};
+use crate::counts::Counts;
+use crate::disk_listing::list_folder;
+use crate::disk_read::read_file;
+use crate::disk_replace::replace_file;
+use crate::listing::Listing;
+use crate::{FileAnswer, Files, Reads, ReplaceAnswer, Writes};
+use km_names::{Blob, Bytes, List, Names, PathText, Paths};
 use std::alloc::Global;
-use std::fs::{File, OpenFile};
-use std::io::ErrorKind;
 use std::marker::Model;
-use std::{io, rt};
+use std::rt;
 
 /// The files of the machine that the program runs on, reached through the runtime `R`. They tell no
 /// contents and aren't sure.
 #[derive(Drop)]
 pub struct DiskFiles<R> {
     rt: R,
-    causes: Causes,
+    counts: Counts,
 }
 
 impl<R> Model for DiskFiles<R> {
-    ghost use Rattle.km_outside.specs.CausesSeen.{CausesSeen};
+    ghost use Rattle.km_outside.specs.CallCounts.{CallCounts};
 
-    ghost Value = { CausesSeen };
+    ghost Value = { CallCounts };
 
-    ghost view = { λ d. d.causes };
+    ghost view = { λ d. d.counts };
 }
 
-impl<R: rt::Files> DiskFiles<R> {
+impl<R: rt::Files + AllocGlobal + Clone + Drop> DiskFiles<R> {
     /// The files that the runtime reaches, with nothing counted.
     pub fn new(rt: R) -> Self
-        ensures { result ≡ no_causes }
+        ensures { result ≡ no_counts }
     {
         DiskFiles {
             rt,
-            causes: Causes::new(),
+            counts: Counts::new(),
+        }
+    }
+
+    /// What is listed of the folder.
+    fn list<K>(
+        &mut self,
+        alloc: Global,
+        listing: Listing,
+        dir: &PathText,
+    ) -> Result<List<Bytes<K>>, FileAnswer>
+        ensures answers { ListAnswers (test_of listing) dir.now (disk_seen self.old) (disk_seen self.new) result }
+        ensures after { self.new ≡ answered self.old result }
+    {
+        self.counts.make();
+        match list_folder(&self.rt, alloc, listing, dir) {
+            Ok(names) => Ok(names),
+            Err(answer) => Err(self.counts.refuse(answer)),
         }
     }
 }
 
-impl<R: rt::Files> Reads for DiskFiles<R> {
+impl<R: rt::Files + AllocGlobal + Clone + Drop> Reads for DiskFiles<R> {
     ghost seen = { disk_seen };
 
     /// Reads the file at the path. Nothing there, a part of the path that is no folder, and a folder are
-    /// absent; a path that isn't UTF-8 and every other error of the system are a fault.
+    /// absent; a path that isn't UTF-8 and every other error of the system are a fault. A regular file
+    /// that is longer than the limit isn't read.
     fn read(&mut self, alloc: Global, path: &PathText) -> Result<Blob, FileAnswer>
         ensures answers { ReadAnswers path.now (disk_seen self.old) (disk_seen self.new) result }
         ensures after { self.new ≡ answered self.old result }
     {
+        self.counts.make();
         match read_file(&self.rt, alloc, path) {
-            Ok(bytes) if bytes.len() > FILE_LIMIT => {
-                let length = bytes.len() as u64;
-                Err(self.causes.refuse(FileAnswer::TooLarge { length }))
-            }
-            Ok(bytes) => Ok(Blob::from_vec(bytes)),
-            Err(error) => Err(self.causes.refuse(answer_to(error.kind()))),
+            Ok(bytes) => Ok(bytes),
+            Err(answer) => Err(self.counts.refuse(answer)),
         }
+    }
+
+    /// Lists what ends in `.conf` in the folder and is no folder itself, after links are followed; a link
+    /// to nowhere isn't listed. Nothing there, a part of the path that is no folder, and a file are
+    /// absent; a name that isn't UTF-8 and every other error of the system are a fault.
+    fn list_conf(&mut self, alloc: Global, dir: &PathText) -> Result<Names, FileAnswer>
+        ensures answers { ListAnswers is_conf_name dir.now (disk_seen self.old) (disk_seen self.new) result }
+        ensures after { self.new ≡ answered self.old result }
+    {
+        self.list(alloc, Listing::Conf, dir)
     }
 }
 
-impl<R: rt::Files> Files for DiskFiles<R> {}
-
-/// The bytes of the file at the path, or its first bytes, one more than [`FILE_LIMIT`].
-fn read_file<R: rt::Files>(rt: &R, alloc: Global, path: &PathText) -> io::Result<Vec<u8>> {
-    let Ok(path) = str::from_utf8(path.as_bytes()) else {
-        return Err(io::Error::from(ErrorKind::InvalidInput));
-    };
-    let mut file = File::open(rt, path)?;
-    let expected = file.metadata().map_or(0, |metadata| metadata.len());
-    read_limited(alloc, &mut file, expected as usize)
+impl<R: rt::Files + AllocGlobal + Clone + Drop> Writes for DiskFiles<R> {
+    /// Writes a new file beside the old one, flushes it to the disk and gives it the old one's name. On
+    /// any failure the new file is removed again. A link at the path is replaced itself, and what it led
+    /// to stays as it was.
+    fn replace(&mut self, alloc: Global, path: &PathText, bytes: &[u8]) -> Result<(), ReplaceAnswer>
+        ensures answers { ReplaceAnswers path.now bytes.now (disk_seen self.old) (disk_seen self.new) result }
+        ensures after { self.new ≡ replied self.old result }
+    {
+        self.counts.make();
+        let answer = replace_file(&self.rt, alloc, path, bytes);
+        if answer == Err(ReplaceAnswer::Failed) {
+            self.counts.refuse(FileAnswer::Failed);
+        }
+        answer
+    }
 }
 
-/// The answer to an error of the system.
-fn answer_to(kind: ErrorKind) -> FileAnswer
-    ensures { result ≡ answer_of kind }
-{
-    match kind {
-        ErrorKind::NotFound | ErrorKind::NotADirectory | ErrorKind::IsADirectory => {
-            FileAnswer::Absent
-        }
-        ErrorKind::OutOfMemory => FileAnswer::Memory,
-        _ => FileAnswer::Failed,
+impl<R: rt::Files + AllocGlobal + Clone + Drop> Files for DiskFiles<R> {
+    /// Lists the regular files below the folder at every depth. Links below it are neither followed nor
+    /// listed. The refusals are those of a listing of configuration files.
+    fn list_tree(&mut self, alloc: Global, dir: &PathText) -> Result<Paths, FileAnswer>
+        ensures answers { ListAnswers is_path dir.now (disk_seen self.old) (disk_seen self.new) result }
+        ensures after { self.new ≡ answered self.old result }
+    {
+        self.list(alloc, Listing::Tree, dir)
     }
 }

@@ -1,27 +1,29 @@
 ghost use Rattle.std.specs.Prelude.{◌≡◌};
-ghost use Rattle.km_outside.specs.FilesSeen.{FilesSeen, ReadAnswers};
-ghost use Rattle.km_outside.specs.declared.files.FileAnswer.TheVariants.{Memory};
+ghost use Rattle.km_outside.specs.Contents.{is_conf_name, is_path};
+ghost use Rattle.km_outside.specs.FilesSeen.{FilesSeen, ListAnswers, ReadAnswers, ReplaceAnswers};
 
-use km_names::{Blob, PathText};
+use km_names::{Blob, Names, PathText, Paths};
 use std::alloc::{AllocError, AllocFailed, Global};
 
-/// No file of more bytes than this is read.
-pub const FILE_LIMIT: usize = 67_108_864;
+/// No folder with more names than this is listed.
+pub const LIST_LIMIT: usize = 1_000_000;
 
-/// Why a read of a file was refused.
+/// Why a file wasn't read or a folder wasn't listed.
 #[derive(Clone, Copy, Debug, PartialEq, Eq)]
 pub enum FileAnswer {
     /// Nothing is there.
     Absent,
     /// The call failed.
     Failed,
-    /// There is more than the limit: how many bytes were met.
+    /// There is more than the limit: how many bytes, or entries of the folder, were met.
     TooLarge { length: u64 },
     /// Memory was wanting.
     Memory,
 }
 
 impl From<AllocError> for FileAnswer {
+    ghost use Rattle.km_outside.specs.declared.files.FileAnswer.TheVariants.{Memory};
+
     ghost from_gives = { λ _ answer. answer ≡ Memory };
 
     fn from(_: AllocError) -> Self {
@@ -30,6 +32,8 @@ impl From<AllocError> for FileAnswer {
 }
 
 impl<T: Drop> From<AllocFailed<T>> for FileAnswer {
+    ghost use Rattle.km_outside.specs.declared.files.FileAnswer.TheVariants.{Memory};
+
     ghost from_gives = { λ _ answer. answer ≡ Memory };
 
     fn from(_: AllocFailed<T>) -> Self {
@@ -37,15 +41,61 @@ impl<T: Drop> From<AllocFailed<T>> for FileAnswer {
     }
 }
 
-/// Files that can be read.
+/// Why a file wasn't replaced.
+#[derive(Clone, Copy, Debug, PartialEq, Eq)]
+pub enum ReplaceAnswer {
+    /// The call failed.
+    Failed,
+    /// Memory was wanting.
+    Memory,
+}
+
+impl From<AllocError> for ReplaceAnswer {
+    ghost use Rattle.km_outside.specs.declared.files.ReplaceAnswer.TheVariants.{Memory};
+
+    ghost from_gives = { λ _ answer. answer ≡ Memory };
+
+    fn from(_: AllocError) -> Self {
+        ReplaceAnswer::Memory
+    }
+}
+
+impl<T: Drop> From<AllocFailed<T>> for ReplaceAnswer {
+    ghost use Rattle.km_outside.specs.declared.files.ReplaceAnswer.TheVariants.{Memory};
+
+    ghost from_gives = { λ _ answer. answer ≡ Memory };
+
+    fn from(_: AllocFailed<T>) -> Self {
+        ReplaceAnswer::Memory
+    }
+}
+
+/// Files that can be read, and folders of configuration that can be listed.
 pub trait Reads {
     /// What a contract sees of the files.
     ghost seen: { Self → FilesSeen };
 
-    /// The bytes of the file at the path, if they are no more than [`FILE_LIMIT`].
+    /// The bytes of the file at the path, if they are no more than [`km_names::FILE_LIMIT`].
     fn read(&mut self, alloc: Global, path: &PathText) -> Result<Blob, FileAnswer>
         ensures answers { ReadAnswers path.now (seen self.old) (seen self.new) result };
+
+    /// The names of the files that stand in the folder and end in `.conf`, each once and rising by their
+    /// bytes, if they are no more than [`LIST_LIMIT`].
+    fn list_conf(&mut self, alloc: Global, dir: &PathText) -> Result<Names, FileAnswer>
+        ensures answers { ListAnswers is_conf_name dir.now (seen self.old) (seen self.new) result };
+}
+
+/// Files that can be replaced also.
+pub trait Writes: Reads {
+    /// Puts a file of these bytes at the path, in place of what was there: whole, or not at all.
+    fn replace(&mut self, alloc: Global, path: &PathText, bytes: &[u8]) -> Result<(), ReplaceAnswer>
+        ensures answers { ReplaceAnswers path.now bytes.now (Self.seen self.old) (Self.seen self.new) result };
 }
 
 /// All that the program does with files.
-pub trait Files: Reads {}
+pub trait Files: Writes {
+    /// The paths of the files below the folder at every depth, relative to it, each once and rising by
+    /// their bytes, if they are no more than [`LIST_LIMIT`].
+    fn list_tree(&mut self, alloc: Global, dir: &PathText) -> Result<Paths, FileAnswer>
+        ensures answers { ListAnswers is_path dir.now (Self.seen self.old) (Self.seen self.new) result };
+}

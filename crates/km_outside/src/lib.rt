@@ -1,4 +1,5 @@
-//! The world outside as traits: the files that the program reads and the outputs that it writes to.
+//! The world outside as traits: the files that the program reads, lists and replaces, and the outputs that
+//! it writes to.
 //!
 //! A contract sees of each object what it counted and what it tells. Objects in memory tell all; the
 //! real files and outputs tell nothing and only count, so what is proved over told contents speaks of
@@ -7,10 +8,16 @@
 #![tactic(auto)]
 
 mod calls;
-mod causes;
+mod counts;
 mod disk_files;
+mod disk_listing;
+mod disk_read;
+mod disk_replace;
 mod files;
+mod kinds;
+mod listing;
 mod mem_files;
+mod mem_listing;
 mod mem_out;
 mod out;
 mod stream;
@@ -19,7 +26,7 @@ mod tests;
 mod transfer;
 
 pub use disk_files::DiskFiles;
-pub use files::{FILE_LIMIT, FileAnswer, Files, Reads};
+pub use files::{FileAnswer, Files, LIST_LIMIT, Reads, ReplaceAnswer, Writes};
 pub use mem_files::{CallKind, MemFiles};
 pub use mem_out::MemOut;
 pub use out::{Out, OutFailed};

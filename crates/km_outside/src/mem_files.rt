@@ -1,15 +1,21 @@
-ghost use Rattle.std.specs.Prelude.{◌≡◌, ◌<◌, ◌⊎◌, OnOk, OnErr, IsOk};
+ghost use Rattle.std.specs.Prelude.{◌≡◌, ◌<◌, ◌⊎◌, ◌↔◌, OnOk, OnErr, IsOk, IsTrue};
 ghost use Rattle.std.specs.Option.{option_map};
 ghost use Rattle.std.specs.FinMap as map;
+ghost use Rattle.km_outside.specs.Contents.{is_conf_name, is_path};
 ghost use Rattle.km_outside.specs.Counts.{count_end};
-ghost use Rattle.km_outside.specs.FilesSeen.{ReadAnswers};
-ghost use Rattle.km_outside.specs.MemFilesSeen.{mem_files_seen, no_files, with_file, with_failing_call, mem_read, after_read};
+ghost use Rattle.km_outside.specs.Listing.{kind_of, test_of};
+ghost use Rattle.km_outside.specs.FilesSeen.{ListAnswers, ReadAnswers, ReplaceAnswers};
+ghost use Rattle.km_outside.specs.MemFilesSeen.{mem_files_seen, no_files, with_file, with_failing_call, kind_fails, mem_read, mem_list, after_call, after_replace};
 ghost use Rattle.km_outside.specs.declared.files.FileAnswer.TheVariants.{Memory};
+ghost use Rattle.km_outside.specs.declared.files.ReplaceAnswer.TheVariants.{Failed};
+ghost use Rattle.km_outside.specs.declared.mem_files.CallKind.TheVariants.{Read, ListConf, ListTree, Replace};
 
-use crate::calls::Calls;
-use crate::causes::Causes;
-use crate::{FILE_LIMIT, FileAnswer, Files, Reads};
-use km_names::{Blob, PathText};
+use crate::counts::Counts;
+use crate::kinds::Kinds;
+use crate::listing::Listing;
+use crate::mem_listing::{collect_listed, count_listed};
+use crate::{FileAnswer, Files, LIST_LIMIT, Reads, ReplaceAnswer, Writes};
+use km_names::{Blob, Bytes, FILE_LIMIT, List, Names, PathText, Paths, join};
 use std::alloc::{AllocError, Global};
 use std::collections::BTreeMap;
 use std::marker::Model;
@@ -17,17 +23,24 @@ use std::marker::Model;
 /// The calls of files that can be made to fail.
 #[derive(Clone, Copy, Debug, PartialEq, Eq)]
 pub enum CallKind {
+    /// [`Reads::read`].
     Read,
+    /// [`Reads::list_conf`].
+    ListConf,
+    /// [`Files::list_tree`].
+    ListTree,
+    /// [`Writes::replace`].
+    Replace,
 }
 
 /// Files that are kept in memory. They tell their contents, and are sure as long as no call is listed to
-/// fail.
+/// fail. A folder is there where some path lies below it.
 #[derive(Drop)]
 pub struct MemFiles {
     alloc: Global,
     files: BTreeMap<Vec<u8>, Blob>,
-    reads: Calls,
-    causes: Causes,
+    kinds: Kinds,
+    counts: Counts,
 }
 
 impl Model for MemFiles {
@@ -40,7 +53,7 @@ impl Model for MemFiles {
 
     ghost coded = { mem_files_code };
 
-    ghost view = { λ f. record { contents = files_of f.files.entries; reads = f.reads; causes = f.causes } };
+    ghost view = { λ f. record { contents = files_of f.files.entries; kinds = f.kinds; counts = f.counts } };
 }
 
 impl MemFiles {
@@ -51,8 +64,8 @@ impl MemFiles {
         MemFiles {
             alloc,
             files: BTreeMap::new(alloc),
-            reads: Calls::new(alloc),
-            causes: Causes::new(),
+            kinds: Kinds::new(alloc),
+            counts: Counts::new(),
         }
     }
 
@@ -84,9 +97,34 @@ impl MemFiles {
         ensures ok { OnOk result (self.new ≡ with_failing_call self.old kind n) }
         ensures err { OnErr result (self.new ≡ self.old) }
     {
-        match kind {
-            CallKind::Read => self.reads.fail(n),
+        self.kinds.fail(kind, n)
+    }
+
+    /// What is listed of the folder, unless this call is listed to fail.
+    fn list<K>(
+        &mut self,
+        alloc: Global,
+        listing: Listing,
+        dir: &PathText,
+    ) -> Result<List<Bytes<K>>, FileAnswer>
+        ensures exact { (result ≡ mem_list self.old (kind_of listing) (test_of listing) dir.now) ⊎ (result ≡ Err Memory) }
+        ensures after { self.new ≡ after_call self.old (kind_of listing) result }
+    {
+        self.counts.make();
+        if self.kinds.make(listing.kind()) {
+            return Err(self.counts.refuse(FileAnswer::Failed));
         }
+        let folder = join(alloc, dir, b"")?;
+        let prefix = folder.as_bytes();
+        if count_listed(&self.files, Listing::Tree, prefix) == 0 {
+            return Err(self.counts.refuse(FileAnswer::Absent));
+        }
+        let count = count_listed(&self.files, listing, prefix);
+        if count > LIST_LIMIT {
+            let length = count as u64;
+            return Err(self.counts.refuse(FileAnswer::TooLarge { length }));
+        }
+        Ok(collect_listed(alloc, &self.files, listing, prefix)?)
     }
 }
 
@@ -98,20 +136,60 @@ impl Reads for MemFiles {
         ensures answers { ReadAnswers path.now (mem_files_seen self.old) (mem_files_seen self.new) result }
         ensures exact { (result ≡ mem_read self.old path.now) ⊎ (result ≡ Err Memory) }
         ensures memory { result ≡ Err Memory → IsOk (mem_read self.old path.now) }
-        ensures after { self.new ≡ after_read self.old result }
+        ensures after { self.new ≡ after_call self.old Read result }
     {
-        if self.reads.make() {
-            return Err(self.causes.refuse(FileAnswer::Failed));
+        self.counts.make();
+        if self.kinds.make(CallKind::Read) {
+            return Err(self.counts.refuse(FileAnswer::Failed));
         }
         let Some(bytes) = self.get(path) else {
-            return Err(self.causes.refuse(FileAnswer::Absent));
+            return Err(self.counts.refuse(FileAnswer::Absent));
         };
         if bytes.len() > FILE_LIMIT {
             let length = bytes.len() as u64;
-            return Err(self.causes.refuse(FileAnswer::TooLarge { length }));
+            return Err(self.counts.refuse(FileAnswer::TooLarge { length }));
         }
         Ok(Blob::from_slice(alloc, bytes)?)
     }
+
+    /// The names of the configuration files in the folder, unless this call is listed to fail.
+    fn list_conf(&mut self, alloc: Global, dir: &PathText) -> Result<Names, FileAnswer>
+        ensures answers { ListAnswers is_conf_name dir.now (mem_files_seen self.old) (mem_files_seen self.new) result }
+        ensures exact { (result ≡ mem_list self.old ListConf is_conf_name dir.now) ⊎ (result ≡ Err Memory) }
+        ensures after { self.new ≡ after_call self.old ListConf result }
+    {
+        self.list(alloc, Listing::Conf, dir)
+    }
 }
 
-impl Files for MemFiles {}
+impl Writes for MemFiles {
+    /// Puts the file in place of what was at the path, unless this call is listed to fail.
+    fn replace(
+        &mut self,
+        _alloc: Global,
+        path: &PathText,
+        bytes: &[u8],
+    ) -> Result<(), ReplaceAnswer>
+        ensures answers { ReplaceAnswers path.now bytes.now (mem_files_seen self.old) (mem_files_seen self.new) result }
+        ensures fails { result ≡ Err Failed ↔ IsTrue (kind_fails self.old Replace) }
+        ensures after { self.new ≡ after_replace self.old path.now bytes.now result }
+    {
+        self.counts.make();
+        if self.kinds.make(CallKind::Replace) {
+            self.counts.refuse(FileAnswer::Failed);
+            return Err(ReplaceAnswer::Failed);
+        }
+        Ok(self.put(path, bytes)?)
+    }
+}
+
+impl Files for MemFiles {
+    /// The paths of the files below the folder, unless this call is listed to fail.
+    fn list_tree(&mut self, alloc: Global, dir: &PathText) -> Result<Paths, FileAnswer>
+        ensures answers { ListAnswers is_path dir.now (mem_files_seen self.old) (mem_files_seen self.new) result }
+        ensures exact { (result ≡ mem_list self.old ListTree is_path dir.now) ⊎ (result ≡ Err Memory) }
+        ensures after { self.new ≡ after_call self.old ListTree result }
+    {
+        self.list(alloc, Listing::Tree, dir)
+    }
+}

@@ -1,7 +1,6 @@
-ghost use Rattle.std.specs.Prelude.{◌≡◌, ◌<◌, [], IfOk, OnOk, OnErr, is_err};
-ghost use Rattle.km_outside.specs.CallsSeen.{no_calls};
+ghost use Rattle.std.specs.Prelude.{◌≡◌, ◌<◌, IfOk, OnOk, OnErr, is_err};
 ghost use Rattle.km_outside.specs.Counts.{count_end};
-ghost use Rattle.km_outside.specs.MemOutSeen.{mem_out_seen, write_fails, after_write, with_failing_write};
+ghost use Rattle.km_outside.specs.MemOutSeen.{mem_out_seen, empty_with_room, write_fails, after_write, with_failing_write};
 ghost use Rattle.km_outside.specs.OutSeen.{WriteAnswers};
 
 use crate::calls::Calls;
@@ -14,30 +13,30 @@ use std::marker::Model;
 #[derive(Drop)]
 pub struct MemOut {
     bytes: Vec<u8>,
-    room: usize,
+    left: usize,
     writes: Calls,
     faults: u64,
 }
 
 impl Model for MemOut {
-    ghost use Rattle.std.specs.Prelude.{◌≤◌, length, vec_capacity};
+    ghost use Rattle.std.specs.Prelude.{◌+◌, ◌≤◌, length, vec_capacity};
     ghost use Rattle.km_outside.specs.MemOutSeen.{MemOutSeen};
 
     ghost Value = { MemOutSeen };
 
-    ghost view = { λ o. record { bytes = o.bytes.items; room = o.room; writes = o.writes; faults = o.faults } };
+    ghost view = { λ o. record { bytes = o.bytes.items; left = o.left; writes = o.writes; faults = o.faults } };
 
-    ghost invariant = { λ o. (length o.bytes.items ≤ o.room) × (o.room ≤ vec_capacity o.bytes) };
+    ghost invariant = { λ o. length o.bytes.items + o.left ≤ vec_capacity o.bytes };
 }
 
 impl MemOut {
     /// An empty output with room for so many bytes, which are reserved here.
     pub fn with_room(alloc: Global, room: usize) -> Result<MemOut, AllocError>
-        ensures { IfOk result (λ out. out ≡ record { bytes = []; room = room; writes = no_calls; faults = 0 }) }
+        ensures { IfOk result (λ out. out ≡ empty_with_room room) }
     {
         Ok(MemOut {
             bytes: Vec::with_capacity(alloc, room)?,
-            room,
+            left: room,
             writes: Calls::new(alloc),
             faults: 0,
         })
@@ -61,7 +60,11 @@ impl MemOut {
 }
 
 impl Out for MemOut {
+    ghost use Rattle.km_outside.specs.MemOutSeen.{mem_out-within};
+
     ghost seen = { mem_out_seen };
+
+    ghost within = { mem_out-within };
 
     /// Appends the piece, unless this write is listed to fail or the piece is longer than the room left.
     fn write(&mut self, bytes: &[u8]) -> Result<(), OutFailed>
@@ -69,11 +72,12 @@ impl Out for MemOut {
         ensures fails { is_err result ≡ write_fails self.old bytes.now }
         ensures after { self.new ≡ after_write self.old bytes.now }
     {
-        if self.writes.make() || bytes.len() > self.room - self.bytes.len() {
+        if self.writes.make() || bytes.len() > self.left {
             self.faults = self.faults.saturating_add(1);
             return Err(OutFailed);
         }
         self.bytes.extend_from_slice(bytes).unwrap();
+        self.left -= bytes.len();
         Ok(())
     }
 }

@@ -1,4 +1,4 @@
-ghost use Rattle.km_outside.specs.OutSeen.{OutSeen, WriteAnswers};
+ghost use Rattle.km_outside.specs.OutSeen.{OutSeen, Within, WriteAnswers};
 
 /// A write failed.
 #[derive(Clone, Copy, Debug, PartialEq, Eq)]
@@ -12,4 +12,7 @@ pub trait Out {
     /// Writes the piece after all that was written before. It takes no memory.
     fn write(&mut self, bytes: &[u8]) -> Result<(), OutFailed>
         ensures answers { WriteAnswers bytes.now (seen self.old) (seen self.new) result };
+
+    /// The bytes written never pass the room.
+    ghost within: { (out : Self) → Within (seen out) };
 }

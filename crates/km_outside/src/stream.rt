@@ -41,6 +41,8 @@ impl<W: Write> Stream<W> {
 impl<W: Write> Out for Stream<W> {
     ghost seen = { stream_seen };
 
+    ghost within = { λ _. tt };
+
     /// Writes the piece in as many turns as the writer needs, each of which takes at least one byte.
     fn write(&mut self, bytes: &[u8]) -> Result<(), OutFailed>
         ensures answers { WriteAnswers bytes.now (stream_seen self.old) (stream_seen self.new) result }

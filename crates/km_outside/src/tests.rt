@@ -1,12 +1,14 @@
 use crate::transfer::read_limited;
 use crate::{
-    CallKind, DiskFiles, FILE_LIMIT, FileAnswer, Files, MemFiles, MemOut, Out, OutFailed, StdErr,
-    StdOut, Stream,
+    CallKind, DiskFiles, FileAnswer, Files, MemFiles, MemOut, Out, OutFailed, ReplaceAnswer,
+    StdErr, StdOut, Stream,
 };
-use km_names::{Blob, PathText};
+use km_names::{Blob, Bytes, FILE_LIMIT, List, PathText};
 use std::alloc::Global;
 use std::fs::File;
 use std::io::{ErrorKind, Read, Write};
+use std::os::unix::fs::{PermissionsExt, symlink};
+use std::process::Abort;
 use std::test::Fail;
 use std::{fs, io};
 
@@ -18,6 +20,46 @@ fn read<F: Files>(files: &mut F, alloc: Global, path: &[u8]) -> Result<Blob, Fil
 /// A write through the bound, as the crates above make it.
 fn write<O: Out>(out: &mut O, bytes: &[u8]) -> Result<(), OutFailed> {
     out.write(bytes)
+}
+
+/// A listing through the bound: the names, each with a line end.
+fn conf_names<F: Files>(files: &mut F, alloc: Global, dir: &[u8]) -> Result<Blob, FileAnswer> {
+    let names = files.list_conf(alloc, &PathText::from_slice(alloc, dir)?)?;
+    lines(alloc, &names)
+}
+
+/// The same of all files below a folder.
+fn tree_paths<F: Files>(files: &mut F, alloc: Global, dir: &[u8]) -> Result<Blob, FileAnswer> {
+    let paths = files.list_tree(alloc, &PathText::from_slice(alloc, dir)?)?;
+    lines(alloc, &paths)
+}
+
+fn lines<K>(alloc: Global, names: &List<Bytes<K>>) -> Result<Blob, FileAnswer> {
+    let mut text = Blob::new(alloc);
+    for name in names.as_slice() {
+        text.extend(name.as_bytes())?;
+        text.push(b'\n')?;
+    }
+    Ok(text)
+}
+
+/// A replacement through the bound.
+fn replace<F: Files>(
+    files: &mut F,
+    alloc: Global,
+    path: &[u8],
+    bytes: &[u8],
+) -> Result<(), ReplaceAnswer> {
+    files.replace(alloc, &PathText::from_slice(alloc, path)?, bytes)
+}
+
+/// Compares an answer with the bytes or the refusal that is wanted.
+fn expect(rt: &impl Abort, got: Result<Blob, FileAnswer>, want: Result<&[u8], FileAnswer>) {
+    match (&got, want) {
+        (Ok(bytes), Ok(want)) => assert_eq!(rt; bytes.as_bytes(), want),
+        (Err(got), Err(want)) => assert_eq!(rt; *got, want),
+        _ => panic!(rt; "another answer"),
+    }
 }
 
 #[test]
@@ -39,13 +81,67 @@ fn files_in_memory_answer_by_their_contents(rt: HostRuntime) -> Result<(), Fail>
         (b"/a", Ok(b"last")),
     ];
     for (path, answer) in want {
-        let got = read(&mut files, alloc, path);
-        match (&got, answer) {
-            (Ok(bytes), Ok(want)) => assert_eq!(rt; bytes.as_bytes(), want),
-            (Err(got), Err(want)) => assert_eq!(rt; *got, want),
-            _ => panic!(rt; "another answer"),
-        }
+        expect(&rt, read(&mut files, alloc, path), answer);
     }
+    Ok(())
+}
+
+#[test]
+fn folders_in_memory_are_listed_by_their_paths(rt: HostRuntime) -> Result<(), Fail> {
+    let alloc = rt.alloc();
+    let mut files = MemFiles::new(alloc);
+    for path in [
+        b"/e/b.conf".as_slice(),
+        b"/e/a.conf",
+        b"/e/d/c.conf",
+        b"/e/a.conf.old",
+        b"/e2/x.conf",
+        b"/only/deep/f",
+    ] {
+        files.put(&PathText::from_slice(alloc, path)?, b"")?;
+    }
+    files.fail_call(CallKind::ListConf, 1)?;
+    files.fail_call(CallKind::ListTree, 0)?;
+    let absent = Err(FileAnswer::Absent);
+    let failed = Err(FileAnswer::Failed);
+    let confs: [(&[u8], Result<&[u8], FileAnswer>); 6] = [
+        (b"/e/", Ok(b"a.conf\nb.conf\n")),
+        (b"/e", failed),
+        (b"/e", Ok(b"a.conf\nb.conf\n")),
+        (b"/only", Ok(b"")),
+        (b"/none", absent),
+        (b"/e/a.conf", absent),
+    ];
+    for (dir, want) in confs {
+        expect(&rt, conf_names(&mut files, alloc, dir), want);
+    }
+    let trees: [(&[u8], Result<&[u8], FileAnswer>); 4] = [
+        (b"/e", failed),
+        (b"/e", Ok(b"a.conf\na.conf.old\nb.conf\nd/c.conf\n")),
+        (b"/only", Ok(b"deep/f\n")),
+        (b"/none", absent),
+    ];
+    for (dir, want) in trees {
+        expect(&rt, tree_paths(&mut files, alloc, dir), want);
+    }
+    Ok(())
+}
+
+#[test]
+fn files_in_memory_are_replaced_whole_or_not_at_all(rt: HostRuntime) -> Result<(), Fail> {
+    let alloc = rt.alloc();
+    let mut files = MemFiles::new(alloc);
+    files.put(&PathText::from_slice(alloc, b"/a")?, b"old")?;
+    files.fail_call(CallKind::Replace, 0)?;
+    assert_eq!(rt;
+        replace(&mut files, alloc, b"/a", b"new"),
+        Err(ReplaceAnswer::Failed)
+    );
+    expect(&rt, read(&mut files, alloc, b"/a"), Ok(b"old"));
+    assert_eq!(rt; replace(&mut files, alloc, b"/a", b"new"), Ok(()));
+    assert_eq!(rt; replace(&mut files, alloc, b"/b/c", b"other"), Ok(()));
+    expect(&rt, read(&mut files, alloc, b"/a"), Ok(b"new"));
+    expect(&rt, read(&mut files, alloc, b"/b/c"), Ok(b"other"));
     Ok(())
 }
 
@@ -72,16 +168,26 @@ fn an_output_in_memory_keeps_to_its_room(rt: HostRuntime) -> Result<(), Fail> {
 fn real_files_are_read_up_to_the_limit(rt: HostRuntime) -> Result<(), Fail> {
     let alloc = rt.alloc();
     let mut files = DiskFiles::new(rt);
-    for length in [0, 1, 4096, 4097, 100_000, FILE_LIMIT, FILE_LIMIT + 1] {
+    for length in [
+        0,
+        1,
+        4096,
+        4097,
+        100_000,
+        FILE_LIMIT,
+        FILE_LIMIT + 1,
+        1 << 40,
+    ] {
         let file = File::create(&rt, "file")?;
         file.set_len(length as u64)?;
         match read(&mut files, alloc, b"file") {
             Ok(bytes) => assert_eq!(rt; bytes.len(), length),
             Err(answer) => {
-                let want = FileAnswer::TooLarge {
-                    length: FILE_LIMIT as u64 + 1,
+                let told = FileAnswer::TooLarge {
+                    length: length as u64,
                 };
-                assert_eq!(rt; (length, answer), (FILE_LIMIT + 1, want));
+                assert!(rt; length > FILE_LIMIT);
+                assert_eq!(rt; answer, told);
             }
         }
     }
@@ -99,6 +205,106 @@ fn real_files_are_read_up_to_the_limit(rt: HostRuntime) -> Result<(), Fail> {
         assert_eq!(rt; read(&mut files, alloc, path).err(), Some(want));
     }
     fs::remove_file(&rt, "file")?;
+    Ok(())
+}
+
+/// Makes a folder of configuration files and modules, with links.
+fn make_tree(rt: &HostRuntime) -> Result<(), Fail> {
+    fs::create_dir_all(rt, "top/deep/deeper")?;
+    fs::create_dir(rt, "top/empty")?;
+    fs::create_dir(rt, "top/dir.conf")?;
+    fs::write(rt, "top/b.conf", b"b")?;
+    fs::write(rt, "top/a.conf", b"a")?;
+    fs::write(rt, "top/deep/m.ko", b"m")?;
+    fs::write(rt, "top/deep/deeper/n.ko", b"n")?;
+    symlink(rt, "b.conf", "top/link.conf")?;
+    symlink(rt, "/dev/null", "top/null.conf")?;
+    symlink(rt, "nowhere", "top/lost.conf")?;
+    symlink(rt, "deep", "top/linked")?;
+    symlink(rt, "top", "link")?;
+    symlink(rt, "loop", "loop")?;
+    Ok(())
+}
+
+#[test]
+fn real_folders_are_listed(rt: HostRuntime) -> Result<(), Fail> {
+    let alloc = rt.alloc();
+    make_tree(&rt)?;
+    let mut files = DiskFiles::new(rt.clone()?);
+    let absent = Err(FileAnswer::Absent);
+    let failed = Err(FileAnswer::Failed);
+    let confs: [(&[u8], Result<&[u8], FileAnswer>); 8] = [
+        (b"top", Ok(b"a.conf\nb.conf\nlink.conf\nnull.conf\n")),
+        (b"link/", Ok(b"a.conf\nb.conf\nlink.conf\nnull.conf\n")),
+        (b"top/empty", Ok(b"")),
+        (b"top/none", absent),
+        (b"top/a.conf", absent),
+        (b"top/a.conf/x", absent),
+        (b"loop", failed),
+        (b"not UTF-8 \xff", failed),
+    ];
+    for (dir, want) in confs {
+        expect(&rt, conf_names(&mut files, alloc, dir), want);
+    }
+    let all: &[u8] = b"a.conf\nb.conf\ndeep/deeper/n.ko\ndeep/m.ko\n";
+    let trees: [(&[u8], Result<&[u8], FileAnswer>); 6] = [
+        (b"top", Ok(all)),
+        (b"link", Ok(all)),
+        (b"top/empty/", Ok(b"")),
+        (b"top/none", absent),
+        (b"top/a.conf", absent),
+        (b"loop", failed),
+    ];
+    for (dir, want) in trees {
+        expect(&rt, tree_paths(&mut files, alloc, dir), want);
+    }
+    fs::create_dir(&rt, "locked")?;
+    symlink(&rt, "../loop", "locked/loop.conf")?;
+    expect(&rt, conf_names(&mut files, alloc, b"locked"), failed);
+    expect(&rt, tree_paths(&mut files, alloc, b"locked"), Ok(b""));
+    Ok(())
+}
+
+#[test]
+fn real_files_are_replaced_whole_or_not_at_all(rt: HostRuntime) -> Result<(), Fail> {
+    let alloc = rt.alloc();
+    let mut files = DiskFiles::new(rt.clone()?);
+    fs::create_dir(&rt, "d")?;
+    fs::write(&rt, "d/old", b"old")?;
+    assert_eq!(rt; replace(&mut files, alloc, b"d/old", b"new"), Ok(()));
+    assert_eq!(rt; replace(&mut files, alloc, b"d/made", b""), Ok(()));
+    // A file that another run left beside it is neither taken nor touched.
+    fs::write(&rt, "d/old.0.new", b"left")?;
+    assert_eq!(rt; replace(&mut files, alloc, b"d/old", b"newer"), Ok(()));
+    expect(&rt, read(&mut files, alloc, b"d/old"), Ok(b"newer"));
+    expect(&rt, read(&mut files, alloc, b"d/old.0.new"), Ok(b"left"));
+    // A link is replaced itself.
+    symlink(&rt, "old", "d/link")?;
+    assert_eq!(rt; replace(&mut files, alloc, b"d/link", b"instead"), Ok(()));
+    expect(&rt, read(&mut files, alloc, b"d/link"), Ok(b"instead"));
+    expect(&rt, read(&mut files, alloc, b"d/old"), Ok(b"newer"));
+    assert!(rt; fs::symlink_metadata(&rt, "d/link")?.is_file());
+    assert_eq!(rt;
+        fs::metadata(&rt, "d/made")?.permissions().mode() & 0o7133,
+        0
+    );
+    // Nothing is left of what failed: a folder stands at the path, or a folder of it isn't there.
+    fs::create_dir_all(&rt, "d/taken/full")?;
+    for path in [
+        b"d/taken".as_slice(),
+        b"none/old",
+        b"d/old/x",
+        b"d/\xff",
+        b"d/a NUL\0",
+    ] {
+        assert_eq!(rt;
+            replace(&mut files, alloc, path, b"new"),
+            Err(ReplaceAnswer::Failed)
+        );
+    }
+    let left: &[u8] = b"link\nmade\nold\nold.0.new\n";
+    expect(&rt, tree_paths(&mut files, alloc, b"d"), Ok(left));
+    expect(&rt, read(&mut files, alloc, b"d/old"), Ok(b"newer"));
     Ok(())
 }
 

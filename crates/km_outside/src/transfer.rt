@@ -3,9 +3,10 @@
 ghost use Rattle.std.specs.Prelude.{◌≡◌, ◌+◌, ◌<◌, ◌≤◌, ℕ, length, take, drop, vec_len, IfOk, OnOk, IfSome, MatchResult};
 ghost use Rattle.std.specs.Io.{ReadsAtMost, WritesAtMost};
 ghost use Rattle.std.specs.Io.KnownBytes.{Appends, Consumes, IsAtEnd, ReadConsumes, WriteAppends};
-ghost use Rattle.km_outside.specs.FilesSeen.{file_limit};
+ghost use Rattle.km_names.specs.Limit.{file_limit};
 
-use crate::{FILE_LIMIT, OutFailed};
+use crate::OutFailed;
+use km_names::FILE_LIMIT;
 use std::alloc::{AllocError, Global};
 use std::io;
 use std::io::{ErrorKind, Read, Write};

@@ -2,7 +2,7 @@
 //! streams to `kmod_cli::run`, and exits with its status.
 #![tactic(auto)]
 
-use km_course::{Stop, conclude};
+use km_course::{End, Stop, conclude};
 use km_names::{List, Word};
 use km_outside::{DiskFiles, StdErr, StdOut};
 use kmod_cli::run;
@@ -17,7 +17,7 @@ fn main(rt: HostRuntime) -> ExitCode {
     let mut files = DiskFiles::new(rt);
     let status = match words {
         Ok(words) => run(alloc, words.as_slice(), &mut files, &mut out, &mut err),
-        Err(stop) => conclude(Err(stop), &mut err),
+        Err(stop) => conclude(alloc, Err(stop), &mut err),
     };
     ExitCode::from(status)
 }
@@ -36,6 +36,6 @@ fn command_words(rt: &HostRuntime) -> Result<List<Word>, Stop> {
 fn stop_of(error: io::Error) -> Stop {
     match error.kind() {
         io::ErrorKind::OutOfMemory => Stop::Memory,
-        _ => Stop::NotUnderstood,
+        _ => Stop::Ended(End::NotUnderstood),
     }
 }

@@ -1,13 +1,12 @@
-ghost use Rattle.std.specs.Prelude.{◌≡◌, IfErr};
 ghost use Rattle.km_outside.specs.OutSeen.{OutSeen};
 ghost use Rattle.km_course.specs.World.{world};
 ghost use Rattle.km_course.specs.Follows.{Follows};
 ghost use Rattle.km_course.specs.Carries.{Carries};
-ghost use Rattle.kmod_cli.specs.Program.{course, IsRefusal, IsRefusalStop};
+ghost use Rattle.kmod_cli.specs.Program.{course};
 
 use crate::modinfo::print_field;
 use crate::request::read_request;
-use km_course::{Stop, conclude};
+use km_course::{End, Stop, conclude};
 use km_names::Word;
 use km_outside::{Files, Out};
 use std::alloc::Global;
@@ -22,12 +21,12 @@ pub fn run<F: Files, O: Out, E: Out>(
     out: &mut O,
     err: &mut E,
 ) -> u8
-    ensures { Carries (course words.now) (IsRefusal words.now)
+    ensures { Carries (course words.now)
         (world (F.seen files.old) (O.seen out.old) (E.seen err.old))
         (world (F.seen files.new) (O.seen out.new) (E.seen err.new)) result }
 {
     let outcome = perform(alloc, words, files, out);
-    conclude(outcome, err)
+    conclude(alloc, outcome, err)
 }
 
 /// Does what the words ask for, up to the first refusal.
@@ -37,12 +36,11 @@ fn perform<F: Files, O: Out>(
     files: &mut F,
     out: &mut O,
 ) -> Result<(), Stop>
-    ensures follows { (err : OutSeen) → Follows (λ x. x) (course words.now)
+    ensures { (err : OutSeen) → Follows (λ x. x) (course words.now)
         (world (F.seen files.old) (O.seen out.old) err) (world (F.seen files.new) (O.seen out.new) err) result }
-    ensures refusals { IfErr result (IsRefusalStop words.now) }
 {
     match read_request(alloc, words)? {
-        Some(request) => print_field(alloc, &request, files, out),
-        None => Err(Stop::NotUnderstood),
+        Some(request) => print_field(alloc, request, files, out),
+        None => Err(Stop::from(End::NotUnderstood)),
     }
 }

@@ -1,7 +1,7 @@
 use Rattle.std.proofs.Common.{◌≡◌, ◌+◌, ◌≤◌, length, vec_len, take, ap, sym, subst, inl, inr, ◌∙◌, arith, rules, add-zero}
 use Rattle.std.proofs.lemmas.List.{places}
 use Rattle.std.specs.Io.KnownBytes.{Consumes}
-use Rattle.km_outside.specs.FilesSeen.{file_limit}
+use Rattle.km_names.specs.Limit.{file_limit}
 use Rattle.km_outside.proofs.Reading.{read_added, read_whole}
 use Rattle.km_outside.proofs.transfer.read_limited.Goals as goal
 use Rattle.km_outside.proofs.transfer.read_limited.Goals.{else-loop-filled-test, then-loop-filled-test+in_ok-count+in-0}

@@ -1,6 +1,6 @@
 use Rattle.std.proofs.Common.{◌+◌, ◌≤◌, ◌-◌, vec_len, take}
 use Rattle.std.specs.Io.KnownBytes.{Consumes}
-use Rattle.km_outside.specs.FilesSeen.{file_limit}
+use Rattle.km_names.specs.Limit.{file_limit}
 use Rattle.km_outside.proofs.transfer.read_limited.Given as goal
 
 -- the filled part is what was read

@@ -1,26 +1,28 @@
-use Rattle.std.proofs.Common.{sym, subst, ◌∙◌}
+use Rattle.std.proofs.Common.{refl, sym, subst, ◌∙◌}
 use Rattle.std.specs.Prelude.{Err, ⊤}
 use Rattle.std.proofs.lemmas.Result.{err_from_is_err_and}
 use Rattle.km_course.specs.World.{world}
-use Rattle.km_course.specs.Follows.{Follows}
-use Rattle.km_course.specs.declared.stop.Stop.TheVariants.{NotUnderstood}
-use Rattle.km_course.proofs.Steps.{wants, misunderstood}
+use Rattle.km_course.specs.Course.Outcome.{end}
+use Rattle.km_course.specs.Follows.{Answers, Follows}
+use Rattle.km_course.specs.declared.end.End.TheVariants.{NotUnderstood}
+use Rattle.km_course.proofs.Steps.{wants, answered}
 use Rattle.kmod_cli.specs.Program.{course_of}
 use Rattle.kmod_cli.proofs.program.perform.Goals as goal
 
-pub returns-in_err-request-clause-follows : goal.returns-in_err-request-clause-follows
-returns-in_err-request-clause-follows g c = λ err.
+pub returns-in_err-request : goal.returns-in_err-request
+returns-in_err-request g c = λ err.
     let p = err_from_is_err_and c.from_residual.result c.from_residual.ensures.1 in
     wants _ _ _ _ p.1 p.2
 
-pub returns-in-Some-clause-follows : goal.returns-in-Some-clause-follows
-returns-in-Some-clause-follows g c = λ err.
+pub returns-in-Some : goal.returns-in-Some
+returns-in-Some g c = λ err.
     subst (λ asked. Follows (λ (x : ⊤). x) (course_of asked) (world (g.F.Reads.seen c.args.files.now) (g.O.Out.seen c.args.out.now) err) (world (g.F.Reads.seen c.print_field.new.files) (g.O.Out.seen c.print_field.new.out) err) c.print_field.result)
     (sym c.in-Some.is ∙ c.in_ok-request.ensures)
-    (c.print_field.ensures.follows err)
+    (c.print_field.ensures err)
 
-pub returns-in-None-clause-follows : goal.returns-in-None-clause-follows
-returns-in-None-clause-follows g c = λ err.
-    subst (λ asked. Follows (λ (x : ⊤). x) (course_of asked) (world (g.F.Reads.seen c.args.files.now) (g.O.Out.seen c.args.out.now) err) (world (g.F.Reads.seen c.args.files.now) (g.O.Out.seen c.args.out.now) err) (Err NotUnderstood))
+pub returns-in-None : goal.returns-in-None
+returns-in-None g c = λ err.
+    subst (λ asked. Follows (λ (x : ⊤). x) (course_of asked) (world (g.F.Reads.seen c.args.files.now) (g.O.Out.seen c.args.out.now) err) (world (g.F.Reads.seen c.args.files.now) (g.O.Out.seen c.args.out.now) err) (Err c.from.result))
     (sym c.in-None.is ∙ c.in_ok-request.ensures)
-    (misunderstood (λ (x : ⊤). x) _)
+    (answered (λ (x : ⊤). x) (end NotUnderstood) _ (Err c.from.result)
+    (subst (λ stop. Answers (λ (x : ⊤). x) (end NotUnderstood) (Err stop)) (sym c.from.ensures) refl))

@@ -1,0 +1,59 @@
+-- A course inside another: over files that were made for it, with outputs of its own whose rooms are told.
+use Rattle.std.specs.Prelude.{◌≡◌, ℕ, nat_lt, Bool, ◌||◌, if◌then◌else◌, List, [], ◌++◌, length, Some, ⊤}
+use Rattle.km_outside.specs.Contents.{Contents}
+use Rattle.km_course.specs.Lines.{line, refusal_text, end_line, end_status}
+use Rattle.km_course.specs.Course.{Outcome, Run, Stage, given}
+use Rattle.km_course.specs.Course.Outcome.{value, end}
+use Rattle.km_course.specs.World.{World, Shown, done}
+use Rattle.km_course.specs.Carries.{whole_acts}
+use Rattle.km_course.specs.declared.end.End.{End}
+use Rattle.km_course.specs.declared.end.End.TheVariants as ends
+use Rattle.km_course.specs.declared.refusal.Refusal.TheVariants.{InnerOutputFull}
+
+-- what an inner course left: the files, and the bytes of its output
+pub record Left : Type 0 where
+  pub files : Contents
+  pub out : List ℕ
+
+-- what is told as an inner course begins: the files that were made, no call, and no byte written
+abbrev pub bare : Contents → Shown
+bare files = record { files = files; calls = 0; out = []; err = [] }
+
+-- what is told after all acts of the inner course and the line of its end
+abbrev pub inner_told : Run ⊤ → Contents → Shown
+inner_told run files = done (whole_acts run) (bare files)
+
+-- whether the room of an output is too small for all of the inner course
+abbrev pub overfull : ℕ → Shown → Bool
+overfull room told = nat_lt room (length told.out) || nat_lt room (length told.err)
+
+-- what an end of the inner course is to the outer one: a refusal's line is handed on as it is
+abbrev pub inner_end : End → End
+inner_end (ends.Refused refusal) = ends.Inner (line (refusal_text refusal))
+inner_end e = e
+
+-- what an inner course comes to, all of which fits its outputs
+abbrev pub inner_fitting : Outcome ⊤ → Shown → Outcome Left
+inner_fitting (value _) told = value (record { files = told.files; out = told.out })
+inner_fitting (end e) told = end (inner_end e)
+
+-- What an inner course comes to: an output that would be full refuses it, else its own outcome does.
+abbrev pub inner_outcome : ℕ → Run ⊤ → Contents → Outcome Left
+inner_outcome room run files =
+    if overfull room (inner_told run files) then end (ends.Refused InnerOutputFull)
+    else inner_fitting run.outcome (inner_told run files)
+
+-- The stage of an inner course, which does nothing to the objects outside.
+abbrev pub inner : ℕ → Stage ⊤ → Contents → Stage Left
+inner room course files = given (inner_outcome room (course.run files) files)
+
+-- What the status of an inner call says of the inner course, where new is what the call left: with 0 what the
+-- course left is told; with 1 or 2 it came to an end, whose line ends what err tells; with 3 an output was
+-- full.
+pub record InnerCame (room : ℕ) (run : Run ⊤) (files : Contents) (new : World) (status : ℕ) : Type 0 where
+  pub ended : status ≡ 0 → (left : Left) × (inner_outcome room run files ≡ value left)
+      × (new.files.contents ≡ Some left.files) × (new.out.told ≡ Some left.out)
+  pub refused : status ≡ 1 → (e : End) × (end_status e ≡ 1) × (inner_outcome room run files ≡ end (inner_end e))
+      × (new.err.told ≡ Some ((done run.acts (bare files)).err ++ end_line e))
+  pub misunderstood : status ≡ 2 → inner_outcome room run files ≡ end ends.NotUnderstood
+  pub full : status ≡ 3 → inner_outcome room run files ≡ end (ends.Refused InnerOutputFull)

@@ -1,0 +1,246 @@
+// A folder of the machine, listed.
+
+ghost use Rattle.std.specs.Prelude.{◌≡◌, ◌≤◌, All, Bool, IfErr, IfOk, List, OnOk, length, map, true, vec_len, ℕ};
+ghost use Rattle.std.specs.List.Sorted.{IsStrictlySortedBy};
+ghost use Rattle.km_outside.specs.Contents.{by_bytes};
+ghost use Rattle.km_outside.specs.DiskSeen.{IsPast};
+ghost use Rattle.km_outside.specs.WalkSeen.{IsSoundWalk, walk_left};
+ghost use Rattle.km_outside.specs.declared.files.FileAnswer.TheVariants.{Memory};
+ghost use Rattle.km_outside.specs.FilesSeen.{list_limit};
+ghost use Rattle.km_outside.specs.Listing.{test_of};
+
+use crate::disk_read::answer_to;
+use crate::listing::Listing;
+use crate::{FileAnswer, LIST_LIMIT};
+use km_names::{Bytes, List, PathText, join};
+use std::alloc::{AllocError, Global};
+use std::fs::{DirEntry, ReadDir};
+use std::io::ErrorKind;
+use std::{fs, io, rt};
+
+/// What an entry of a folder is to a listing.
+#[derive(Clone, Copy)]
+enum EntryKind {
+    /// A file that is listed if its name is.
+    File,
+    /// A folder whose files are listed too.
+    Folder,
+    /// Neither: a link, a device and the like, or what isn't there any more.
+    Other,
+}
+
+/// A walk through a folder and, where all files are listed, the folders below it.
+#[derive(Drop)]
+struct Walk {
+    listing: Listing,
+    /// The folders that are still to be read: each relative to the walk's, with a slash at its end.
+    pending: Vec<String>,
+    /// What was found, in no order.
+    found: Vec<Vec<u8>>,
+    /// How many entries were met.
+    met: usize,
+}
+
+/// What is listed of the folder, each once and rising by its bytes, if no more entries than the limit are
+/// met.
+pub(crate) fn list_folder<R: rt::Files + AllocGlobal + Clone + Drop, K>(
+    rt: &R,
+    alloc: Global,
+    listing: Listing,
+    dir: &PathText,
+) -> Result<List<Bytes<K>>, FileAnswer>
+    ensures rising { IfOk result (λ names. IsStrictlySortedBy by_bytes names) }
+    ensures fits { IfOk result (λ names. All (λ name. test_of listing name ≡ true) names) }
+    ensures limit { IfOk result (λ names. length names ≤ list_limit) }
+    ensures past { IfErr result (IsPast list_limit) }
+{
+    let folder = join(alloc, dir, b"")?;
+    let Ok(folder) = str::from_utf8(folder.as_bytes()) else {
+        return Err(FileAnswer::Failed);
+    };
+    let found = find(rt, alloc, listing, folder)?;
+    rising(alloc, found)
+}
+
+/// What is found below the folder, in no order.
+fn find<R: rt::Files + AllocGlobal + Clone + Drop>(
+    rt: &R,
+    alloc: Global,
+    listing: Listing,
+    folder: &str,
+) -> Result<Vec<Vec<u8>>, FileAnswer>
+    ensures fits { IfOk result (λ found. All (λ path. test_of listing path.items ≡ true) found.items) }
+    ensures limit { IfOk result (λ found. vec_len found ≤ list_limit) }
+    ensures past { IfErr result (IsPast list_limit) }
+{
+    let mut walk = Walk {
+        listing,
+        pending: Vec::new(alloc),
+        found: Vec::new(alloc),
+        met: 0,
+    };
+    match fs::read_dir(rt, folder) {
+        Ok(entries) => walk.read_entries(rt, alloc, "", entries)?,
+        Err(error) => return Err(answer_to(error.kind())),
+    }
+    walk.read_pending(rt, alloc, folder)?;
+    Ok(walk.found)
+}
+
+impl Walk {
+    /// Reads the folders that are still to be read, and those found meanwhile.
+    fn read_pending<R: rt::Files + AllocGlobal + Clone + Drop>(
+        &mut self,
+        rt: &R,
+        alloc: Global,
+        top: &str,
+    ) -> Result<(), FileAnswer>
+        requires { IsSoundWalk self.old }
+        ensures sound { OnOk result (IsSoundWalk self.new) }
+        ensures listing { self.new.listing ≡ self.old.listing }
+        ensures past { IfErr result (IsPast list_limit) }
+    {
+        while let Some(folder) = self.pending.pop() {
+            self.read_folder(rt, alloc, top, folder.as_str())?;
+        }
+        Ok(())
+    }
+
+    /// Reads one folder below the walk's.
+    fn read_folder<R: rt::Files + AllocGlobal + Clone + Drop>(
+        &mut self,
+        rt: &R,
+        alloc: Global,
+        top: &str,
+        folder: &str,
+    ) -> Result<(), FileAnswer>
+        requires { IsSoundWalk self.old }
+        ensures sound { OnOk result (IsSoundWalk self.new) }
+        ensures left { OnOk result (walk_left self.new ≤ walk_left self.old) }
+        ensures listing { self.new.listing ≡ self.old.listing }
+        ensures past { IfErr result (IsPast list_limit) }
+    {
+        let mut path = String::from_str(alloc, top)?;
+        path.push_str(folder)?;
+        match fs::read_dir(rt, path.as_str()) {
+            Ok(entries) => self.read_entries(rt, alloc, folder, entries),
+            Err(error) => Err(answer_below(error)),
+        }
+    }
+
+    /// Reads the entries of one folder.
+    fn read_entries<R: rt::Files + AllocGlobal + Clone + Drop>(
+        &mut self,
+        rt: &R,
+        alloc: Global,
+        folder: &str,
+        entries: ReadDir<R>,
+    ) -> Result<(), FileAnswer>
+        requires { IsSoundWalk self.old }
+        ensures sound { OnOk result (IsSoundWalk self.new) }
+        ensures left { OnOk result (walk_left self.new ≤ walk_left self.old) }
+        ensures listing { self.new.listing ≡ self.old.listing }
+        ensures past { IfErr result (IsPast list_limit) }
+    {
+        for entry in entries {
+            match entry {
+                Ok(entry) => self.take(rt, alloc, folder, &entry)?,
+                Err(error) => return Err(answer_below(error)),
+            }
+        }
+        Ok(())
+    }
+
+    /// Takes one entry of a folder.
+    fn take<R: rt::Files + AllocGlobal + Clone + Drop>(
+        &mut self,
+        rt: &R,
+        alloc: Global,
+        folder: &str,
+        entry: &DirEntry<R>,
+    ) -> Result<(), FileAnswer>
+        requires { IsSoundWalk self.old }
+        ensures sound { OnOk result (IsSoundWalk self.new) }
+        ensures left { OnOk result (walk_left self.new ≤ walk_left self.old) }
+        ensures listing { self.new.listing ≡ self.old.listing }
+        ensures past { IfErr result (IsPast list_limit) }
+    {
+        if self.met >= LIST_LIMIT {
+            let length = LIST_LIMIT as u64 + 1;
+            return Err(FileAnswer::TooLarge { length });
+        }
+        self.met += 1;
+        let mut path = String::from_str(alloc, folder)?;
+        path.push_str(entry.file_name())?;
+        if !self.listing.lists(path.as_bytes()) {
+            return Ok(());
+        }
+        match kind_of_entry(rt, self.listing, entry)? {
+            EntryKind::File => self.found.push(path.into_bytes())?,
+            EntryKind::Folder => {
+                path.push('/')?;
+                self.pending.push(path)?;
+            }
+            EntryKind::Other => {}
+        }
+        Ok(())
+    }
+}
+
+/// What the entry is. For a listing of configuration files links are followed, for one of all files they
+/// aren't.
+fn kind_of_entry<R: rt::Files>(
+    rt: &R,
+    listing: Listing,
+    entry: &DirEntry<R>,
+) -> Result<EntryKind, FileAnswer>
+    ensures { IfErr result (IsPast list_limit) }
+{
+    match listing {
+        Listing::Conf => match fs::metadata(rt, entry.path()) {
+            Ok(metadata) if metadata.is_dir() => Ok(EntryKind::Other),
+            Ok(_) => Ok(EntryKind::File),
+            Err(error) if error.kind() == ErrorKind::NotFound => Ok(EntryKind::Other),
+            Err(error) => Err(answer_below(error)),
+        },
+        Listing::Tree => match entry.metadata() {
+            Ok(metadata) if metadata.is_dir() => Ok(EntryKind::Folder),
+            Ok(metadata) if metadata.is_file() => Ok(EntryKind::File),
+            Ok(_) => Ok(EntryKind::Other),
+            Err(error) => Err(answer_below(error)),
+        },
+    }
+}
+
+/// The answer to an error of the system at something below the folder that is listed, which is there.
+fn answer_below(error: io::Error) -> FileAnswer
+    ensures { IsPast list_limit result }
+{
+    match error.kind() {
+        ErrorKind::OutOfMemory => FileAnswer::Memory,
+        _ => FileAnswer::Failed,
+    }
+}
+
+/// The paths in rising order, each once.
+fn rising<K>(alloc: Global, mut found: Vec<Vec<u8>>) -> Result<List<Bytes<K>>, FileAnswer>
+    ensures rising { IfOk result (λ names. IsStrictlySortedBy by_bytes names) }
+    ensures kept { (p : List ℕ → Bool) → All (λ path. p path.items ≡ true) found.items → IfOk result (λ names. All (λ name. p name ≡ true) names) }
+    ensures limit { IfOk result (λ names. length names ≤ vec_len found) }
+    ensures memory { IfErr result (λ answer. answer ≡ Memory) }
+{
+    found.sort()?;
+    found.dedup();
+    Ok(as_list(alloc, found)?)
+}
+
+/// The paths as a list.
+fn as_list<K>(alloc: Global, paths: Vec<Vec<u8>>) -> Result<List<Bytes<K>>, AllocError>
+    ensures { IfOk result (λ list. list ≡ map (λ path. path.items) paths.items) }
+{
+    let mut list = List::new(alloc);
+    for path in paths {
+        list.push(Bytes::from_vec(path))?;
+    }
+    Ok(list)
+}

@@ -1,0 +1,89 @@
+// A file of the machine, replaced.
+
+use crate::ReplaceAnswer;
+use crate::transfer::write_whole;
+use km_names::PathText;
+use std::alloc::Global;
+use std::fs::{OpenFile, OpenOptions};
+use std::io::ErrorKind;
+use std::os::unix::fs::OpenOptionsExt;
+use std::{fs, io, rt};
+
+/// How many names are tried for the new file. One that is taken was left by a run that was cut off, or is
+/// that of a run beside this one.
+const TRIES: u32 = 100;
+
+/// The permissions of a new file, before the process's own mask.
+const MODE: u32 = 0o644;
+
+/// A file that stands beside the one that it is to replace.
+#[derive(Drop)]
+struct NewFile<F: Drop> {
+    file: F,
+    path: String,
+}
+
+/// Replaces the file at the path by one of these bytes, whole or not at all.
+pub(crate) fn replace_file<R: rt::Files>(
+    rt: &R,
+    alloc: Global,
+    path: &PathText,
+    bytes: &[u8],
+) -> Result<(), ReplaceAnswer> {
+    let Ok(path) = str::from_utf8(path.as_bytes()) else {
+        return Err(ReplaceAnswer::Failed);
+    };
+    let NewFile {
+        mut file,
+        path: new,
+    } = create_beside(rt, alloc, path)?;
+    let written = fill(&mut file, bytes);
+    drop(file);
+    let renamed = written.and_then(|()| fs::rename(rt, new.as_str(), path));
+    if let Err(error) = renamed {
+        // It isn't wanted any more; where even this fails it stays, under a name that nothing reads.
+        let _ = fs::remove_file(rt, new.as_str());
+        return Err(answer_to(&error));
+    }
+    Ok(())
+}
+
+/// Makes a new file beside the one at the path.
+fn create_beside<R: rt::Files>(
+    rt: &R,
+    alloc: Global,
+    path: &str,
+) -> Result<NewFile<R::File>, ReplaceAnswer> {
+    for number in 0..TRIES {
+        let new = format!(in alloc; "{path}.{number}.new")?;
+        match create_new(rt, new.as_str()) {
+            Ok(file) => return Ok(NewFile { file, path: new }),
+            Err(error) if error.kind() == ErrorKind::AlreadyExists => {}
+            Err(error) => return Err(answer_to(&error)),
+        }
+    }
+    Err(ReplaceAnswer::Failed)
+}
+
+/// Makes a file where none is.
+fn create_new<R: rt::Files>(rt: &R, path: &str) -> io::Result<R::File> {
+    let mut options = OpenOptions::new();
+    options.write(true);
+    options.create_new(true);
+    options.mode(MODE);
+    options.open(rt, path)
+}
+
+/// Writes the bytes to the file, and flushes it to the disk.
+fn fill<F: io::Write + OpenFile>(file: &mut F, bytes: &[u8]) -> io::Result<()> {
+    write_whole(file, bytes).map_err(|_| io::Error::from(ErrorKind::Other))?;
+    file.sync_all()
+}
+
+/// The answer to an error of the system.
+fn answer_to(error: &io::Error) -> ReplaceAnswer {
+    match error.kind() {
+        ErrorKind::OutOfMemory => ReplaceAnswer::Memory,
+        _ => ReplaceAnswer::Failed,
+    }
+}

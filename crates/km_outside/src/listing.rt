@@ -1,0 +1,47 @@
+ghost use Rattle.std.specs.Prelude.{◌≡◌};
+ghost use Rattle.std.specs.Option.{option_map};
+ghost use Rattle.km_outside.specs.Contents.{rest_after};
+ghost use Rattle.km_outside.specs.Listing.{kind_of, test_of, passing};
+
+use crate::CallKind;
+
+/// What of a folder is listed.
+#[derive(Clone, Copy, Debug, PartialEq, Eq)]
+pub(crate) enum Listing {
+    /// The names of the configuration files that stand in it.
+    Conf,
+    /// The paths of all files below it.
+    Tree,
+}
+
+impl Listing {
+    /// The calls that list so.
+    pub(crate) fn kind(self) -> CallKind
+        ensures { result ≡ kind_of self }
+    {
+        match self {
+            Listing::Conf => CallKind::ListConf,
+            Listing::Tree => CallKind::ListTree,
+        }
+    }
+
+    /// Whether this, which follows a folder and a slash in a path, is listed.
+    pub(crate) fn lists(self, rest: &[u8]) -> bool
+        ensures { result ≡ test_of self rest.now }
+    {
+        match self {
+            Listing::Conf => rest.ends_with(b".conf") && !rest.contains(&b'/'),
+            Listing::Tree => !rest.is_empty(),
+        }
+    }
+
+    /// What follows the prefix, a folder and a slash, in the path, where it is listed.
+    pub(crate) fn rest<'a>(self, prefix: &[u8], path: &'a [u8]) -> Option<&'a [u8]>
+        ensures { option_map (λ rest. rest.now) result ≡ passing (test_of self) (rest_after prefix.now path.now) }
+    {
+        match path.strip_prefix(prefix) {
+            Some(rest) if self.lists(rest) => Some(rest),
+            _ => None,
+        }
+    }
+}
