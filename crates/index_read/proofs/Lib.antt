@@ -1,2 +1,3 @@
 pub mod ReachLemmas
 pub mod KeyLemmas
+pub mod OrderLemmas
