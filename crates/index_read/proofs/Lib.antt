@@ -1,3 +1,4 @@
 pub mod ReachLemmas
 pub mod KeyLemmas
 pub mod OrderLemmas
+pub mod ListingLemmas

@@ -62,7 +62,7 @@ from_child : (f : ℕ → List ℕ → List Item) (o : Option ℕ) (p : List ℕ
 from_child f None p byte h = tt
 from_child f (Some next) p byte h = from_begins p byte _ (h next (p ++ byte ∷ []))
 
-branches-from : (f : ℕ → List ℕ → List Item) (b : List ℕ) (link : ℕ) (p : List ℕ) (byte n : ℕ) → ((next : ℕ) (under : List ℕ) → Begins under (f next under)) → BeginsFrom p byte (branches f b link p byte n)
+pub branches-from : (f : ℕ → List ℕ → List Item) (b : List ℕ) (link : ℕ) (p : List ℕ) (byte n : ℕ) → ((next : ℕ) (under : List ℕ) → Begins under (f next under)) → BeginsFrom p byte (branches f b link p byte n)
 unfolding branches
 branches-from f b link p byte zero h = tt
 branches-from f b link p byte (suc n) h =
@@ -136,13 +136,13 @@ sel-append b q (x ∷ xs) ys =
     ap (λ r. cond (is_eq (R q x.0)) (values b x.1) [] ++ r) (sel-append b q xs ys)
     ∙ sym (append_assoc (cond (is_eq (R q x.0)) (values b x.1) []) (sel b q xs) (sel b q ys))
 
-sel-none : (b q : List ℕ) (is : List Item) → AllByRecursion (λ item. q ≡ item.0 → ⊥) is → sel b q is ≡ []
+pub sel-none : (b q : List ℕ) (is : List Item) → AllByRecursion (λ item. q ≡ item.0 → ⊥) is → sel b q is ≡ []
 unfolding sel
 sel-none b q [] h = refl
 sel-none b q (x ∷ is) h =
     ap (λ t. cond t (values b x.1) [] ++ sel b q is) (apart_keys q x.0 h.0) ∙ sel-none b q is h.1
 
-all_weaker : {X : Type 0} (P Q : X → Type 0) → ((x : X) → P x → Q x) → (xs : List X) → AllByRecursion P xs → AllByRecursion Q xs
+pub all_weaker : {X : Type 0} (P Q : X → Type 0) → ((x : X) → P x → Q x) → (xs : List X) → AllByRecursion P xs → AllByRecursion Q xs
 all_weaker P Q f [] h = tt
 all_weaker P Q f (x ∷ xs) h = (f x h.0, all_weaker P Q f xs h.1)
 
@@ -159,7 +159,7 @@ sel-earlier b p t c byte is ne h =
     sel-none b (p ++ c ∷ t) is (all_weaker _ _ (λ item begins e. ne (byte_apart p c byte t begins.0 (e ∙ begins.1 ∙ append_assoc p (byte ∷ []) begins.0))) is h)
 
 -- of the branches only that of the key's byte has the key
-sel-branches : (f : ℕ → List ℕ → List Item) (b : List ℕ) (link : ℕ) (p t : List ℕ) (c byte n : ℕ) → ((next : ℕ) (under : List ℕ) → Begins under (f next under)) → byte ≤ c → c < byte + n → sel b (p ++ c ∷ t) (branches f b link p byte n) ≡ sel b (p ++ c ∷ t) (on_child (child b link c) (λ next. f next (p ++ c ∷ [])))
+pub sel-branches : (f : ℕ → List ℕ → List Item) (b : List ℕ) (link : ℕ) (p t : List ℕ) (c byte n : ℕ) → ((next : ℕ) (under : List ℕ) → Begins under (f next under)) → byte ≤ c → c < byte + n → sel b (p ++ c ∷ t) (branches f b link p byte n) ≡ sel b (p ++ c ∷ t) (on_child (child b link c) (λ next. f next (p ++ c ∷ [])))
 unfolding branches
 sel-branches f b link p t c byte zero h from to = absurd (omega (arith, from, to))
 sel-branches f b link p t c byte (suc n) h from to =
@@ -178,7 +178,7 @@ sel-branches f b link p t c byte (suc n) h from to =
     (cases_eq byte c)
 
 -- bytes that lead nowhere
-sel-outside : (f : ℕ → List ℕ → List Item) (b : List ℕ) (link : ℕ) (p t : List ℕ) (c byte n : ℕ) → ((next : ℕ) (under : List ℕ) → Begins under (f next under)) → byte + n ≤ c → sel b (p ++ c ∷ t) (branches f b link p byte n) ≡ []
+pub sel-outside : (f : ℕ → List ℕ → List Item) (b : List ℕ) (link : ℕ) (p t : List ℕ) (c byte n : ℕ) → ((next : ℕ) (under : List ℕ) → Begins under (f next under)) → byte + n ≤ c → sel b (p ++ c ∷ t) (branches f b link p byte n) ≡ []
 unfolding branches
 sel-outside f b link p t c byte zero h out = sel-none b (p ++ c ∷ t) [] tt
 sel-outside f b link p t c byte (suc n) h out =
@@ -188,7 +188,7 @@ sel-outside f b link p t c byte (suc n) h out =
     ∙ ap (λ vs. vs ++ sel b (p ++ c ∷ t) later) (sel-earlier b p t c byte here (λ e. omega (arith, e, out)) (child_begins f (child b link byte) p byte h))
     ∙ sel-outside f b link p t c (byte + 1) n h (omega (arith, out))
 
-starts_back : (p key : List ℕ) → starts_with nat_eq key p ≡ true → key ≡ p ++ drop (length p) key
+pub starts_back : (p key : List ℕ) → starts_with nat_eq key p ≡ true → key ≡ p ++ drop (length p) key
 starts_back [] key h = refl
 starts_back (c ∷ p) [] h = absurd (cc)
 starts_back (c ∷ p) (d ∷ key) h =
@@ -197,6 +197,6 @@ starts_back (c ∷ p) (d ∷ key) h =
       | false ↦ λ e g. absurd (cc)
     ] refl h
 
-starts_front : (p k : List ℕ) → starts_with nat_eq (p ++ k) p ≡ true
+pub starts_front : (p k : List ℕ) → starts_with nat_eq (p ++ k) p ≡ true
 starts_front [] k = refl
 starts_front (c ∷ p) k = ap (λ b. b && starts_with nat_eq (p ++ k) p) (eq-eqb c c refl) ∙ starts_front p k
