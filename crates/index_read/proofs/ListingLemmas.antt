@@ -1,8 +1,8 @@
 -- The lists of keys with their values are those of the nodes, in their order.
-use Rattle.std.proofs.Common.{◌≡◌, refl, sym, ap, subst, ◌∙◌, ◌⊎◌, inl, inr, ⊎_elim, ℕ, zero, suc, ◌+◌, ◌-◌, ◌<◌, ◌≤◌, Bool, true, false, cond, nat_eq, nat_lt, nat_le, ◌&&◌, List, [], ◌∷◌, ◌++◌, length, take, drop, map, filter, flat_map, filter_map, get_or, Option, Some, None, arith, append_assoc, length-append}
+use Rattle.std.proofs.Common.{◌≡◌, refl, sym, ap, subst, ◌∙◌, ⊎_elim, ℕ, zero, suc, ◌+◌, ◌<◌, ◌≤◌, true, false, cond, nat_eq, nat_lt, nat_le, ◌&&◌, List, [], ◌∷◌, ◌++◌, length, drop, map, filter, get_or, Some, None, arith, append_assoc, length-append}
 use Rattle.std.proofs.lemmas.Bool.{cases_lt, leb-true, and_parts, false≢true}
-use Rattle.std.proofs.lemmas.List.{append-nil, append_cancel_left, map-append}
-use Rattle.std.specs.List.{AllByRecursion, starts_with, cons_option}
+use Rattle.std.proofs.lemmas.List.{append-nil, append_cancel_left}
+use Rattle.std.specs.List.{AllByRecursion, starts_with}
 use Rattle.std.specs.List.Sorted.{IsSortedByKey}
 use Rattle.std.specs.Ordering.{nat_cmp, is_eq, is_lt, ordering_reverse}
 use Rattle.std.specs.declared.cmp.Ordering.{Ordering}
@@ -11,19 +11,17 @@ use Rattle.std.specs.Cmp.Lexicographic.{slice_cmp}
 use Rattle.std.specs.declared.cmp.Ordering.TheVariants.{Less, Equal, Greater}
 use Rattle.index_format.specs.Map.{Value}
 use Rattle.index_format.specs.Link.{place_of, has_children}
-use Rattle.index_format.specs.Node.{root, prefix, after_prefix, child, values, upward, children, first_byte, last_byte}
-use Rattle.index_format.specs.Check.{children_fit, Arrival, arrivals, root_arrival, index_fault}
+use Rattle.index_format.specs.Node.{root, prefix, after_prefix, child, values, last_byte}
+use Rattle.index_format.specs.Check.{children_fit, index_fault}
 use Rattle.index_format.specs.Walk.{walk, values_at, at}
-use Rattle.index_format.specs.Nodes.{IsNode, top, below, node_count}
+use Rattle.index_format.specs.Nodes.{IsNode, top, below}
 use Rattle.index_format.specs.Listing.{KeyValue, under, IsListing, IsSelection}
 use Rattle.index_format.proofs.TreeLemmas.{R}
-use Rattle.index_nodes.specs.Pending.{child_arrival, child_arrivals}
 use Rattle.index_nodes.proofs.FieldLemmas.{range_fits, children_test}
-use Rattle.index_nodes.proofs.ArrivalLemmas.{arrivals_below}
 use Rattle.index_nodes.proofs.SoundNodes.{child_below, child_range, node_sound}
 use Rattle.index_read.specs.Keys.{Item, all_items, on_child, branches, key_bytes, items}
-use Rattle.index_read.proofs.KeyLemmas.{Begins, begins-shorter, branches-begin, items-begin}
-use Rattle.index_read.proofs.OrderLemmas.{AllAfter, ItemsRise, items-rise, equal_keys, self_equal, apart_keys, sel, sel-append, sel-none, all_weaker, starts_back, starts_front, sel-branches, sel-outside, branches-from}
+use Rattle.index_read.proofs.KeyLemmas.{branches-begin, items-begin}
+use Rattle.index_read.proofs.OrderLemmas.{AllAfter, ItemsRise, items-rise, self_equal, apart_keys, sel, sel-none, all_weaker, starts_back, starts_front, sel-branches, sel-outside, branches-from}
 use Rattle.index_read.proofs.ReachLemmas.{walk_other, walk_end, walk_lost, walk_child}
 
 longer : (p : List ℕ) (c : ℕ) (r : List ℕ) → p ≡ p ++ c ∷ r → ⊥

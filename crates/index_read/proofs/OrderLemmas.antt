@@ -1,23 +1,16 @@
 -- The keys of an index rise along its nodes, and each key's values are those of the node with it.
-use Rattle.std.proofs.Common.{◌≡◌, refl, sym, ap, subst, ◌∙◌, ◌⊎◌, inl, inr, ⊎_elim, ℕ, zero, suc, ◌+◌, ◌-◌, ◌<◌, ◌≤◌, Bool, true, false, cond, ◌==◌, ◌&&◌, nat_eq, List, [], ◌∷◌, ◌++◌, length, take, drop, map, flat_map, Option, Some, None, arith, append_assoc, length-append}
-use Rattle.std.proofs.lemmas.Bool.{cases_eq, eqb-true, eq-eqb, lt-ltb, le-ltb, leb-true, and_parts, false_from_ne_true}
+use Rattle.std.proofs.Common.{◌≡◌, refl, sym, ap, ◌∙◌, ⊎_elim, ℕ, zero, suc, ◌+◌, ◌<◌, ◌≤◌, true, false, cond, ◌==◌, ◌&&◌, nat_eq, List, [], ◌∷◌, ◌++◌, length, drop, flat_map, Option, Some, None, arith, append_assoc}
+use Rattle.std.proofs.lemmas.Bool.{cases_eq, eqb-true, eq-eqb, lt-ltb, le-ltb, false_from_ne_true}
 use Rattle.std.proofs.lemmas.List.{append-nil, append_cancel_left}
 use Rattle.std.specs.List.{AllByRecursion, starts_with}
 use Rattle.std.specs.FinMap.{nat_cmp-IsAntisymmetric, slice_cmp-IsAntisymmetric}
-use Rattle.std.specs.Ordering.{nat_cmp, ordering_then, is_eq}
-use Rattle.std.specs.declared.cmp.Ordering.{Ordering}
+use Rattle.std.specs.Ordering.{ordering_then, is_eq}
 use Rattle.std.specs.declared.cmp.Ordering.TheVariants.{Less, Equal, Greater}
 use Rattle.index_format.specs.Map.{Value}
-use Rattle.index_format.specs.Link.{place_of}
-use Rattle.index_format.specs.Node.{root, prefix, child, values}
-use Rattle.index_format.specs.Check.{index_fault}
-use Rattle.index_format.specs.Walk.{walk, values_at, at}
-use Rattle.index_format.specs.Nodes.{IsNode, top, below}
+use Rattle.index_format.specs.Node.{prefix, child, values}
 use Rattle.index_format.proofs.TreeLemmas.{R, same_front}
-use Rattle.index_nodes.proofs.SoundNodes.{child_below, child_range, node_sound}
-use Rattle.index_read.specs.Keys.{Item, all_items, on_child, branches, key_bytes, items}
-use Rattle.index_read.proofs.KeyLemmas.{Begins, branches-begin, items-begin}
-use Rattle.index_read.proofs.ReachLemmas.{walk_other, walk_end, walk_lost, walk_child}
+use Rattle.index_read.specs.Keys.{Item, on_child, branches, key_bytes, items}
+use Rattle.index_read.proofs.KeyLemmas.{Begins, items-begin}
 
 -- ---- keys in order
 
@@ -124,7 +117,6 @@ self_equal (c ∷ x) = ap (λ t. is_eq (ordering_then (cond t Less (cond (c == c
 
 pub apart_keys : (x y : List ℕ) → (x ≡ y → ⊥) → is_eq (R x y) ≡ false
 apart_keys x y h = false_from_ne_true (is_eq (R x y)) (λ e. h (equal_keys x y e))
-
 
 unfoldable pub sel : List ℕ → List ℕ → List Item → List Value
 sel b q is = flat_map (λ item. cond (is_eq (R q item.0)) (values b item.1) []) is

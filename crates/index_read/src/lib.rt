@@ -8,6 +8,7 @@
 //! are those of `index_nodes`.
 #![tactic(auto)]
 
+mod front;
 mod index;
 mod reach;
 mod value;
