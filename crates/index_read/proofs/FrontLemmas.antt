@@ -1,7 +1,8 @@
 -- A key of which a plain byte isn't the text's matches nothing, however it goes on.
-use Rattle.std.proofs.Common.{◌≡◌, refl, sym, ap, subst, ◌∙◌, ℕ, zero, suc, ◌<◌, ◌≤◌, false, List, [], ◌∷◌, ◌++◌, length, take, slice_index, arith, rules}
+use Rattle.std.proofs.Common.{◌≡◌, ◌≢◌, refl, sym, ap, subst, ◌∙◌, ℕ, zero, suc, ◌<◌, ◌≤◌, false, List, [], ◌∷◌, ◌++◌, length, take, drop, slice_index, arith, rules}
+use Rattle.std.proofs.lemmas.Bool.{false≢true}
 use Rattle.std.specs.List.{AllByRecursion}
-use Rattle.glob_match.specs.Pattern.{Matches, empty, run, any, set, itself}
+use Rattle.glob_match.specs.Pattern.{Matches, empty, run, any, set, itself, star, question, bracket}
 use Rattle.index_read.specs.Fronts.{Agrees, StopsAt, is_special_byte, may_match_after}
 
 -- The text begins with the byte, and the rest of it matches the rest of the pattern.
@@ -65,3 +66,34 @@ agrees_on key new text agreed kept n a same within le few =
       plain = subst (AllByRecursion (λ byte. is_special_byte byte ≡ false)) (sym front) (all_fewer (λ byte. is_special_byte byte ≡ false) n agreed key le a.plain);
       same = front ∙ sym (take_fewer n agreed key le) ∙ ap (take n) a.same ∙ take_fewer n agreed text le;
     }
+
+-- A key matches exactly where what follows the bytes that agree matches what follows them in the text.
+abbrev Both : Type 0 → Type 0 → Type 0
+Both A B = (A → B) × (B → A)
+
+after_front : (n : ℕ) (key text : List ℕ) → n ≤ length key → n ≤ length text → AllByRecursion (λ byte. is_special_byte byte ≡ false) (take n key) → take n key ≡ take n text → Both (Matches (drop n key) (drop n text)) (Matches key text)
+after_front zero key text low within plain same = (λ m. m, λ m. m)
+after_front (suc n) [] text low within plain same = absurd (omega (arith, low))
+after_front (suc n) (x ∷ key) [] low within plain same = absurd (omega (arith, within))
+after_front (suc n) (x ∷ key) (y ∷ text) low within plain same =
+    let more = after_front n key text (omega (arith, low)) (omega (arith, within)) plain.1 (tail_is same) in
+    let head : x ≡ y = head_is same in
+    ( λ m. subst (λ z. Matches (x ∷ key) (z ∷ text)) head (itself x (not_star x plain.0) (not_question x plain.0) (not_bracket x plain.0) (more.0 m))
+    , λ m.
+        let g : Goes x key (y ∷ text) = plainly m plain.0 in
+        more.1 (subst (Matches key) (sym (tail_is g.is)) g.more)
+    )
+  where
+    tail_is : {x y : ℕ} {xs ys : List ℕ} → x ∷ xs ≡ y ∷ ys → xs ≡ ys
+    tail_is e = cc
+    head_is : {x y : ℕ} {xs ys : List ℕ} → x ∷ xs ≡ y ∷ ys → x ≡ y
+    head_is e = cc
+    not_star : (x : ℕ) → is_special_byte x ≡ false → x ≢ star
+    not_star x plain e = absurd (false≢true (sym plain ∙ ap is_special_byte e))
+    not_question : (x : ℕ) → is_special_byte x ≡ false → x ≢ question
+    not_question x plain e = absurd (false≢true (sym plain ∙ ap is_special_byte e))
+    not_bracket : (x : ℕ) → is_special_byte x ≡ false → x ≢ bracket
+    not_bracket x plain e = absurd (false≢true (sym plain ∙ ap is_special_byte e))
+
+pub matches_rest : (key text : List ℕ) (n : ℕ) → Agrees key text n → (Matches (drop n key) (drop n text) → Matches key text) × (Matches key text → Matches (drop n key) (drop n text))
+matches_rest key text n a = after_front n key text a.in_key a.in_text a.plain a.same

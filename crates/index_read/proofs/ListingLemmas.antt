@@ -1,5 +1,5 @@
 -- The lists of keys with their values are those of the nodes, in their order.
-use Rattle.std.proofs.Common.{◌≡◌, refl, sym, ap, subst, ◌∙◌, ⊎_elim, ℕ, zero, suc, ◌+◌, ◌<◌, ◌≤◌, true, false, cond, nat_eq, nat_lt, nat_le, ◌&&◌, List, [], ◌∷◌, ◌++◌, length, drop, map, filter, get_or, Some, None, arith, append_assoc, length-append}
+use Rattle.std.proofs.Common.{◌≡◌, refl, sym, ap, subst, ◌∙◌, ⊎_elim, ℕ, zero, suc, ◌+◌, ◌<◌, ◌≤◌, true, false, cond, nat_eq, nat_lt, nat_le, ◌&&◌, List, [], ◌∷◌, ◌++◌, length, drop, map, filter, get_or, Some, None, arith, append_assoc, length-append, Bool}
 use Rattle.std.proofs.lemmas.Bool.{cases_lt, leb-true, and_parts, false≢true}
 use Rattle.std.proofs.lemmas.List.{append-nil, append_cancel_left}
 use Rattle.std.specs.List.{AllByRecursion, starts_with}
@@ -133,12 +133,14 @@ pub data Chosen (b : List ℕ) (P : List ℕ → Type 0) : List Item → List Ke
   none : Chosen b P [] []
   taken : {is : List Item} {ps : List KeyValue} (item : Item) → P item.0 → Chosen b P is ps → Chosen b P (item ∷ is) (pairs_of b item ++ ps)
   passed : {is : List Item} {ps : List KeyValue} (item : Item) → ¬ P item.0 → Chosen b P is ps → Chosen b P (item ∷ is) ps
+  bare : {is : List Item} {ps : List KeyValue} (item : Item) → values b item.1 ≡ [] → Chosen b P is ps → Chosen b P (item ∷ is) ps
 
 pub chosen-append : (b : List ℕ) (P : List ℕ → Type 0) (is js : List Item) (ps qs : List KeyValue) → Chosen b P is ps → Chosen b P js qs → Chosen b P (is ++ js) (ps ++ qs)
 chosen-append b P _ js _ qs none k = k
 chosen-append b P _ js _ qs (taken {is = is} {ps = ps} item p h) k =
     subst (Chosen b P (item ∷ (is ++ js))) (sym (append_assoc (pairs_of b item) ps qs)) (taken item p (chosen-append b P is js ps qs h k))
 chosen-append b P _ js _ qs (passed {is = is} {ps = ps} item p h) k = passed item p (chosen-append b P is js ps qs h k)
+chosen-append b P _ js _ qs (bare {is = is} {ps = ps} item e h) k = bare item e (chosen-append b P is js ps qs h k)
 
 pub chosen-none : (b : List ℕ) (P : List ℕ → Type 0) (is : List Item) → AllByRecursion (λ item. ¬ P item.0) is → Chosen b P is []
 chosen-none b P [] h = none
@@ -153,6 +155,14 @@ chosen-under b P q _ _ (taken {is = is} {ps = ps} item p c) h =
 chosen-under b P q _ _ (passed {is = is} {ps = ps} item p c) h =
     chosen-under b P q is ps c h
     ∙ ap (λ t. cond t (values b item.1) [] ++ sel b q is) (sym (apart_keys q item.0 (λ e. p (subst P e h))))
+chosen-under b P q _ _ (bare {is = is} {ps = ps} item e c) h =
+    chosen-under b P q is ps c h
+    ∙ ap (λ vs. vs ++ sel b q is) (no_values (is_eq (R q item.0)))
+    ∙ ap (λ vs. cond (is_eq (R q item.0)) vs [] ++ sel b q is) (sym e)
+  where
+    no_values : (t : Bool) → ◌≡◌ {A = List Value} [] (cond t [] [])
+    no_values true = refl
+    no_values false = refl
 
 chosen-others : (b : List ℕ) (P : List ℕ → Type 0) (q : List ℕ) (is : List Item) (ps : List KeyValue) → Chosen b P is ps → ¬ P q → under q ps ≡ []
 chosen-others b P q _ _ none h = refl
@@ -160,6 +170,7 @@ chosen-others b P q _ _ (taken {is = is} {ps = ps} item p c) h =
     under-append q (pairs_of b item) ps
     ∙ (λ i. (under-one q item.0 (values b item.1) ∙ ap (λ t. cond t (values b item.1) []) (apart_keys q item.0 (λ e. h (subst P (sym e) p)))) i ++ chosen-others b P q is ps c h i)
 chosen-others b P q _ _ (passed item p c) h = chosen-others b P q _ _ c h
+chosen-others b P q _ _ (bare item e c) h = chosen-others b P q _ _ c h
 
 -- ---- keys never fall along the pairs
 
@@ -194,6 +205,7 @@ chosen-below b P k _ _ none h = tt
 chosen-below b P k _ _ (taken {is = is} {ps = ps} item p c) h =
     all_append _ (pairs_of b item) ps (pairs-below k item.0 (values b item.1) (below_other_way k item.0 h.0)) (chosen-below b P k is ps c h.1)
 chosen-below b P k _ _ (passed {is = is} {ps = ps} item p c) h = chosen-below b P k is ps c h.1
+chosen-below b P k _ _ (bare {is = is} {ps = ps} item e c) h = chosen-below b P k is ps c h.1
 
 never_more : (k : List ℕ) (vs : List Value) (ps : List KeyValue) → NotBelow k ps → Never ps → Never (map (λ v. (k, v)) vs ++ ps)
 never_more k [] ps h n = n
@@ -205,6 +217,7 @@ chosen-never b P _ _ none h = tt
 chosen-never b P _ _ (taken {is = is} {ps = ps} item p c) h =
     never_more item.0 (values b item.1) ps (chosen-below b P item.0 is ps c h.0) (chosen-never b P is ps c h.1)
 chosen-never b P _ _ (passed {is = is} {ps = ps} item p c) h = chosen-never b P is ps c h.1
+chosen-never b P _ _ (bare {is = is} {ps = ps} item e c) h = chosen-never b P is ps c h.1
 
 never-sorted : (ps : List KeyValue) → Never ps → IsSortedByKey (λ p. p.0) (slice_cmp nat_cmp) ps
 never-sorted [] h k d low high = absurd (omega (arith, high))

@@ -1,5 +1,5 @@
 -- The values of the nodes whose keys match a text, node by node.
-use Rattle.std.proofs.Common.{◌≡◌, refl, sym, ap, subst, ◌∙◌, ℕ, ◌≤◌, List, [], ◌∷◌, ◌++◌, length, map, append_assoc, length-append, arith, false}
+use Rattle.std.proofs.Common.{◌≡◌, refl, sym, ap, subst, ◌∙◌, ℕ, ◌≤◌, List, [], ◌∷◌, ◌++◌, length, map, append_assoc, length-append, arith, false, ◌⊎◌, inl, inr}
 use Rattle.std.proofs.lemmas.List.{append-nil, map-append}
 use Rattle.index_format.specs.Map.{Value}
 use Rattle.index_format.specs.Listing.{KeyValue}
@@ -10,7 +10,7 @@ use Rattle.index_read.specs.Fronts.{Agrees, StopsAt, may_match_after}
 use Rattle.index_read.specs.Keys.{Item, all_items}
 use Rattle.index_read.specs.Walks.{left, LeavesOut}
 use Rattle.index_read.proofs.FrontLemmas.{never_matches}
-use Rattle.index_read.proofs.ListingLemmas.{Chosen, taken, passed, chosen-append, chosen-none, pairs_of}
+use Rattle.index_read.proofs.ListingLemmas.{Chosen, taken, passed, bare, chosen-append, chosen-none, pairs_of}
 use Rattle.index_read.proofs.OrderLemmas.{all_weaker}
 
 -- the values of some pairs
@@ -38,8 +38,9 @@ on_match b text item is old new more m on ps c =
     (ap (λ vs. old ++ vs) parts ∙ sym (append_assoc old (values b item.1) (values_in ps)) ∙ ap (λ vs. vs ++ values_in ps) (sym more))
     (on (pairs_of b item ++ ps) (taken item m c))
 
-pub on_other : (b text : List ℕ) (item : Item) (is : List Item) (found : List Value) → ¬ Matches item.0 text → Onward b text (item ∷ is) found → Onward b text is found
-on_other b text item is found m on ps c = on ps (passed item m c)
+pub on_other : (b text : List ℕ) (item : Item) (is : List Item) (found : List Value) → (¬ Matches item.0 text) ⊎ (values b item.1 ≡ []) → Onward b text (item ∷ is) found → Onward b text is found
+on_other b text item is found (inl other) on ps c = on ps (passed item other c)
+on_other b text item is found (inr none) on ps c = on ps (bare item none c)
 
 pub on_leaving : (b text : List ℕ) (old new : KeyWalk) (link n : ℕ) (found : List Value) → LeavesOut b old new → Agrees old.key.items text n → StopsAt old.key.items text n → may_match_after old.key.items n ≡ false → Onward b text ((old.key.items, link) ∷ left b old) found → Onward b text (left b new) found
 on_leaving b text old new link n found out a stops may on ps c =

@@ -10,11 +10,10 @@ ghost use Rattle.index_format.specs.Nodes.{node_count};
 ghost use Rattle.index_format.specs.Listing.{IsListing};
 ghost use Rattle.index_read.specs.Values.{shown, shown_pairs, IsWild, IsMatching};
 
-use crate::front::{agreed_length, may_match};
+use crate::front::{agreed_length, is_wanted, may_match};
 use crate::reach::reach;
 use crate::value::{Pairs, Value, Values, push_pairs, push_values};
 use crate::walk::KeyWalk;
-use glob_match::matches;
 use index_nodes::{IndexFault, Nodes, Place, Steps};
 use km_names::Blob;
 use std::alloc::{AllocError, Global};
@@ -133,7 +132,7 @@ impl Index {
             agreed = agreed_length(key, text, agreed.min(walk.kept));
             if !may_match(key, agreed) {
                 walk.skip_below(&self.nodes);
-            } else if matches(key, text) {
+            } else if is_wanted(&self.nodes, &node, key, text, agreed) {
                 push_values(alloc, &self.nodes, &node, &mut found)?;
             }
             next = walk.next(&self.nodes, steps)?;

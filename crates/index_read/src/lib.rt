@@ -11,6 +11,8 @@
 mod front;
 mod index;
 mod reach;
+#[cfg(test)]
+mod tests;
 mod value;
 mod walk;
 
