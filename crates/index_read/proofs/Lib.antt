@@ -1,2 +1,10 @@
 pub mod ReachLemmas
 pub mod KeyLemmas
+pub mod OrderLemmas
+pub mod ListingLemmas
+pub mod CountLemmas
+pub mod RoundLemmas
+pub mod FrontLemmas
+pub mod MatchLemmas
+pub mod SortLemmas
+pub mod SelectLemmas

@@ -1,8 +1,8 @@
 -- The walk of a key, by what a node says of it.
-use Rattle.std.proofs.Common.{◌≡◌, refl, sym, ap, ◌∙◌, ℕ, zero, suc, ◌+◌, ◌<◌, ◌≤◌, true, false, cond, nat_eq, List, [], ◌∷◌, length, drop, Option, Some, None, arith}
+use Rattle.std.proofs.Common.{◌≡◌, ap, ◌∙◌, ℕ, zero, suc, ◌+◌, ◌≤◌, true, false, cond, nat_eq, List, [], ◌∷◌, length, drop, Some, None, arith}
 use Rattle.std.specs.List.{starts_with}
 use Rattle.index_format.specs.Node.{root, prefix, child}
-use Rattle.index_format.specs.Walk.{Step, Ends, Enters, Lost, enters, onward, step, by_step, Walk, through, walk_within, walk, visits}
+use Rattle.index_format.specs.Walk.{Step, Ends, Enters, Lost, enters, onward, step, by_step, through, walk_within, walk, visits}
 use Rattle.index_format.proofs.WalkLemmas.{walk-step}
 
 walk_by : (b : List ℕ) (link : ℕ) (key : List ℕ) (s : Step) → step b link key ≡ s → walk b link key ≡ by_step s (record { nodes = link ∷ []; reached = Some link }) (λ next rest. through link (walk b next rest)) (record { nodes = link ∷ []; reached = None })

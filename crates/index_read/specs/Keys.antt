@@ -1,6 +1,6 @@
 -- The nodes of an index, each with the key that leads to it, in the order of their keys: after a node come those
 -- below it, by rising bytes, each with all that is below it.
-use Rattle.std.specs.Prelude.{◌≡◌, ℕ, zero, suc, ◌+◌, ◌-◌, ◌≤◌, List, [], ◌∷◌, ◌++◌, length, take, Option, Some, None}
+use Rattle.std.specs.Prelude.{ℕ, zero, suc, ◌+◌, ◌-◌, ◌≤◌, List, [], ◌∷◌, ◌++◌, length, take, Option, Some, None}
 use Rattle.index_format.specs.Link.{place_of}
 use Rattle.index_format.specs.Node.{root, prefix, child}
 use Rattle.index_nodes.specs.Fields.{link_of, IsNodeOf}

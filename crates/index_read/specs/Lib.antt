@@ -1,3 +1,5 @@
 pub mod Values
 pub mod Keys
 pub mod Walks
+pub mod Fronts
+pub mod Rounds

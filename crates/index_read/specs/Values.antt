@@ -1,5 +1,5 @@
 -- The values and pairs of lookups as those of an index, and the values of all keys that match a text.
-use Rattle.std.specs.Prelude.{ℕ, List, [], map, Option, Some, None}
+use Rattle.std.specs.Prelude.{◌≡◌, ℕ, List, [], map, Option, Some, None}
 use Rattle.index_format.specs.Map.{Value}
 use Rattle.index_format.specs.Listing.{KeyValue, IsSelection, IsByPriority}
 use Rattle.glob_match.specs.Pattern.{Matches}
@@ -22,12 +22,17 @@ pair_of p = (p.key, value_of p.value)
 abbrev pub shown_pairs : List Pair → List KeyValue
 shown_pairs ps = map pair_of ps
 
--- The values of every key that as a pattern matches the text: by rising priority, then by key, then by their
--- place among the values of the key.
-pub record IsWild (values : List ℕ → List Value) (text : List ℕ) (found : List Value) : Type 0 where
+-- The values of every key that as a pattern matches the text, by key and then by place.
+pub record IsMatching (values : List ℕ → List Value) (text : List ℕ) (found : List Value) : Type 0 where
   pub pairs : List KeyValue
   pub matching : IsSelection (λ key. Matches key text) values pairs
-  pub ordered : IsByPriority (map (λ p. p.1) pairs) found
+  pub found_is : found ≡ map (λ p. p.1) pairs
+
+-- The same values by rising priority, and those of one priority by key and then by place.
+pub record IsWild (values : List ℕ → List Value) (text : List ℕ) (found : List Value) : Type 0 where
+  pub unordered : List Value
+  pub matching : IsMatching values text unordered
+  pub ordered : IsByPriority unordered found
 
 -- The values that are left from a place on, none where there is no place.
 abbrev pub values_at_place : List ℕ → Option Place → List Value

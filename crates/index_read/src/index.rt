@@ -6,10 +6,14 @@ ghost use Rattle.index_format.specs.Check.{index_fault};
 ghost use Rattle.index_format.specs.Holds.{Holds};
 ghost use Rattle.index_nodes.specs.Faults.{IsFirstFault};
 ghost use Rattle.index_nodes.specs.Places.{IsPlaceOf, value_at, values_left};
-ghost use Rattle.index_read.specs.Values.{shown};
+ghost use Rattle.index_format.specs.Nodes.{node_count};
+ghost use Rattle.index_format.specs.Listing.{IsListing};
+ghost use Rattle.index_read.specs.Values.{shown, shown_pairs, IsWild, IsMatching};
 
+use crate::front::{agreed_length, is_wanted, may_match};
 use crate::reach::reach;
-use crate::value::{Values, push_values};
+use crate::value::{Pairs, Value, Values, push_pairs, push_values};
+use crate::walk::KeyWalk;
 use index_nodes::{IndexFault, Nodes, Place, Steps};
 use km_names::Blob;
 use std::alloc::{AllocError, Global};
@@ -74,5 +78,65 @@ impl Index {
         let mut found = Vec::new(alloc);
         push_values(alloc, &self.nodes, &node, &mut found)?;
         Ok(Values::from_vec(found))
+    }
+
+    /// All keys, each with its values, by the bytes of the keys and then by place. Each node is read once.
+    pub fn all<L: Ledger>(&self, alloc: Global, steps: &mut Steps<L>) -> Result<Pairs, AllocError>
+        ensures listing { IfOk result (λ found. IsListing (at self.now.nodes (root self.now.nodes)) (shown_pairs found)) }
+        ensures map { (m : KeyValues) → Holds self.now.nodes m → IfOk result (λ found. IsListing (values_of m) (shown_pairs found)) }
+        ensures cost { steps.new ≤ steps.old + node_count self.now.nodes }
+    {
+        let mut found = Vec::new(alloc);
+        let (mut walk, root) = KeyWalk::start(alloc, &self.nodes, steps)?;
+        let mut next = Some(root);
+        while let Some(node) = next {
+            push_pairs(alloc, &self.nodes, &node, walk.key.as_slice(), &mut found)?;
+            next = walk.next(&self.nodes, steps)?;
+        }
+        Ok(Pairs::from_vec(found))
+    }
+
+    /// The values of every key that as a pattern matches the text: by rising priority, then by the bytes of the
+    /// key, then by place. Each node is read at most once.
+    pub fn wild<L: Ledger>(
+        &self,
+        alloc: Global,
+        text: &[u8],
+        steps: &mut Steps<L>,
+    ) -> Result<Values, AllocError>
+        ensures wild { IfOk result (λ found. IsWild (at self.now.nodes (root self.now.nodes)) text.now (shown found)) }
+        ensures map { (m : KeyValues) → Holds self.now.nodes m → IfOk result (λ found. IsWild (values_of m) text.now (shown found)) }
+        ensures cost { steps.new ≤ steps.old + node_count self.now.nodes }
+    {
+        let mut found = self.matching(alloc, text, steps)?;
+        found.sort_by_key(|value| value.priority)?;
+        Ok(Values::from_vec(found))
+    }
+
+    /// The values of every key that matches the text, by the bytes of the key and then by place.
+    fn matching<L: Ledger>(
+        &self,
+        alloc: Global,
+        text: &[u8],
+        steps: &mut Steps<L>,
+    ) -> Result<Vec<Value>, AllocError>
+        ensures matching { IfOk result (λ found. IsMatching (at self.now.nodes (root self.now.nodes)) text.now (shown found.items)) }
+        ensures cost { steps.new ≤ steps.old + node_count self.now.nodes }
+    {
+        let mut found = Vec::new(alloc);
+        let (mut walk, root) = KeyWalk::start(alloc, &self.nodes, steps)?;
+        let mut agreed = 0;
+        let mut next = Some(root);
+        while let Some(node) = next {
+            let key = walk.key.as_slice();
+            agreed = agreed_length(key, text, agreed.min(walk.kept));
+            if !may_match(key, agreed) {
+                walk.skip_below(&self.nodes);
+            } else if is_wanted(&self.nodes, &node, key, text, agreed) {
+                push_values(alloc, &self.nodes, &node, &mut found)?;
+            }
+            next = walk.next(&self.nodes, steps)?;
+        }
+        Ok(found)
     }
 }

@@ -8,8 +8,11 @@
 //! are those of `index_nodes`.
 #![tactic(auto)]
 
+mod front;
 mod index;
 mod reach;
+#[cfg(test)]
+mod tests;
 mod value;
 mod walk;
 

@@ -1,7 +1,7 @@
 ghost use Rattle.std.specs.Prelude.{◌≡◌, ◌++◌, map, OnOk, IfSome};
 ghost use Rattle.index_format.specs.Node.{values};
 ghost use Rattle.index_nodes.specs.Fields.{link_of, IsNodeOf};
-ghost use Rattle.index_read.specs.Values.{shown};
+ghost use Rattle.index_read.specs.Values.{shown, shown_pairs};
 
 use index_nodes::{Node, Nodes};
 use km_names::{Blob, List};
@@ -46,6 +46,31 @@ pub(crate) fn push_values(
         found.push(Value {
             priority: place.priority(),
             text: Blob::from_slice(alloc, nodes.text(&place))?,
+        })?;
+        next = nodes.next_value(&place);
+    }
+    Ok(())
+}
+
+/// Puts the values of a node at the end, each with the node's key.
+pub(crate) fn push_pairs(
+    alloc: Global,
+    nodes: &Nodes,
+    node: &Node,
+    key: &[u8],
+    found: &mut Vec<Pair>,
+) -> Result<(), AllocError>
+    requires { IsNodeOf nodes.now node.now }
+    ensures { OnOk result (shown_pairs found.new.items ≡ shown_pairs found.old.items ++ map (λ v. (key.now, v)) (values nodes.now (link_of node.now))) }
+{
+    let mut next = nodes.first_value(node);
+    while let Some(place) = next {
+        found.push(Pair {
+            key: Blob::from_slice(alloc, key)?,
+            value: Value {
+                priority: place.priority(),
+                text: Blob::from_slice(alloc, nodes.text(&place))?,
+            },
         })?;
         next = nodes.next_value(&place);
     }

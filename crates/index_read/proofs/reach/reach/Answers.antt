@@ -1,8 +1,6 @@
-use Rattle.std.proofs.Common.{◌≡◌, sym, ap, subst, ◌∙◌, ◌+◌, true, false, nat_eq, List, ◌∷◌, [], length, drop, Some, None, arith}
+use Rattle.std.proofs.Common.{sym, ap, ◌∙◌, ◌+◌, nat_eq, length, drop, arith}
 use Rattle.std.specs.List.{starts_with}
-use Rattle.index_format.specs.Node.{root, prefix, child}
 use Rattle.index_format.specs.Walk.{Walk, walk, visits}
-use Rattle.index_format.specs.Nodes.{IsNode}
 use Rattle.index_nodes.specs.Fields.{link_of}
 use Rattle.index_read.proofs.ReachLemmas.{walk_other, walk_end, walk_lost, walk_child}
 use Rattle.index_read.proofs.reach.reach.Goals as goal

@@ -1,5 +1,5 @@
-use Rattle.std.proofs.Common.{◌≡◌, sym, ap, subst, ◌∙◌, ◌++◌, [], arith}
-use Rattle.index_format.specs.Node.{root, values}
+use Rattle.std.proofs.Common.{ap, ◌∙◌, ◌++◌, arith}
+use Rattle.index_format.specs.Node.{values}
 use Rattle.index_format.specs.Walk.{values_at, at}
 use Rattle.index_nodes.specs.Fields.{link_of}
 use Rattle.index_read.specs.Values.{shown}

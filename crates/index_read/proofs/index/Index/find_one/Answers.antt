@@ -1,4 +1,4 @@
-use Rattle.std.proofs.Common.{◌≡◌, sym, ap, subst, ◌∙◌, [], Some, slice_get, arith}
+use Rattle.std.proofs.Common.{◌≡◌, sym, ap, subst, [], Some, slice_get, arith}
 use Rattle.std.specs.Prelude.{IfNone, IfSome}
 use Rattle.index_format.specs.Walk.{values_at, at}
 use Rattle.index_nodes.specs.Places.{value_at}

@@ -1,9 +1,9 @@
-use Rattle.std.proofs.Common.{◌≡◌, refl, sym, ap, subst, ◌∙◌, ◌+◌, ◌++◌, ◌∷◌, [], take, length, arith, rules}
+use Rattle.std.proofs.Common.{◌≡◌, refl, sym, ap, subst, ◌∙◌, ◌++◌, ◌∷◌, [], take, length, arith, rules}
 use Rattle.std.proofs.lemmas.Result.{err_from_is_err_and}
 use Rattle.index_format.specs.Node.{prefix}
 use Rattle.index_nodes.specs.Fields.{link_of}
 use Rattle.index_read.specs.Keys.{items_left, AreLevels}
-use Rattle.index_read.specs.Walks.{left, left_after, level_of, after_byte}
+use Rattle.index_read.specs.Walks.{left_after, level_of, after_byte}
 use Rattle.index_read.proofs.KeyLemmas.{levels-pop, nothing_left, still_levels, comes_left, comes_levels, same_front, new_size}
 use Rattle.index_read.proofs.walk.KeyWalk.next.Goals as goal
 
@@ -26,7 +26,7 @@ loop-level-preserved g c =
       same = w.same;
       are = still_levels b c.requires.accepted key ps l are;
       still =
-      sym (nothing_left b c.requires.accepted key ps l are c.in_default-next_child.ensures.none)
+          sym (nothing_left b c.requires.accepted key ps l are c.in_default-next_child.ensures.none)
           ∙ ap (items_left b key) (sym c.in-Some.ensures.items)
           ∙ w.still;
       steps = w.steps;
@@ -68,14 +68,14 @@ returns-in-Some-clause-goes_on g c =
     let size = new_size b c.requires.accepted key ps l are byte at n new e.some e.from e.first e.top name c.node-node.ensures.node c.in_ok-enter.ensures.key in
     record {
       still =
-      sym w.still
+          sym w.still
           ∙ ap (items_left b key) c.in-Some.ensures.items
           ∙ comes_left b c.requires.accepted key ps l are byte at n new e.some e.from e.first e.top name c.node-node.ensures.node c.in_ok-enter.ensures.key
           ∙ ap (λ ls. (new, link_of n) ∷ items_left b new ls) (sym c.in_ok-enter.ensures.levels);
       node = c.node-node.ensures.node;
       walking =
-      subst (AreLevels b (length new)) (sym c.in_ok-enter.ensures.levels)
-      (comes_levels b c.requires.accepted key ps l are byte at n new e.some e.from e.first e.top name c.node-node.ensures.node c.in_ok-enter.ensures.key);
+          subst (AreLevels b (length new)) (sym c.in_ok-enter.ensures.levels)
+          (comes_levels b c.requires.accepted key ps l are byte at n new e.some e.from e.first e.top name c.node-node.ensures.node c.in_ok-enter.ensures.key);
       at_node = record {
         before = ps ++ after_byte l byte ∷ [];
         level = level_of n (length new);
@@ -84,7 +84,7 @@ returns-in-Some-clause-goes_on g c =
       };
       kept = omega (arith, size, c.in_ok-enter.ensures.kept);
       same =
-      (λ i. take (c.in_ok-enter.ensures.kept i) new)
+          (λ i. take (c.in_ok-enter.ensures.kept i) new)
           ∙ same_front b c.requires.accepted key ps l are byte at n new e.some e.from e.first e.top name c.node-node.ensures.node c.in_ok-enter.ensures.key
           ∙ (λ i. take (sym c.in_ok-enter.ensures.kept i) (w.same i));
     }

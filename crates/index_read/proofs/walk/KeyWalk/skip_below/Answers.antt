@@ -16,7 +16,7 @@ returns c =
     record {
       skipped = level_items b key at.level;
       still =
-      ap (items_left b key) at.levels
+          ap (items_left b key) at.levels
           ∙ items_left-push b key at.before at.level
           ∙ ap (λ ls. level_items b key at.level ++ items_left b key ls) (sym rest);
       fronts = below_begins b key at.level at.key;

@@ -1,0 +1,32 @@
+use Rattle.std.proofs.Common.{sym, subst, rules}
+use Rattle.std.proofs.lemmas.Fn.{always_returns_same}
+use Rattle.index_format.specs.Map.{values_of}
+use Rattle.index_format.specs.Node.{root}
+use Rattle.index_format.specs.Walk.{at}
+use Rattle.index_read.specs.Values.{shown, IsWild}
+use Rattle.index_read.proofs.SelectLemmas.{matching_same}
+use Rattle.index_read.proofs.SortLemmas.{by_priority}
+use Rattle.index_read.proofs.index.Index.wild.Goals as goal
+
+pub returns-clause-wild : goal.returns-clause-wild
+returns-clause-wild g c =
+    subst (λ fs. IsWild (at c.args.self.now.nodes (root c.args.self.now.nodes)) c.args.text.now (shown fs)) (sym c.from_vec.ensures)
+    (record {
+      unordered = shown c.in_ok-found.found.items;
+      matching = c.in_ok-found.ensures.matching;
+      ordered = by_priority c.in_ok-found.found.items c.sort_by_key.new.self.items
+          (c.in_ok-sort_by_key.ensures.sorted (λ v. v.priority) (always_returns_same _ _ _ (λ a r q k. search rules)))
+          (c.in_ok-sort_by_key.ensures.stable (λ v. v.priority) (always_returns_same _ _ _ (λ a r q k. search rules)));
+    })
+
+pub returns-clause-map : goal.returns-clause-map
+returns-clause-map g c =
+    λ m h.
+    subst (λ fs. IsWild (values_of m) c.args.text.now (shown fs)) (sym c.from_vec.ensures)
+    (record {
+      unordered = shown c.in_ok-found.found.items;
+      matching = matching_same (at c.args.self.now.nodes (root c.args.self.now.nodes)) (values_of m) c.args.text.now (shown c.in_ok-found.found.items) h.values c.in_ok-found.ensures.matching;
+      ordered = by_priority c.in_ok-found.found.items c.sort_by_key.new.self.items
+          (c.in_ok-sort_by_key.ensures.sorted (λ v. v.priority) (always_returns_same _ _ _ (λ a r q k. search rules)))
+          (c.in_ok-sort_by_key.ensures.stable (λ v. v.priority) (always_returns_same _ _ _ (λ a r q k. search rules)));
+    })

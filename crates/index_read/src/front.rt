@@ -1,0 +1,58 @@
+// Whether a key, and each that begins with it, can match a text.
+ghost use Rattle.std.specs.Prelude.{◌≡◌, ◌⊎◌, [], true, false};
+ghost use Rattle.glob_match.specs.Pattern.{Matches};
+ghost use Rattle.index_format.specs.Node.{values};
+ghost use Rattle.index_nodes.specs.Fields.{link_of, IsNodeOf};
+ghost use Rattle.index_read.specs.Fronts.{Agrees, StopsAt, is_special_byte, may_match_after};
+
+use glob_match::matches;
+use index_nodes::{Node, Nodes};
+
+/// Whether a byte of a pattern stands for others than itself.
+fn is_special(byte: u8) -> bool
+    ensures { result ≡ is_special_byte byte }
+{
+    byte == b'*' || byte == b'?' || byte == b'['
+}
+
+/// How many bytes at the front of a key are plain and those of the text, where so many are known to be.
+pub(crate) fn agreed_length(key: &[u8], text: &[u8], known: usize) -> usize
+    requires { Agrees key.now text.now known }
+    ensures agrees { Agrees key.now text.now result }
+    ensures stops { StopsAt key.now text.now result }
+{
+    let mut agreed = known;
+    while agreed < key.len()
+        && agreed < text.len()
+        && key[agreed] == text[agreed]
+        && !is_special(key[agreed])
+    {
+        agreed += 1;
+    }
+    agreed
+}
+
+/// Whether a key of which so many bytes agree, or one that begins with it, may match the text. Where the next byte is
+/// plain, none does.
+pub(crate) fn may_match(key: &[u8], agreed: usize) -> bool
+    ensures { result ≡ may_match_after key.now agreed }
+{
+    agreed >= key.len() || is_special(key[agreed])
+}
+
+/// Whether a node has values and its key, of which so many bytes agree, matches the text. The bytes that agree
+/// aren't read again.
+pub(crate) fn is_wanted(
+    nodes: &Nodes,
+    node: &Node,
+    key: &[u8],
+    text: &[u8],
+    agreed: usize,
+) -> bool
+    requires node { IsNodeOf nodes.now node.now }
+    requires agrees { Agrees key.now text.now agreed }
+    ensures wanted { result ≡ true → Matches key.now text.now }
+    ensures unwanted { result ≡ false → (¬ Matches key.now text.now) ⊎ (values nodes.now (link_of node.now) ≡ []) }
+{
+    nodes.first_value(node).is_some() && matches(&key[agreed..], &text[agreed..])
+}
