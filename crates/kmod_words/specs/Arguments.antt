@@ -1,5 +1,5 @@
 -- The options and words of a command, as its manual page lists them. None may be given twice, and no value or word is empty.
-use Rattle.std.specs.Prelude.{ℕ, true, List, [], ◌∷◌, Option, Some, None, option_map, slice_get, codes}
+use Rattle.std.specs.Prelude.{true, List, [], Some, slice_get}
 use Rattle.clap.specs.Words.{App, Rule, Text, new_app, new_rule}
 use Rattle.clap.specs.declared.builder.action.ArgAction.TheVariants.{Append, Set, SetTrue}
 use Rattle.clap.specs.declared.builder.value_parser.ValueParser.TheVariants.{NonEmptyString}

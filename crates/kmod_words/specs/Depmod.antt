@@ -1,5 +1,5 @@
 -- What the words of `depmod` ask for. depmod(8).
-use Rattle.std.specs.Prelude.{ℕ, ◌&&◌, not, Bool, List, [], ◌∷◌, Option, Some, None, is_some, if◌then◌else◌, option_and_then, unwrap_or, codes}
+use Rattle.std.specs.Prelude.{◌&&◌, not, Bool, List, [], ◌∷◌, Option, Some, None, is_some, if◌then◌else◌, option_and_then, unwrap_or, codes}
 use Rattle.clap.specs.Words.{App, Row, Text}
 use Rattle.kmod_words.specs.Arguments.{command, flag, valued, word}
 use Rattle.kmod_words.specs.Understood.{understood, is_given, value_of, is_version}
@@ -8,17 +8,17 @@ use Rattle.kmod_words.specs.declared.depmod.DepmodWords.{DepmodWords}
 -- The options and the word of `depmod`.
 unfoldable pub depmod_command : App
 depmod_command = command (codes "depmod") (
-  flag (codes "a") (codes "all")
-  ∷ flag (codes "n") (codes "dry-run")
-  ∷ flag (codes "e") (codes "errsyms")
-  ∷ valued (codes "b") (codes "basedir")
-  ∷ valued (codes "o") (codes "outdir")
-  ∷ valued (codes "C") (codes "config")
-  ∷ valued (codes "F") (codes "filesyms")
-  ∷ valued (codes "E") (codes "symvers")
-  ∷ word (codes "version")
-  ∷ []
-)
+    flag (codes "a") (codes "all")
+    ∷ flag (codes "n") (codes "dry-run")
+    ∷ flag (codes "e") (codes "errsyms")
+    ∷ valued (codes "b") (codes "basedir")
+    ∷ valued (codes "o") (codes "outdir")
+    ∷ valued (codes "C") (codes "config")
+    ∷ valued (codes "F") (codes "filesyms")
+    ∷ valued (codes "E") (codes "symvers")
+    ∷ word (codes "version")
+    ∷ []
+    )
 
 -- what is asked for of this version
 abbrev pub depmod_of : List Row → Text → DepmodWords

@@ -1,5 +1,5 @@
 -- What the words of `modinfo` ask for. modinfo(8).
-use Rattle.std.specs.Prelude.{ℕ, ◌&&◌, ◌||◌, not, List, [], ◌∷◌, ◌++◌, Bool, Option, Some, None, is_some, if◌then◌else◌, option_and_then, unwrap_or, codes, length, nat_le}
+use Rattle.std.specs.Prelude.{not, List, [], ◌∷◌, ◌++◌, Bool, Option, Some, None, is_some, if◌then◌else◌, option_and_then, unwrap_or, codes}
 use Rattle.std.specs.Option.{option_map_or, option_to_list}
 use Rattle.clap.specs.Words.{App, Row, Text}
 use Rattle.kmod_words.specs.Arguments.{command, flag, valued, words}
@@ -9,18 +9,18 @@ use Rattle.kmod_words.specs.declared.modinfo.ModinfoWords.{ModinfoWords}
 -- The options and the words of `modinfo`.
 unfoldable pub modinfo_command : App
 modinfo_command = command (codes "modinfo") (
-  valued (codes "F") (codes "field")
-  ∷ flag (codes "a") (codes "author")
-  ∷ flag (codes "d") (codes "description")
-  ∷ flag (codes "l") (codes "license")
-  ∷ flag (codes "p") (codes "parameters")
-  ∷ flag (codes "n") (codes "filename")
-  ∷ flag (codes "0") (codes "null")
-  ∷ valued (codes "k") (codes "set-version")
-  ∷ valued (codes "b") (codes "basedir")
-  ∷ words (codes "words")
-  ∷ []
-)
+    valued (codes "F") (codes "field")
+    ∷ flag (codes "a") (codes "author")
+    ∷ flag (codes "d") (codes "description")
+    ∷ flag (codes "l") (codes "license")
+    ∷ flag (codes "p") (codes "parameters")
+    ∷ flag (codes "n") (codes "filename")
+    ∷ flag (codes "0") (codes "null")
+    ∷ valued (codes "k") (codes "set-version")
+    ∷ valued (codes "b") (codes "basedir")
+    ∷ words (codes "words")
+    ∷ []
+    )
 
 -- the key that a flag stands for, if it is given
 abbrev pub key_by_flag : List Row → Text → Text → List Text

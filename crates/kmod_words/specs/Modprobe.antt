@@ -1,5 +1,5 @@
 -- What the words of `modprobe` ask for. modprobe(8).
-use Rattle.std.specs.Prelude.{ℕ, ◌&&◌, not, List, [], ◌∷◌, Bool, true, false, Option, Some, None, is_some, if◌then◌else◌, option_and_then, option_map, unwrap_or, codes}
+use Rattle.std.specs.Prelude.{◌&&◌, List, [], ◌∷◌, Bool, true, false, Option, Some, None, is_some, if◌then◌else◌, option_and_then, option_map, unwrap_or, codes}
 use Rattle.clap.specs.Words.{App, Row, Text}
 use Rattle.kmod_words.specs.Arguments.{command, flag, required, valued, words}
 use Rattle.kmod_words.specs.Numbers.{region_or_usual}
@@ -13,23 +13,23 @@ use Rattle.kmod_words.specs.declared.region.Region.{Region}
 -- The options and the words of `modprobe`.
 unfoldable pub modprobe_command : App
 modprobe_command = command (codes "modprobe") (
-  flag (codes "a") (codes "all")
-  ∷ flag (codes "b") (codes "use-blacklist")
-  ∷ flag (codes "i") (codes "ignore-install")
-  ∷ flag (codes "n") (codes "dry-run")
-  ∷ flag (codes "D") (codes "show-depends")
-  ∷ flag (codes "R") (codes "resolve-alias")
-  ∷ valued (codes "d") (codes "dirname")
-  ∷ required (valued (codes "S") (codes "set-version"))
-  ∷ valued (codes "C") (codes "config")
-  ∷ valued (codes "") (codes "loaded")
-  ∷ valued (codes "") (codes "system-map")
-  ∷ valued (codes "") (codes "symvers")
-  ∷ valued (codes "") (codes "region")
-  ∷ valued (codes "") (codes "image")
-  ∷ words (codes "words")
-  ∷ []
-)
+    flag (codes "a") (codes "all")
+    ∷ flag (codes "b") (codes "use-blacklist")
+    ∷ flag (codes "i") (codes "ignore-install")
+    ∷ flag (codes "n") (codes "dry-run")
+    ∷ flag (codes "D") (codes "show-depends")
+    ∷ flag (codes "R") (codes "resolve-alias")
+    ∷ valued (codes "d") (codes "dirname")
+    ∷ required (valued (codes "S") (codes "set-version"))
+    ∷ valued (codes "C") (codes "config")
+    ∷ valued (codes "") (codes "loaded")
+    ∷ valued (codes "") (codes "system-map")
+    ∷ valued (codes "") (codes "symvers")
+    ∷ valued (codes "") (codes "region")
+    ∷ valued (codes "") (codes "image")
+    ∷ words (codes "words")
+    ∷ []
+    )
 
 -- The mode by the flags `-n`, `-D` and `-R`, of which at most one is given.
 abbrev pub mode_by_flags : Bool → Bool → Bool → Option Mode

@@ -42,9 +42,7 @@ impl Argument {
                 .long(name)
                 .required(true),
             Argument::Word(name) => valued(alloc, name).required(true),
-            Argument::Words(name) => valued(alloc, name)
-                .action(ArgAction::Append)
-                .required(true),
+            Argument::Words(name) => valued(alloc, name).action(ArgAction::Append).required(true),
         }
     }
 }

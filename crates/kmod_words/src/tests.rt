@@ -205,10 +205,7 @@ const NO_MODINFO: [&str; 20] = [
 
 /// Words after `trial`, and what they ask for.
 const TRIAL: [(&str, &str); 4] = [
-    (
-        "1 2",
-        "TrialWords { seed: 1, count: 2 }",
-    ),
+    ("1 2", "TrialWords { seed: 1, count: 2 }"),
     (
         "18446744073709551615 2000",
         "TrialWords { seed: 18446744073709551615, count: 2000 }",
@@ -217,10 +214,7 @@ const TRIAL: [(&str, &str); 4] = [
         "00000000000000000007 0001",
         "TrialWords { seed: 7, count: 1 }",
     ),
-    (
-        "-- 1 3",
-        "TrialWords { seed: 1, count: 3 }",
-    ),
+    ("-- 1 3", "TrialWords { seed: 1, count: 3 }"),
 ];
 
 /// Words after `trial` that aren't understood. `''` is an empty word.
