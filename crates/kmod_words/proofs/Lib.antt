@@ -1,0 +1,4 @@
+pub mod ArgumentLemmas
+pub mod DecimalLemmas
+pub mod MatchLemmas
+pub mod RequestLemmas

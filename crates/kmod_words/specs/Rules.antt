@@ -1,0 +1,14 @@
+-- The arguments of the code as `clap` reads them.
+use Rattle.std.specs.Prelude.{◌∷◌, []}
+use Rattle.clap.specs.Words.{Rule}
+use Rattle.kmod_words.specs.Arguments.{flag, required, valued, word, words}
+use Rattle.kmod_words.specs.declared.arguments.Argument.{Argument}
+use Rattle.kmod_words.specs.declared.arguments.Argument.TheVariants.{Flag, Valued, ValuedByName, Required, Word, Words}
+
+abbrev pub rule_for : Argument → Rule
+rule_for (Flag letter name) = flag (letter ∷ []) name.now
+rule_for (Valued letter name) = valued (letter ∷ []) name.now
+rule_for (ValuedByName name) = valued [] name.now
+rule_for (Required letter name) = required (valued (letter ∷ []) name.now)
+rule_for (Word name) = word name.now
+rule_for (Words name) = words name.now

@@ -1,0 +1,74 @@
+// The options and words of a command, and the command that `clap` reads.
+ghost use Rattle.std.specs.Prelude.{◌≡◌, List, ℕ, IfOk, map, false, true};
+ghost use Rattle.clap.specs.Words.{app_of, rule_of};
+ghost use Rattle.kmod_words.specs.Arguments.{command as command_with, with_value};
+ghost use Rattle.kmod_words.specs.Rules.{rule_for};
+
+use clap::builder::ValueParser;
+use clap::{Arg, ArgAction, Command};
+use std::alloc::{AllocError, Global};
+
+/// An option or a word of a command.
+#[derive(Clone, Copy)]
+pub(crate) enum Argument {
+    /// A flag, with its letter.
+    Flag(char, &'static str),
+    /// An option with a value, with its letter.
+    Valued(char, &'static str),
+    /// An option with a value that has no letter.
+    ValuedByName(&'static str),
+    /// An option with a value that has to be there.
+    Required(char, &'static str),
+    /// A word.
+    Word(&'static str),
+    /// One word or more.
+    Words(&'static str),
+}
+
+impl Argument {
+    // The argument as `clap` has it.
+    fn arg<'a>(&self, alloc: Global) -> Arg<'a>
+        ensures { (result.global ≡ false) × (rule_of result ≡ rule_for self.now) }
+    {
+        match *self {
+            Argument::Flag(letter, name) => Arg::new(alloc, name)
+                .short(letter)
+                .long(name)
+                .action(ArgAction::SetTrue),
+            Argument::Valued(letter, name) => valued(alloc, name).short(letter).long(name),
+            Argument::ValuedByName(name) => valued(alloc, name).long(name),
+            Argument::Required(letter, name) => valued(alloc, name)
+                .short(letter)
+                .long(name)
+                .required(true),
+            Argument::Word(name) => valued(alloc, name).required(true),
+            Argument::Words(name) => valued(alloc, name).action(ArgAction::Append).required(true),
+        }
+    }
+}
+
+// An argument with a value that isn't empty.
+fn valued<'a>(alloc: Global, name: &'a str) -> Arg<'a>
+    ensures { (result.global ≡ false) × (rule_of result ≡ with_value name.entry.now) }
+{
+    Arg::new(alloc, name)
+        .action(ArgAction::Set)
+        .value_parser(ValueParser::NonEmptyString)
+}
+
+/// The command of this name with these arguments alone.
+pub(crate) fn command<'a>(
+    alloc: Global,
+    name: &'a str,
+    arguments: &[Argument],
+) -> Result<Command<'a>, AllocError>
+    ensures { IfOk result (λ command. app_of command ≡ command_with name.entry.now (map rule_for arguments.now)) }
+{
+    let mut command = Command::new(alloc, name)
+        .no_binary_name(true)
+        .disable_help_flag(true);
+    for argument in arguments {
+        command = command.arg(argument.arg(alloc))?;
+    }
+    Ok(command)
+}

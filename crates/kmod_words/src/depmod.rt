@@ -1,0 +1,97 @@
+ghost use Rattle.std.specs.Prelude.{◌≡◌, IfOk, List, Option, ℕ, option_map};
+ghost use Rattle.clap.specs.Words.{found_of, rows_of};
+ghost use Rattle.kmod_words.specs.Depmod.{depmod_request, depmod_asked, depmod_of, has_two_kernels as has_both_files};
+
+use crate::arguments::{Argument, command};
+use crate::matches::{bytes_of, bytes_or, is_given, is_version, texts_of, understood, value_of};
+use clap::ArgMatches;
+use km_names::{Name, PathText, Word};
+use std::alloc::{AllocError, Global};
+
+const ARGUMENTS: [Argument; 9] = [
+    Argument::Flag('a', "all"),
+    Argument::Flag('n', "dry-run"),
+    Argument::Flag('e', "errsyms"),
+    Argument::Valued('b', "basedir"),
+    Argument::Valued('o', "outdir"),
+    Argument::Valued('C', "config"),
+    Argument::Valued('F', "filesyms"),
+    Argument::Valued('E', "symvers"),
+    Argument::Word("version"),
+];
+
+/// What `depmod` is asked for. All modules are always indexed, so `-a` asks for nothing.
+#[derive(Debug, Drop)]
+pub struct DepmodWords {
+    /// Whether the text files are to be printed, and nothing to be replaced.
+    pub dry_run: bool,
+    /// Whether to warn of symbols that nothing exports, and of versions that differ.
+    pub errsyms: bool,
+    /// The root below which the modules stand.
+    pub basedir: PathText,
+    /// The root below which the files are written.
+    pub outdir: PathText,
+    /// The file or folder of configuration in place of the usual folders.
+    pub config: Option<PathText>,
+    /// The System.map of the kernel.
+    pub filesyms: Option<PathText>,
+    /// The Module.symvers of the kernel. At most one of the two is there.
+    pub symvers: Option<PathText>,
+    /// The kernel's version, which names the folder of its modules.
+    pub version: Name,
+}
+
+/// What the words after `depmod` ask for. It is `None` exactly where they aren't understood. depmod(8).
+pub fn read_depmod(alloc: Global, words: &[Word]) -> Result<Option<DepmodWords>, AllocError>
+    ensures { IfOk result (λ asked. asked ≡ depmod_request words.now) }
+{
+    let command = command(alloc, "depmod", &ARGUMENTS)?;
+    let texts = texts_of(alloc, words)?;
+    match understood(command, texts.as_slice())? {
+        Some(matches) => asked(alloc, &matches),
+        None => Ok(None),
+    }
+}
+
+// What the matches ask for.
+#[tactic(auto, unfolding(crate::specs::Depmod::depmod_asked))]
+fn asked(alloc: Global, matches: &ArgMatches<'_>) -> Result<Option<DepmodWords>, AllocError>
+    ensures { IfOk result (λ asked. asked ≡ depmod_asked (rows_of (found_of matches.now))) }
+{
+    let Some(version) = value_of(matches, "version") else {
+        return Ok(None);
+    };
+    if has_two_kernels(matches) || !is_version(version) {
+        return Ok(None);
+    }
+    Ok(Some(words_for(alloc, matches, version)?))
+}
+
+// Whether both files of the kernel are given.
+fn has_two_kernels(matches: &ArgMatches<'_>) -> bool
+    ensures { result ≡ has_both_files (rows_of (found_of matches.now)) }
+{
+    value_of(matches, "filesyms").is_some() && value_of(matches, "symvers").is_some()
+}
+
+// What is asked for of a version.
+fn words_for(
+    alloc: Global,
+    matches: &ArgMatches<'_>,
+    version: &str,
+) -> Result<DepmodWords, AllocError>
+    ensures { IfOk result (λ words. words ≡ depmod_of (rows_of (found_of matches.now)) version.now) }
+{
+    let basedir: PathText = bytes_or(alloc, matches, "basedir", b"/")?;
+    let outdir = bytes_or(alloc, matches, "outdir", basedir.as_bytes())?;
+    Ok(DepmodWords {
+        dry_run: is_given(matches, "dry-run"),
+        errsyms: is_given(matches, "errsyms"),
+        basedir,
+        outdir,
+        config: bytes_of(alloc, matches, "config")?,
+        filesyms: bytes_of(alloc, matches, "filesyms")?,
+        symvers: bytes_of(alloc, matches, "symvers")?,
+        version: Name::from_slice(alloc, version.as_bytes())?,
+    })
+}

@@ -1,0 +1,22 @@
+//! The words of the commands: what they ask for, or that they aren't understood.
+//!
+//! Each command is a simple command of `clap`, with its options and words and nothing else. What options exclude each other, which
+//! forms texts have and which ranges numbers have is tested here, on the matches. The crate stands on `clap` for the words, and on
+//! `km_names` for lists and hexadecimal numbers. Only memory can be wanting.
+#![tactic(auto)]
+
+mod arguments;
+mod depmod;
+mod matches;
+mod modinfo;
+mod modprobe;
+mod numbers;
+mod region;
+#[cfg(test)]
+mod tests;
+mod trial;
+
+pub use depmod::{DepmodWords, read_depmod};
+pub use modinfo::{ModinfoWords, read_modinfo};
+pub use modprobe::{Mode, ModprobeWords, read_modprobe};
+pub use trial::{TrialWords, read_trial};

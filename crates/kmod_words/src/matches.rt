@@ -1,0 +1,130 @@
+// The matches of words, and what is asked of them.
+ghost use Rattle.std.specs.Prelude.{◌≡◌, ◌==◌, true, IfOk, List, ℕ, map, option_map, unwrap_or};
+ghost use Rattle.std.specs.List.{list_any};
+ghost use Rattle.clap.specs.Words.{app_of, found_of, is_simple_and_free, rows_of};
+ghost use Rattle.kmod_words.specs.Understood.{understood as matches_of_words, is_given as is_given_in, is_from_words as is_no_default, value_of, words_of as words_of_name, is_version as has_no_slash};
+
+use clap::error::ErrorKind;
+use clap::parser::ValueSource;
+use clap::{ArgMatches, Command};
+use km_names::{Bytes, Name, Names, Word};
+use std::alloc::{AllocError, Global};
+
+/// The words as texts.
+pub(crate) fn texts_of<'a>(alloc: Global, words: &'a [Word]) -> Result<Vec<&'a str>, AllocError>
+    ensures { IfOk result (λ texts. map (λ text. text.now) texts.items ≡ words.now) }
+{
+    let mut texts = Vec::new(alloc);
+    for word in words {
+        texts.push(word.as_str())?;
+    }
+    Ok(texts)
+}
+
+/// What `clap` makes of the words. It is `None` exactly where `clap` refuses them.
+pub(crate) fn understood<'a>(
+    command: Command<'a>,
+    words: &'a [&'a str],
+) -> Result<Option<ArgMatches<'a>>, AllocError>
+    requires { is_simple_and_free (app_of command) ≡ true }
+    ensures { IfOk result (λ matches. option_map (λ m. rows_of (found_of m)) matches
+        ≡ matches_of_words (app_of command.entry) (map (λ word. word.now) words.entry.now)) }
+{
+    match command.try_get_matches_from(words) {
+        Ok(matches) => Ok(Some(matches)),
+        Err(error) => match error.kind() {
+            ErrorKind::OutOfMemory => Err(AllocError),
+            _ => Ok(None),
+        },
+    }
+}
+
+/// Whether a flag stands among the words.
+pub(crate) fn is_given(matches: &ArgMatches<'_>, name: &str) -> bool
+    ensures { result ≡ is_given_in name.now (rows_of (found_of matches.now)) }
+{
+    is_from_words(matches.value_source(name))
+}
+
+// Whether a value comes from the words, and isn't a default.
+fn is_from_words(source: Option<ValueSource>) -> bool
+    ensures { result ≡ is_no_default source }
+{
+    match source {
+        Some(ValueSource::CommandLine) => true,
+        _ => false,
+    }
+}
+
+/// The value of an option, or the one word of a name.
+pub(crate) fn value_of<'a>(matches: &ArgMatches<'a>, name: &str) -> Option<&'a str>
+    ensures { option_map (λ value. value.now) result ≡ value_of name.now (rows_of (found_of matches.now)) }
+{
+    matches.get_str(name)
+}
+
+/// A copy of that value.
+pub(crate) fn bytes_of<K>(
+    alloc: Global,
+    matches: &ArgMatches<'_>,
+    name: &str,
+) -> Result<Option<Bytes<K>>, AllocError>
+    ensures { IfOk result (λ bytes. bytes ≡ value_of name.now (rows_of (found_of matches.now))) }
+{
+    match value_of(matches, name) {
+        Some(value) => Ok(Some(Bytes::from_slice(alloc, value.as_bytes())?)),
+        None => Ok(None),
+    }
+}
+
+/// A copy of that value, or of another where there is none.
+pub(crate) fn bytes_or<K>(
+    alloc: Global,
+    matches: &ArgMatches<'_>,
+    name: &str,
+    other: &[u8],
+) -> Result<Bytes<K>, AllocError>
+    ensures { IfOk result (λ bytes. bytes ≡ unwrap_or (value_of name.now (rows_of (found_of matches.now))) other.now) }
+{
+    match value_of(matches, name) {
+        Some(value) => Bytes::from_slice(alloc, value.as_bytes()),
+        None => Bytes::from_slice(alloc, other),
+    }
+}
+
+/// The words of a name.
+pub(crate) fn words_of(
+    alloc: Global,
+    matches: &ArgMatches<'_>,
+    name: &str,
+) -> Result<Names, AllocError>
+    ensures { IfOk result (λ words. words ≡ words_of_name name.now (rows_of (found_of matches.now))) }
+{
+    match matches.get_strs(name) {
+        Some(words) => names_of(alloc, words),
+        None => Ok(Names::new(alloc)),
+    }
+}
+
+fn names_of(alloc: Global, words: &[&str]) -> Result<Names, AllocError>
+    ensures { IfOk result (λ names. names ≡ map (λ word. word.now) words.now) }
+{
+    let mut names = Names::new(alloc);
+    for word in words {
+        names.push(Name::from_slice(alloc, word.as_bytes())?)?;
+    }
+    Ok(names)
+}
+
+/// Whether a text may be a kernel's version.
+pub(crate) fn is_version(text: &str) -> bool
+    ensures { result ≡ has_no_slash text.now }
+{
+    !has_slash(text.as_bytes())
+}
+
+fn has_slash(text: &[u8]) -> bool
+    ensures { result ≡ list_any (λ b. b == 47) text.now }
+{
+    text.iter().any(|b| *b == b'/')
+}

@@ -1,0 +1,185 @@
+ghost use Rattle.std.specs.Prelude.{◌≡◌, IfOk, List, Option, ℕ, option_map};
+ghost use Rattle.clap.specs.Words.{found_of, rows_of};
+ghost use Rattle.kmod_words.specs.Modprobe.{modprobe_request, modprobe_asked, modprobe_of, mode_asked as mode_of_flags, mode_by_flags as mode_of_three, has_addresses as has_kernel_addresses, chosen, shown};
+
+use crate::arguments::{Argument, command};
+use crate::matches::{
+    bytes_of, bytes_or, is_given, is_version, texts_of, understood, value_of, words_of,
+};
+use crate::region::{Region, region_or_usual};
+use clap::ArgMatches;
+use km_names::{Name, Names, PathText, Word};
+use std::alloc::{AllocError, Global};
+
+const ARGUMENTS: [Argument; 15] = [
+    Argument::Flag('a', "all"),
+    Argument::Flag('b', "use-blacklist"),
+    Argument::Flag('i', "ignore-install"),
+    Argument::Flag('n', "dry-run"),
+    Argument::Flag('D', "show-depends"),
+    Argument::Flag('R', "resolve-alias"),
+    Argument::Valued('d', "dirname"),
+    Argument::Required('S', "set-version"),
+    Argument::Valued('C', "config"),
+    Argument::ValuedByName("loaded"),
+    Argument::ValuedByName("system-map"),
+    Argument::ValuedByName("symvers"),
+    Argument::ValuedByName("region"),
+    Argument::ValuedByName("image"),
+    Argument::Words("words"),
+];
+
+/// What `modprobe` is to do with the modules of the names.
+#[derive(Clone, Copy, Debug, PartialEq, Eq)]
+pub enum Mode {
+    /// Load them.
+    Load,
+    /// Print the plan.
+    DryRun,
+    /// Print the plan as if no module were loaded.
+    ShowDepends,
+    /// Print what each name stands for.
+    ResolveAlias,
+}
+
+/// What `modprobe` is asked for.
+#[derive(Debug, Drop)]
+pub struct ModprobeWords {
+    /// What is to be done.
+    pub mode: Mode,
+    /// Whether every word is a name. Else the words after the first are options of the module.
+    pub all: bool,
+    /// Whether the blacklist applies to names too.
+    pub use_blacklist: bool,
+    /// Whether install commands of the requested modules are ignored.
+    pub ignore_install: bool,
+    /// The root below which the modules stand.
+    pub dirname: PathText,
+    /// The kernel's version, which names the folder of its modules.
+    pub version: Name,
+    /// The file or folder of configuration in place of the usual folders.
+    pub config: Option<PathText>,
+    /// The file that lists the loaded modules, in the form of /proc/modules.
+    pub loaded: Option<PathText>,
+    /// The System.map of the kernel. To load it is there.
+    pub system_map: Option<PathText>,
+    /// The Module.symvers of the kernel.
+    pub symvers: Option<PathText>,
+    /// Where the region begins in which modules are placed, a multiple of 4096.
+    pub region_base: u64,
+    /// How many bytes it has, a multiple of 4096 and not 0. It ends at 2^64 at most.
+    pub region_size: u64,
+    /// The folder into which images are written.
+    pub image: Option<PathText>,
+    /// The name and all further words, at least one.
+    pub words: Names,
+}
+
+/// What the words after `modprobe` ask for. It is `None` exactly where they aren't understood. modprobe(8).
+pub fn read_modprobe(alloc: Global, words: &[Word]) -> Result<Option<ModprobeWords>, AllocError>
+    ensures { IfOk result (λ asked. asked ≡ modprobe_request words.now) }
+{
+    let command = command(alloc, "modprobe", &ARGUMENTS)?;
+    let texts = texts_of(alloc, words)?;
+    match understood(command, texts.as_slice())? {
+        Some(matches) => asked(alloc, &matches),
+        None => Ok(None),
+    }
+}
+
+// What the matches ask for.
+fn asked(alloc: Global, matches: &ArgMatches<'_>) -> Result<Option<ModprobeWords>, AllocError>
+    ensures { IfOk result (λ asked. asked ≡ modprobe_asked (rows_of (found_of matches.now))) }
+{
+    match choice_of(matches) {
+        Some(choice) => Ok(Some(words_for(alloc, matches, &choice)?)),
+        None => Ok(None),
+    }
+}
+
+// What is chosen among what the words leave open or may get wrong.
+#[derive(Clone, Copy)]
+struct Choice<'a> {
+    mode: Mode,
+    version: &'a str,
+    region: Region,
+}
+
+// The choice that the matches make.
+#[tactic(auto, unfolding(crate::specs::Modprobe::chosen))]
+fn choice_of<'a>(matches: &ArgMatches<'a>) -> Option<Choice<'a>>
+    ensures { option_map shown result ≡ chosen (rows_of (found_of matches.now)) }
+{
+    let mode = mode_asked(matches)?;
+    let version = value_of(matches, "set-version")?;
+    let region = region_or_usual(value_of(matches, "region"))?;
+    if is_version(version) && has_addresses(matches, mode) {
+        Some(Choice {
+            mode,
+            version,
+            region,
+        })
+    } else {
+        None
+    }
+}
+
+// The mode by its flags.
+fn mode_asked(matches: &ArgMatches<'_>) -> Option<Mode>
+    ensures { result ≡ mode_of_flags (rows_of (found_of matches.now)) }
+{
+    mode_by_flags(
+        is_given(matches, "dry-run"),
+        is_given(matches, "show-depends"),
+        is_given(matches, "resolve-alias"),
+    )
+}
+
+fn mode_by_flags(dry_run: bool, show_depends: bool, resolve_alias: bool) -> Option<Mode>
+    ensures { result ≡ mode_of_three dry_run show_depends resolve_alias }
+{
+    match (dry_run, show_depends, resolve_alias) {
+        (false, false, false) => Some(Mode::Load),
+        (true, false, false) => Some(Mode::DryRun),
+        (false, true, false) => Some(Mode::ShowDepends),
+        (false, false, true) => Some(Mode::ResolveAlias),
+        _ => None,
+    }
+}
+
+// Whether the mode has the addresses that it needs.
+fn has_addresses(matches: &ArgMatches<'_>, mode: Mode) -> bool
+    ensures { result ≡ has_kernel_addresses (rows_of (found_of matches.now)) mode }
+{
+    match mode {
+        Mode::Load => value_of(matches, "system-map").is_some(),
+        _ => true,
+    }
+}
+
+// What is asked for, by this choice.
+fn words_for(
+    alloc: Global,
+    matches: &ArgMatches<'_>,
+    choice: &Choice<'_>,
+) -> Result<ModprobeWords, AllocError>
+    ensures { IfOk result (λ words. words
+        ≡ modprobe_of (rows_of (found_of matches.now)) choice.now.mode choice.now.version.now choice.now.region) }
+{
+    Ok(ModprobeWords {
+        mode: choice.mode,
+        all: is_given(matches, "all"),
+        use_blacklist: is_given(matches, "use-blacklist"),
+        ignore_install: is_given(matches, "ignore-install"),
+        dirname: bytes_or(alloc, matches, "dirname", b"/")?,
+        version: Name::from_slice(alloc, choice.version.as_bytes())?,
+        config: bytes_of(alloc, matches, "config")?,
+        loaded: bytes_of(alloc, matches, "loaded")?,
+        system_map: bytes_of(alloc, matches, "system-map")?,
+        symvers: bytes_of(alloc, matches, "symvers")?,
+        region_base: choice.region.base,
+        region_size: choice.region.size,
+        image: bytes_of(alloc, matches, "image")?,
+        words: words_of(alloc, matches, "words")?,
+    })
+}

@@ -1,0 +1,59 @@
+// A region of addresses in which modules are placed.
+ghost use Rattle.std.specs.Prelude.{◌≡◌, option_map};
+ghost use Rattle.kmod_words.specs.Numbers.{is_region as is_region_of_pages, region_of as region_of_text, region_or_usual as region_or_usual_one, prefixed_hexadecimal as number_of_text};
+
+use km_names::{hexadecimal, split_at_byte};
+
+/// A region of addresses: where it begins, and how many bytes it has.
+#[derive(Clone, Copy)]
+pub(crate) struct Region {
+    pub base: u64,
+    pub size: u64,
+}
+
+/// The region that a text states, or the usual one where there is no text.
+pub(crate) fn region_or_usual(text: Option<&str>) -> Option<Region>
+    ensures { result ≡ region_or_usual_one (option_map (λ t. t.now) text.entry) }
+{
+    match text {
+        Some(text) => region_of(text.as_bytes()),
+        None => Some(Region {
+            base: 0xffff_ffff_c000_0000,
+            size: 0x3f00_0000,
+        }),
+    }
+}
+
+// The region of a text `BASE:SIZE`.
+#[tactic(auto, unfolding(crate::specs::Numbers::region_of))]
+fn region_of(text: &[u8]) -> Option<Region>
+    ensures { result ≡ region_of_text text.now }
+{
+    let (base, size) = split_at_byte(text, b':');
+    let base = prefixed_hexadecimal(base)?;
+    let size = prefixed_hexadecimal(size)?;
+    if is_region(base, size) {
+        Some(Region { base, size })
+    } else {
+        None
+    }
+}
+
+// The number of a text of `0x` and hexadecimal digits.
+#[tactic(auto, unfolding(crate::specs::Numbers::prefixed_hexadecimal))]
+fn prefixed_hexadecimal(text: &[u8]) -> Option<u64>
+    ensures { result ≡ number_of_text text.now }
+{
+    if text.starts_with(b"0x") {
+        hexadecimal(&text[2..])
+    } else {
+        None
+    }
+}
+
+// Whether modules can be placed in the region.
+fn is_region(base: u64, size: u64) -> bool
+    ensures { result ≡ is_region_of_pages base size }
+{
+    base % 4096 == 0 && size % 4096 == 0 && size > 0 && base <= u64::MAX - (size - 1)
+}

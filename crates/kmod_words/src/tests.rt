@@ -1,0 +1,309 @@
+use crate::{read_depmod, read_modinfo, read_modprobe, read_trial};
+use km_names::Word;
+use std::alloc::{AllocError, Global};
+use std::test::Fail;
+
+/// Words after `depmod`, and what they ask for.
+const DEPMOD: [(&str, &str); 5] = [
+    (
+        "6.1.0",
+        r#"DepmodWords { dry_run: false, errsyms: false, basedir: "/", outdir: "/", config: None, filesyms: None, symvers: None, version: "6.1.0" }"#,
+    ),
+    (
+        "-b /r -E /r/Module.symvers 6.1.0",
+        r#"DepmodWords { dry_run: false, errsyms: false, basedir: "/r", outdir: "/r", config: None, filesyms: None, symvers: Some("/r/Module.symvers"), version: "6.1.0" }"#,
+    ),
+    (
+        "-aneb/r 6.1.0 -o /out -C=/c.conf",
+        r#"DepmodWords { dry_run: true, errsyms: true, basedir: "/r", outdir: "/out", config: Some("/c.conf"), filesyms: None, symvers: None, version: "6.1.0" }"#,
+    ),
+    (
+        "--all --dry-run --errsyms --basedir=/r --filesyms m 6.1.0",
+        r#"DepmodWords { dry_run: true, errsyms: true, basedir: "/r", outdir: "/r", config: None, filesyms: Some("m"), symvers: None, version: "6.1.0" }"#,
+    ),
+    (
+        "--outdir - --config d --symvers s -- -6",
+        r#"DepmodWords { dry_run: false, errsyms: false, basedir: "/", outdir: "-", config: Some("d"), filesyms: None, symvers: Some("s"), version: "-6" }"#,
+    ),
+];
+
+/// Words after `depmod` that aren't understood. `''` is an empty word.
+const NO_DEPMOD: [&str; 17] = [
+    "",
+    "-n",
+    "-F x -E y 6.1.0",
+    "6.1.0 6.2.0",
+    "6/1",
+    "/",
+    "-n -n 6.1.0",
+    "-nn 6.1.0",
+    "-b /r --basedir=/s 6.1.0",
+    "-A 6.1.0",
+    "-b -n 6.1.0",
+    "''",
+    "-b",
+    "--basedir= 6.1.0",
+    "-h",
+    "--all=yes 6.1.0",
+    "-V",
+];
+
+/// Words after `modprobe`, and what they ask for.
+const MODPROBE: [(&str, &str); 9] = [
+    (
+        "-n b -S 6.1.0",
+        r#"ModprobeWords { mode: DryRun, all: false, use_blacklist: false, ignore_install: false, dirname: "/", version: "6.1.0", config: None, loaded: None, system_map: None, symvers: None, region_base: 18446744072635809792, region_size: 1056964608, image: None, words: List { elements: ["b"] } }"#,
+    ),
+    (
+        "-d /r -S 6.1.0 -D -i a",
+        r#"ModprobeWords { mode: ShowDepends, all: false, use_blacklist: false, ignore_install: true, dirname: "/r", version: "6.1.0", config: None, loaded: None, system_map: None, symvers: None, region_base: 18446744072635809792, region_size: 1056964608, image: None, words: List { elements: ["a"] } }"#,
+    ),
+    (
+        "-R -b -S6.1.0 symbol:fa",
+        r#"ModprobeWords { mode: ResolveAlias, all: false, use_blacklist: true, ignore_install: false, dirname: "/", version: "6.1.0", config: None, loaded: None, system_map: None, symvers: None, region_base: 18446744072635809792, region_size: 1056964608, image: None, words: List { elements: ["symbol:fa"] } }"#,
+    ),
+    (
+        "-S 6.1.0 --system-map m b depth=3",
+        r#"ModprobeWords { mode: Load, all: false, use_blacklist: false, ignore_install: false, dirname: "/", version: "6.1.0", config: None, loaded: None, system_map: Some("m"), symvers: None, region_base: 18446744072635809792, region_size: 1056964608, image: None, words: List { elements: ["b", "depth=3"] } }"#,
+    ),
+    (
+        "-abin -S=6.1.0 b c",
+        r#"ModprobeWords { mode: DryRun, all: true, use_blacklist: true, ignore_install: true, dirname: "/", version: "6.1.0", config: None, loaded: None, system_map: None, symvers: None, region_base: 18446744072635809792, region_size: 1056964608, image: None, words: List { elements: ["b", "c"] } }"#,
+    ),
+    (
+        "--all --use-blacklist --ignore-install --show-depends --dirname=/r --set-version=6.1.0 --config=c --loaded=l --symvers=s --image=i b",
+        r#"ModprobeWords { mode: ShowDepends, all: true, use_blacklist: true, ignore_install: true, dirname: "/r", version: "6.1.0", config: Some("c"), loaded: Some("l"), system_map: None, symvers: Some("s"), region_base: 18446744072635809792, region_size: 1056964608, image: Some("i"), words: List { elements: ["b"] } }"#,
+    ),
+    (
+        "-d /r -S 6.1.0 --system-map /r/System.map --symvers /r/Module.symvers --region 0xffffffffc0000000:0x3000 b",
+        r#"ModprobeWords { mode: Load, all: false, use_blacklist: false, ignore_install: false, dirname: "/r", version: "6.1.0", config: None, loaded: None, system_map: Some("/r/System.map"), symvers: Some("/r/Module.symvers"), region_base: 18446744072635809792, region_size: 12288, image: None, words: List { elements: ["b"] } }"#,
+    ),
+    (
+        "-n -S 6.1.0 --region=0xFFFFFFFFFFFFF000:0x1000 b",
+        r#"ModprobeWords { mode: DryRun, all: false, use_blacklist: false, ignore_install: false, dirname: "/", version: "6.1.0", config: None, loaded: None, system_map: None, symvers: None, region_base: 18446744073709547520, region_size: 4096, image: None, words: List { elements: ["b"] } }"#,
+    ),
+    (
+        "--dry-run -S 6.1.0 --region 0x0:0x0000000000001000 -- -r -C",
+        r#"ModprobeWords { mode: DryRun, all: false, use_blacklist: false, ignore_install: false, dirname: "/", version: "6.1.0", config: None, loaded: None, system_map: None, symvers: None, region_base: 0, region_size: 4096, image: None, words: List { elements: ["-r", "-C"] } }"#,
+    ),
+];
+
+/// Words after `modprobe` that aren't understood. `''` is an empty word.
+const NO_MODPROBE: [&str; 27] = [
+    "-S 6.1.0 b",
+    "-n b",
+    "-n -S 6.1.0",
+    "-n -D -S 6.1.0 b",
+    "-R -n -S 6.1.0 b",
+    "-n -S 6/1 b",
+    "-r -S 6.1.0 b",
+    "--params -n -S 6.1.0 b",
+    "--extra x -n -S 6.1.0 b",
+    "-n -S 6.1.0 --region 0x1000 b",
+    "-n -S 6.1.0 --region 0x1000:0x0 b",
+    "-n -S 6.1.0 --region 0x1:0x1000 b",
+    "-n -S 6.1.0 --region 0x1000:0x1001 b",
+    "-n -S 6.1.0 --region 0xfffffffffffff000:0x2000 b",
+    "-n -S 6.1.0 --region 1000:0x1000 b",
+    "-n -S 6.1.0 --region 0x:0x1000 b",
+    "-n -S 6.1.0 --region 0X1000:0x1000 b",
+    "-n -S 6.1.0 --region 0x00000000000001000:0x1000 b",
+    "-n -S 6.1.0 --region 4096:4096 b",
+    "-n -S 6.1.0 --region 0x1000:0x1000:0x1000 b",
+    "--system-map m -S 6.1.0 --region 0x1g00:0x1000 b",
+    "-n -S 6.1.0 --system-map '' b",
+    "-n -S 6.1.0 b ''",
+    "-n -S -- b",
+    "-n -S 6.1.0 -S 6.1.0 b",
+    "--help",
+    "-V",
+];
+
+/// Words after `modinfo`, and what they ask for.
+const MODINFO: [(&str, &str); 14] = [
+    (
+        "-F license /m/a.ko",
+        r#"ModinfoWords { field: Some("license"), zero: false, version: None, basedir: "/", words: List { elements: ["/m/a.ko"] } }"#,
+    ),
+    (
+        "-Flicense /m/a.ko",
+        r#"ModinfoWords { field: Some("license"), zero: false, version: None, basedir: "/", words: List { elements: ["/m/a.ko"] } }"#,
+    ),
+    (
+        "-F=license /m/a.ko",
+        r#"ModinfoWords { field: Some("license"), zero: false, version: None, basedir: "/", words: List { elements: ["/m/a.ko"] } }"#,
+    ),
+    (
+        "/m/a.ko --field=license",
+        r#"ModinfoWords { field: Some("license"), zero: false, version: None, basedir: "/", words: List { elements: ["/m/a.ko"] } }"#,
+    ),
+    (
+        "-- /m/a.ko",
+        r#"ModinfoWords { field: None, zero: false, version: None, basedir: "/", words: List { elements: ["/m/a.ko"] } }"#,
+    ),
+    (
+        "-- -F -n",
+        r#"ModinfoWords { field: None, zero: false, version: None, basedir: "/", words: List { elements: ["-F", "-n"] } }"#,
+    ),
+    (
+        "a -n b -0 -",
+        r#"ModinfoWords { field: Some("filename"), zero: true, version: None, basedir: "/", words: List { elements: ["a", "b", "-"] } }"#,
+    ),
+    (
+        "-p0 a",
+        r#"ModinfoWords { field: Some("parm"), zero: true, version: None, basedir: "/", words: List { elements: ["a"] } }"#,
+    ),
+    (
+        "-0Fparm a",
+        r#"ModinfoWords { field: Some("parm"), zero: true, version: None, basedir: "/", words: List { elements: ["a"] } }"#,
+    ),
+    (
+        "-F - a",
+        r#"ModinfoWords { field: Some("-"), zero: false, version: None, basedir: "/", words: List { elements: ["a"] } }"#,
+    ),
+    (
+        "-F=-x a",
+        r#"ModinfoWords { field: Some("-x"), zero: false, version: None, basedir: "/", words: List { elements: ["a"] } }"#,
+    ),
+    (
+        "-l -k 6.1.0 -b /r no-such",
+        r#"ModinfoWords { field: Some("license"), zero: false, version: Some("6.1.0"), basedir: "/r", words: List { elements: ["no-such"] } }"#,
+    ),
+    (
+        "--author --set-version=6 a",
+        r#"ModinfoWords { field: Some("author"), zero: false, version: Some("6"), basedir: "/", words: List { elements: ["a"] } }"#,
+    ),
+    (
+        "--null --description a",
+        r#"ModinfoWords { field: Some("description"), zero: true, version: None, basedir: "/", words: List { elements: ["a"] } }"#,
+    ),
+];
+
+/// Words after `modinfo` that aren't understood. `''` is an empty word.
+const NO_MODINFO: [&str; 20] = [
+    "",
+    "-F license",
+    "-l -l a",
+    "-F x -F y a",
+    "-F -x a",
+    "-F",
+    "a -F",
+    "-b /r a",
+    "-l -d a",
+    "-F license -n a",
+    "-k 6/1 a",
+    "-q a",
+    "--fields=x a",
+    "--help",
+    "--version",
+    "-h",
+    "--null=x a",
+    "-F= a",
+    "a ''",
+    "-k '' a",
+];
+
+/// Words after `trial`, and what they ask for.
+const TRIAL: [(&str, &str); 4] = [
+    ("1 2", "TrialWords { seed: 1, count: 2 }"),
+    (
+        "18446744073709551615 2000",
+        "TrialWords { seed: 18446744073709551615, count: 2000 }",
+    ),
+    (
+        "00000000000000000007 0001",
+        "TrialWords { seed: 7, count: 1 }",
+    ),
+    ("-- 1 3", "TrialWords { seed: 1, count: 3 }"),
+];
+
+/// Words after `trial` that aren't understood. `''` is an empty word.
+const NO_TRIAL: [&str; 14] = [
+    "",
+    "1",
+    "1 0",
+    "1 2001",
+    "18446744073709551616 1",
+    "000000000000000000001 1",
+    "1 00001",
+    "+1 1",
+    "-1 1",
+    "1 1 1",
+    "0x1 1",
+    "1 1.",
+    "'' 1",
+    "1 --",
+];
+
+fn words_of(alloc: Global, line: &str) -> Result<Vec<Word>, AllocError> {
+    let mut words = Vec::new(alloc);
+    for word in line.split_whitespace() {
+        let text = if word == "''" { "" } else { word };
+        words.push(Word::from_text(alloc, text)?)?;
+    }
+    Ok(words)
+}
+
+#[test]
+fn words_of_depmod(rt: HostRuntime) -> Result<(), Fail> {
+    let alloc = rt.alloc();
+    for (line, want) in DEPMOD {
+        let words = words_of(alloc, line)?;
+        let asked = read_depmod(alloc, words.as_slice())?.ok_or("not understood")?;
+        let got = format!(in alloc; "{asked:?}")?;
+        assert_eq!(rt; got.as_str(), want);
+    }
+    for line in NO_DEPMOD {
+        let words = words_of(alloc, line)?;
+        assert!(rt; read_depmod(alloc, words.as_slice())?.is_none(), "{line}");
+    }
+    Ok(())
+}
+
+#[test]
+fn words_of_modprobe(rt: HostRuntime) -> Result<(), Fail> {
+    let alloc = rt.alloc();
+    for (line, want) in MODPROBE {
+        let words = words_of(alloc, line)?;
+        let asked = read_modprobe(alloc, words.as_slice())?.ok_or("not understood")?;
+        let got = format!(in alloc; "{asked:?}")?;
+        assert_eq!(rt; got.as_str(), want);
+    }
+    for line in NO_MODPROBE {
+        let words = words_of(alloc, line)?;
+        assert!(rt; read_modprobe(alloc, words.as_slice())?.is_none(), "{line}");
+    }
+    Ok(())
+}
+
+#[test]
+fn words_of_modinfo(rt: HostRuntime) -> Result<(), Fail> {
+    let alloc = rt.alloc();
+    for (line, want) in MODINFO {
+        let words = words_of(alloc, line)?;
+        let asked = read_modinfo(alloc, words.as_slice())?.ok_or("not understood")?;
+        let got = format!(in alloc; "{asked:?}")?;
+        assert_eq!(rt; got.as_str(), want);
+    }
+    for line in NO_MODINFO {
+        let words = words_of(alloc, line)?;
+        assert!(rt; read_modinfo(alloc, words.as_slice())?.is_none(), "{line}");
+    }
+    Ok(())
+}
+
+#[test]
+fn words_of_trial(rt: HostRuntime) -> Result<(), Fail> {
+    let alloc = rt.alloc();
+    for (line, want) in TRIAL {
+        let words = words_of(alloc, line)?;
+        let asked = read_trial(alloc, words.as_slice())?.ok_or("not understood")?;
+        let got = format!(in alloc; "{asked:?}")?;
+        assert_eq!(rt; got.as_str(), want);
+    }
+    for line in NO_TRIAL {
+        let words = words_of(alloc, line)?;
+        assert!(rt; read_trial(alloc, words.as_slice())?.is_none(), "{line}");
+    }
+    Ok(())
+}

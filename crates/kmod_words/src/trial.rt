@@ -1,0 +1,57 @@
+ghost use Rattle.std.specs.Prelude.{◌≡◌, IfOk, List, Option, ℕ};
+ghost use Rattle.clap.specs.Words.{found_of, rows_of};
+ghost use Rattle.kmod_words.specs.Trial.{trial_request, trial_asked, number_of as number_of_name};
+
+use crate::arguments::{Argument, command};
+use crate::matches::{texts_of, understood, value_of};
+use crate::numbers::decimal;
+use clap::ArgMatches;
+use km_names::Word;
+use std::alloc::{AllocError, Global};
+
+const ARGUMENTS: [Argument; 2] = [Argument::Word("seed"), Argument::Word("count")];
+
+/// What `trial` is asked for.
+#[derive(Clone, Copy, Debug, PartialEq, Eq)]
+pub struct TrialWords {
+    /// What the made tree is drawn from.
+    pub seed: u64,
+    /// How many modules it has, 1 to 2000.
+    pub count: u32,
+}
+
+/// What the words after `trial` ask for: `SEED COUNT`. It is `None` exactly where they aren't understood.
+pub fn read_trial(alloc: Global, words: &[Word]) -> Result<Option<TrialWords>, AllocError>
+    ensures { IfOk result (λ asked. asked ≡ trial_request words.now) }
+{
+    let command = command(alloc, "trial", &ARGUMENTS)?;
+    let texts = texts_of(alloc, words)?;
+    match understood(command, texts.as_slice())? {
+        Some(matches) => Ok(asked(&matches)),
+        None => Ok(None),
+    }
+}
+
+// What the matches ask for.
+#[tactic(auto, unfolding(crate::specs::Trial::trial_asked))]
+fn asked(matches: &ArgMatches<'_>) -> Option<TrialWords>
+    ensures { result ≡ trial_asked (rows_of (found_of matches.now)) }
+{
+    let seed = number_of(matches, "seed", 20)?;
+    let count = number_of(matches, "count", 4)?;
+    if 1 <= count && count <= 2000 {
+        Some(TrialWords {
+            seed,
+            count: count as u32,
+        })
+    } else {
+        None
+    }
+}
+
+// The number that the word of a name states.
+fn number_of(matches: &ArgMatches<'_>, name: &str, most: usize) -> Option<u64>
+    ensures { result ≡ number_of_name most name.now (rows_of (found_of matches.now)) }
+{
+    decimal(value_of(matches, name)?, most)
+}
