@@ -1,12 +1,13 @@
-pub mod Contents
 pub mod Roles
-pub mod SymbolTables
+pub mod NameTable
+pub mod Contents
 pub mod Versions
-pub mod Listed
+pub mod SymbolTables
 pub mod Exports
 pub mod Needs
 pub mod Facts
 pub mod Faults
 pub mod FaultText
-pub mod Module
 pub mod Times
+pub mod Missing
+pub mod Module

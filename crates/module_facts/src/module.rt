@@ -1,6 +1,6 @@
 // A module.
 
-ghost use Rattle.module_facts.specs.Module.{IsModule, IsSound};
+ghost use Rattle.module_facts.specs.Module.{IsModule};
 
 use crate::Facts;
 use elf_object::Object;
@@ -14,5 +14,4 @@ pub struct Module {
     /// What it states.
     pub facts: Facts,
     ghost valid: { IsModule object facts },
-    ghost sound: { IsSound object facts },
 }
