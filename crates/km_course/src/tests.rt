@@ -26,10 +26,22 @@ fn each_call_gives_what_is_there(rt: HostRuntime) -> Result<(), Fail> {
     let text = read_optional(alloc, &mut files, path(alloc, b"/e/a.conf")?)?;
     assert_eq!(rt; text.as_bytes(), b"text".as_slice());
     assert!(rt; read_optional(alloc, &mut files, path(alloc, b"/none")?)?.is_empty());
-    assert_eq!(rt; list_conf_needed(alloc, &mut files, path(alloc, b"/e")?)?.len(), 1);
-    assert_eq!(rt; list_conf_optional(alloc, &mut files, path(alloc, b"/e")?)?.len(), 1);
-    assert_eq!(rt; list_conf_optional(alloc, &mut files, path(alloc, b"/none")?)?.len(), 0);
-    assert_eq!(rt; list_tree_needed(alloc, &mut files, path(alloc, b"/e")?)?.len(), 2);
+    assert_eq!(rt;
+        list_conf_needed(alloc, &mut files, path(alloc, b"/e")?)?.len(),
+        1
+    );
+    assert_eq!(rt;
+        list_conf_optional(alloc, &mut files, path(alloc, b"/e")?)?.len(),
+        1
+    );
+    assert_eq!(rt;
+        list_conf_optional(alloc, &mut files, path(alloc, b"/none")?)?.len(),
+        0
+    );
+    assert_eq!(rt;
+        list_tree_needed(alloc, &mut files, path(alloc, b"/e")?)?.len(),
+        2
+    );
     let mut out = MemOut::with_room(alloc, 4)?;
     say(&mut out, b"ab")?;
     say_any(&mut out, b"")?;
@@ -47,7 +59,11 @@ fn a_stop_has_its_status_and_its_line(rt: HostRuntime) -> Result<(), Fail> {
         names.push(name(alloc, text)?)?;
     }
     let stops: [(Stop, u8, &str); 9] = [
-        (Refusal::Cycle { names }.into(), 1, "kmod: cycle a -> b -> a\n"),
+        (
+            Refusal::Cycle { names }.into(),
+            1,
+            "kmod: cycle a -> b -> a\n",
+        ),
         (
             Refusal::Version {
                 path: path(alloc, b"kernel/w.ko")?,
