@@ -1,5 +1,6 @@
 -- The test of overlaps, by the numbers of bytes that are counted twice.
 use Rattle.std.specs.Prelude.{option_map}
+use Rattle.km_names.specs.Limit.{file_limit}
 use Rattle.elf_object.proofs.SpanLemmas.{is_between-from, is_between-true}
 use Rattle.std.proofs.Common.{◌≡◌, ℕ, ◌+◌, ◌*◌, ◌^◌, ◌<◌, ◌≤◌, ◌&&◌, ◌==◌, nat_lt, nat_le, Bool, true, false, cond, List, [], ◌∷◌, length, All, Some, None, refl, sym, ap, ◌∙◌, inl, inr, arith}
 use Rattle.std.proofs.lemmas.Bool.{cases_Bool, cases_lt, lt-ltb, le-ltb, ltb-true, and_parts, and_from, and_right, both_ways, eq-eqb, eqb-true, le-leb, leb-true, and_left, lt-leb}
@@ -11,15 +12,17 @@ use Rattle.elf_object.specs.declared.place.RelaPlace.{RelaPlace}
 use Rattle.elf_object.specs.declared.fault.ObjectFault.TheVariants.{OverlappingPlaces}
 use Rattle.elf_object.specs.Shape.{each, section_count}
 use Rattle.elf_object.specs.Sections.{section_of}
-use Rattle.elf_object.specs.Places.{IsInSection, covers, is_shared, overlap_test, place_width, places_of}
+use Rattle.elf_object.specs.Places.{covers, is_shared, overlap_test, place_width, places_of}
+use Rattle.elf_object.proofs.Inside.{IsInSection}
 use Rattle.elf_object.specs.Overlap.{IsNear, count_at, is_between, place_end, place_start}
 use Rattle.elf_object.proofs.TestLemmas.{each-failed, each-passed}
 use Rattle.elf_object.proofs.TableLemmas.{position-no_number, position-number}
 
 -- a place of the file is near
-pub IsNear-inside : (b : List ℕ) (p : RelaPlace) → length b ≤ 67108864 → IsInSection b p → IsNear p
+pub IsNear-inside : (b : List ℕ) (p : RelaPlace) → length b ≤ file_limit → IsInSection b p → IsNear p
 IsNear-inside b p small inside = λ bytes.
     let within = inside.within bytes in
+    let size = inside.in_file bytes in
     (inside.near, omega arith)
 
 -- the byte at x of a section, and its number
@@ -99,7 +102,7 @@ count_by-member p (x ∷ xs) some = elim (cases_Bool (p x)) [
 ]
 
 -- a file whose places lie in their sections
-module _ (b : List ℕ) (small : length b ≤ 67108864) (inside : All (IsInSection b) (places_of b)) where
+module _ (b : List ℕ) (small : length b ≤ file_limit) (inside : All (IsInSection b) (places_of b)) where
   near_places : All IsNear (places_of b)
   near_places = All-weaker (IsInSection b) IsNear (λ p. IsNear-inside b p small) (places_of b) inside
 
@@ -154,7 +157,7 @@ module _ (b : List ℕ) (small : length b ≤ 67108864) (inside : All (IsInSecti
       let fits = is_near bytes in
       let target : p.target ≡ t = omega arith in
       let within : x < p.offset + place_width p = omega arith in
-      let size = rw target at (is_inside.within bytes).0 in
+      let size = rw target at (is_inside.within bytes) in
       let less = rw target at is_inside.target in
       each-failed (section_count b) (overlap_test b) t (OverlappingPlaces t x) less
       (λ i below. overlap_test-none i (λ y close. before (i * 2 ^ 32 + y) (omega arith)))

@@ -1,24 +1,28 @@
 -- The places of one section, where it is applied and where it isn't.
-use Rattle.elf_object.proofs.TestLemmas.{one-passed, three-passed}
-use Rattle.std.specs.Prelude.{is_none, nat_le}
+use Rattle.elf_object.specs.Inner.{TablesFit}
+use Rattle.elf_object.proofs.TestLemmas.{All-range, each-none, fault_if-none, first-parts}
+use Rattle.std.specs.Prelude.{◌≢◌, is_none, nat_le, All, IsSome}
 use Rattle.elf_object.specs.declared.fault.ObjectFault.TheVariants.{BadRela, UnknownType}
 use Rattle.elf_object.specs.declared.place.RelaPlace.{RelaPlace}
-use Rattle.elf_object.proofs.ShapeLemmas.{has_content-kept}
-use Rattle.std.specs.Bool.{IsTrue}
+use Rattle.elf_object.proofs.ShapeLemmas.{has_content-kept, section_of-within}
 use Rattle.elf_object.specs.declared.symbol.Symbol.{Symbol}
 use Rattle.elf_object.specs.declared.section.Section.{Section}
-use Rattle.std.proofs.Common.{◌≡◌, ℕ, ◌+◌, ◌<◌, ◌≤◌, ◌==◌, ◌&&◌, ◌||◌, nat_lt, not, true, false, length, inl, inr, List, [], ◌∷◌, ◌++◌, map, None, refl, sym, ap, ◌∙◌, arith}
-use Rattle.std.proofs.lemmas.Bool.{and_cases, and_parts, eqb-false, eqb-true, ltb-false, not-false, or_parts, leb-false}
+use Rattle.std.proofs.Common.{◌≡◌, ℕ, zero, suc, ◌+◌, ◌<◌, ◌≤◌, ◌==◌, ◌&&◌, ◌||◌, nat_lt, not, true, false, length, inl, inr, List, [], ◌∷◌, ◌++◌, map, None, Some, refl, sym, ap, ◌∙◌, subst, arith}
+use Rattle.std.proofs.lemmas.List.Elements.{All-append, All-map, All-nil}
+use Rattle.std.proofs.lemmas.Bool.{cases_Bool, and_cases, and_parts, eqb-false, eqb-true, ltb-false, not-false, or_parts, leb-false}
 use Rattle.std.proofs.lemmas.List.{append-nil, map-id}
 use Rattle.std.proofs.lemmas.List.Concat.{flat_map-append}
 use Rattle.std.proofs.lemmas.List.FromFn.{map-range_with_len_more}
 use Rattle.std.specs.List.{flat_map, range_with_len}
 use Rattle.km_names.specs.First.{first}
-use Rattle.elf_object.specs.declared.format.TheConstants.{R_X86_64_NONE, SHT_NOBITS, SHT_RELA}
-use Rattle.elf_object.specs.Shape.{contents, each, section_count, has_content}
+use Rattle.elf_format.specs.declared.relocation.TheConstants.{R_X86_64_NONE}
+use Rattle.elf_format.specs.declared.section.TheConstants.{SHT_NOBITS, SHT_RELA}
+use Rattle.elf_format.specs.Relocation.{IsKnown, width}
+use Rattle.elf_object.proofs.Inside.{IsInSection}
+use Rattle.elf_object.specs.Shape.{AllInFile, HasTable, contents, each, fault_if, section_count}
 use Rattle.elf_object.specs.Sections.{section_of, sections_of}
 use Rattle.elf_object.specs.Symbols.{entries, symbols_of}
-use Rattle.elf_object.specs.Places.{IsInSection, is_applied, is_bad_place, is_unkept, place_in, place_width, width, place_of, place_test, rela_test, section_places}
+use Rattle.elf_object.specs.Places.{is_applied, is_bad_place, is_unkept, place_in, place_width, place_of, place_test, places_of, rela_test, section_places}
 
 pub section_places-none : (b : List ℕ) (i : ℕ) → is_applied b i ≡ false → section_places b i ≡ []
 unfolding section_places
@@ -59,39 +63,85 @@ pub places-more : (b : List ℕ) (n : ℕ) → flat_map (section_places b) (rang
 places-more b n =
     rw (range_more n) (flat_map-append (section_places b) (range_with_len 0 n) (n ∷ []) ∙ rw append-nil refl)
 
--- a place that passed its tests, and changes bytes, lies in its section, which has bytes
-pub place_test-within : (sections : List Section) (symbols : List Symbol) (target : Section) (p : RelaPlace) → place_test sections symbols target p ≡ None → 0 < place_width p → (p.offset + place_width p ≤ target.size) × (target.kind ≡ SHT_NOBITS → ⊥)
-unfolding place_test is_bad_place width
-place_test-within sections symbols target p passed bytes =
-    let last = three-passed (nat_le (length symbols) p.symbol) (is_none (width p.kind)) (not (p.kind == R_X86_64_NONE) && is_bad_place sections symbols target p)
-    (BadRela p.section p.entry) (UnknownType p.section p.entry p.kind) (BadRela p.section p.entry) passed in
-    elim (and_cases (not (p.kind == R_X86_64_NONE)) (is_bad_place sections symbols target p) last) [
-      | inl none ↦
-          let kind = eqb-true p.kind R_X86_64_NONE (not-false (p.kind == R_X86_64_NONE) none) in
-          let empty = rw kind at bytes in
-          absurd (omega arith)
-      | inr good ↦
-          let parts = or_parts (nat_lt target.size (p.offset + place_width p) || target.kind == SHT_NOBITS) (is_unkept sections symbols p.symbol) good in
-          let both = or_parts (nat_lt target.size (p.offset + place_width p)) (target.kind == SHT_NOBITS) parts.0 in
-          (ltb-false target.size (p.offset + place_width p) both.0, eqb-false target.kind SHT_NOBITS both.1)
-    ]
+-- a type of which some width is known
+IsKnown-some : (kind : ℕ) → is_none (width kind) ≡ false → IsKnown kind
+IsKnown-some kind some = elim (width kind) as (λ w. is_none w ≡ false → IsSome w) [ None ↦ λ none. absurd (cc) | Some n ↦ λ _. refl ] some
 
--- a place that passed its tests is over a symbol of the table
-place_test-symbol : (sections : List Section) (symbols : List Symbol) (target : Section) (p : RelaPlace) → place_test sections symbols target p ≡ None → p.symbol < length symbols
-unfolding place_test
-place_test-symbol sections symbols target p passed =
-    leb-false (length symbols) p.symbol (one-passed (nat_le (length symbols) p.symbol) (BadRela p.section p.entry) _ passed)
+-- what the tests of a place in its section say
+record IsPassed (sections : List Section) (symbols : List Symbol) (target : Section) (p : RelaPlace) : Type 0 where
+  symbol : p.symbol < length symbols
+  known : IsKnown p.kind
+  bytes : 0 < place_width p → (p.offset + place_width p ≤ target.size) × (target.kind ≢ SHT_NOBITS) × (is_unkept sections symbols p.symbol ≡ false)
+
+place_test-passed : (sections : List Section) (symbols : List Symbol) (target : Section) (p : RelaPlace) → place_test sections symbols target p ≡ None → IsPassed sections symbols target p
+unfolding place_test is_bad_place
+place_test-passed sections symbols target p passed =
+    let unknown = nat_le (length symbols) p.symbol in
+    let untyped = is_none (width p.kind) in
+    let bad = is_bad_place sections symbols target p in
+    let one = first-parts (fault_if unknown (BadRela p.section p.entry)) _ passed in
+    let two = first-parts (fault_if untyped (UnknownType p.section p.entry p.kind)) _ one.1 in
+    let three = first-parts (fault_if (not (p.kind == R_X86_64_NONE) && bad) (BadRela p.section p.entry)) [] two.1 in
+    record {
+      symbol = leb-false (length symbols) p.symbol (fault_if-none unknown (BadRela p.section p.entry) one.0);
+      known = IsKnown-some p.kind (fault_if-none untyped (UnknownType p.section p.entry p.kind) two.0);
+      bytes = λ some. elim (and_cases (not (p.kind == R_X86_64_NONE)) bad (fault_if-none _ (BadRela p.section p.entry) three.0)) [
+        | inl none ↦
+            let kind = eqb-true p.kind R_X86_64_NONE (not-false (p.kind == R_X86_64_NONE) none) in
+            let empty = rw kind at some in
+            absurd (omega arith)
+        | inr good ↦
+            let parts = or_parts (nat_lt target.size (p.offset + place_width p) || target.kind == SHT_NOBITS) (is_unkept sections symbols p.symbol) good in
+            let both = or_parts (nat_lt target.size (p.offset + place_width p)) (target.kind == SHT_NOBITS) parts.0 in
+            (ltb-false target.size (p.offset + place_width p) both.0, eqb-false target.kind SHT_NOBITS both.1, parts.1)
+      ];
+    }
 
 -- a place of an applied section that passed its tests
-pub IsInSection-place : (b : List ℕ) (i j : ℕ) → is_applied b i ≡ true → (section_of b i).info < section_count b → section_count b < 0xff00 → (IsTrue (has_content (section_of b (section_of b i).info).kind) → (section_of b (section_of b i).info).offset + (section_of b (section_of b i).info).size ≤ length b) → place_test (sections_of b) (symbols_of b) (section_of b (section_of b i).info) (place_of b i j) ≡ None → IsInSection b (place_of b i j)
+pub IsInSection-place : (b : List ℕ) (i j : ℕ) → HasTable b → AllInFile b → is_applied b i ≡ true → (section_of b i).info < section_count b → place_test (sections_of b) (symbols_of b) (section_of b (section_of b i).info) (place_of b i j) ≡ None → IsInSection b (place_of b i j)
 unfolding place_in
-IsInSection-place b i j applied target few within passed = record {
-  target = target;
-  near = omega arith;
-  symbol = place_test-symbol (sections_of b) (symbols_of b) (section_of b (section_of b i).info) (place_of b i j) passed;
-  kept = is_applied-kept b i applied;
-  within = λ bytes.
-      let inside = place_test-within (sections_of b) (symbols_of b) (section_of b (section_of b i).info) (place_of b i j) passed bytes in
-      let has = within (has_content-kept b (section_of b i).info (is_applied-kept b i applied) inside.1) in
-      (inside.0, omega arith);
-}
+IsInSection-place b i j has within applied target passed =
+    let t = (section_of b i).info in
+    let said = place_test-passed (sections_of b) (symbols_of b) (section_of b t) (place_of b i j) passed in
+    let few = has.count in
+    let kept = is_applied-kept b i applied in
+    record {
+      known = said.known;
+      target = target;
+      near = omega arith;
+      symbol = said.symbol;
+      kept = kept;
+      bytes = λ some. (said.bytes some).1;
+      within = λ some. (said.bytes some).0;
+      in_file = λ some.
+          let inside = section_of-within b t target within (has_content-kept b t kept (said.bytes some).1) in
+          omega arith;
+      linked = λ some. (said.bytes some).2;
+    }
+
+-- the places of the section i, where they passed their tests
+All-section_places : (b : List ℕ) (i : ℕ) → HasTable b → AllInFile b → TablesFit b → i < section_count b → rela_test b i ≡ None → All (IsInSection b) (section_places b i)
+All-section_places b i has within fit less passed = elim (cases_Bool (is_applied b i)) [
+  | inl applied ↦
+      rw (section_places-some b i applied)
+      (All-map (IsInSection b) (place_of b i) (range_with_len 0 (entries (contents b i)))
+      (All-range (λ j. IsInSection b (place_of b i j)) (entries (contents b i))
+      (λ j below. IsInSection-place b i j has within applied (fit.targets i less (is_applied-kind b i applied))
+      (each-none (entries (contents b i)) (λ j. place_test (sections_of b) (symbols_of b) (section_of b (section_of b i).info) (place_of b i j)) (sym (rela_test-some b i applied) ∙ passed) j below))))
+  | inr unapplied ↦ rw (section_places-none b i unapplied) (All-nil (IsInSection b))
+]
+
+places_below : (b : List ℕ) (n : ℕ) → ((i : ℕ) → i < n → All (IsInSection b) (section_places b i)) → All (IsInSection b) (flat_map (section_places b) (range_with_len 0 n))
+places_below b zero inside = All-nil (IsInSection b)
+places_below b (suc n) inside =
+    let one_more : n + 1 ≡ suc n = omega arith in
+    subst (λ m. All (IsInSection b) (flat_map (section_places b) (range_with_len 0 m))) one_more
+    (rw (places-more b n) (All-append (IsInSection b) (flat_map (section_places b) (range_with_len 0 n)) (section_places b n)
+    (places_below b n (λ i less. inside i (omega arith))) (inside n (omega arith))))
+
+-- the places of a file, where they passed their tests
+pub All-places_of : (b : List ℕ) → HasTable b → AllInFile b → TablesFit b → first (each (section_count b) (rela_test b)) ≡ None → All (IsInSection b) (places_of b)
+unfolding places_of
+All-places_of b has within fit passed =
+    places_below b (section_count b)
+    (λ i less. All-section_places b i has within fit less (each-none (section_count b) (rela_test b) passed i less))

@@ -4,14 +4,15 @@ use Rattle.std.proofs.Common.{◌≡◌, ℕ, ◌<◌, ◌≤◌, true, false, L
 use Rattle.std.proofs.lemmas.Bool.Decides.{nat_tests}
 use Rattle.km_names.specs.First.{first}
 use Rattle.elf_object.specs.declared.fault.SectionFault.{SectionFault}
-use Rattle.elf_object.specs.Shape.{AllInFile, content, contents, each, has_content, header_tests, is_kept, is_table, name_table, name_table_test, name_test, place_test, section_count, section_header, shape_fault, shape_tests}
-use Rattle.elf_object.specs.Sections.{bytes_of, section_of, sections_of}
+use Rattle.elf_object.specs.Shape.{AllInFile, content, contents, each, has_content, header_tests, is_kept, is_table, name_table, name_in, name_table_test, name_test, name_test_in, place_test, section_count, section_header, shape_fault, shape_tests}
+use Rattle.elf_object.specs.Inner.{HasStrings}
+use Rattle.elf_object.specs.Sections.{IsRead, bytes_of, section_of, sections_of}
 use Rattle.std.proofs.lemmas.List.{length-drop, length-take}
 use Rattle.std.proofs.lemmas.List.FromFn.{get_or-map-range_with_len, length-map-range_with_len}
 use Rattle.std.proofs.lemmas.Option.{get_or_from_slice_get, slice_get-get_or, slice_get_within}
 use Rattle.std.specs.Bool.{IsTrue}
 use Rattle.std.specs.Option.{IfSome}
-use Rattle.elf_object.specs.declared.format.TheConstants.{SHT_NOBITS, SHT_NULL}
+use Rattle.elf_format.specs.declared.section.TheConstants.{SHT_NOBITS, SHT_NULL}
 use Rattle.std.specs.List.{range_with_len, slice_get}
 use Rattle.elf_object.specs.declared.section.Section.{Section}
 use Rattle.elf_object.proofs.TestLemmas.{first-failed, first-passed}
@@ -43,6 +44,19 @@ shape_fault-names b header places =
 pub length-sections_of : (b : List ℕ) → length (sections_of b) ≡ section_count b
 unfolding sections_of
 length-sections_of b = length-map-range_with_len (section_of b) 0 (section_count b)
+
+-- As many of the list as the file header says.
+pub length-read : (b : List ℕ) (sections : List Section) → IsRead b sections → length sections ≡ section_count b
+length-read b sections read = ap length read.list_is ∙ length-sections_of b
+
+-- The test of a name under a table with the same strings.
+pub name_test-same : (b names : List ℕ) (i : ℕ) → HasStrings (contents b (name_table b)) names → name_test_in names (section_header b i).kind (section_header b i).name ≡ name_test b i
+unfolding name_test_in
+name_test-same b names i same = rw (same.strings (section_header b i).name) refl
+
+pub name_in-same : (table names : List ℕ) (kind at : ℕ) → HasStrings table names → name_in names kind at ≡ name_in table kind at
+unfolding name_in
+name_in-same table names kind at same = rw (same.strings at) refl
 
 -- A section of the list by its number.
 pub sections_of-get : (b : List ℕ) (i : ℕ) (s : Section) → slice_get (sections_of b) i ≡ Some s → (i < section_count b) × (s ≡ section_of b i)
@@ -91,15 +105,15 @@ pub section_of-within : (b : List ℕ) (i : ℕ) → i < section_count b → All
 unfolding section_of
 section_of-within b i less within has = within i less has
 
--- the first of four tests
-first_of_four : (x y z t : Bool) → (x && y && z && t) ≡ true → x ≡ true
-first_of_four true y z t passed = refl
-first_of_four false y z t passed = passed
+-- the first of three tests
+first_of_three : (x y z : Bool) → (x && y && z) ≡ true → x ≡ true
+first_of_three true y z passed = refl
+first_of_three false y z passed = passed
 
 -- A section that is kept and not of type NOBITS has bytes in the file.
 pub has_content-kept : (b : List ℕ) (i : ℕ) → (section_of b i).kept ≡ true → ((section_of b i).kind ≡ SHT_NOBITS → ⊥) → has_content (section_of b i).kind ≡ true
 unfolding section_of is_kept
 has_content-kept b i kept other =
     let kind = (section_header b i).kind in
-    let section = first_of_four (not (kind == SHT_NULL)) _ _ _ kept in
+    let section = first_of_three (not (kind == SHT_NULL)) _ _ kept in
     and_from (not (kind == SHT_NULL)) (not (kind == SHT_NOBITS)) section (ap not (ne_eqb kind SHT_NOBITS other))

@@ -1,13 +1,13 @@
 -- Counting the items that have a number between their first number and their end.
-use Rattle.std.proofs.Common.{◌≡◌, ℕ, zero, suc, ◌+◌, ◌<◌, ◌≤◌, true, false, cond, ltb, leb, List, [], ◌∷◌, length, take, drop, get_or, pos, Option, Some, None, refl, ◌∙◌, inl, inr, arith}
+use Rattle.std.proofs.Common.{◌≡◌, ℕ, zero, suc, ◌+◌, ◌<◌, ◌≤◌, true, false, cond, ltb, leb, List, [], ◌∷◌, ◌++◌, length, take, drop, get_or, pos, Option, Some, None, refl, ◌∙◌, inl, inr, arith}
 use Rattle.std.proofs.lemmas.Bool.{and_parts, cases_Bool, leb-true, ltb-true, le-leb, lt-ltb, and_from}
 use Rattle.std.proofs.lemmas.Bool.Decides.{nat_tests}
-use Rattle.std.proofs.lemmas.List.Sums.{sum_by-cons, sum_by_more, sum_by-take-drop, sum_by-take-le}
+use Rattle.std.proofs.lemmas.List.Sums.{sum_by-cons, sum_by_more, sum_by_push, sum_by-take-drop, sum_by-take-le}
 use Rattle.std.proofs.lemmas.List.{get_or-drop, get_or_default, length-drop}
 use Rattle.std.specs.List.Sorted.{IsNonDecreasingBy}
 use Rattle.elf_object.specs.declared.overlap.Span.{Span}
 use Rattle.elf_object.specs.declared.place.RelaPlace.{RelaPlace}
-use Rattle.elf_object.specs.Overlap.{IsLeastShared, count_at, is_between}
+use Rattle.elf_object.specs.Overlap.{IsApart, IsLeastShared, count_at, is_between}
 
 pub is_between-true : (low high a : ℕ) → is_between low high a ≡ true → (low ≤ a) × (a < high)
 is_between-true low high a is =
@@ -25,19 +25,14 @@ is_between-before low high a before = grind (arith, nat_tests)
 pub is_between-empty : (low a : ℕ) → is_between low (low + 0) a ≡ false
 is_between-empty low a = grind (arith, nat_tests)
 
--- the first n items count no number twice, and none from `end` on
-pub record Apart {X : Type 0} (start finish : X → ℕ) (xs : List X) (n end : ℕ) : Type 0 where
-  pub once : (a : ℕ) → count_at start finish a (take n xs) ≤ 1
-  pub past : (a : ℕ) → end ≤ a → count_at start finish a (take n xs) ≡ 0
-
 -- one more item in the count
 pub count_at-more : {X : Type 0} (start finish : X → ℕ) (xs : List X) (i : ℕ) (x : X) → i < length xs → x ≡ get_or xs i x → (a : ℕ) → count_at start finish a (take (i + 1) xs) ≡ count_at start finish a (take i xs) + cond (is_between (start x) (finish x) a) 1 0
 count_at-more start finish xs i x within is a =
     rw (← is) at (sum_by_more (λ y. cond (is_between (start y) (finish y) a) 1 0) xs i x within)
 
 -- an item that begins at the end or later
-pub Apart-more : {X : Type 0} (start finish : X → ℕ) (xs : List X) (i : ℕ) (x : X) (end : ℕ) → i < length xs → x ≡ get_or xs i x → Apart start finish xs i end → end ≤ start x → start x ≤ finish x → Apart start finish xs (i + 1) (finish x)
-Apart-more start finish xs i x end within is apart after ordered = record {
+pub IsApart-more : {X : Type 0} (start finish : X → ℕ) (xs : List X) (i : ℕ) (x : X) (end : ℕ) → i < length xs → x ≡ get_or xs i x → IsApart start finish (take i xs) end → end ≤ start x → start x ≤ finish x → IsApart start finish (take (i + 1) xs) (finish x)
+IsApart-more start finish xs i x end within is apart after ordered = record {
   once = λ a.
       let more = count_at-more start finish xs i x within is a in
       let b = is_between (start x) (finish x) a in
@@ -54,22 +49,41 @@ Apart-more start finish xs i x end within is apart after ordered = record {
       rw (more, none, is_between-past (start x) (finish x) a later) refl;
 }
 
--- an item without bytes
-pub Apart-skip : {X : Type 0} (start finish : X → ℕ) (xs : List X) (i : ℕ) (x : X) (end : ℕ) → i < length xs → x ≡ get_or xs i x → Apart start finish xs i end → finish x ≡ start x + 0 → Apart start finish xs (i + 1) end
-Apart-skip start finish xs i x end within is apart empty = record {
+-- one more item at the end, which begins at the end or later
+pub IsApart-push : {X : Type 0} (start finish : X → ℕ) (xs : List X) (x : X) (end : ℕ) → IsApart start finish xs end → end ≤ start x → start x ≤ finish x → IsApart start finish (xs ++ x ∷ []) (finish x)
+IsApart-push start finish xs x end apart after ordered = record {
   once = λ a.
-      let more = rw (empty, is_between-empty (start x) a) at (count_at-more start finish xs i x within is a) in
+      let b = is_between (start x) (finish x) a in
+      let more = sum_by_push (λ y. cond (is_between (start y) (finish y) a) 1 0) xs x in
+      elim (cases_Bool b) [
+        | inl yes' ↦
+            let low = (is_between-true (start x) (finish x) a yes').0 in
+            let none = apart.past a (omega arith) in
+            rw (more, none, yes') (omega arith)
+        | inr no' ↦ let before = apart.once a in rw (more, no') (omega arith)
+      ];
+  past = λ a later.
+      let more = sum_by_push (λ y. cond (is_between (start y) (finish y) a) 1 0) xs x in
+      let none = apart.past a (omega arith) in
+      rw (more, none, is_between-past (start x) (finish x) a later) refl;
+}
+
+-- one more item without bytes
+pub IsApart-push_empty : {X : Type 0} (start finish : X → ℕ) (xs : List X) (x : X) (end : ℕ) → IsApart start finish xs end → finish x ≡ start x + 0 → IsApart start finish (xs ++ x ∷ []) end
+IsApart-push_empty start finish xs x end apart empty = record {
+  once = λ a.
+      let more = rw (empty, is_between-empty (start x) a) at (sum_by_push (λ y. cond (is_between (start y) (finish y) a) 1 0) xs x) in
       let before = apart.once a in
       omega arith;
   past = λ a later.
-      let more = rw (empty, is_between-empty (start x) a) at (count_at-more start finish xs i x within is a) in
+      let more = rw (empty, is_between-empty (start x) a) at (sum_by_push (λ y. cond (is_between (start y) (finish y) a) 1 0) xs x) in
       let before = apart.past a later in
       omega arith;
 }
 
--- before the first item nothing is counted
-pub Apart-none : {X : Type 0} (start finish : X → ℕ) (xs : List X) → Apart start finish xs 0 0
-Apart-none start finish xs = record { once = λ a. omega arith; past = λ a later. refl }
+-- no item counts nothing
+pub IsApart-none : {X : Type 0} (start finish : X → ℕ) → IsApart start finish [] 0
+IsApart-none start finish = record { once = λ a. omega arith; past = λ a later. refl }
 
 -- a number below `end` and not below the first numbers of the first n items is counted
 abbrev pub Reaches : {X : Type 0} → (X → ℕ) → (X → ℕ) → List X → ℕ → ℕ → Type 0
@@ -91,7 +105,7 @@ count_at-none start finish a (x ∷ xs) without =
     ∙ rw here (omega (arith, count_at-none start finish a xs (λ k d less. without (suc k) d (omega arith))))
 
 -- an item in order that begins before the end shares its first number, and none shares a lower one
-pub IsLeastShared-found : {X : Type 0} (start finish : X → ℕ) (xs : List X) (i : ℕ) (x : X) (end : ℕ) → i < length xs → x ≡ get_or xs i x → IsNonDecreasingBy start xs → Apart start finish xs i end → Reaches start finish xs i end → start x < end → start x < finish x → IsLeastShared (λ a. count_at start finish a xs) (Some (start x))
+pub IsLeastShared-found : {X : Type 0} (start finish : X → ℕ) (xs : List X) (i : ℕ) (x : X) (end : ℕ) → i < length xs → x ≡ get_or xs i x → IsNonDecreasingBy start xs → IsApart start finish (take i xs) end → Reaches start finish xs i end → start x < end → start x < finish x → IsLeastShared (λ a. count_at start finish a xs) (Some (start x))
 IsLeastShared-found start finish xs i x end within is sorted apart reaches before long = (
   (
       let more = count_at-more start finish xs i x within is (start x) in
@@ -117,7 +131,7 @@ abbrev pub no_place : RelaPlace
 no_place = record { section = 0; entry = 0; target = 0; offset = 0; symbol = 0; kind = 0; addend = pos 0 }
 
 abbrev pub no_span : Span
-no_span = record { start = 0; end = 0 }
+no_span = record { offset = 0; target = 0; width = 0 }
 
 -- the same counts have the same least shared number
 pub IsLeastShared-same : (f g : ℕ → ℕ) → ((a : ℕ) → f a ≡ g a) → (r : Option ℕ) → IsLeastShared f r → IsLeastShared g r

@@ -1,7 +1,8 @@
 pub mod FaultText
+pub mod Inner
+pub mod Object
+pub mod Overlap
+pub mod Places
 pub mod Sections
 pub mod Shape
 pub mod Symbols
-pub mod Places
-pub mod Overlap
-pub mod Object

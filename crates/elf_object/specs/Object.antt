@@ -1,17 +1,20 @@
 -- An object file: its sections, its symbols, and the places that its relocations change.
 -- gABI 4, "Object Files"; x86-64 psABI, "Object Files".
-use Rattle.std.specs.Prelude.{◌≡◌, ℕ, ◌+◌, ◌^◌, ◌<◌, ◌≤◌, true, List, ◌∷◌, ◌++◌, length, All, IfSome, Option, option_map, slice_get}
-use Rattle.elf_object.specs.declared.format.TheConstants.{SHN_LORESERVE}
+use Rattle.std.specs.Prelude.{◌≡◌, ◌≢◌, ℕ, ◌+◌, ◌^◌, ◌<◌, ◌≤◌, true, false, List, ◌∷◌, ◌++◌, length, All, AllPairs, IsTrue, IfSome, Option, option_map, slice_get}
+use Rattle.elf_format.specs.declared.section.TheConstants.{SHT_NOBITS}
+use Rattle.elf_format.specs.declared.symbol.TheConstants.{SHN_LORESERVE, SHN_ABS, STB_WEAK}
+use Rattle.elf_format.specs.Relocation.{IsKnown}
 use Rattle.km_names.specs.First.{first}
+use Rattle.km_names.specs.Limit.{file_limit}
 use Rattle.elf_object.specs.declared.section.Section.{Section}
 use Rattle.elf_object.specs.declared.symbol.Symbol.{Symbol}
 use Rattle.elf_object.specs.declared.place.RelaPlace.{RelaPlace}
 use Rattle.elf_object.specs.declared.fault.ObjectFault.{ObjectFault}
 use Rattle.elf_object.specs.declared.fault.ObjectFault.TheVariants.{Shape}
-use Rattle.elf_object.specs.Shape.{shape_fault}
-use Rattle.elf_object.specs.Sections.{sections_of}
+use Rattle.elf_object.specs.Shape.{has_content, shape_fault}
+use Rattle.elf_object.specs.Sections.{FileSections, sections_of}
 use Rattle.elf_object.specs.Symbols.{symbol_tests, symbols_of}
-use Rattle.elf_object.specs.Places.{place_tests, place_width, places_of}
+use Rattle.elf_object.specs.Places.{is_alignment, is_unkept, place_tests, place_width, places_of}
 
 -- A file with its sections, its symbols, and the places that its relocations change.
 pub record FileObject : Type 0 where
@@ -24,22 +27,51 @@ pub record FileObject : Type 0 where
 abbrev pub file_object : List ℕ → FileObject
 file_object b = record { file = b; sections = sections_of b; symbols = symbols_of b; places = places_of b }
 
--- The section of a symbol is one of these, unless it is a reserved number.
-abbrev pub IsSymbolIn : List Section → Symbol → Type 0
-IsSymbolIn sections s = s.section < SHN_LORESERVE → s.section < length sections
+-- What is said of one section of a file: its bytes are there, and its alignment is one where it is kept in memory.
+-- gABI 4, "Sections", sh_size and sh_addralign.
+pub record IsSectionIn (file : List ℕ) (s : Section) : Type 0 where
+  pub within : IsTrue (has_content s.kind) → s.offset + s.size ≤ length file
+  pub aligned : s.kept ≡ true → is_alignment s.align ≡ true
 
--- A place is over one of these symbols and in one of these sections, which is kept; the bytes that it changes
--- lie in it.
+-- What is said of one symbol: its section is one of these unless its number is reserved, the one reserved number
+-- is that of an absolute value, and its binding is one of the three. gABI 4, "Symbol Table".
+pub record IsSymbolIn (sections : List Section) (s : Symbol) : Type 0 where
+  pub section : s.section < SHN_LORESERVE → s.section < length sections
+  pub absolute : SHN_LORESERVE ≤ s.section → s.section ≡ SHN_ABS
+  pub binding : s.binding ≤ STB_WEAK
+
+-- What is said of one place: its type is known, its symbol is one of these, and its target is one of these
+-- sections and kept. If it changes bytes, they lie in the target, which has bytes, and the symbol doesn't lie
+-- in a section that isn't kept. gABI 4, "Relocation".
 pub record IsPlaceIn (sections : List Section) (symbols : List Symbol) (p : RelaPlace) : Type 0 where
+  pub known : IsKnown p.kind
   pub symbol : p.symbol < length symbols
   pub target : p.target < length sections
-  pub within : IfSome (slice_get sections p.target) (λ t. (t.kept ≡ true) × (0 < place_width p → p.offset + place_width p ≤ t.size))
+  pub kept : IfSome (slice_get sections p.target) (λ t. t.kept ≡ true)
+  pub within : 0 < place_width p → IfSome (slice_get sections p.target) (λ t. (t.kind ≢ SHT_NOBITS) × (p.offset + place_width p ≤ t.size))
+  pub linked : 0 < place_width p → is_unkept sections symbols p.symbol ≡ false
 
--- Symbols and places are few, and in the sections.
-pub record IsInside (sections : List Section) (symbols : List Symbol) (places : List RelaPlace) : Type 0 where
+-- The place changes the byte at x of its target.
+abbrev pub Changes : RelaPlace → ℕ → Type 0
+Changes p x = (p.offset ≤ x) × (x < p.offset + place_width p)
+
+-- No byte of one target is changed by both places.
+abbrev pub AreApart : RelaPlace → RelaPlace → Type 0
+AreApart p q = p.target ≡ q.target → (x : ℕ) → Changes p x → Changes q x → ⊥
+
+-- What a loader needs to know: each section, symbol and place can be as it is among the others, and no two places
+-- change one byte.
+pub record IsLoadable (o : FileObject) : Type 0 where
+  pub sections : All (IsSectionIn o.file) o.sections
+  pub symbols : All (IsSymbolIn o.sections) o.symbols
+  pub places : All (IsPlaceIn o.sections o.symbols) o.places
+  pub apart : AllPairs AreApart o.places
+
+-- What is known of the parts of every object that was read.
+pub record IsObject (sections : FileSections) (symbols : List Symbol) (places : List RelaPlace) : Type 0 where
+  pub small : length sections.file ≤ file_limit
   pub few : length symbols < 2 ^ 32
-  pub symbols_in : All (IsSymbolIn sections) symbols
-  pub places_in : All (IsPlaceIn sections symbols) places
+  pub loadable : IsLoadable (record { file = sections.file; sections = sections.list; symbols = symbols; places = places })
 
 -- The tests that an object file passes, in order.
 unfoldable pub object_tests : List ℕ → List (Option ObjectFault)

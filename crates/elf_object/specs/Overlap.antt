@@ -1,8 +1,9 @@
--- Bytes that two places change. The bytes of all sections stand in one line here, 2^32 of them for each section,
--- so that a byte has one number.
-use Rattle.std.specs.Prelude.{◌≡◌, ℕ, ◌+◌, ◌*◌, ◌^◌, ◌<◌, ◌≤◌, ◌&&◌, nat_lt, nat_le, Bool, List, Option, MatchOption}
+-- Bytes that two places change, as the search for them sees them: the bytes of all sections stand in one line, 2^32
+-- of them for each section, so that a byte has one number. No public contract cites it.
+use Rattle.std.specs.Prelude.{◌≡◌, ℕ, ◌+◌, ◌*◌, ◌^◌, ◌<◌, ◌≤◌, ◌&&◌, nat_lt, nat_le, Bool, true, List, Option, MatchOption}
 use Rattle.std.specs.List.{count_by}
 use Rattle.elf_object.specs.declared.place.RelaPlace.{RelaPlace}
+use Rattle.elf_object.specs.declared.overlap.Order.{Order}
 use Rattle.elf_object.specs.declared.overlap.Span.{Span}
 use Rattle.elf_object.specs.Places.{place_width}
 
@@ -14,11 +15,12 @@ is_between low high a = nat_le low a && nat_lt a high
 abbrev pub count_at : {X : Type 0} → (X → ℕ) → (X → ℕ) → ℕ → List X → ℕ
 count_at start finish a xs = count_by (λ x. is_between (start x) (finish x) a) xs
 
+-- The number of a span's first byte, and the end of its bytes.
 abbrev pub span_start : Span → ℕ
-span_start s = s.start
+span_start s = s.target * 2 ^ 32 + s.offset
 
 abbrev pub span_end : Span → ℕ
-span_end s = s.end
+span_end s = span_start s + s.width
 
 -- The number of a place's first byte, and the end of its bytes.
 abbrev pub place_start : RelaPlace → ℕ
@@ -33,13 +35,22 @@ IsNear p = 0 < place_width p → (p.target < 2 ^ 16) × (p.offset + place_width 
 
 -- A span has a byte.
 abbrev pub IsLong : Span → Type 0
-IsLong s = s.start < s.end
+IsLong s = 0 < s.width
+
+-- No number is counted twice, and none from `end` on is counted.
+pub record IsApart {X : Type 0} (start finish : X → ℕ) (xs : List X) (end : ℕ) : Type 0 where
+  pub once : (a : ℕ) → count_at start finish a xs ≤ 1
+  pub past : (a : ℕ) → end ≤ a → count_at start finish a xs ≡ 0
+
+-- Where the order holds, the places stand apart and before its end.
+abbrev pub IsOrderOf : Order → List RelaPlace → Type 0
+IsOrderOf order places = order.holds ≡ true → IsApart place_start place_end places order.end
 
 -- The span has the bytes of the place.
 pub record IsSpanOf (p : RelaPlace) (s : Span) : Type 0 where
-  pub start : s.start ≡ place_start p
-  pub end : s.end ≡ place_end p
-  pub long : 0 < place_width p
+  pub start : span_start s ≡ place_start p
+  pub end : span_end s ≡ place_end p
+  pub long : 0 < s.width
 
 -- No number is counted twice, or a is the least that is.
 abbrev pub IsLeastShared : (ℕ → ℕ) → Option ℕ → Type 0

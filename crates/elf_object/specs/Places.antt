@@ -1,12 +1,15 @@
 -- The places that relocations change, and the tests that they pass.
 -- gABI 4, "Relocation"; x86-64 psABI, "Relocation Types".
-use Rattle.std.specs.Prelude.{ℕ, ◌+◌, ◌*◌, ◌/◌, ◌%◌, ◌^◌, ◌<◌, ◌≤◌, ◌==◌, ◌&&◌, ◌||◌, nat_lt, nat_le, not, Bool, false, if◌then◌else◌, List, [], ◌∷◌, length, map, Option, Some, None, is_none, option_map, slice_get, unwrap_or, ◌≡◌, true}
+use Rattle.std.specs.Prelude.{ℕ, ◌+◌, ◌*◌, ◌/◌, ◌%◌, ◌^◌, ◌==◌, ◌&&◌, ◌||◌, nat_lt, nat_le, not, Bool, false, if◌then◌else◌, List, [], ◌∷◌, length, map, Option, None, is_none, option_map, slice_get}
 use Rattle.std.specs.Int.{is_power_of_two}
 use Rattle.std.specs.List.{count_by, flat_map, position, range_with_len}
 use Rattle.std.specs.Option.{option_map_or}
 use Rattle.km_names.specs.Number.{le, signed}
 use Rattle.km_names.specs.First.{first}
-use Rattle.elf_object.specs.declared.format.TheConstants.{SHT_RELA, SHT_NOBITS, SHN_UNDEF, R_X86_64_NONE, R_X86_64_64, R_X86_64_PC32, R_X86_64_PLT32, R_X86_64_32, R_X86_64_32S, R_X86_64_PC64, PAGE}
+use Rattle.elf_format.specs.declared.relocation.TheConstants.{R_X86_64_NONE}
+use Rattle.elf_format.specs.declared.section.TheConstants.{SHT_RELA, SHT_NOBITS, PAGE}
+use Rattle.elf_format.specs.declared.symbol.TheConstants.{SHN_UNDEF}
+use Rattle.elf_format.specs.Relocation.{known_width, width}
 use Rattle.elf_object.specs.declared.section.Section.{Section}
 use Rattle.elf_object.specs.declared.symbol.Symbol.{Symbol}
 use Rattle.elf_object.specs.declared.place.RelaPlace.{RelaPlace}
@@ -38,17 +41,9 @@ place_in table section target j =
       addend = signed (le table (24 * j + 16) 8);
     }
 
--- How many bytes a relocation of this type changes, where the type is known.
--- x86-64 psABI, "Relocation Types".
-unfoldable pub width : ℕ → Option ℕ
-width kind =
-    if kind == R_X86_64_NONE then Some 0
-    else if kind == R_X86_64_64 || kind == R_X86_64_PC64 then Some 8
-    else if kind == R_X86_64_PC32 || kind == R_X86_64_PLT32 || kind == R_X86_64_32 || kind == R_X86_64_32S then Some 4
-    else None
-
+-- How many bytes a place changes.
 abbrev pub place_width : RelaPlace → ℕ
-place_width p = unwrap_or (width p.kind) 0
+place_width p = known_width p.kind
 
 -- The symbol k lies in a section that isn't kept. An undefined one lies in none, nor does one with a reserved
 -- number.
@@ -73,15 +68,6 @@ place_test sections symbols target p =
     ∷ fault_if (is_none (width p.kind)) (UnknownType p.section p.entry p.kind)
     ∷ fault_if (not (p.kind == R_X86_64_NONE) && is_bad_place sections symbols target p) (BadRela p.section p.entry)
     ∷ [])
-
--- What a place that passed its tests says: it is over a symbol of the file, in a section of it that is kept, and
--- the bytes that it changes are in the file.
-pub record IsInSection (b : List ℕ) (p : RelaPlace) : Type 0 where
-  pub target : p.target < section_count b
-  pub near : p.target < 2 ^ 16
-  pub symbol : p.symbol < length (symbols_of b)
-  pub kept : (section_of b p.target).kept ≡ true
-  pub within : 0 < place_width p → (p.offset + place_width p ≤ (section_of b p.target).size) × ((section_of b p.target).size ≤ length b)
 
 -- The section i holds relocations of a section that is kept.
 unfoldable pub is_applied : List ℕ → ℕ → Bool

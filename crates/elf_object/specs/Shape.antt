@@ -1,11 +1,13 @@
 -- The sections of an object file, and the tests that a file with sections passes.
 -- gABI 4, "Object Files": "ELF Header", "Sections", "String Table".
-use Rattle.std.specs.Prelude.{ℕ, ◌+◌, ◌*◌, ◌<◌, ◌≤◌, ◌==◌, ◌&&◌, nat_eq, nat_lt, not, Bool, IsTrue, if◌then◌else◌, List, [], ◌∷◌, ◌++◌, length, slice_index, take, drop, map, codes, bit_and, Option, Some, None, is_none, option_map, unwrap_or}
-use Rattle.std.specs.List.{position, range_with_len, starts_with}
+use Rattle.std.specs.Prelude.{ℕ, ◌+◌, ◌*◌, ◌<◌, ◌≤◌, ◌==◌, ◌&&◌, ◌||◌, nat_eq, nat_lt, not, Bool, IsTrue, if◌then◌else◌, List, [], ◌∷◌, ◌++◌, length, slice_index, take, drop, map, codes, bit_and, Option, Some, None, is_none, unwrap_or}
+use Rattle.std.specs.List.{range_with_len, starts_with}
 use Rattle.std.specs.Str.{bytes_eq}
 use Rattle.km_names.specs.Number.{le}
 use Rattle.km_names.specs.First.{first}
-use Rattle.elf_object.specs.declared.format.TheConstants.{EM_X86_64, ET_REL, SHT_NULL, SHT_STRTAB, SHT_NOBITS, SHF_ALLOC}
+use Rattle.km_names.specs.Strings.{string_at}
+use Rattle.elf_format.specs.declared.file_header.TheConstants.{EM_X86_64, ET_REL}
+use Rattle.elf_format.specs.declared.section.TheConstants.{SHT_NULL, SHT_STRTAB, SHT_NOBITS, SHF_ALLOC}
 use Rattle.elf_object.specs.declared.header.SectionHeader.{SectionHeader}
 use Rattle.elf_object.specs.declared.fault.SectionFault.{SectionFault}
 use Rattle.elf_object.specs.declared.fault.SectionFault.TheVariants.{NotElf, Truncated, WrongClass, WrongMachine, NotRelocatable, BadSection, BadString}
@@ -79,21 +81,21 @@ IsInFile b h = IsTrue (has_content h.kind) → h.offset + h.size ≤ length b
 abbrev pub AllInFile : List ℕ → Type 0
 AllInFile b = (i : ℕ) → i < section_count b → IsInFile b (section_header b i)
 
--- The text at a place of a string table: the bytes up to the next NUL, where one follows.
--- gABI 4, "String Table".
-unfoldable pub text_at : List ℕ → ℕ → Option (List ℕ)
-text_at table at = option_map (λ n. take n (drop at table)) (position (λ x. x == 0) (drop at table))
-
 -- The name of a section of this type, at a place of the table of names; a section of type NULL has none.
 unfoldable pub name_in : List ℕ → ℕ → ℕ → List ℕ
-name_in names kind at = if kind == SHT_NULL then [] else unwrap_or (text_at names at) []
+name_in names kind at = if kind == SHT_NULL then [] else unwrap_or (string_at names at) []
 
--- A section is kept in memory where it is one, has the flag ALLOC, and is neither the module's texts nor the
--- versions of its needs. gABI 4, "Sections", sh_flags.
+-- Sections of these names are read by the module tools and by the loader, and by nobody later: the module's texts,
+-- and the versions of its needs in both of their forms. Linux, kernel/module/main.c and scripts/mod/modpost.c.
+unfoldable pub is_for_loading : List ℕ → Bool
+is_for_loading name =
+    bytes_eq name (codes ".modinfo") || bytes_eq name (codes "__versions") || bytes_eq name (codes "__version_ext_crcs")
+    || bytes_eq name (codes "__version_ext_names")
+
+-- A section is kept in memory where it is one, has the flag ALLOC, and isn't there for the loading alone.
+-- gABI 4, "Sections", sh_flags.
 unfoldable pub is_kept : ℕ → ℕ → List ℕ → Bool
-is_kept kind flags name =
-    not (kind == SHT_NULL) && not (bit_and flags SHF_ALLOC == 0) && not (bytes_eq name (codes ".modinfo"))
-    && not (bytes_eq name (codes "__versions"))
+is_kept kind flags name = not (kind == SHT_NULL) && not (bit_and flags SHF_ALLOC == 0) && not (is_for_loading name)
 
 -- The bytes of the section i.
 abbrev pub contents : List ℕ → ℕ → List ℕ
@@ -126,7 +128,7 @@ name_table_test b = fault_if (not ((section_header b (name_table b)).kind == SHT
 
 -- The test that a section of this type, if it is one, has its name in the table of names.
 unfoldable pub name_test_in : List ℕ → ℕ → ℕ → Option SectionFault
-name_test_in names kind at = fault_if (not (kind == SHT_NULL) && is_none (text_at names at)) (BadString at)
+name_test_in names kind at = fault_if (not (kind == SHT_NULL) && is_none (string_at names at)) (BadString at)
 
 abbrev pub name_test : List ℕ → ℕ → Option SectionFault
 name_test b i = name_test_in (contents b (name_table b)) (section_header b i).kind (section_header b i).name

@@ -1,16 +1,18 @@
 -- The symbols of an object file, and the tests that they pass. gABI 4, "Symbol Table".
-use Rattle.std.specs.Prelude.{◌≡◌, ℕ, ◌+◌, ◌*◌, ◌/◌, ◌%◌, ◌<◌, ◌==◌, ◌&&◌, ◌||◌, nat_lt, nat_le, not, Bool, true, false, if◌then◌else◌, List, [], ◌∷◌, length, slice_index, map, Option, Some, None, is_none, unwrap_or}
+use Rattle.std.specs.Prelude.{ℕ, ◌+◌, ◌*◌, ◌/◌, ◌%◌, ◌==◌, ◌&&◌, ◌||◌, nat_lt, nat_le, not, Bool, true, false, if◌then◌else◌, List, [], ◌∷◌, length, slice_index, map, Option, None, is_none, unwrap_or}
 use Rattle.std.specs.List.{position, range_with_len}
 use Rattle.std.specs.Option.{option_map_or}
 use Rattle.km_names.specs.Number.{le}
 use Rattle.km_names.specs.First.{first}
-use Rattle.elf_object.specs.declared.format.TheConstants.{SHT_SYMTAB, SHT_STRTAB, SHT_RELA, SHT_REL, SHN_UNDEF, SHN_LORESERVE, SHN_ABS, SHN_COMMON, SHN_XINDEX, STB_LOCAL, STB_WEAK}
+use Rattle.km_names.specs.Strings.{string_at}
+use Rattle.elf_format.specs.declared.section.TheConstants.{SHT_SYMTAB, SHT_STRTAB, SHT_RELA, SHT_REL}
+use Rattle.elf_format.specs.declared.symbol.TheConstants.{SHN_UNDEF, SHN_LORESERVE, SHN_ABS, SHN_COMMON, SHN_XINDEX, STB_LOCAL, STB_WEAK}
 use Rattle.elf_object.specs.declared.symbol.Symbol.{Symbol}
 use Rattle.elf_object.specs.declared.symbol.SymbolEntry.{SymbolEntry}
 use Rattle.elf_object.specs.declared.fault.ObjectFault.{ObjectFault}
 use Rattle.elf_object.specs.declared.fault.ObjectFault.TheVariants.{Shape, RelSection, BadTable, ExtendedIndex, CommonSymbol, BadSymbol}
 use Rattle.elf_object.specs.declared.fault.SectionFault.TheVariants.{BadString}
-use Rattle.elf_object.specs.Shape.{each, contents, fault_if, section_count, text_at}
+use Rattle.elf_object.specs.Shape.{each, contents, fault_if, section_count}
 use Rattle.elf_object.specs.Sections.{entry_size, section_of}
 
 -- The test that the section i holds no relocations without addends.
@@ -45,12 +47,6 @@ is_good_table b i =
 -- The test that the section i, if it is a table, can be one.
 unfoldable pub table_test : List ℕ → ℕ → Option ObjectFault
 table_test b i = fault_if (not (is_good_table b i)) (BadTable i)
-
--- What the tables name is there: the string table of the symbols, and what relocations change.
-pub record TablesFit (b : List ℕ) : Type 0 where
-  pub table : (t : ℕ) → symbol_table b ≡ Some t → t < section_count b
-  pub names : (t : ℕ) → symbol_table b ≡ Some t → (section_of b t).link < section_count b
-  pub targets : (i : ℕ) → i < section_count b → (section_of b i).kind ≡ SHT_RELA → (section_of b i).info < section_count b
 
 -- The entry j of a symbol table of these bytes. gABI 4, "Symbol Table", Elf64_Sym.
 unfoldable pub symbol_entry : List ℕ → ℕ → SymbolEntry
@@ -89,8 +85,8 @@ symbol_test_in table names count j =
     let e = symbol_entry table j in
     if j == 0 then None
     else first (
-    fault_if (is_none (text_at names e.name)) (Shape (BadString e.name))
-    ∷ kind_test count (unwrap_or (text_at names e.name) []) j e
+    fault_if (is_none (string_at names e.name)) (Shape (BadString e.name))
+    ∷ kind_test count (unwrap_or (string_at names e.name) []) j e
     ∷ [])
 
 -- The symbol j of a table, by its string table. Symbol 0 has no name, and zeros, whatever the file has there.
@@ -98,11 +94,7 @@ unfoldable pub symbol_in : List ℕ → List ℕ → ℕ → Symbol
 symbol_in table names j =
     let e = symbol_entry table j in
     if j == 0 then record { name = []; binding = 0; section = 0; value = 0 }
-    else record { name = unwrap_or (text_at names e.name) []; binding = binding e; section = e.section; value = e.value }
-
--- The section of a symbol is below the count, unless it is a reserved number.
-abbrev pub IsSectionBelow : ℕ → Symbol → Type 0
-IsSectionBelow count s = s.section < SHN_LORESERVE → s.section < count
+    else record { name = unwrap_or (string_at names e.name) []; binding = binding e; section = e.section; value = e.value }
 
 -- How many entries of 24 bytes a table of these bytes has.
 abbrev pub entries : List ℕ → ℕ

@@ -6,13 +6,11 @@ ghost use Rattle.km_names.specs.First.{first};
 ghost use Rattle.elf_object.specs.Shape.{HasTable, header_tests, is_class, is_table, name_table, section_count, section_header, table_place};
 
 use crate::SectionFault;
-use crate::format::{EM_X86_64, ET_REL};
+use elf_format::{
+    EHDR_SIZE, ELFCLASS64, ELFDATA2LSB, ELFMAG, EM_X86_64, ET_REL, EV_CURRENT, SHDR_SIZE,
+    SHN_LORESERVE,
+};
 use km_names::{le_u16_at, le_u32_at, le_u64_at};
-
-/// The bytes of the file header. gABI 4, "ELF Header", Elf64_Ehdr.
-pub(crate) const FILE_HEADER: usize = 64;
-/// The bytes of a section header. gABI 4, "Sections", Elf64_Shdr.
-pub(crate) const SECTION_HEADER: usize = 64;
 
 /// One entry of the section header table. gABI 4, "Sections", Elf64_Shdr.
 #[derive(Clone, Copy)]
@@ -34,7 +32,10 @@ fn has_class(bytes: &[u8]) -> bool
     requires { 64 ≤ length bytes.now }
     ensures { result ≡ is_class bytes.now }
 {
-    bytes[4] == 2 && bytes[5] == 1 && bytes[6] == 1 && le_u32_at(bytes, 20) == 1
+    bytes[4] == ELFCLASS64
+        && bytes[5] == ELFDATA2LSB
+        && bytes[6] == EV_CURRENT
+        && le_u32_at(bytes, 20) == u32::from(EV_CURRENT)
 }
 
 /// Whether the numbers of the section header table can be those of a table.
@@ -45,7 +46,11 @@ fn has_table(bytes: &[u8]) -> bool
 {
     let count = section_count(bytes);
     let names = name_table(bytes);
-    le_u16_at(bytes, 58) == 64 && 0 < count && count < 0xff00 && 0 < names && names < count
+    le_u16_at(bytes, 58) == SHDR_SIZE as u16
+        && 0 < count
+        && count < SHN_LORESERVE
+        && 0 < names
+        && names < count
 }
 
 /// Where the section header table begins.
@@ -78,13 +83,13 @@ pub(crate) fn check_header(bytes: &[u8]) -> Result<(), SectionFault>
     ensures fault { result_err result ≡ first (header_tests bytes.now) }
     ensures table { OnOk result (HasTable bytes.now) }
 {
-    if !bytes.starts_with(b"\x7fELF") {
+    if !bytes.starts_with(&ELFMAG) {
         return Err(SectionFault::NotElf);
     }
-    if bytes.len() < FILE_HEADER {
+    if bytes.len() < EHDR_SIZE {
         return Err(SectionFault::Truncated {
             offset: 0,
-            need: FILE_HEADER as u64,
+            need: EHDR_SIZE as u64,
         });
     }
     if !has_class(bytes) {
@@ -100,7 +105,7 @@ pub(crate) fn check_header(bytes: &[u8]) -> Result<(), SectionFault>
         return Err(SectionFault::BadSection { index: 0 });
     }
     let offset = table_place(bytes);
-    let need = SECTION_HEADER as u64 * u64::from(section_count(bytes));
+    let need = SHDR_SIZE as u64 * u64::from(section_count(bytes));
     if !is_within(bytes, offset, need) {
         return Err(SectionFault::Truncated { offset, need });
     }
@@ -122,7 +127,7 @@ pub(crate) fn section_header(bytes: &[u8], index: u16) -> SectionHeader
     requires index { index < section_count bytes.now }
     ensures { result ≡ section_header bytes.now index }
 {
-    let at = table_place(bytes) as usize + SECTION_HEADER * index as usize;
+    let at = table_place(bytes) as usize + SHDR_SIZE * index as usize;
     SectionHeader {
         name: le_u32_at(bytes, at),
         kind: le_u32_at(bytes, at + 4),

@@ -6,13 +6,18 @@
 //! at a computed place, each name the bytes up to its NUL. Every refusal is the first failing test of one
 //! list of tests over the whole file, with the numbers that it carries; want of memory alone is free.
 //!
-//! The crate stands on `km_names` for names and numbers, on `memchr` for the ends of names, and on
-//! `thiserror` for the error traits. Each table is read once and in place. No byte of a section is copied,
-//! and the places are sorted only where they don't stand in order.
+//! A file may come from anywhere, so what may overlap in it is added up before it is kept: names share their
+//! bytes, and so do tables of relocations. Where the names of the sections together, or those of the symbols,
+//! would have more than [`NAME_LIMIT`] bytes, or the tables more than a file may have, the answer is want of
+//! memory, before more than that was searched or copied. Time is linear in the file and those bytes, but for the
+//! sorting of places that don't stand in order.
+//!
+//! The crate stands on `elf_format` for the numbers of the format, on `km_names` for names and numbers, on
+//! `memchr` for the ends of names, and on `thiserror` for the error traits. The bytes of sections aren't copied;
+//! the names are, once, and each table is read in place.
 #![tactic(auto)]
 
 mod fault;
-pub mod format;
 mod header;
 mod object;
 mod overlap;
@@ -32,4 +37,5 @@ pub use object::Object;
 pub use place::RelaPlace;
 pub use section::Section;
 pub use sections::Sections;
+pub use strings::NAME_LIMIT;
 pub use symbol::Symbol;

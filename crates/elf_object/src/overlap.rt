@@ -1,22 +1,83 @@
 // Bytes that two places change.
 
-ghost use Rattle.std.specs.Prelude.{◌≡◌, ◌≤◌, All, IfOk, IsTrue, MatchOption, ℕ};
+ghost use Rattle.std.specs.Prelude.{◌≡◌, [], ◌∷◌, ◌++◌, All, IfOk, List, MatchOption, ℕ};
 ghost use Rattle.std.specs.List.Sorted.{IsNonDecreasingBy};
 ghost use Rattle.elf_object.specs.Places.{place_width};
-ghost use Rattle.elf_object.specs.Overlap.{IsLeastShared, IsLong, IsNear, IsSpanOf, count_at, place_end, place_start, span_end, span_start};
+ghost use Rattle.elf_object.specs.Overlap.{IsLeastShared, IsLong, IsNear, IsOrderOf, IsSpanOf, count_at, place_end, place_start, span_end, span_start};
+ghost use Rattle.elf_object.specs.declared.place.RelaPlace.{RelaPlace};
 
 use crate::RelaPlace;
-use crate::place::width;
+use elf_format::width;
 use std::alloc::{AllocError, Global};
 
 /// How many bytes each section has where the bytes of all stand in one line.
 pub(crate) const SECTION: u64 = 1 << 32;
 
-/// The bytes from `start` up to `end`, in the line of all sections' bytes.
+/// Whether the places that were met stand in order and apart, and where the last of them ends in the line of all
+/// sections' bytes. No two places in order share a byte.
+#[derive(Clone, Copy)]
+pub(crate) struct Order {
+    pub(crate) end: u64,
+    pub(crate) holds: bool,
+}
+
+impl Order {
+    ghost use Rattle.elf_object.specs.Overlap.{IsNear, IsOrderOf};
+    ghost use Rattle.elf_object.specs.Places.{place_width};
+
+    /// The order of no place.
+    pub(crate) fn new() -> Self
+        ensures { IsOrderOf result [] }
+    {
+        Order {
+            end: 0,
+            holds: true,
+        }
+    }
+
+    /// Meets the next place, which changes `width` bytes.
+    pub(crate) fn meet(&mut self, place: &RelaPlace, width: u8)
+        requires near { IsNear place.now }
+        requires width { place_width place.now ≡ width }
+        ensures { (places : List RelaPlace) → IsOrderOf self.old places
+            → IsOrderOf self.new (places ++ place.now ∷ []) }
+    {
+        if width == 0 {
+            return;
+        }
+        let start = u64::from(place.target) * SECTION + place.offset;
+        if start < self.end {
+            self.holds = false;
+        }
+        self.end = start + u64::from(width);
+    }
+}
+
+/// The bytes that a place changes: `width` bytes from `offset` on of the section `target`. It is small, since
+/// there may be one for each relocation of a file.
 #[derive(Clone, Copy)]
 pub(crate) struct Span {
-    pub(crate) start: u64,
-    pub(crate) end: u64,
+    pub(crate) offset: u32,
+    pub(crate) target: u16,
+    pub(crate) width: u8,
+}
+
+impl Span {
+    ghost use Rattle.elf_object.specs.Overlap.{span_end, span_start};
+
+    /// Where its first byte stands in the line of all sections' bytes.
+    fn start(&self) -> u64
+        ensures { result ≡ span_start self.now }
+    {
+        u64::from(self.target) * SECTION + u64::from(self.offset)
+    }
+
+    /// Where its bytes end in that line.
+    fn end(&self) -> u64
+        ensures { result ≡ span_end self.now }
+    {
+        self.start() + u64::from(self.width)
+    }
 }
 
 /// The bytes of a place, if it changes any.
@@ -24,32 +85,15 @@ fn span_of(place: &RelaPlace) -> Option<Span>
     requires { IsNear place.now }
     ensures { MatchOption result (place_width place.now ≡ 0) (λ s. IsSpanOf place.now s) }
 {
-    let size = width(place.kind).unwrap_or(0);
-    if size == 0 {
+    let width = width(place.kind).unwrap_or(0);
+    if width == 0 {
         return None;
     }
-    let start = u64::from(place.target) * SECTION + place.offset;
     Some(Span {
-        start,
-        end: start + size,
+        offset: place.offset as u32,
+        target: place.target as u16,
+        width,
     })
-}
-
-/// Whether the places stand in order and apart. Where they do, no two share a byte.
-fn are_apart(places: &[RelaPlace]) -> bool
-    requires { All IsNear places.now }
-    ensures { IsTrue result → (a : ℕ) → count_at place_start place_end a places.now ≤ 1 }
-{
-    let mut end = 0;
-    for place in places {
-        if let Some(span) = span_of(place) {
-            if span.start < end {
-                return false;
-            }
-            end = span.end;
-        }
-    }
-    true
 }
 
 /// The bytes of each place that changes any.
@@ -60,7 +104,7 @@ fn spans_of(alloc: Global, places: &[RelaPlace]) -> Result<Vec<Span>, AllocError
         (λ v. (a : ℕ) → count_at span_start span_end a v.items
         ≡ count_at place_start place_end a places.now) }
 {
-    let mut spans = Vec::new(alloc);
+    let mut spans = Vec::with_capacity(alloc, places.len())?;
     for place in places {
         if let Some(span) = span_of(place) {
             spans.push(span)?;
@@ -77,24 +121,30 @@ fn first_shared(spans: &[Span]) -> Option<u64>
 {
     let mut end = 0;
     for span in spans {
-        if span.start < end {
-            return Some(span.start);
+        let start = span.start();
+        if start < end {
+            return Some(start);
         }
-        end = span.end;
+        end = span.end();
     }
     None
 }
 
 /// The least byte that two places share. Places in order, as tools write them, take no memory.
-pub(crate) fn find_shared(alloc: Global, places: &[RelaPlace]) -> Result<Option<u64>, AllocError>
-    requires { All IsNear places.now }
+pub(crate) fn find_shared(
+    alloc: Global,
+    places: &[RelaPlace],
+    order: &Order,
+) -> Result<Option<u64>, AllocError>
+    requires near { All IsNear places.now }
+    requires order { IsOrderOf order.now places.now }
     ensures { IfOk result
         (λ r. IsLeastShared (λ a. count_at place_start place_end a places.now) r) }
 {
-    if are_apart(places) {
+    if order.holds {
         return Ok(None);
     }
     let mut spans = spans_of(alloc, places)?;
-    spans.sort_unstable_by_key(|span| span.start);
+    spans.sort_unstable_by_key(|span| span.start());
     Ok(first_shared(&spans))
 }

@@ -1,20 +1,13 @@
 // One place that a relocation changes.
 
-ghost use Rattle.std.specs.Prelude.{◌≡◌, ◌+◌, ◌*◌, ◌<◌, ◌≤◌, ◌⊎◌, ◌++◌, length, map, None, Some, IfErr, OnOk};
-ghost use Rattle.std.specs.List.{range_with_len};
+ghost use Rattle.std.specs.Prelude.{◌≡◌, ◌+◌, ◌*◌, ◌<◌, ◌≤◌, length, IfOk, Some};
 ghost use Rattle.std.specs.Result.{result_err};
-ghost use Rattle.km_names.specs.First.{first};
 ghost use Rattle.km_names.specs.Number.{signed};
-ghost use Rattle.elf_object.specs.Shape.{each, section_count};
-ghost use Rattle.elf_object.specs.Symbols.{entries};
-ghost use Rattle.elf_object.specs.Places.{is_bad_place, is_unkept, place_in, place_test, width};
+ghost use Rattle.elf_format.specs.Relocation.{width};
+ghost use Rattle.elf_object.specs.Places.{is_bad_place, is_unkept, place_in, place_test, place_width};
 
-use crate::format::{
-    R_X86_64_32, R_X86_64_32S, R_X86_64_64, R_X86_64_NONE, R_X86_64_PC32, R_X86_64_PC64,
-    R_X86_64_PLT32, SHN_UNDEF, SHT_NOBITS,
-};
-use crate::symbol::ENTRY;
-use crate::{ObjectFault, Section, Sections, Symbol};
+use crate::{ObjectFault, Section, Symbol};
+use elf_format::{R_X86_64_NONE, RELA_SIZE, SHN_UNDEF, SHT_NOBITS, width};
 use km_names::le_u64_at;
 
 /// A place that a relocation changes. gABI 4, "Relocation", Elf64_Rela.
@@ -48,7 +41,7 @@ pub(crate) fn place_at(table: &[u8], section: u32, target: u32, entry: u32) -> R
     requires { 24 * entry + 24 ≤ length table.now }
     ensures { result ≡ place_in table.now section target entry }
 {
-    let at = ENTRY * entry as usize;
+    let at = RELA_SIZE * entry as usize;
     let info = le_u64_at(table, at + 8);
     RelaPlace {
         section,
@@ -58,19 +51,6 @@ pub(crate) fn place_at(table: &[u8], section: u32, target: u32, entry: u32) -> R
         symbol: (info / (1 << 32)) as u32,
         kind: (info % (1 << 32)) as u32,
         addend: signed(le_u64_at(table, at + 16)),
-    }
-}
-
-/// How many bytes a relocation of this type changes, where the type is known.
-#[tactic(auto, unfolding(crate::specs::Places::width))]
-pub(crate) fn width(kind: u32) -> Option<u64>
-    ensures { result ≡ width kind }
-{
-    match kind {
-        R_X86_64_NONE => Some(0),
-        R_X86_64_64 | R_X86_64_PC64 => Some(8),
-        R_X86_64_PC32 | R_X86_64_PLT32 | R_X86_64_32 | R_X86_64_32S => Some(4),
-        _ => None,
     }
 }
 
@@ -94,27 +74,30 @@ fn is_bad_place(
     symbols: &[Symbol],
     target: &Section,
     place: &RelaPlace,
-    size: u64,
+    size: u8,
 ) -> bool
     requires symbol { place.now.symbol < length symbols.now }
     requires size { width place.now.kind ≡ Some size }
     ensures { result ≡ is_bad_place sections.now symbols.now target.now place.now }
 {
+    let size = u64::from(size);
     target.size < size
         || target.size - size < place.offset
         || target.kind == SHT_NOBITS
         || is_unkept(sections, symbols, place.symbol)
 }
 
-/// Tests a place in its section.
+/// Tests a place in its section, and answers how many bytes it changes.
 #[tactic(auto, unfolding(crate::specs::Places::place_test))]
 pub(crate) fn check_place(
     sections: &[Section],
     symbols: &[Symbol],
     target: &Section,
     place: &RelaPlace,
-) -> Result<(), ObjectFault>
-    ensures { result_err result ≡ place_test sections.now symbols.now target.now place.now }
+) -> Result<u8, ObjectFault>
+    ensures fault { result_err result
+        ≡ place_test sections.now symbols.now target.now place.now }
+    ensures width { IfOk result (λ size. place_width place.now ≡ size) }
 {
     let (section, entry) = (place.section, place.entry);
     if symbols.len() <= place.symbol as usize {
@@ -130,5 +113,5 @@ pub(crate) fn check_place(
     if place.kind != R_X86_64_NONE && is_bad_place(sections, symbols, target, place, size) {
         return Err(ObjectFault::BadRela { section, entry });
     }
-    Ok(())
+    Ok(size)
 }

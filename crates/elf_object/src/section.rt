@@ -2,18 +2,18 @@
 
 ghost use Rattle.std.specs.Prelude.{◌≡◌, ◌<◌, ◌⊎◌, None, Some, IfOk, IfErr};
 ghost use Rattle.std.specs.Result.{result_err};
-ghost use Rattle.elf_object.specs.Shape.{HasTable, is_kept, name_in, name_table, name_test, name_test_in, section_count, contents};
+ghost use Rattle.elf_object.specs.Shape.{HasTable, contents, is_for_loading, is_kept, name_in, name_table, name_test, name_test_in, section_count};
 ghost use Rattle.elf_object.specs.Sections.{section_of};
+ghost use Rattle.elf_object.specs.Inner.{HasStrings};
 
 use crate::SectionFault;
-use crate::format::{SHF_ALLOC, SHT_NULL};
 use crate::header::section_header;
-use crate::strings::text_at;
-use km_names::Name;
+use elf_format::{SHF_ALLOC, SHT_NULL};
+use km_names::{Name, string_at};
 use std::alloc::Global;
 
 /// A section of a file. gABI 4, "Sections", Elf64_Shdr.
-#[derive(Drop)]
+#[derive(Debug, Drop)]
 pub struct Section {
     /// The text at `sh_name` of the names; empty for a section of type NULL.
     pub name: Name,
@@ -31,9 +31,20 @@ pub struct Section {
     pub info: u32,
     /// Its place in memory is a multiple of this; 0 counts as 1.
     pub align: u64,
-    /// Whether it is in the memory of the running module: it is a section, has the flag ALLOC, and is
-    /// neither the module's texts nor the versions of its needs.
+    /// Whether it is in the memory of the running module: it is a section, has the flag ALLOC, and isn't there
+    /// for the loading alone, as the module's texts and the versions of its needs are.
     pub kept: bool,
+}
+
+/// Whether sections of this name are read when the module is loaded, and by nobody later.
+#[tactic(auto, unfolding(crate::specs::Shape::is_for_loading))]
+fn is_for_loading(name: &[u8]) -> bool
+    ensures { result ≡ is_for_loading name.now }
+{
+    name == b".modinfo".as_slice()
+        || name == b"__versions".as_slice()
+        || name == b"__version_ext_crcs".as_slice()
+        || name == b"__version_ext_names".as_slice()
 }
 
 /// Whether the section is in the memory of the running module.
@@ -41,10 +52,7 @@ pub struct Section {
 fn is_kept(kind: u32, flags: u64, name: &[u8]) -> bool
     ensures { result ≡ is_kept kind flags name.now }
 {
-    kind != SHT_NULL
-        && flags & SHF_ALLOC != 0
-        && name != b".modinfo".as_slice()
-        && name != b"__versions".as_slice()
+    kind != SHT_NULL && flags & SHF_ALLOC != 0 && !is_for_loading(name)
 }
 
 /// The name of a section, by the table of names.
@@ -56,7 +64,7 @@ fn section_name<'a>(names: &'a [u8], kind: u32, at: u32) -> Result<&'a [u8], Sec
     if kind == SHT_NULL {
         return Ok(&[]);
     }
-    match text_at(names, at) {
+    match string_at(names, at as usize) {
         Some(name) => Ok(name),
         None => Err(SectionFault::BadString {
             offset: u64::from(at),
@@ -74,7 +82,7 @@ pub(crate) fn read_section(
 ) -> Result<Section, SectionFault>
     requires table { HasTable bytes.now }
     requires index { index < section_count bytes.now }
-    requires names { names.now ≡ contents bytes.now (name_table bytes.now) }
+    requires names { HasStrings (contents bytes.now (name_table bytes.now)) names.now }
     ensures section { IfOk result (λ s. s ≡ section_of bytes.now index) }
     ensures passed { IfOk result (λ _. name_test bytes.now index ≡ None) }
     ensures fault { IfErr result (λ e. (e ≡ SectionFault.Memory)

@@ -5,15 +5,17 @@ ghost use Rattle.std.specs.Result.{result_err};
 ghost use Rattle.km_names.specs.First.{first};
 ghost use Rattle.elf_object.specs.Shape.{AllInFile, HasTable, IsInFile, content, each, has_content, name_table, name_table_test, name_test, place_test, section_count, section_header, shape_fault, contents};
 ghost use Rattle.elf_object.specs.Sections.{IsRead, sections_of};
+ghost use Rattle.elf_object.specs.Inner.{HasStrings};
 
-use crate::format::{SHT_NOBITS, SHT_NULL, SHT_STRTAB};
 use crate::header::{
     SectionHeader, check_header, is_within, name_table, section_count, section_header,
 };
 use crate::section::read_section;
+use crate::strings::{NAME_LIMIT, are_within_limit, left_after, up_to_last_nul};
 use crate::{Section, SectionFault};
+use elf_format::{SHT_NOBITS, SHT_NULL, SHT_STRTAB};
 use km_names::List;
-use std::alloc::Global;
+use std::alloc::{AllocError, Global};
 
 /// Whether sections of this type have bytes in the file.
 fn has_content(kind: u32) -> bool
@@ -94,10 +96,28 @@ pub(crate) fn contents(bytes: &[u8], index: u16) -> &[u8]
     content(bytes, header.kind, header.offset, header.size)
 }
 
-/// Reads the sections, which lie in the file.
-fn read_sections(alloc: Global, bytes: &[u8]) -> Result<List<Section>, SectionFault>
+/// Tests that the names of all sections together aren't too long to be kept.
+fn check_name_sum(bytes: &[u8], names: &[u8]) -> Result<(), AllocError>
+    requires { HasTable bytes.now }
+{
+    let count = section_count(bytes);
+    if are_within_limit(usize::from(count), names) {
+        return Ok(());
+    }
+    let mut left = NAME_LIMIT;
+    for index in 0..count {
+        let header = section_header(bytes, index);
+        if header.kind != SHT_NULL {
+            left = left_after(names, header.name, left)?;
+        }
+    }
+    Ok(())
+}
+
+/// Reads the sections, by the table of names.
+fn read_sections(alloc: Global, bytes: &[u8], names: &[u8]) -> Result<List<Section>, SectionFault>
     requires table { HasTable bytes.now }
-    requires within { AllInFile bytes.now }
+    requires names { HasStrings (contents bytes.now (name_table bytes.now)) names.now }
     ensures sections { IfOk result (λ l. l ≡ sections_of bytes.now) }
     ensures passed { OnOk result
         (first (each (section_count bytes.now) (name_test bytes.now)) ≡ None) }
@@ -105,7 +125,6 @@ fn read_sections(alloc: Global, bytes: &[u8]) -> Result<List<Section>, SectionFa
         (λ e. (e ≡ SectionFault.Memory)
         ⊎ (first (each (section_count bytes.now) (name_test bytes.now)) ≡ Some e)) }
 {
-    let names = contents(bytes, name_table(bytes));
     let count = section_count(bytes);
     let mut sections = Vec::with_capacity(alloc, count as usize)?;
     for index in 0..count {
@@ -116,7 +135,6 @@ fn read_sections(alloc: Global, bytes: &[u8]) -> Result<List<Section>, SectionFa
 
 /// Reads the sections of a file, after all tests that it must pass.
 pub(crate) fn read_shape(alloc: Global, bytes: &[u8]) -> Result<List<Section>, SectionFault>
-    ensures sections { IfOk result (λ l. l ≡ sections_of bytes.now) }
     ensures read { IfOk result (λ l. IsRead bytes.now l) }
     ensures passed { OnOk result (shape_fault bytes.now ≡ None) }
     ensures fault { IfErr result (λ e. (e ≡ SectionFault.Memory)
@@ -125,5 +143,7 @@ pub(crate) fn read_shape(alloc: Global, bytes: &[u8]) -> Result<List<Section>, S
     check_header(bytes)?;
     check_places(bytes)?;
     check_name_table(bytes)?;
-    read_sections(alloc, bytes)
+    let names = up_to_last_nul(contents(bytes, name_table(bytes)));
+    check_name_sum(bytes, names)?;
+    read_sections(alloc, bytes, names)
 }

@@ -1,21 +1,22 @@
 // One symbol, and the symbol table.
 
-ghost use Rattle.std.specs.Prelude.{◌≡◌, ◌+◌, ◌*◌, ◌<◌, ◌≤◌, ◌⊎◌, length, All, None, Some, IfOk, IfErr, OnOk};
+ghost use Rattle.std.specs.Prelude.{◌≡◌, ◌+◌, ◌*◌, ◌≤◌, ◌⊎◌, length, None, Some, IfOk, IfErr, OnOk};
 ghost use Rattle.std.specs.Result.{result_err};
+ghost use Rattle.km_names.specs.Limit.{file_limit};
 ghost use Rattle.km_names.specs.First.{first};
 ghost use Rattle.elf_object.specs.Shape.{each};
-ghost use Rattle.elf_object.specs.Symbols.{IsSectionBelow, entries, is_bad_symbol, kind_test, symbol_entry, symbol_in, symbol_test_in, symbols_in};
+ghost use Rattle.elf_object.specs.Symbols.{entries, is_bad_symbol, kind_test, symbol_entry, symbol_in, symbol_test_in, symbols_in};
 
-use crate::format::{
-    SHN_ABS, SHN_COMMON, SHN_LORESERVE, SHN_UNDEF, SHN_XINDEX, STB_LOCAL, STB_WEAK,
-};
-use crate::strings::text_at;
+use crate::strings::{NAME_LIMIT, are_within_limit, left_after};
 use crate::{ObjectFault, SectionFault};
-use km_names::{List, Name, le_u16_at, le_u32_at, le_u64_at};
-use std::alloc::Global;
+use elf_format::{
+    SHN_ABS, SHN_COMMON, SHN_LORESERVE, SHN_UNDEF, SHN_XINDEX, STB_LOCAL, STB_WEAK, SYM_SIZE,
+};
+use km_names::{List, Name, le_u16_at, le_u32_at, le_u64_at, string_at};
+use std::alloc::{AllocError, Global};
 
 /// A symbol of a file. gABI 4, "Symbol Table", Elf64_Sym.
-#[derive(Drop)]
+#[derive(Debug, Drop)]
 pub struct Symbol {
     /// The text at `st_name` of the symbol table's string table.
     pub name: Name,
@@ -36,16 +37,13 @@ pub(crate) struct SymbolEntry {
     pub(crate) value: u64,
 }
 
-/// The bytes of an entry of a symbol table, and of a relocation.
-pub(crate) const ENTRY: usize = 24;
-
 /// The entry `index` of a symbol table.
 #[tactic(auto, unfolding(crate::specs::Symbols::symbol_entry))]
 fn symbol_entry(table: &[u8], index: u32) -> SymbolEntry
     requires { 24 * index + 24 ≤ length table.now }
     ensures { result ≡ symbol_entry table.now index }
 {
-    let at = ENTRY * index as usize;
+    let at = SYM_SIZE * index as usize;
     SymbolEntry {
         name: le_u32_at(table, at),
         info: table[at + 4],
@@ -83,6 +81,21 @@ fn check_kind(count: u32, name: &[u8], index: u32, entry: &SymbolEntry) -> Resul
     Ok(())
 }
 
+/// Tests that the names of all symbols of a table together aren't too long to be kept.
+pub(crate) fn check_name_sum(table: &[u8], names: &[u8]) -> Result<(), AllocError>
+    requires { length table.now ≤ file_limit }
+{
+    let entries = table.len() / SYM_SIZE;
+    if entries == 0 || are_within_limit(entries, names) {
+        return Ok(());
+    }
+    let mut left = NAME_LIMIT;
+    for index in 1..entries as u32 {
+        left = left_after(names, symbol_entry(table, index).name, left)?;
+    }
+    Ok(())
+}
+
 /// The symbol `index` of a table, by its string table and the count of sections.
 #[tactic(auto, unfolding(crate::specs::Symbols::symbol_in, crate::specs::Symbols::symbol_test_in))]
 fn read_symbol(
@@ -108,7 +121,7 @@ fn read_symbol(
         });
     }
     let entry = symbol_entry(table, index);
-    let Some(name) = text_at(names, entry.name) else {
+    let Some(name) = string_at(names, entry.name as usize) else {
         return Err(ObjectFault::Shape(SectionFault::BadString {
             offset: u64::from(entry.name),
         }));
@@ -129,9 +142,7 @@ pub(crate) fn read_symbols(
     names: &[u8],
     count: u32,
 ) -> Result<List<Symbol>, ObjectFault>
-    requires small { length table.now ≤ 67108864 }
-    requires some { 0 < count }
-    ensures inside { IfOk result (All (IsSectionBelow count)) }
+    requires { length table.now ≤ file_limit }
     ensures symbols { IfOk result (λ l. l ≡ symbols_in table.now names.now) }
     ensures passed { OnOk result
         (first (each (entries table.now) (symbol_test_in table.now names.now count)) ≡ None) }
@@ -139,7 +150,7 @@ pub(crate) fn read_symbols(
         (λ e. (e ≡ ObjectFault.Memory)
         ⊎ (first (each (entries table.now) (symbol_test_in table.now names.now count)) ≡ Some e)) }
 {
-    let entries = table.len() / ENTRY;
+    let entries = table.len() / SYM_SIZE;
     let mut symbols = Vec::with_capacity(alloc, entries)?;
     for index in 0..entries as u32 {
         symbols.push(read_symbol(alloc, table, names, count, index)?)?;

@@ -4,11 +4,12 @@ ghost use Rattle.std.specs.Prelude.{◌≡◌, ◌<◌, ◌≤◌, length, None,
 ghost use Rattle.std.specs.Result.{result_err};
 ghost use Rattle.km_names.specs.First.{first};
 ghost use Rattle.elf_object.specs.Shape.{each, section_count};
-ghost use Rattle.elf_object.specs.Symbols.{TablesFit, has_entries, is_good_table, is_string_table, is_symbol_table, rel_test, symbol_bytes, symbol_names, symbol_table, table_test};
+ghost use Rattle.elf_object.specs.Inner.{TablesFit};
+ghost use Rattle.elf_object.specs.Sections.{IsRead};
+ghost use Rattle.elf_object.specs.Symbols.{has_entries, is_good_table, is_string_table, is_symbol_table, rel_test, symbol_bytes, symbol_names, symbol_table, table_test};
 
-use crate::format::{SHT_REL, SHT_RELA, SHT_STRTAB, SHT_SYMTAB};
-use crate::symbol::ENTRY;
 use crate::{ObjectFault, Sections};
+use elf_format::{SHT_REL, SHT_RELA, SHT_STRTAB, SHT_SYMTAB, SYM_SIZE};
 
 /// Tests that no section holds relocations without addends.
 #[tactic(auto, unfolding(crate::specs::Symbols::rel_test))]
@@ -16,8 +17,8 @@ pub(crate) fn check_rel(sections: &Sections) -> Result<(), ObjectFault>
     ensures { result_err result
         ≡ first (each (section_count sections.now.file) (rel_test sections.now.file)) }
 {
-    for index in 0..sections.count() {
-        if sections.section_of(index).kind == SHT_REL {
+    for index in 0..sections.section_count() {
+        if sections.section(index).kind == SHT_REL {
             return Err(ObjectFault::RelSection { index });
         }
     }
@@ -28,8 +29,8 @@ pub(crate) fn check_rel(sections: &Sections) -> Result<(), ObjectFault>
 pub(crate) fn symbol_table(sections: &Sections) -> Option<u32>
     ensures { result ≡ symbol_table sections.now.file }
 {
-    for index in 0..sections.count() {
-        if sections.section_of(index).kind == SHT_SYMTAB {
+    for index in 0..sections.section_count() {
+        if sections.section(index).kind == SHT_SYMTAB {
             return Some(index);
         }
     }
@@ -41,27 +42,27 @@ pub(crate) fn symbol_table(sections: &Sections) -> Option<u32>
 fn is_string_table(sections: &Sections, index: u32) -> bool
     ensures { result ≡ is_string_table sections.now.file index }
 {
-    index < sections.count() && sections.section_of(index).kind == SHT_STRTAB
+    index < sections.section_count() && sections.section(index).kind == SHT_STRTAB
 }
 
 /// Whether the section `index` has entries of 24 bytes, each of them whole.
 #[tactic(auto, unfolding(crate::specs::Symbols::has_entries))]
 fn has_entries(sections: &Sections, index: u32) -> bool
-    requires { index < section_count sections.now.file }
+    requires { index < length sections.now.list }
     ensures { result ≡ has_entries sections.now.file index }
 {
-    let entry = ENTRY as u64;
-    sections.entry_size(index) == entry && sections.section_of(index).size % entry == 0
+    let entry = SYM_SIZE as u64;
+    sections.entry_size(index) == entry && sections.section(index).size % entry == 0
 }
 
 /// Whether the section `index`, if it is a table, can be one, by the number of the symbol table.
 #[tactic(auto, unfolding(crate::specs::Symbols::is_good_table, crate::specs::Symbols::is_symbol_table))]
 fn is_good_table(sections: &Sections, symbols: Option<u32>, index: u32) -> bool
-    requires index { index < section_count sections.now.file }
+    requires index { index < length sections.now.list }
     requires symbols { symbols ≡ symbol_table sections.now.file }
     ensures { result ≡ is_good_table sections.now.file index }
 {
-    let section = sections.section_of(index);
+    let section = sections.section(index);
     match section.kind {
         SHT_SYMTAB => {
             symbols == Some(index)
@@ -72,7 +73,7 @@ fn is_good_table(sections: &Sections, symbols: Option<u32>, index: u32) -> bool
             has_entries(sections, index)
                 && symbols == Some(section.link)
                 && 0 < section.info
-                && section.info < sections.count()
+                && section.info < sections.section_count()
         }
         _ => true,
     }
@@ -85,7 +86,7 @@ pub(crate) fn check_tables(sections: &Sections, symbols: Option<u32>) -> Result<
         ≡ first (each (section_count sections.now.file) (table_test sections.now.file)) }
     ensures fit { OnOk result (TablesFit sections.now.file) }
 {
-    for index in 0..sections.count() {
+    for index in 0..sections.section_count() {
         if !is_good_table(sections, symbols, index) {
             return Err(ObjectFault::BadTable { index });
         }
@@ -95,6 +96,7 @@ pub(crate) fn check_tables(sections: &Sections, symbols: Option<u32>) -> Result<
 
 /// The bytes of the symbol table, and those of its string table; none where there is no symbol table.
 pub(crate) fn symbol_tables(sections: &Sections, symbols: Option<u32>) -> (&[u8], &[u8])
+    requires read { IsRead sections.now.file sections.now.list }
     requires symbols { symbols ≡ symbol_table sections.now.file }
     requires fit { TablesFit sections.now.file }
     ensures bytes { result.0.now ≡ symbol_bytes sections.now.file }
@@ -103,8 +105,8 @@ pub(crate) fn symbol_tables(sections: &Sections, symbols: Option<u32>) -> (&[u8]
 {
     match symbols {
         Some(table) => {
-            let names = sections.section_of(table).link;
-            (sections.contents(table), sections.contents(names))
+            let names = sections.section(table).link;
+            (sections.section_bytes(table), sections.section_bytes(names))
         }
         None => (&[], &[]),
     }

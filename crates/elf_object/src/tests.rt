@@ -195,6 +195,33 @@ fn the_first_fault_of_the_sections_is_named(rt: HostRuntime) -> Result<(), Fail>
     Ok(())
 }
 
+/// The file `CODE` with another name of its first section.
+fn renamed(alloc: Global, name: &[u8]) -> Result<Blob, AllocError> {
+    let mut bytes = Vec::from_slice(alloc, &CODE)?;
+    for (byte, new) in bytes.iter_mut().skip(209).zip(name) {
+        *byte = *new;
+    }
+    Ok(Blob::from_vec(bytes))
+}
+
+#[test]
+fn sections_for_the_loading_are_not_kept(rt: HostRuntime) -> Result<(), Fail> {
+    let cases: [(&[u8], bool); 6] = [
+        (b".text\0", true),
+        (b".modinfo\0", false),
+        (b"__versions\0", false),
+        (b"__version_ext_crcs\0", false),
+        (b"__version_ext_names\0", false),
+        (b"__version_ext\0", true),
+    ];
+    for (name, kept) in cases.iter() {
+        let sections = Sections::read(rt.alloc(), renamed(rt.alloc(), name)?)?;
+        assert_eq!(rt; sections.section_count(), 6);
+        assert_eq!(rt; sections.section(1).kept, *kept, "{name:?}");
+    }
+    Ok(())
+}
+
 #[test]
 fn an_object_is_read(rt: HostRuntime) -> Result<(), Fail> {
     let object = Object::read(rt.alloc(), Blob::from_slice(rt.alloc(), &CODE)?)?;

@@ -10,7 +10,7 @@ use elf_object::{SectionFault, Sections};
 use km_course::{Refusal, Stop, read_needed, say_any};
 use km_names::{Blob, PathText, Texts, is_compressed};
 use km_outside::{Files, Out, Reads};
-use modinfo_fields::fields;
+use modinfo_fields::field_values;
 use std::alloc::{AllocError, Global};
 
 /// Prints the values of the key among the module's fields, a line each.
@@ -63,8 +63,7 @@ fn check_sections(alloc: Global, bytes: Blob, path: PathText) -> Result<Sections
 fn field_text(alloc: Global, sections: &Sections, key: &[u8]) -> Result<Blob, AllocError>
     ensures { IfOk result (λ text. text ≡ value_lines key.now sections.now) }
 {
-    let fields = fields(alloc, module_info(sections))?;
-    let values = fields.values_of(alloc, key)?;
+    let values = field_values(alloc, module_info(sections), key)?;
     lines_text(alloc, &values)
 }
 

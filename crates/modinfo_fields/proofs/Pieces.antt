@@ -2,13 +2,14 @@
 use Rattle.std.proofs.Common.{◌≡◌, ℕ, ◌<◌, Bool, false, List, [], ◌∷◌, ◌++◌, length, eqb, eqb, refl, sym, ap, ◌∙◌, arith, append_assoc, append-nil, inl, inr}
 use Rattle.std.specs.Prelude.{map, filter}
 use Rattle.std.specs.List.{slice_split, before_first, after_first, position_or_len, All}
-use Rattle.std.proofs.lemmas.List.{take_all, drop_all}
+use Rattle.std.proofs.lemmas.List.{take_all, drop_all, map-append}
+use Rattle.std.proofs.lemmas.List.Elements.{filter-append}
 use Rattle.std.proofs.lemmas.List.Splits.{slice_split_first, slice_split_none}
 use Rattle.std.proofs.lemmas.List.Sums.{fails_before_first}
 use Rattle.std.proofs.lemmas.List.Elements.{All-from_get_or}
 use Rattle.std.proofs.lemmas.Bool.{cases_lt}
 use Rattle.modinfo_fields.specs.declared.piece.Field.{Field}
-use Rattle.modinfo_fields.specs.Fields.{fields_of, field_of, is_text}
+use Rattle.modinfo_fields.specs.Fields.{fields_of, field_of, is_text, values_of_key}
 
 abbrev is_nul : ℕ → Bool
 is_nul b = eqb b 0
@@ -62,3 +63,21 @@ piece_skipped bytes rest piece after list inv before then none =
     ∙ ap (λ p. list ++ (map field_of (filter is_text (p ∷ [])) ++ fields_of (after_first is_nul rest))) before
     ∙ ap (λ l. list ++ l) (sym (fields-first rest))
     ∙ inv
+
+values-append : (key : List ℕ) (front back : List Field) → values_of_key key (front ++ back) ≡ values_of_key key front ++ values_of_key key back
+unfolding values_of_key
+values-append key front back = simp (filter-append, map-append)
+
+-- the values so far and those of the rest, a piece later
+pub values_later : (key bytes rest piece after : List ℕ) (values more : List (List ℕ)) → values ++ values_of_key key (fields_of rest) ≡ values_of_key key (fields_of bytes) → piece ≡ before_first is_nul rest → after ≡ after_first is_nul rest → more ≡ values_of_key key (map field_of (filter is_text (piece ∷ []))) → (values ++ more) ++ values_of_key key (fields_of after) ≡ values_of_key key (fields_of bytes)
+values_later key bytes rest piece after values more inv before then is =
+    append_assoc values more (values_of_key key (fields_of after))
+    ∙ ap (λ m. values ++ (m ++ values_of_key key (fields_of after))) is
+    ∙ ap (λ p. values ++ (values_of_key key (map field_of (filter is_text (p ∷ []))) ++ values_of_key key (fields_of after))) before
+    ∙ ap (λ a. values ++ (values_of_key key (map field_of (filter is_text (before_first is_nul rest ∷ []))) ++ values_of_key key (fields_of a))) then
+    ∙ ap (λ l. values ++ l) (sym (ap (values_of_key key) (fields-first rest) ∙ values-append key (map field_of (filter is_text (before_first is_nul rest ∷ []))) (fields_of (after_first is_nul rest))))
+    ∙ inv
+
+pub values-nil : (key : List ℕ) → values_of_key key (fields_of []) ≡ []
+unfolding fields_of values_of_key
+values-nil key = refl

@@ -6,12 +6,12 @@
 mod list;
 mod piece;
 
-pub use list::{FieldList, fields};
+pub use list::{FieldList, field_values, fields};
 pub use piece::Field;
 
 #[cfg(test)]
 mod tests {
-    use super::fields;
+    use super::{field_values, fields};
     use std::test::Fail;
 
     #[test]
@@ -41,6 +41,12 @@ mod tests {
             Some(b"b".as_slice())
         );
         assert!(rt; list.values_of(alloc, b"ali")?.is_empty());
+        let values = field_values(alloc, b"alias=a\0alia=c\0alias=b", b"alias")?;
+        assert_eq!(rt; values.len(), 2);
+        assert_eq!(rt;
+            values.get(1).map(|value| value.as_bytes()),
+            Some(b"b".as_slice())
+        );
         Ok(())
     }
 }

@@ -1,4 +1,5 @@
 ghost use Rattle.std.specs.Prelude.{◌≡◌, ◌≤◌, ◌<◌, ◌↔◌, ◌==◌, [], ◌∷◌, ◌++◌, length, map, filter, IsNone, OnOk, OnErr, IfOk, slice_get, option_copied};
+ghost use Rattle.std.specs.Option.{option_to_list};
 ghost use Rattle.std.specs.List.{slice_split};
 ghost use Rattle.modinfo_fields.specs.Fields.{fields_of, field_of, is_text, values_of_key};
 
@@ -9,7 +10,7 @@ use std::alloc::{AllocError, Global};
 use std::marker::Model;
 
 /// The fields of a section, in order. Contracts see it as the list of its fields.
-#[derive(Drop)]
+#[derive(Debug, Drop)]
 pub struct FieldList {
     list: List<Field>,
 }
@@ -63,8 +64,8 @@ impl FieldList {
         self.list.is_empty()
     }
 
-    #[tactic(auto, unfolding(crate::specs::Fields::values_of_key))]
     /// The values of the fields with this key, in order.
+    #[tactic(auto, unfolding(crate::specs::Fields::values_of_key))]
     pub fn values_of(&self, alloc: Global, key: &[u8]) -> Result<Texts, AllocError>
         ensures { IfOk result (λ values. values ≡ values_of_key key.now self.now) }
     {
@@ -78,12 +79,26 @@ impl FieldList {
     }
 }
 
+/// How many pieces between NULs aren't empty.
+fn piece_count(bytes: &[u8]) -> usize {
+    let mut count = 0;
+    let mut after_nul = true;
+    for byte in bytes {
+        if after_nul && *byte != 0 {
+            count += 1;
+        }
+        after_nul = *byte == 0;
+    }
+    count
+}
+
 /// The fields of a `.modinfo` section's bytes: its texts between NULs that aren't empty, in order. The last
-/// text needs no NUL.
+/// text needs no NUL. The list has room for these fields and no more, since a section may have a field for each
+/// two of its bytes.
 pub fn fields(alloc: Global, bytes: &[u8]) -> Result<FieldList, AllocError>
     ensures { IfOk result (λ list. list ≡ fields_of bytes.now) }
 {
-    let mut list = FieldList::new(alloc);
+    let mut list = Vec::with_capacity(alloc, piece_count(bytes))?;
     let mut rest = bytes;
     while !rest.is_empty() {
         let (piece, after) = split_at_byte(rest, 0);
@@ -92,5 +107,37 @@ pub fn fields(alloc: Global, bytes: &[u8]) -> Result<FieldList, AllocError>
         }
         rest = after;
     }
-    Ok(list)
+    Ok(FieldList {
+        list: List::from_vec(list),
+    })
+}
+
+/// The value of a piece between NULs, where it is a field with this key.
+#[tactic(auto, unfolding(crate::specs::Fields::values_of_key, crate::specs::Fields::field_of))]
+fn value_of<'a>(piece: &'a [u8], key: &[u8]) -> Option<&'a [u8]>
+    ensures { option_to_list (option_copied result)
+        ≡ values_of_key key.now (map field_of (filter is_text (piece.now ∷ []))) }
+{
+    if piece.is_empty() {
+        return None;
+    }
+    let (name, value) = split_at_byte(piece, b'=');
+    if name == key { Some(value) } else { None }
+}
+
+/// The values of the fields with this key in a `.modinfo` section's bytes, in order. They are those that
+/// [`FieldList::values_of`] gives, without the list of all fields.
+pub fn field_values(alloc: Global, bytes: &[u8], key: &[u8]) -> Result<Texts, AllocError>
+    ensures { IfOk result (λ values. values ≡ values_of_key key.now (fields_of bytes.now)) }
+{
+    let mut values = Texts::new(alloc);
+    let mut rest = bytes;
+    while !rest.is_empty() {
+        let (piece, after) = split_at_byte(rest, 0);
+        if let Some(value) = value_of(piece, key) {
+            values.push(Blob::from_slice(alloc, value)?)?;
+        }
+        rest = after;
+    }
+    Ok(values)
 }

@@ -5,7 +5,7 @@ use km_names::{Blob, Name, split_at_byte};
 use std::alloc::{AllocError, Global};
 
 /// One field of a `.modinfo` section.
-#[derive(Drop)]
+#[derive(Debug, Drop)]
 pub struct Field {
     /// What stands before the first `=`, or all where there is none.
     pub key: Name,
@@ -13,8 +13,8 @@ pub struct Field {
     pub value: Blob,
 }
 
-#[tactic(auto, unfolding(crate::specs::Fields::field_of))]
 /// The field of a piece between NULs.
+#[tactic(auto, unfolding(crate::specs::Fields::field_of))]
 pub(crate) fn read_field(alloc: Global, piece: &[u8]) -> Result<Field, AllocError>
     ensures { IfOk result (λ field. field ≡ field_of piece.now) }
 {

@@ -1,7 +1,7 @@
-pub mod ContentLemmas
 pub mod EntryLemmas
 pub mod FaultLemmas
 pub mod FindLemmas
-pub mod FirstLemmas
 pub mod ListLemmas
+pub mod SymbolLemmas
 pub mod TimesLemmas
+pub mod VersionLemmas

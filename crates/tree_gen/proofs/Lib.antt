@@ -1,4 +1,7 @@
-pub mod SymbolLemmas
-pub mod NameLemmas
 pub mod FileLemmas
+pub mod FurtherLemmas
+pub mod NameLemmas
+pub mod PartLemmas
+pub mod DistinctLemmas
 pub mod SheetLemmas
+pub mod SymbolLemmas

@@ -1,4 +1,8 @@
 pub mod Sheet
+pub mod Number
+pub mod File
+pub mod Further
+pub mod Symbols
 pub mod Contents
 pub mod Object
-pub mod Build
+pub mod Writing

@@ -1,76 +1,61 @@
--- The object file of a sheet, as the concatenation of its parts. gABI 4, "ELF Header", "Sections".
-use Rattle.std.specs.Prelude.{ℕ, ◌+◌, ◌-◌, ◌%◌, List, [], ◌∷◌, ◌++◌, length}
+-- The object of a sheet: its sections, and the file of these. gABI 4, "Sections", "Special Sections".
+use Rattle.std.specs.Prelude.{ℕ, ◌+◌, List, [], ◌∷◌, ◌++◌, map, codes}
+use Rattle.std.specs.List.{flat_map}
+use Rattle.elf_format.specs.declared.section.TheConstants.{SHT_PROGBITS, SHT_RELA, SHT_SYMTAB, SHT_STRTAB, SHF_WRITE, SHF_ALLOC, SHF_EXECINSTR, SHF_INFO_LINK}
+use Rattle.tree_gen.specs.declared.part.Attributes.{Attributes}
+use Rattle.tree_gen.specs.declared.part.Part.{Part}
+use Rattle.tree_gen.specs.declared.part.TheConstants.{DATA, SYMTAB, STRTAB}
 use Rattle.tree_gen.specs.declared.sheet.Sheet.{Sheet}
-use Rattle.tree_gen.specs.Contents.{zeros, half, word, xword, section_names, local_count, contents}
+use Rattle.tree_gen.specs.declared.sheet.SheetMore.{SheetMore}
+use Rattle.tree_gen.specs.Sheet.{no_more}
+use Rattle.tree_gen.specs.Number.{with_nul}
+use Rattle.tree_gen.specs.File.{file_of}
+use Rattle.tree_gen.specs.Further.{further_parts}
+use Rattle.tree_gen.specs.Symbols.{local_count}
+use Rattle.tree_gen.specs.Contents.{text_bytes, data_bytes, modinfo_bytes, versions_bytes, rela_bytes, symtab_bytes, strtab_bytes}
 
--- How many zeros stand before a part that begins at a multiple of 8.
-abbrev pub gap : ℕ → ℕ
-gap at = (8 - at % 8) % 8
-
--- The parts from a place of the file on, each begun at the next multiple of 8.
-abbrev pub placed : ℕ → List (List ℕ) → List ℕ
-placed at [] = []
-placed at (part ∷ parts) = zeros (gap at) ++ part ++ placed (at + gap at + length part) parts
-
--- Where each of the parts begins.
-abbrev pub starts : ℕ → List (List ℕ) → List ℕ
-starts at [] = []
-starts at (part ∷ parts) = (at + gap at) ∷ starts (at + gap at + length part) parts
-
--- The bytes of the file header.
-abbrev pub header_size : ℕ
-header_size = 64
-
--- The file header, with nine sections, of which the last has their names. gABI 4, Elf64_Ehdr.
-unfoldable pub header : ℕ → List ℕ
-header table =
-    0x7f ∷ 0x45 ∷ 0x4c ∷ 0x46 ∷ 2 ∷ 1 ∷ 1 ∷ zeros 9
-    ++ half 1 ++ half 62 ++ word 1
-    ++ zeros 16 ++ xword table
-    ++ zeros 4 ++ half 64 ++ zeros 4 ++ half 64 ++ half 9 ++ half 8
-
--- What a section header says of a section but for its name, place and size. gABI 4, Elf64_Shdr.
-pub record Attributes : Type 0 where
-  pub kind : ℕ
-  pub flags : ℕ
-  pub link : ℕ
-  pub info : ℕ
-  pub align : ℕ
-  pub entry_size : ℕ
-
+-- A section of bytes, by its type, flags and alignment.
 abbrev pub plain : ℕ → ℕ → ℕ → Attributes
 plain kind flags align = record { kind = kind; flags = flags; link = 0; info = 0; align = align; entry_size = 0 }
 
--- Of the sections 1 to 8: code, words, texts, versions, relocations of the words by the symbols, symbols with
--- their names, and two string tables.
-abbrev pub attributes : Sheet → List Attributes
-attributes s =
-    plain 1 6 16 ∷ plain 1 3 8 ∷ plain 1 2 1 ∷ plain 1 2 32
-    ∷ record { kind = 4; flags = 0x40; link = 6; info = 2; align = 8; entry_size = 24 }
-    ∷ record { kind = 2; flags = 0; link = 7; info = local_count s; align = 8; entry_size = 24 }
-    ∷ plain 3 0 1 ∷ plain 3 0 1 ∷ []
+-- A section of entries of 24 bytes, by its type and flags, the section that belongs to it, and its further number.
+abbrev pub table : ℕ → ℕ → ℕ → ℕ → Attributes
+table kind flags link info = record { kind = kind; flags = flags; link = link; info = info; align = 8; entry_size = 24 }
 
--- A section header: where its name stands, its attributes, its place and its size.
-unfoldable pub section_header : ℕ → Attributes → ℕ → ℕ → List ℕ
-section_header name a at size =
-    word name ++ word a.kind ++ xword a.flags ++ zeros 8 ++ xword at
-    ++ xword size ++ word a.link ++ word a.info ++ xword a.align
-    ++ xword a.entry_size
+-- The sections 1 to 4, which are loaded: code, words, texts and versions.
+unfoldable pub loaded_parts : Sheet → List Part
+loaded_parts s =
+    record { name = codes ".text"; attributes = plain SHT_PROGBITS (SHF_ALLOC + SHF_EXECINSTR) 16; content = text_bytes s }
+    ∷ record { name = codes ".data"; attributes = plain SHT_PROGBITS (SHF_WRITE + SHF_ALLOC) 8; content = data_bytes s }
+    ∷ record { name = codes ".modinfo"; attributes = plain SHT_PROGBITS SHF_ALLOC 1; content = modinfo_bytes s }
+    ∷ record { name = codes "__versions"; attributes = plain SHT_PROGBITS SHF_ALLOC 32; content = versions_bytes s }
+    ∷ []
 
--- The headers of sections whose names stand from a place on.
-abbrev pub section_headers : ℕ → List (List ℕ) → List Attributes → List ℕ → List (List ℕ) → List ℕ
-section_headers name (n ∷ names) (a ∷ attributes) (at ∷ places) (part ∷ parts) =
-    section_header name a at (length part) ++ section_headers (name + (length n + 1)) names attributes places parts
-section_headers name _ _ _ _ = []
+-- The sections 5 to 7, which serve to link: the relocations of the words by the symbols, the symbols, and their names.
+unfoldable pub linked_parts : Sheet → SheetMore → List Part
+linked_parts s m =
+    record { name = codes ".rela.data"; attributes = table SHT_RELA SHF_INFO_LINK SYMTAB DATA; content = rela_bytes s m }
+    ∷ record { name = codes ".symtab"; attributes = table SHT_SYMTAB 0 STRTAB (local_count s m); content = symtab_bytes s m }
+    ∷ record { name = codes ".strtab"; attributes = plain SHT_STRTAB 0 1; content = strtab_bytes s m }
+    ∷ []
 
--- The section header table, whose first entry is zeros.
-abbrev pub section_table : Sheet → List ℕ
-section_table s = zeros 64 ++ section_headers 1 section_names (attributes s) (starts header_size (contents s)) (contents s)
+-- The names of sections, each with its NUL, after an empty one.
+abbrev pub section_names : List (List ℕ) → List ℕ
+section_names names = 0 ∷ flat_map with_nul names
 
--- Where it stands: after the contents.
-abbrev pub table_place : Sheet → ℕ
-table_place s = let end = header_size + length (placed header_size (contents s)) in end + gap end
+-- The sections, with the one that has the names of all of them, section 8, after those before it and before those from 9 on.
+abbrev pub with_names : List Part → List Part → List Part
+with_names before after =
+    let names = map (λ (p : Part). p.name) before ++ codes ".shstrtab" ∷ map (λ (p : Part). p.name) after in
+    before ++ record { name = codes ".shstrtab"; attributes = plain SHT_STRTAB 0 1; content = section_names names } ∷ after
 
--- The object file of the sheet.
-unfoldable pub object_of : Sheet → List ℕ
-object_of s = header (table_place s) ++ placed header_size (contents s ++ section_table s ∷ [])
+-- The sections of a sheet, and of what is more.
+unfoldable pub parts_of : Sheet → SheetMore → List Part
+parts_of s m = with_names (loaded_parts s ++ linked_parts s m) (further_parts m)
+
+-- The object file of a sheet with more, and of a sheet alone.
+unfoldable pub object_more_of : Sheet → SheetMore → List ℕ
+object_more_of s m = file_of (parts_of s m)
+
+abbrev pub object_of : Sheet → List ℕ
+object_of s = object_more_of s no_more

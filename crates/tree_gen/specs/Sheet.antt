@@ -1,62 +1,84 @@
--- What a sheet may have.
-use Rattle.std.specs.Prelude.{ℕ, ◌≤◌, ◌++◌, Bool, true, ◌&&◌, not, ◌==◌, nat_le, List, [], ◌∷◌, length, map, All, Contains}
-use Rattle.std.specs.List.{IsDistinct, list_all, list_any}
+-- What a sheet may have, and what more.
+use Rattle.std.specs.Prelude.{ℕ, ◌++◌, ◌^◌, ◌&&◌, ◌==◌, Bool, true, not, nat_le, nat_lt, List, [], ◌∷◌, length, map}
+use Rattle.std.specs.List.{list_all, list_any}
 use Rattle.std.specs.Str.{bytes_eq}
 use Rattle.tree_gen.specs.declared.sheet.Sheet.{Sheet}
-use Rattle.tree_gen.specs.declared.sheet.SheetVersion.{SheetVersion}
+use Rattle.tree_gen.specs.declared.sheet.SheetExport.{SheetExport}
+use Rattle.tree_gen.specs.declared.sheet.SheetMore.{SheetMore}
+use Rattle.tree_gen.specs.declared.sheet.SheetNeed.{SheetNeed}
 use Rattle.tree_gen.specs.declared.sheet.SheetPlace.{SheetPlace}
+use Rattle.tree_gen.specs.declared.sheet.SheetSpace.{SheetSpace}
+use Rattle.tree_gen.specs.declared.sheet.SheetVersion.{SheetVersion}
 
--- the names of the exported and then of the undefined symbols
+-- The names of the exported symbols, of these and the undefined ones, of the symbols of places, and of the exports that
+-- are in a namespace.
+abbrev pub export_names : Sheet → List (List ℕ)
+export_names s = map (λ (e : SheetExport). e.name) s.exports
+
 abbrev pub symbol_names : Sheet → List (List ℕ)
-symbol_names s = map (λ e. e.name) s.exports ++ map (λ n. n.name) s.needs
+symbol_names s = export_names s ++ map (λ (n : SheetNeed). n.name) s.needs
 
--- a text without NUL, of at most 4096 bytes
-pub record IsText (text : List ℕ) : Type 0 where
-  pub short : length text ≤ 4096
-  pub whole : ¬ Contains text 0
+abbrev pub place_names : Sheet → List (List ℕ)
+place_names s = map (λ (p : SheetPlace). p.symbol) s.places
 
--- A sheet of which an object can be made: no list has more than 65,535 items, the names are distinct and
--- short, and each relocation is by a symbol of the sheet.
-pub record IsSheet (s : Sheet) : Type 0 where
-  pub texts : length s.texts ≤ 65535
-  pub versions : length s.versions ≤ 65535
-  pub exports : length s.exports ≤ 65535
-  pub needs : length s.needs ≤ 65535
-  pub places : length s.places ≤ 65535
-  pub each_text : All IsText s.texts
-  pub each_name : All IsText (symbol_names s)
-  pub each_version : All (λ v. IsText v.name × (length v.name ≤ 55)) s.versions
-  pub distinct : IsDistinct bytes_eq (symbol_names s)
-  pub known : All (λ p. Contains (symbol_names s) p.symbol) s.places
+abbrev pub spaced_names : SheetMore → List (List ℕ)
+spaced_names m = map (λ (p : SheetSpace). p.name) m.spaces
 
--- ---- the same as tests, by which the conditions of a sheet that is written out are computed
+-- A list has at most 65,535 items.
+abbrev pub is_few : {X : Type 0} → List X → Bool
+is_few items = nat_le (length items) 65535
 
-abbrev pub is_text : List ℕ → Bool
-is_text text = nat_le (length text) 4096 && not (list_any (λ byte. byte == 0) text)
+-- A text has no NUL and at most 4096 bytes.
+unfoldable pub is_text : List ℕ → Bool
+is_text text = nat_le (length text) 4096 && not (list_any (λ b. b == 0) text)
 
+-- The name of an entry of `__versions` is a text of at most 55 bytes, since a NUL follows it in 56.
 abbrev pub is_version : SheetVersion → Bool
 is_version v = is_text v.name && nat_le (length v.name) 55
 
+-- The number of an extended version has 32 bits.
+abbrev pub is_extended : SheetVersion → Bool
+is_extended v = is_text v.name && nat_lt v.crc (2 ^ 32)
+
+-- A namespace is a text that isn't empty.
+abbrev pub is_space : SheetSpace → Bool
+is_space p = is_text p.space && nat_lt 0 (length p.space)
+
+-- A name is one of these.
+abbrev pub is_among : List (List ℕ) → List ℕ → Bool
+is_among names name = list_any (bytes_eq name) names
+
+-- No name stands twice.
 abbrev pub are_distinct : List (List ℕ) → Bool
 are_distinct [] = true
-are_distinct (name ∷ names) = list_all (λ other. not (bytes_eq name other)) names && are_distinct names
+are_distinct (name ∷ names) = not (is_among names name) && are_distinct names
 
-abbrev pub is_known : List (List ℕ) → SheetPlace → Bool
-is_known names p = list_any (bytes_eq p.symbol) names
+-- No list is too long.
+unfoldable pub are_few : Sheet → SheetMore → Bool
+are_few s m =
+    is_few s.texts && is_few s.versions && is_few s.exports && is_few s.needs && is_few s.places
+    && is_few m.ext && is_few m.gpl && is_few m.spaces
 
--- of the lengths of the lists
-abbrev pub are_few : Sheet → Bool
-are_few s =
-    nat_le (length s.texts) 65535 && nat_le (length s.versions) 65535 && nat_le (length s.exports) 65535
-    && nat_le (length s.needs) 65535 && nat_le (length s.places) 65535
+-- Texts and names are texts, and numbers and namespaces can be written.
+unfoldable pub are_texts : Sheet → SheetMore → Bool
+are_texts s m =
+    list_all is_text s.texts && list_all is_version s.versions && list_all is_text (symbol_names s)
+    && list_all is_extended m.ext && list_all is_space m.spaces
 
--- of the texts and names
-abbrev pub are_texts : Sheet → Bool
-are_texts s = list_all is_text s.texts && list_all is_text (symbol_names s) && list_all is_version s.versions
+-- Names are distinct, and each is one of the others.
+abbrev pub are_chosen : List (List ℕ) → List (List ℕ) → Bool
+are_chosen others names = are_distinct names && list_all (is_among others) names
 
--- of the names with each other
-abbrev pub are_known : Sheet → Bool
-are_known s = are_distinct (symbol_names s) && list_all (is_known (symbol_names s)) s.places
+-- The names of symbols are distinct, places are by them, and GPL-only names and those in namespaces by exports.
+unfoldable pub are_known : Sheet → SheetMore → Bool
+are_known s m =
+    are_distinct (symbol_names s) && list_all (is_among (symbol_names s)) (place_names s)
+    && are_chosen (export_names s) m.gpl && are_chosen (export_names s) (spaced_names m)
 
-abbrev pub is_sheet : Sheet → Bool
-is_sheet s = are_few s && are_texts s && are_known s
+-- A sheet, with more, of which an object can be made.
+unfoldable pub is_sheet : Sheet → SheetMore → Bool
+is_sheet s m = are_few s m && are_texts s m && are_known s m
+
+-- Nothing more.
+abbrev pub no_more : SheetMore
+no_more = record { ext = []; gpl = []; spaces = [] }

@@ -1,11 +1,11 @@
 // Numbers and zeros at the end of a vector.
-ghost use Rattle.std.specs.Prelude.{◌≡◌, ◌++◌, OnOk};
-ghost use Rattle.tree_gen.specs.Contents.{half, word, xword, zeros};
+ghost use Rattle.std.specs.Prelude.{◌≡◌, ◌++◌, OnOk, IfOk};
+ghost use Rattle.tree_gen.specs.Number.{half, word, xword, zeros};
 
-use std::alloc::AllocError;
+use std::alloc::{AllocError, Global};
 
 /// Puts a number of 2 bytes at the end, the lowest first.
-#[tactic(auto, unfolding(crate::specs::Contents::half))]
+#[tactic(auto, unfolding(crate::specs::Number::half))]
 pub(crate) fn push_half(out: &mut Vec<u8>, n: u16) -> Result<(), AllocError>
     ensures { OnOk result (out.new.items ≡ out.old.items ++ half n) }
 {
@@ -13,7 +13,7 @@ pub(crate) fn push_half(out: &mut Vec<u8>, n: u16) -> Result<(), AllocError>
 }
 
 /// Puts a number of 4 bytes at the end, the lowest first.
-#[tactic(auto, unfolding(crate::specs::Contents::word))]
+#[tactic(auto, unfolding(crate::specs::Number::word))]
 pub(crate) fn push_word(out: &mut Vec<u8>, n: u32) -> Result<(), AllocError>
     ensures { OnOk result (out.new.items ≡ out.old.items ++ word n) }
 {
@@ -21,7 +21,7 @@ pub(crate) fn push_word(out: &mut Vec<u8>, n: u32) -> Result<(), AllocError>
 }
 
 /// Puts a number of 8 bytes at the end, the lowest first.
-#[tactic(auto, unfolding(crate::specs::Contents::xword))]
+#[tactic(auto, unfolding(crate::specs::Number::xword))]
 pub(crate) fn push_xword(out: &mut Vec<u8>, n: u64) -> Result<(), AllocError>
     ensures { OnOk result (out.new.items ≡ out.old.items ++ xword n) }
 {
@@ -29,7 +29,7 @@ pub(crate) fn push_xword(out: &mut Vec<u8>, n: u64) -> Result<(), AllocError>
 }
 
 /// Puts so many zeros at the end.
-#[tactic(auto, unfolding(crate::specs::Contents::zeros))]
+#[tactic(auto, unfolding(crate::specs::Number::zeros))]
 pub(crate) fn push_zeros(out: &mut Vec<u8>, count: usize) -> Result<(), AllocError>
     ensures { OnOk result (out.new.items ≡ out.old.items ++ zeros count) }
 {
@@ -37,4 +37,13 @@ pub(crate) fn push_zeros(out: &mut Vec<u8>, count: usize) -> Result<(), AllocErr
         out.push(0)?;
     }
     Ok(())
+}
+
+/// So many zeros.
+pub(crate) fn zeros(alloc: Global, count: usize) -> Result<Vec<u8>, AllocError>
+    ensures { IfOk result (λ v. v.items ≡ zeros count) }
+{
+    let mut content = Vec::new(alloc);
+    push_zeros(&mut content, count)?;
+    Ok(content)
 }

@@ -1,17 +1,16 @@
 // The conditions of a sheet, as a test.
-ghost use Rattle.std.specs.Prelude.{◌≡◌, ◌↔◌, ◌&&◌, ◌++◌, true, false, map, IsTrue, IfOk};
-ghost use Rattle.std.specs.List.{list_all, list_any};
-ghost use Rattle.std.specs.Str.{bytes_eq};
-ghost use Rattle.std.specs.Bool.{MatchBool};
-ghost use Rattle.tree_gen.specs.Sheet.{IsSheet, symbol_names, is_text, is_version, are_distinct, are_few, are_texts, are_known};
-ghost use Rattle.tree_gen.specs.Build.{names_of};
+ghost use Rattle.std.specs.Prelude.{◌≡◌, ◌≤◌, ◌&&◌, true, length, IfOk};
+ghost use Rattle.std.specs.List.{list_all};
+ghost use Rattle.tree_gen.specs.Sheet.{is_few, is_text, is_version, is_extended, is_space, is_among, are_distinct, are_chosen, are_few, are_texts, are_known, symbol_names, is_sheet as is_the_sheet};
+ghost use Rattle.tree_gen.specs.Writing.{names_of};
 
-use crate::sheet::{Sheet, SheetExport, SheetNeed, SheetPlace, SheetVersion};
-use indexmap::IndexSet;
-use km_names::Blob;
+use crate::names::{names, symbol_names, table_of};
+use crate::sheet::{Sheet, SheetMore, SheetSpace, SheetVersion};
+use km_names::{Blob, List};
+use name_table::NameTable;
 use std::alloc::{AllocError, Global};
 
-/// The most items that a list of a sheet has.
+/// The most items that a list has.
 const MOST_ITEMS: usize = 65535;
 
 /// The most bytes of a text or a name, and of the name of a version.
@@ -19,145 +18,191 @@ const LONGEST_TEXT: usize = 4096;
 
 const LONGEST_VERSION_NAME: usize = 55;
 
-/// Whether no list is too long.
-fn are_few(sheet: &Sheet) -> bool
-    ensures { result ≡ are_few sheet.now }
+/// The most that an extended version is.
+const GREATEST_EXTENDED: u64 = 0xffff_ffff;
+
+/// Whether a list isn't too long.
+fn is_few<T: Drop>(items: &List<T>) -> bool
+    ensures { result ≡ is_few items.now }
 {
-    sheet.texts.len() <= MOST_ITEMS
-        && sheet.versions.len() <= MOST_ITEMS
-        && sheet.exports.len() <= MOST_ITEMS
-        && sheet.needs.len() <= MOST_ITEMS
-        && sheet.places.len() <= MOST_ITEMS
+    items.len() <= MOST_ITEMS
+}
+
+/// Whether no list is too long.
+#[tactic(auto, unfolding(crate::specs::Sheet::are_few))]
+fn are_few(sheet: &Sheet, more: &SheetMore) -> bool
+    ensures { result ≡ are_few sheet.now more.now }
+{
+    is_few(&sheet.texts)
+        && is_few(&sheet.versions)
+        && is_few(&sheet.exports)
+        && is_few(&sheet.needs)
+        && is_few(&sheet.places)
+        && is_few(&more.ext)
+        && is_few(&more.gpl)
+        && is_few(&more.spaces)
 }
 
 /// Whether these bytes are short and have no NUL.
+#[tactic(auto, unfolding(crate::specs::Sheet::is_text))]
 fn is_text(text: &[u8]) -> bool
     ensures { result ≡ is_text text.now }
 {
     text.len() <= LONGEST_TEXT && !text.contains(&0)
 }
 
-/// Whether each text is one.
-fn texts_are(texts: &[Blob]) -> bool
-    ensures { result ≡ list_all is_text texts.now }
-{
-    texts.iter().all(|text| is_text(text.as_bytes()))
-}
-
-/// Whether the names of exports are texts.
-fn exports_are(exports: &[SheetExport]) -> bool
-    ensures { result ≡ list_all (λ e. is_text e.name) exports.now }
-{
-    exports.iter().all(|export| is_text(export.name.as_bytes()))
-}
-
-/// Whether the names of needs are texts.
-fn needs_are(needs: &[SheetNeed]) -> bool
-    ensures { result ≡ list_all (λ n. is_text n.name) needs.now }
-{
-    needs.iter().all(|need| is_text(need.name.as_bytes()))
-}
-
-/// Whether the name of a version is a text, and short enough.
+/// Whether the name of a version is a text that fits its entry.
 fn is_version(version: &SheetVersion) -> bool
     ensures { result ≡ is_version version.now }
 {
     is_text(version.name.as_bytes()) && version.name.len() <= LONGEST_VERSION_NAME
 }
 
-/// Whether the names of versions are.
+/// Whether an extended version has 32 bits, and its name is a text.
+fn is_extended(version: &SheetVersion) -> bool
+    ensures { result ≡ is_extended version.now }
+{
+    is_text(version.name.as_bytes()) && version.crc <= GREATEST_EXTENDED
+}
+
+/// Whether a namespace is a text that isn't empty.
+fn is_space(space: &SheetSpace) -> bool
+    ensures { result ≡ is_space space.now }
+{
+    is_text(space.space.as_bytes()) && !space.space.is_empty()
+}
+
+/// Whether each of these is a text.
+fn texts_are(texts: &[Blob]) -> bool
+    ensures { result ≡ list_all is_text texts.now }
+{
+    texts.iter().all(|text| is_text(text.as_bytes()))
+}
+
+/// Whether each of these names is a text.
+fn names_are(names: &[&[u8]]) -> bool
+    ensures { result ≡ list_all (λ n. is_text n.now) names.now }
+{
+    names.iter().all(|name| is_text(name))
+}
+
+/// Whether each of these versions fits its entry.
 fn versions_are(versions: &[SheetVersion]) -> bool
     ensures { result ≡ list_all is_version versions.now }
 {
-    versions.iter().all(|version| is_version(version))
+    versions.iter().all(is_version)
 }
 
-/// Whether all three hold.
-fn all_of(first: bool, second: bool, third: bool) -> bool
-    ensures { result ≡ (first && second && third) }
+/// Whether each of these extended versions can be written.
+fn extended_are(versions: &[SheetVersion]) -> bool
+    ensures { result ≡ list_all is_extended versions.now }
 {
-    first && second && third
+    versions.iter().all(is_extended)
 }
 
-/// Whether names of symbols are short and have no NUL.
-fn names_are(sheet: &Sheet) -> bool
-    ensures { result ≡ (list_all (λ e. is_text e.name) sheet.now.exports && list_all (λ n. is_text n.name) sheet.now.needs) }
+/// Whether each of these namespaces is one.
+fn spaces_are(spaces: &[SheetSpace]) -> bool
+    ensures { result ≡ list_all is_space spaces.now }
 {
-    exports_are(sheet.exports.as_slice()) && needs_are(sheet.needs.as_slice())
+    spaces.iter().all(is_space)
 }
 
-/// Whether texts and names are short and have no NUL.
-fn are_texts(sheet: &Sheet) -> bool
-    ensures { result ≡ are_texts sheet.now }
+/// Whether texts and names are texts, and numbers and namespaces can be written, by the names of symbols.
+#[tactic(auto, using(crate::proofs::NameLemmas::names_are_texts), unfolding(crate::specs::Sheet::are_texts))]
+fn are_texts(sheet: &Sheet, more: &SheetMore, symbols: &[&[u8]]) -> bool
+    requires { names_of symbols.now ≡ symbol_names sheet.now }
+    ensures { result ≡ are_texts sheet.now more.now }
 {
-    let texts = texts_are(sheet.texts.as_slice());
-    let names = names_are(sheet);
-    let versions = versions_are(sheet.versions.as_slice());
-    all_of(texts, names, versions)
+    texts_are(sheet.texts.as_slice())
+        && versions_are(sheet.versions.as_slice())
+        && names_are(symbols)
+        && extended_are(more.ext.as_slice())
+        && spaces_are(more.spaces.as_slice())
 }
 
-/// Adds the names of exports, up to one that the set has.
-fn insert_exports<'a>(
-    names: &mut IndexSet<&'a [u8]>,
-    exports: &'a [SheetExport],
-) -> Result<bool, AllocError>
-    requires { are_distinct (names_of names.old.keys) ≡ true }
-    ensures { IfOk result (λ b. MatchBool b ((names_of names.new.keys ≡ names_of names.old.keys ++ map (λ e. e.name) exports.now) × (are_distinct (names_of names.new.keys) ≡ true)) (are_distinct (names_of names.old.keys ++ map (λ e. e.name) exports.now) ≡ false)) }
+/// Whether no name stands twice.
+fn are_distinct(alloc: Global, names: &[&[u8]]) -> Result<bool, AllocError>
+    requires { length names.now ≤ 131070 }
+    ensures { IfOk result (λ b. b ≡ are_distinct (names_of names.now)) }
 {
-    for export in exports {
-        if !names.insert(export.name.as_bytes())? {
+    let mut seen = NameTable::new(alloc);
+    for name in names {
+        if seen.place(name).is_some() {
+            return Ok(false);
+        }
+        seen.push(Some(*name))?;
+    }
+    Ok(true)
+}
+
+/// Whether each of the names is one of the others.
+fn are_among(alloc: Global, others: &[&[u8]], names: &[&[u8]]) -> Result<bool, AllocError>
+    requires { length others.now ≤ 131070 }
+    ensures { IfOk result (λ b. b ≡ list_all (is_among (names_of others.now)) (names_of names.now)) }
+{
+    let table = table_of(alloc, others)?;
+    for name in names {
+        if table.place(name).is_none() {
             return Ok(false);
         }
     }
     Ok(true)
 }
 
-/// Adds the names of needs, up to one that the set has.
-fn insert_needs<'a>(
-    names: &mut IndexSet<&'a [u8]>,
-    needs: &'a [SheetNeed],
+/// Whether names are distinct, and each is one of the others.
+fn are_chosen(alloc: Global, others: &[&[u8]], names: &[&[u8]]) -> Result<bool, AllocError>
+    requires others { length others.now ≤ 131070 }
+    requires names { length names.now ≤ 131070 }
+    ensures { IfOk result (λ b. b ≡ are_chosen (names_of others.now) (names_of names.now)) }
+{
+    let distinct = are_distinct(alloc, names)?;
+    let among = are_among(alloc, others, names)?;
+    Ok(distinct && among)
+}
+
+/// Whether all four hold.
+fn all_of(first: bool, second: bool, third: bool, fourth: bool) -> bool
+    ensures { result ≡ (first && second && third && fourth) }
+{
+    first && second && third && fourth
+}
+
+/// Whether the names of symbols are distinct, places are by them, and GPL-only names and those in namespaces by exports.
+#[tactic(auto, unfolding(crate::specs::Sheet::are_known))]
+fn are_known(
+    alloc: Global,
+    sheet: &Sheet,
+    more: &SheetMore,
+    symbols: &[&[u8]],
 ) -> Result<bool, AllocError>
-    requires { are_distinct (names_of names.old.keys) ≡ true }
-    ensures { IfOk result (λ b. MatchBool b ((names_of names.new.keys ≡ names_of names.old.keys ++ map (λ n. n.name) needs.now) × (are_distinct (names_of names.new.keys) ≡ true)) (are_distinct (names_of names.old.keys ++ map (λ n. n.name) needs.now) ≡ false)) }
+    requires few { are_few sheet.now more.now ≡ true }
+    requires symbols { names_of symbols.now ≡ symbol_names sheet.now }
+    ensures { IfOk result (λ b. b ≡ are_known sheet.now more.now) }
 {
-    for need in needs {
-        if !names.insert(need.name.as_bytes())? {
-            return Ok(false);
-        }
-    }
-    Ok(true)
+    let exports = names(alloc, sheet.exports.as_slice())?;
+    let places = names(alloc, sheet.places.as_slice())?;
+    let gpl = names(alloc, more.gpl.as_slice())?;
+    let spaces = names(alloc, more.spaces.as_slice())?;
+    let distinct = are_distinct(alloc, symbols)?;
+    let placed = are_among(alloc, symbols, &places)?;
+    let gpl = are_chosen(alloc, &exports, &gpl)?;
+    let spaced = are_chosen(alloc, &exports, &spaces)?;
+    Ok(all_of(distinct, placed, gpl, spaced))
 }
 
-/// Whether each relocation is by one of these names.
-fn places_are(names: &IndexSet<&[u8]>, places: &[SheetPlace]) -> bool
-    ensures { result ≡ list_all (λ p. list_any (λ k. bytes_eq p.symbol k.now) names.now.keys) places.now }
+/// Whether an object can be made of a sheet, and of what is more: no list is longer than 65,535 items, texts and names
+/// have no NUL and at most 4096 bytes (of a version 55), namespaces aren't empty, extended versions have 32 bits, names
+/// of symbols are distinct, places are by them, and so are the names of GPL-only exports and of those in namespaces by
+/// exports, each at most once.
+#[tactic(auto, unfolding(crate::specs::Sheet::is_sheet))]
+pub fn is_sheet(alloc: Global, sheet: &Sheet, more: &SheetMore) -> Result<bool, AllocError>
+    ensures { IfOk result (λ b. b ≡ is_the_sheet sheet.now more.now) }
 {
-    places
-        .iter()
-        .all(|place| names.contains(place.symbol.as_bytes()))
-}
-
-/// Whether names are distinct, and those of relocations are among them.
-fn are_known(alloc: Global, sheet: &Sheet) -> Result<bool, AllocError>
-    ensures { IfOk result (λ b. b ≡ are_known sheet.now) }
-{
-    let mut names = IndexSet::new(alloc);
-    if !insert_exports(&mut names, sheet.exports.as_slice())? {
+    if !are_few(sheet, more) {
         return Ok(false);
     }
-    if !insert_needs(&mut names, sheet.needs.as_slice())? {
-        return Ok(false);
-    }
-    Ok(places_are(&names, sheet.places.as_slice()))
-}
-
-/// Whether an object can be made of a sheet: no list is longer than 65,535 items, texts and names have no NUL and
-/// at most 4096 bytes (of a version 55), names are distinct, and each relocation is by one of them.
-pub fn is_sheet(alloc: Global, sheet: &Sheet) -> Result<bool, AllocError>
-    ensures { IfOk result (λ b. IsTrue b ↔ IsSheet sheet.now) }
-{
-    let few = are_few(sheet);
-    let texts = are_texts(sheet);
-    let known = are_known(alloc, sheet)?;
-    Ok(all_of(few, texts, known))
+    let symbols = symbol_names(alloc, sheet)?;
+    let texts = are_texts(sheet, more, &symbols);
+    let known = are_known(alloc, sheet, more, &symbols)?;
+    Ok(texts && known)
 }

@@ -1,7 +1,8 @@
 // The contents of the sections that are loaded.
 ghost use Rattle.std.specs.Prelude.{◌≡◌, ◌≤◌, ◌++◌, length, All, OnOk, IfOk};
 ghost use Rattle.std.specs.List.{flat_map};
-ghost use Rattle.tree_gen.specs.Contents.{with_nul, version_bytes, zeros};
+ghost use Rattle.tree_gen.specs.Number.{with_nul};
+ghost use Rattle.tree_gen.specs.Contents.{version_bytes};
 
 use crate::bytes::{push_xword, push_zeros};
 use crate::sheet::SheetVersion;
@@ -10,15 +11,6 @@ use std::alloc::{AllocError, Global};
 
 /// The bytes of the name of a version, the last of which is NUL.
 const VERSION_NAME: usize = 56;
-
-/// So many zeros.
-pub(crate) fn zeros(alloc: Global, count: usize) -> Result<Vec<u8>, AllocError>
-    ensures { IfOk result (λ v. v.items ≡ zeros count) }
-{
-    let mut content = Vec::new(alloc);
-    push_zeros(&mut content, count)?;
-    Ok(content)
-}
 
 /// The texts of `.modinfo`, each with its NUL.
 pub(crate) fn modinfo(alloc: Global, texts: &[Blob]) -> Result<Vec<u8>, AllocError>

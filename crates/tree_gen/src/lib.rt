@@ -1,25 +1,30 @@
 //! Object files made from sheets: a sheet says which texts, versions, exports, needs and relocated words a
-//! module has, and `object` writes the relocatable object that has just these. Tests and trials read them
-//! back.
+//! module has, and `object` writes the relocatable object that has just these; `object_more` writes besides these
+//! extended versions, GPL-only exports and namespaces. Tests and trials read them back.
 //!
-//! It stands on `km_names`, on `byteorder` for the place that is put in last, and on `indexmap` for the numbers of
-//! symbols. Only memory can be wanting.
+//! It stands on `km_names` for lists and names, on `elf_format` for the numbers of the format, on `name_table` for the
+//! places of names, and on `byteorder` for the place that is put in last. An object is the file of a list of sections,
+//! each by its name, what its header says of it, and its content. Only memory can be wanting.
 #![tactic(auto)]
 
 mod bytes;
 mod conditions;
 mod content;
+mod file;
+mod further;
+mod names;
 mod object_file;
+mod part;
+mod parts;
 mod relocations;
-mod section;
 mod sheet;
 mod symbols;
 #[cfg(test)]
 mod tests;
 
 pub use conditions::is_sheet;
-pub use object_file::object;
+pub use object_file::{object, object_more};
 pub use sheet::{
-    Sheet, SheetExport, SheetExports, SheetNeed, SheetNeeds, SheetPlace, SheetPlaces, SheetVersion,
-    SheetVersions,
+    Sheet, SheetExport, SheetExports, SheetMore, SheetNeed, SheetNeeds, SheetPlace, SheetPlaces,
+    SheetSpace, SheetSpaces, SheetVersion, SheetVersions,
 };

@@ -1,4 +1,8 @@
-use km_names::{List, Name, Texts};
+ghost use Rattle.std.specs.Prelude.{◌≡◌};
+ghost use Rattle.tree_gen.specs.Sheet.{no_more};
+
+use km_names::{Blob, List, Name, Names, Texts};
+use std::alloc::Global;
 
 /// What an object file is to have.
 #[derive(Drop)]
@@ -64,3 +68,39 @@ pub struct SheetPlace {
 
 /// A list of relocations, one for each word of `.data`.
 pub type SheetPlaces = List<SheetPlace>;
+
+/// What an object file is to have besides a sheet.
+#[derive(Drop)]
+pub struct SheetMore {
+    /// The versions of needed symbols in the extended form, with names of any length and versions below 2^32.
+    pub ext: SheetVersions,
+    /// The exports for modules with a free license alone.
+    pub gpl: Names,
+    /// The namespaces of exports.
+    pub spaces: SheetSpaces,
+}
+
+/// The namespace of an export.
+#[derive(Drop)]
+pub struct SheetSpace {
+    /// The export.
+    pub name: Name,
+    /// The namespace, which isn't empty.
+    pub space: Blob,
+}
+
+/// A list of namespaces of exports.
+pub type SheetSpaces = List<SheetSpace>;
+
+impl SheetMore {
+    /// Nothing more. It takes no memory.
+    pub fn none(alloc: Global) -> SheetMore
+        ensures { result ≡ no_more }
+    {
+        SheetMore {
+            ext: List::new(alloc),
+            gpl: List::new(alloc),
+            spaces: List::new(alloc),
+        }
+    }
+}

@@ -1,37 +1,32 @@
 // The symbols of an object, with their names.
-ghost use Rattle.std.specs.Prelude.{◌≡◌, ◌≤◌, ◌<◌, ◌+◌, ◌*◌, ◌^◌, [], ◌∷◌, ◌++◌, length, map, All, OnOk, IfOk, if◌then◌else◌};
+ghost use Rattle.std.specs.Prelude.{◌≡◌, ◌≤◌, ◌<◌, ◌+◌, ◌*◌, ◌^◌, [], ◌∷◌, ◌++◌, length, map, All, IsTrue, OnOk, IfOk};
 ghost use Rattle.std.specs.List.{flat_map};
-ghost use Rattle.tree_gen.specs.Sheet.{IsSheet};
-ghost use Rattle.tree_gen.specs.Contents.{zeros, local_symbols, version_symbols, export_symbols, need_symbol, symtab_bytes, strtab_bytes};
-ghost use Rattle.tree_gen.specs.Build.{named, Adds};
+ghost use Rattle.tree_gen.specs.Sheet.{is_sheet};
+ghost use Rattle.tree_gen.specs.Number.{zeros};
+ghost use Rattle.tree_gen.specs.Symbols.{local_symbols, version_symbols, space_symbols, export_symbols, need_info, need_symbol};
+ghost use Rattle.tree_gen.specs.Contents.{symtab_bytes, strtab_bytes};
+ghost use Rattle.tree_gen.specs.Writing.{named, Adds};
 
 use crate::bytes::{push_half, push_word, push_xword, push_zeros};
+use crate::further::{Further, strings_section};
+use crate::part::TEXT;
 use crate::sheet::{Sheet, SheetExport, SheetNeed};
+use elf_format::{
+    SHN_ABS, SHN_UNDEF, STB_GLOBAL, STB_LOCAL, STB_WEAK, STT_FUNC, STT_NOTYPE, SYM_SIZE,
+};
 use std::alloc::{AllocError, Global};
 
-/// The symbol info of a local symbol without a type. gABI 4, "Symbol Table".
-const LOCAL: u8 = 0;
+/// The info of a local symbol of no type, of a global function, and of global and weak symbols of no type.
+const LOCAL: u8 = 16 * STB_LOCAL + STT_NOTYPE;
 
-/// Of a global function.
-const GLOBAL_FUNCTION: u8 = 0x12;
+const GLOBAL_FUNCTION: u8 = 16 * STB_GLOBAL + STT_FUNC;
 
-/// Of a global symbol without a type.
-const GLOBAL: u8 = 0x10;
+const GLOBAL: u8 = 16 * STB_GLOBAL + STT_NOTYPE;
 
-/// Of a weak symbol without a type.
-const WEAK: u8 = 0x20;
-
-/// The number of the section with code.
-const TEXT: u16 = 1;
-
-/// In place of a section's number, of a symbol whose value is no address.
-const ABSOLUTE: u16 = 0xfff1;
+const WEAK: u8 = 16 * STB_WEAK + STT_NOTYPE;
 
 /// The bytes of code for each export.
 pub(crate) const CODE_SIZE: usize = 16;
-
-/// The bytes of an entry.
-const ENTRY_SIZE: usize = 24;
 
 /// The symbol table and the string table with its names.
 #[derive(Drop)]
@@ -49,11 +44,23 @@ struct Symbol {
     size: u64,
 }
 
-/// The symbol info of an undefined symbol.
+/// The info of an undefined symbol.
 fn need_info(weak: bool) -> u8
-    ensures { result ≡ (if weak then 0x20 else 0x10) }
+    ensures { result ≡ need_info weak }
 {
     if weak { WEAK } else { GLOBAL }
+}
+
+/// A local symbol.
+fn local(section: u16, value: u64) -> Symbol
+    ensures { result ≡ record { info = 0; section = section; value = value; size = 0 } }
+{
+    Symbol {
+        info: LOCAL,
+        section,
+        value,
+        size: 0,
+    }
 }
 
 impl SymbolTable {
@@ -63,7 +70,7 @@ impl SymbolTable {
         ensures names { IfOk result (λ t. t.names.items ≡ 0 ∷ []) }
     {
         let mut entries = Vec::new(alloc);
-        push_zeros(&mut entries, ENTRY_SIZE)?;
+        push_zeros(&mut entries, SYM_SIZE)?;
         let mut names = Vec::new(alloc);
         names.push(0)?;
         Ok(SymbolTable { entries, names })
@@ -93,44 +100,49 @@ impl SymbolTable {
     {
         match crc {
             None => Ok(()),
-            Some(crc) => {
-                let version = Symbol {
-                    info: LOCAL,
-                    section: ABSOLUTE,
-                    value: crc,
-                    size: 0,
-                };
-                self.push(b"__crc_", name, version)
-            }
+            Some(crc) => self.push(b"__crc_", name, local(SHN_ABS, crc)),
+        }
+    }
+
+    /// Puts the local symbol at the end that states the namespace of an export.
+    fn push_space(
+        &mut self,
+        name: &[u8],
+        section: u16,
+        place: Option<u64>,
+    ) -> Result<(), AllocError>
+        requires { length self.old.names.items < 2 ^ 32 }
+        ensures { OnOk result (Adds self.old self.new (space_symbols name.now section place)) }
+    {
+        match place {
+            None => Ok(()),
+            Some(place) => self.push(b"__kstrtabns_", name, local(section, place)),
         }
     }
 
     /// Puts the local symbols of an export at the end.
-    fn push_local(&mut self, export: &SheetExport) -> Result<(), AllocError>
+    fn push_local(&mut self, export: &SheetExport, further: &Further) -> Result<(), AllocError>
         requires short { length export.now.name ≤ 4096 }
-        requires fits { length self.old.names.items + 8210 < 2 ^ 32 }
-        ensures { OnOk result (Adds self.old self.new (local_symbols export.now)) }
+        requires fits { length self.old.names.items + 12319 < 2 ^ 32 }
+        ensures { OnOk result (Adds self.old self.new (local_symbols further.now.more.now export.now)) }
     {
         let name = export.name.as_bytes();
-        let table = Symbol {
-            info: LOCAL,
-            section: TEXT,
-            value: 0,
-            size: 0,
-        };
-        self.push(b"__ksymtab_", name, table)?;
-        self.push_version(name, export.crc)
+        let section = further.table_section(name);
+        self.push(b"__ksymtab_", name, local(section, 0))?;
+        self.push_version(name, export.crc)?;
+        let place = further.space_place(name);
+        self.push_space(name, strings_section(further.more), place)
     }
 
     /// Puts the local symbols of exports at the end.
-    fn push_locals(&mut self, exports: &[SheetExport]) -> Result<(), AllocError>
+    fn push_locals(&mut self, exports: &[SheetExport], further: &Further) -> Result<(), AllocError>
         requires short { All (λ e. length e.name ≤ 4096) exports.now }
-        requires fits { length self.old.names.items + 8210 * length exports.now < 2 ^ 32 }
-        ensures added { OnOk result (Adds self.old self.new (flat_map local_symbols exports.now)) }
-        ensures length { OnOk result (length self.new.names.items ≤ length self.old.names.items + 8210 * length exports.now) }
+        requires fits { length self.old.names.items + 12319 * length exports.now < 2 ^ 32 }
+        ensures added { OnOk result (Adds self.old self.new (flat_map (local_symbols further.now.more.now) exports.now)) }
+        ensures length { OnOk result (length self.new.names.items ≤ length self.old.names.items + 12319 * length exports.now) }
     {
         for export in exports {
-            self.push_local(export)?;
+            self.push_local(export, further)?;
         }
         Ok(())
     }
@@ -164,7 +176,7 @@ impl SymbolTable {
         for need in needs {
             let symbol = Symbol {
                 info: need_info(need.weak),
-                section: 0,
+                section: SHN_UNDEF,
                 value: 0,
                 size: 0,
             };
@@ -175,14 +187,18 @@ impl SymbolTable {
 }
 
 /// The symbols of a sheet: those of exports that are local, then the exports, then the needs.
-pub(crate) fn symbol_table(alloc: Global, sheet: &Sheet) -> Result<SymbolTable, AllocError>
-    requires { IsSheet sheet.now }
-    ensures entries { IfOk result (λ t. t.entries.items ≡ symtab_bytes sheet.now) }
-    ensures names { IfOk result (λ t. t.names.items ≡ strtab_bytes sheet.now) }
+pub(crate) fn symbol_table(
+    alloc: Global,
+    sheet: &Sheet,
+    further: &Further,
+) -> Result<SymbolTable, AllocError>
+    requires { IsTrue (is_sheet sheet.now further.now.more.now) }
+    ensures entries { IfOk result (λ t. t.entries.items ≡ symtab_bytes sheet.now further.now.more.now) }
+    ensures names { IfOk result (λ t. t.names.items ≡ strtab_bytes sheet.now further.now.more.now) }
 {
     let exports = sheet.exports.as_slice();
     let mut table = SymbolTable::new(alloc)?;
-    table.push_locals(exports)?;
+    table.push_locals(exports, further)?;
     table.push_exports(exports)?;
     table.push_needs(sheet.needs.as_slice())?;
     Ok(table)

@@ -11,8 +11,10 @@ use Rattle.std.proofs.Math.Seq.{drop-cons}
 use Rattle.std.proofs.lemmas.List.Folds.{find-append}
 use Rattle.std.proofs.lemmas.List.FromFn.{length-map-range_with_len, get_or-map-range_with_len, fill_by_all}
 use Rattle.raw_image.specs.Bytes.{with_bytes}
-use Rattle.x86_relocate.specs.Word.{word, IsKnown, none}
-use Rattle.x86_relocate.specs.Patched.{width, Covers, covers, IsWithin, IsApart, word_of, fits, bytes_of, byte_at, patched, first_too_wide}
+use Rattle.elf_format.specs.declared.relocation.TheConstants.{R_X86_64_NONE, R_X86_64_64, R_X86_64_PC32, R_X86_64_PLT32, R_X86_64_32, R_X86_64_32S, R_X86_64_PC64}
+use Rattle.elf_format.specs.Relocation.{IsKnown, known_width}
+use Rattle.x86_relocate.specs.Word.{word}
+use Rattle.x86_relocate.specs.Patched.{Covers, covers, IsWithin, IsApart, word_of, fits, bytes_of, byte_at, patched, first_too_wide}
 use Rattle.x86_relocate.specs.declared.patch.Patch.{Patch}
 use Rattle.x86_relocate.specs.declared.word.TooWide.{TooWide}
 use Rattle.x86_relocate.specs.declared.word.Written.{Written}
@@ -34,12 +36,16 @@ by_test : (test : Bool) (value : ℕ) → let r : Result Written TooWide = cond 
 by_test true value fit = refl
 by_test false value fit = absurd (false≢true fit)
 
+-- A known type is one of the seven.
+known_cases : (kind : ℕ) → IsKnown kind → (kind ≡ R_X86_64_NONE) ⊎ ((kind ≡ R_X86_64_64) ⊎ ((kind ≡ R_X86_64_PC32) ⊎ ((kind ≡ R_X86_64_PLT32) ⊎ ((kind ≡ R_X86_64_32) ⊎ ((kind ≡ R_X86_64_32S) ⊎ (kind ≡ R_X86_64_PC64))))))
+known_cases kind known = grind (arith, nat_tests)
+
 -- The bytes of a word that fits are as many as its field has.
-length_word : (kind s : ℕ) (a : ℤ) (p : ℕ) → IsKnown kind → is_ok (word kind s a p) ≡ true → length (bytes_of (word kind s a p)) ≡ width kind
+length_word : (kind s : ℕ) (a : ℤ) (p : ℕ) → IsKnown kind → is_ok (word kind s a p) ≡ true → length (bytes_of (word kind s a p)) ≡ known_width kind
 unfolding word
 length_word kind s a p known =
-    let Good : ℕ → Type 0 = λ k. is_ok (word k s a p) ≡ true → length (bytes_of (word k s a p)) ≡ width k in
-    elim known [
+    let Good : ℕ → Type 0 = λ k. is_ok (word k s a p) ≡ true → length (bytes_of (word k s a p)) ≡ known_width k in
+    elim (known_cases kind known) [
       | inl e ↦ subst Good (sym e) (λ _. refl)
       | inr known1 ↦ elim known1 [
         | inl e ↦ subst Good (sym e) (λ _. refl)
@@ -93,13 +99,13 @@ byte_of_earlier image done patch place out =
     rw (find-append, covers_false place patch out, option_or-none) refl
 
 -- The places of a patch reach to its end.
-pub room : (len : ℕ) (patch : Patch) → IsWithin len patch → 0 < width patch.kind → patch.at + width patch.kind ≤ len
-room len patch within some = let last = within (patch.at + (width patch.kind - 1)) (omega arith, omega arith) in omega arith
+pub room : (len : ℕ) (patch : Patch) → IsWithin len patch → 0 < known_width patch.kind → patch.at + known_width patch.kind ≤ len
+room len patch within some = let last = within (patch.at + (known_width patch.kind - 1)) (omega arith, omega arith) in omega arith
 
 bytes_room : (len : ℕ) (patch : Patch) → IsKnown patch.kind → IsWithin len patch → fits patch ≡ true → (length (bytes_of (word_of patch)) ≡ 0) ⊎ (patch.at + length (bytes_of (word_of patch)) ≤ len)
 bytes_room len patch known within fit =
-    let size : length (bytes_of (word_of patch)) ≡ width patch.kind = length_word patch.kind patch.s patch.a patch.p known fit in
-    elim (cases_lt 0 (width patch.kind)) [
+    let size : length (bytes_of (word_of patch)) ≡ known_width patch.kind = length_word patch.kind patch.s patch.a patch.p known fit in
+    elim (cases_lt 0 (known_width patch.kind)) [
       | inl some ↦ inr (rw size (room len patch within some))
       | inr none ↦ inl (omega arith)
     ]
@@ -117,18 +123,18 @@ module _ (image : List ℕ) (done : List Patch) (patch : Patch) (place : ℕ) (i
   byte_after : IsKnown patch.kind → IsWithin (length image) patch → fits patch ≡ true → All (λ one. IsApart one patch) done → slice_index (with_bytes (patched image done) patch.at (bytes_of (word_of patch))) place ≡ byte_at image (done ++ patch ∷ []) place
   byte_after known within fit apart =
       let bytes = bytes_of (word_of patch) in
-      let size : length bytes ≡ width patch.kind = length_word patch.kind patch.s patch.a patch.p known fit in
+      let size : length bytes ≡ known_width patch.kind = length_word patch.kind patch.s patch.a patch.p known fit in
       let len : length (patched image done) ≡ length image = length_patched in
       elim (covers_case place patch) [
         | inl here ↦
-            let last : patch.at + width patch.kind ≤ length image = room (length image) patch within (omega (arith, here.0, here.1)) in
+            let last : patch.at + known_width patch.kind ≤ length image = room (length image) patch within (omega (arith, here.0, here.1)) in
             byte_within (patched image done) patch.at bytes place (omega arith) here.0 (omega (arith, here.1)) ∙ sym (byte_of_later image done patch place apart here)
         | inr out ↦
             let earlier = byte_before ∙ sym (byte_of_earlier image done patch place out) in
             elim (cases_lt place patch.at) [
               | inl below ↦ byte_below (patched image done) patch.at bytes place (omega arith) below ∙ earlier
               | inr above ↦
-                  elim (cases_lt place (patch.at + width patch.kind)) [
+                  elim (cases_lt place (patch.at + known_width patch.kind)) [
                     | inl under ↦ absurd (out (above, under))
                     | inr past ↦ byte_above (patched image done) patch.at bytes place (omega arith) (omega arith) ∙ earlier
                   ]

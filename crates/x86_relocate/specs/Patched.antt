@@ -1,27 +1,24 @@
 -- An image with words put at places: each patch's bytes hold its word, the lowest byte first, and every other
 -- byte is as before. System V ABI, x86-64 supplement, "Relocation".
-use Rattle.std.specs.Prelude.{ℕ, ◌+◌, ◌-◌, ◌≤◌, ◌<◌, ◌==◌, ◌&&◌, ◌||◌, Bool, not, nat_le, nat_lt, if◌then◌else◌, List, [], length, map, slice_index, find, Option, Result, Ok, Err, is_ok}
+use Rattle.std.specs.Prelude.{ℕ, ◌+◌, ◌-◌, ◌≤◌, ◌<◌, ◌&&◌, Bool, not, nat_le, nat_lt, if◌then◌else◌, List, [], length, map, slice_index, find, Option, Result, Ok, Err, is_ok}
 use Rattle.std.specs.Int.{to_le_bytes, w32, w64}
 use Rattle.std.specs.List.{range_with_len}
 use Rattle.std.specs.Option.{option_map_or}
-use Rattle.x86_relocate.specs.Word.{word, none, abs64, pc64}
+use Rattle.elf_format.specs.Relocation.{known_width}
+use Rattle.x86_relocate.specs.Word.{word}
 use Rattle.x86_relocate.specs.declared.patch.Overflow.{Overflow}
 use Rattle.x86_relocate.specs.declared.patch.Patch.{Patch}
 use Rattle.x86_relocate.specs.declared.word.TooWide.{TooWide}
 use Rattle.x86_relocate.specs.declared.word.Written.{Written}
 use Rattle.x86_relocate.specs.declared.word.Written.TheVariants.{Nothing, Four, Eight}
 
--- How many bytes the field of a type has.
-abbrev pub width : ℕ → ℕ
-width kind = if kind == none then 0 else (if kind == abs64 || kind == pc64 then 8 else 4)
-
 -- The patch has this place of the image.
 abbrev pub Covers : Patch → ℕ → Type 0
-Covers patch place = (patch.at ≤ place) × (place < patch.at + width patch.kind)
+Covers patch place = (patch.at ≤ place) × (place < patch.at + known_width patch.kind)
 
 -- Whether it has.
 abbrev pub covers : ℕ → Patch → Bool
-covers place patch = nat_le patch.at place && nat_lt place (patch.at + width patch.kind)
+covers place patch = nat_le patch.at place && nat_lt place (patch.at + known_width patch.kind)
 
 -- Each place of the patch is in an image of so many bytes.
 abbrev pub IsWithin : ℕ → Patch → Type 0

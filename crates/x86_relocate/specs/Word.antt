@@ -1,37 +1,11 @@
 -- The words of the x86-64's relocations. System V ABI, x86-64 supplement, "Relocation", the table of types, with S
 -- the address of the symbol, A the addend and P the address of the place.
-use Rattle.std.specs.Prelude.{ℕ, ◌-◌, ◌%◌, ◌^◌, ◌≡◌, ◌==◌, ◌&&◌, ◌||◌, ◌⊎◌, ℤ, pos, negsuc, neg_ℤ, ◌+ℤ◌, ◌-ℤ◌, int_le, nat_lt, if◌then◌else◌, Result, Ok, Err}
+use Rattle.std.specs.Prelude.{ℕ, ◌-◌, ◌%◌, ◌^◌, ◌==◌, ◌&&◌, ◌||◌, ℤ, pos, negsuc, neg_ℤ, ◌+ℤ◌, ◌-ℤ◌, int_le, nat_lt, if◌then◌else◌, Result, Ok, Err}
+use Rattle.elf_format.specs.declared.relocation.TheConstants.{R_X86_64_NONE, R_X86_64_64, R_X86_64_PC32, R_X86_64_PLT32, R_X86_64_32, R_X86_64_32S}
 use Rattle.km_names.specs.Number.{signed}
 use Rattle.x86_relocate.specs.declared.word.TooWide.{TooWide}
 use Rattle.x86_relocate.specs.declared.word.Written.{Written}
 use Rattle.x86_relocate.specs.declared.word.Written.TheVariants.{Nothing, Four, Eight}
-
--- The types by their numbers: R_X86_64_NONE, _64, _PC32, _PLT32, _32, _32S and _PC64.
-abbrev pub none : ℕ
-none = 0
-
-abbrev pub abs64 : ℕ
-abs64 = 1
-
-abbrev pub pc32 : ℕ
-pc32 = 2
-
-abbrev pub plt32 : ℕ
-plt32 = 4
-
-abbrev pub abs32 : ℕ
-abs32 = 10
-
-abbrev pub abs32_signed : ℕ
-abs32_signed = 11
-
-abbrev pub pc64 : ℕ
-pc64 = 24
-
--- The type is one of these.
-abbrev pub IsKnown : ℕ → Type 0
-IsKnown kind =
-    (kind ≡ none) ⊎ ((kind ≡ abs64) ⊎ ((kind ≡ pc32) ⊎ ((kind ≡ plt32) ⊎ ((kind ≡ abs32) ⊎ ((kind ≡ abs32_signed) ⊎ (kind ≡ pc64))))))
 
 -- A whole number modulo 2^64, from 0 up.
 abbrev pub modulo : ℤ → ℕ
@@ -59,8 +33,8 @@ unfoldable pub word : ℕ → ℕ → ℤ → ℕ → Result Written TooWide
 word kind s a p =
     let absolute = modulo (pos s +ℤ a) in
     let relative = modulo (pos s +ℤ a -ℤ pos p) in
-    if kind == none then Ok Nothing else (
-    if kind == abs64 then word64 absolute else (
-    if kind == pc32 || kind == plt32 then sign_extended relative else (
-    if kind == abs32 then zero_extended absolute else (
-    if kind == abs32_signed then sign_extended absolute else word64 relative))))
+    if kind == R_X86_64_NONE then Ok Nothing else (
+    if kind == R_X86_64_64 then word64 absolute else (
+    if kind == R_X86_64_PC32 || kind == R_X86_64_PLT32 then sign_extended relative else (
+    if kind == R_X86_64_32 then zero_extended absolute else (
+    if kind == R_X86_64_32S then sign_extended absolute else word64 relative))))

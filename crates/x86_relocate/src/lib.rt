@@ -2,7 +2,8 @@
 //!
 //! [`value`] is the psABI's table as arithmetic on whole numbers. [`apply`] is one pass over the patches and
 //! takes no memory; afterwards each patch's bytes hold its word, and every other byte is as before. It
-//! stands on `km_names` for the list of patches and on `raw_image`, of which it knows a list of bytes.
+//! stands on `elf_format` for the types and their widths, on `km_names` for the list of patches and on
+//! `raw_image`, of which it knows a list of bytes.
 #![tactic(auto)]
 
 mod patch;

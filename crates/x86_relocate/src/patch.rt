@@ -2,7 +2,7 @@ ghost use Rattle.std.specs.Prelude.{◌≡◌, All, AllPairs, length, is_ok, tak
 ghost use Rattle.std.specs.Option.{option_map};
 ghost use Rattle.std.specs.Result.{result_err};
 ghost use Rattle.raw_image.specs.Bytes.{with_bytes};
-ghost use Rattle.x86_relocate.specs.Word.{IsKnown};
+ghost use Rattle.elf_format.specs.Relocation.{IsKnown};
 ghost use Rattle.x86_relocate.specs.Patched.{IsApart, IsWithin, bytes_of, fits, first_too_wide, overflow_of, patched, word_of};
 
 use crate::{TooWide, Written, value};

@@ -1,19 +1,11 @@
 ghost use Rattle.std.specs.Prelude.{◌≡◌};
-ghost use Rattle.x86_relocate.specs.Word.{IsKnown, sign_extended, word, zero_extended};
+ghost use Rattle.elf_format.specs.Relocation.{IsKnown};
+ghost use Rattle.x86_relocate.specs.Word.{sign_extended, word, zero_extended};
 
-const R_X86_64_NONE: u32 = 0;
-
-const R_X86_64_64: u32 = 1;
-
-const R_X86_64_PC32: u32 = 2;
-
-const R_X86_64_PLT32: u32 = 4;
-
-const R_X86_64_32: u32 = 10;
-
-const R_X86_64_32S: u32 = 11;
-
-const R_X86_64_PC64: u32 = 24;
+use elf_format::{
+    R_X86_64_32, R_X86_64_32S, R_X86_64_64, R_X86_64_NONE, R_X86_64_PC32, R_X86_64_PC64,
+    R_X86_64_PLT32,
+};
 
 /// The least and the greatest value that four bytes with a sign hold.
 const LEAST: i64 = i32::MIN as i64;
@@ -84,6 +76,7 @@ pub fn value(kind: u32, s: u64, a: i64, p: u64) -> Result<Written, TooWide>
 #[cfg(test)]
 mod tests {
     use super::*;
+    use elf_format::width;
 
     /// The table's formulas at the edges of their fields, worked by hand.
     #[test]
@@ -146,8 +139,7 @@ mod tests {
             (R_X86_64_NONE, 5, 5, 5, Ok(Written::Nothing)),
         ];
         for (kind, s, a, p, want) in rows {
-            let known = matches!(kind, 0 | 1 | 2 | 4 | 10 | 11 | 24);
-            assert!(rt; known);
+            assert!(rt; width(kind).is_some());
             assert_eq!(rt;
                 value(kind, s, a, p),
                 want,

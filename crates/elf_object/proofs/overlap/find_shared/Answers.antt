@@ -22,6 +22,9 @@ returns c =
     (λ a. count_at place_start place_end a c.args.places.now)
     (λ a.
     ap (count_at span_start span_end a) c.deref.ensures.value
-    ∙ sum_by-IsPermutation (λ (y : Span). cond (is_between y.start y.end a) 1 0) c.in_ok-spans.spans.items _ c.sort_unstable_by_key.ensures.permutation
+    ∙ sum_by-IsPermutation (λ (y : Span). cond (is_between (span_start y) (span_end y) a) 1 0) c.in_ok-spans.spans.items _ c.sort_unstable_by_key.ensures.permutation
     ∙ c.in_ok-spans.ensures.counts a)
     c.first_shared.result c.first_shared.ensures
+
+pub returns-then-order : goal.returns-then-order
+returns-then-order c = (c.requires.order c.if-order.true).once

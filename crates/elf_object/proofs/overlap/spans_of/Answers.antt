@@ -3,7 +3,7 @@ use Rattle.std.proofs.lemmas.List.{get_or_default, take_all}
 use Rattle.std.proofs.lemmas.List.Elements.{All-push}
 use Rattle.std.proofs.lemmas.List.Sums.{sum_by_push}
 use Rattle.elf_object.specs.declared.overlap.Span.{Span}
-use Rattle.elf_object.specs.Overlap.{IsLong, is_between, place_end, place_start}
+use Rattle.elf_object.specs.Overlap.{IsLong, is_between, place_end, place_start, span_end, span_start}
 use Rattle.elf_object.proofs.SpanLemmas.{count_at-more, is_between-empty, no_place}
 use Rattle.elf_object.proofs.overlap.spans_of.Goals as goal
 use Rattle.elf_object.proofs.overlap.spans_of.Goals.{in-Some+in_ok-push, in_default}
@@ -20,15 +20,14 @@ loop-place-preserved c =
           let span = w.in-Some.span in
           let start = w.in-Some.ensures.start in
           let end = w.in-Some.ensures.end in
-          let bytes = w.in-Some.ensures.long in
-          let long : span.start < span.end = omega arith in
+          let long : 0 < span.width = w.in-Some.ensures.long in
           let items = ap (λ (v : Vec Span Global). v.items) w.spans-is ∙ w.in_ok-push.ensures.items in
           record {
             long = rw items (All-push IsLong c.loop-place.spans.items span old.long long);
             counts = λ a.
                 rw items
-                (sum_by_push (λ (y : Span). cond (is_between y.start y.end a) 1 0) c.loop-place.spans.items span
-                ∙ rw (old.counts a, start, end) (sym (count_at-more place_start place_end places i p c.loop-place-test.true is a)));
+                (sum_by_push (λ (y : Span). cond (is_between (span_start y) (span_end y) a) 1 0) c.loop-place.spans.items span
+                ∙ rw (old.counts a, end, start) (sym (count_at-more place_start place_end places i p c.loop-place-test.true is a)));
           }
       | in_default w ↦
           let items = ap (λ (v : Vec Span Global). v.items) w.spans-is in

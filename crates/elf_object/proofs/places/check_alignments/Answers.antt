@@ -11,9 +11,9 @@ unfolding align_test
 returns-then-not-is_alignment c =
     let b = c.args.sections.now.file in
     let i = c.loop-index.index in
-    let kept : (section_of b i).kept ≡ true = rw c.section_of-section.ensures.section at c.if-section.true in
+    let kept : (section_of b i).kept ≡ true = rw c.section-section.ensures.header at c.if-section.true in
     let bad : is_alignment (section_of b i).align ≡ false =
-    rw c.section_of-section.ensures.section at (sym c.is_alignment.ensures ∙ c.if-not-is_alignment.true) in
+    rw c.section-section.ensures.header at (sym c.is_alignment.ensures ∙ c.if-not-is_alignment.true) in
     sym (each-failed (section_count b) (align_test b) i (BadAlign i) (omega arith) c.loop-index.invariant (rw (kept, bad) refl))
 
 pub returns : goal.returns

@@ -10,7 +10,7 @@ pub returns-in_err-read_section_places-clause-fault :
     goal.returns-in_err-read_section_places-clause-fault
 returns-in_err-read_section_places-clause-fault c =
     let b = c.args.sections.now.file in
-    let p = err_from_is_err_and c.from_residual.result c.from_residual.ensures.1 in
+    let p = err_from_is_err_and c.from_residual-in_err-read_section_places.result c.from_residual-in_err-read_section_places.ensures.1 in
     rw (p.1, p.2)
     (elim c.in_err-read_section_places.ensures.fault [
       | inl memory ↦ inl memory
@@ -22,7 +22,7 @@ loop-index-preserved c =
     let b = c.args.sections.now.file in
     record {
       tests = below_more _ _ c.loop-index.invariant.tests c.in_ok-read_section_places.ensures.passed;
-      inside = c.in_ok-read_section_places.ensures.inside;
+      in_order = c.in_ok-read_section_places.ensures.order;
       places_are =
           c.in_ok-read_section_places.ensures.places
           ∙ rw c.loop-index.invariant.places_are (sym (places-more b c.loop-index.index));

@@ -1,9 +1,7 @@
-use Rattle.std.proofs.lemmas.List.Elements.{All-push}
-use Rattle.elf_object.proofs.SymbolLemmas.{symbol_in-below}
 use Rattle.std.proofs.Common.{◌≡◌, sym, ◌∙◌, inl, inr, below_more, arith}
 use Rattle.std.proofs.lemmas.Result.{err_from_is_err_and}
 use Rattle.std.proofs.lemmas.List.FromFn.{map-range_with_len_more}
-use Rattle.elf_object.specs.Symbols.{entries, symbol_in, symbol_test_in, symbols_in, IsSectionBelow}
+use Rattle.elf_object.specs.Symbols.{entries, symbol_in, symbol_test_in, symbols_in}
 use Rattle.elf_object.proofs.TestLemmas.{each-failed, each-passed}
 use Rattle.elf_object.proofs.symbol.read_symbols.Goals as goal
 
@@ -22,10 +20,6 @@ loop-index-preserved c =
     let i = c.loop-index.index in
     record {
       tests = below_more _ _ c.loop-index.invariant.tests c.in_ok-read_symbol.ensures.passed;
-      inside =
-          rw (c.in_ok-push.ensures.items, c.in_ok-read_symbol.ensures.symbol)
-          (All-push (IsSectionBelow c.args.count) c.loop-index.symbols.items _ c.loop-index.invariant.inside
-          (symbol_in-below c.args.table.now c.args.names.now c.args.count i c.requires.some c.in_ok-read_symbol.ensures.passed));
       symbols_are =
           c.in_ok-push.ensures.items
           ∙ rw (c.loop-index.invariant.symbols_are, c.in_ok-read_symbol.ensures.symbol)

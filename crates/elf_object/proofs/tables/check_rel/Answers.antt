@@ -5,12 +5,12 @@ use Rattle.elf_object.proofs.TestLemmas.{each-failed, each-passed}
 use Rattle.elf_object.proofs.TableLemmas.{rel_test-failed}
 use Rattle.elf_object.proofs.tables.check_rel.Goals as goal
 
-pub returns-then-section_of-eq-SHT_REL : goal.returns-then-section_of-eq-SHT_REL
-returns-then-section_of-eq-SHT_REL c =
+pub returns-then-section-eq-SHT_REL : goal.returns-then-section-eq-SHT_REL
+returns-then-section-eq-SHT_REL c =
     let b = c.args.sections.now.file in
     let i = c.loop-index.index in
     sym (each-failed (section_count b) (rel_test b) i _ (omega arith) c.loop-index.invariant
-    (rel_test-failed b i (rw c.section_of.ensures.section at c.if-section_of-eq-SHT_REL.true)))
+    (rel_test-failed b i (rw c.section.ensures.header at c.if-section-eq-SHT_REL.true)))
 
 pub returns : goal.returns
 returns c =

@@ -1,5 +1,5 @@
 use Rattle.std.proofs.Common.{◌≡◌, ℕ, ◌<◌, ◌==◌, false}
-use Rattle.elf_object.specs.declared.format.TheConstants.{SHT_SYMTAB}
+use Rattle.elf_format.specs.declared.section.TheConstants.{SHT_SYMTAB}
 use Rattle.elf_object.specs.Sections.{section_of}
 use Rattle.elf_object.proofs.tables.symbol_table.Given as goal
 

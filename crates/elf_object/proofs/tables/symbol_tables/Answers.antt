@@ -1,14 +1,23 @@
-use Rattle.std.proofs.Common.{sym, ◌∙◌}
+use Rattle.std.proofs.Common.{◌<◌, sym, ◌∙◌, arith}
+use Rattle.elf_object.specs.Shape.{section_count}
+use Rattle.elf_object.proofs.ShapeLemmas.{length-read}
 use Rattle.elf_object.proofs.TableLemmas.{symbol_bytes-at, symbol_bytes-none, symbol_names-at, symbol_names-none}
 use Rattle.elf_object.proofs.tables.symbol_tables.Goals as goal
 
+pub section-requires : goal.section-requires
+section-requires c =
+    let b = c.args.sections.now.file in
+    let count = length-read b c.args.sections.now.list c.requires.read in
+    let less : c.in-Some.table < section_count b = c.requires.fit.table c.in-Some.table (sym c.requires.symbols ∙ c.in-Some.is) in
+    omega arith
+
 pub returns-in-Some-clause-bytes : goal.returns-in-Some-clause-bytes
 returns-in-Some-clause-bytes c =
-    c.contents.ensures.contents ∙ sym (symbol_bytes-at c.args.sections.now.file c.in-Some.table (sym c.requires.symbols ∙ c.in-Some.is))
+    c.section_bytes.ensures.header ∙ sym (symbol_bytes-at c.args.sections.now.file c.in-Some.table (sym c.requires.symbols ∙ c.in-Some.is))
 
 pub returns-in-Some-clause-names : goal.returns-in-Some-clause-names
 returns-in-Some-clause-names c =
-    rw c.section_of.ensures.section at c.contents-in-Some.ensures.contents
+    rw c.section.ensures.header at c.section_bytes-in-Some.ensures.header
     ∙ sym (symbol_names-at c.args.sections.now.file c.in-Some.table (sym c.requires.symbols ∙ c.in-Some.is))
 
 pub returns-in-None-clause-bytes : goal.returns-in-None-clause-bytes

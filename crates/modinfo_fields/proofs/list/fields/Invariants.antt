@@ -3,7 +3,7 @@ use Rattle.modinfo_fields.specs.Fields.{fields_of}
 use Rattle.modinfo_fields.proofs.list.fields.Given as goal
 
 abbrev pub invariant-loop-rest : goal.invariant-loop-rest
-invariant-loop-rest l = l.list ++ fields_of l.rest ≡ fields_of l.bytes
+invariant-loop-rest l = l.list.items ++ fields_of l.rest ≡ fields_of l.bytes
 
 abbrev pub decreases-loop-rest : goal.decreases-loop-rest
 decreases-loop-rest l = length l.rest

@@ -1,5 +1,5 @@
 use Rattle.std.proofs.Common.{◌≡◌, ◌++◌}
-use Rattle.tree_gen.specs.Contents.{zeros}
+use Rattle.tree_gen.specs.Number.{zeros}
 use Rattle.tree_gen.proofs.bytes.push_zeros.Given as goal
 
 abbrev pub invariant-loop-index : goal.invariant-loop-index

@@ -1,16 +1,61 @@
-use Rattle.tree_gen.proofs.SheetLemmas.{at-false, at-true, unknown, twice-exports, known-names, known-from_keys}
+use Rattle.std.proofs.Common.{◌≡◌, ℕ, List, ◌&&◌, length, map, ap, ◌∙◌, arith}
+use Rattle.std.specs.List.{list_all}
+use Rattle.tree_gen.specs.declared.sheet.SheetExport.{SheetExport}
+use Rattle.tree_gen.specs.declared.sheet.SheetPlace.{SheetPlace}
+use Rattle.tree_gen.specs.declared.sheet.SheetSpace.{SheetSpace}
+use Rattle.tree_gen.specs.Sheet.{are_chosen, are_distinct, are_known, export_names, is_among, place_names, spaced_names}
+use Rattle.tree_gen.specs.Writing.{names_of}
+use Rattle.tree_gen.proofs.NameLemmas.{map-same}
+use Rattle.tree_gen.proofs.SheetLemmas.{few}
+use Rattle.tree_gen.proofs.SymbolLemmas.{length-named, length-names_of, length-symbol_names}
 use Rattle.tree_gen.proofs.conditions.are_known.Goals as goal
 
-pub returns-then-not-branch : goal.returns-then-not-branch
-returns-then-not-branch c =
-    unknown c.args.sheet.now
-    (twice-exports c.args.sheet.now c.new-names.result.keys c.as_slice.result.now c.new-names.ensures.empty c.as_slice.ensures
-    (at-false _ _ c.in_ok-insert_exports.field-0 c.if-not-branch.true c.in_ok-insert_exports.ensures))
+pub are_distinct-requires : goal.are_distinct-requires
+are_distinct-requires c =
+    let s = c.args.sheet.now in
+    let f = few s c.args.more.now c.requires.few in
+    omega (arith, length-names_of c.args.symbols.now, ap length c.requires.symbols, length-symbol_names s, f.exports, f.needs)
+
+pub are_among-requires : goal.are_among-requires
+are_among-requires c =
+    let s = c.args.sheet.now in
+    let f = few s c.args.more.now c.requires.few in
+    omega (arith, length-names_of c.args.symbols.now, ap length c.requires.symbols, length-symbol_names s, f.exports, f.needs)
+
+pub are_chosen-requires-clause-others : goal.are_chosen-requires-clause-others
+are_chosen-requires-clause-others c =
+    let f = few c.args.sheet.now c.args.more.now c.requires.few in
+    omega (arith, ap length c.deref-2.ensures.value, length-named (λ (e : SheetExport). e.name) c.in_ok-exports.exports.items c.args.sheet.now.exports c.as_slice.result.now c.in_ok-exports.ensures c.as_slice.ensures, f.exports)
+
+pub are_chosen-requires-clause-names : goal.are_chosen-requires-clause-names
+are_chosen-requires-clause-names c =
+    let f = few c.args.sheet.now c.args.more.now c.requires.few in
+    omega (arith, ap length c.deref-3.ensures.value, length-named (λ (n : List ℕ). n) c.in_ok-gpl.gpl.items c.args.more.now.gpl c.as_slice-3.result.now c.in_ok-gpl.ensures c.as_slice-3.ensures, f.gpl)
+
+pub are_chosen-requires-2-clause-others : goal.are_chosen-requires-2-clause-others
+are_chosen-requires-2-clause-others c =
+    let f = few c.args.sheet.now c.args.more.now c.requires.few in
+    omega (arith, ap length c.deref-4.ensures.value, length-named (λ (e : SheetExport). e.name) c.in_ok-exports.exports.items c.args.sheet.now.exports c.as_slice.result.now c.in_ok-exports.ensures c.as_slice.ensures, f.exports)
+
+pub are_chosen-requires-2-clause-names : goal.are_chosen-requires-2-clause-names
+are_chosen-requires-2-clause-names c =
+    let f = few c.args.sheet.now c.args.more.now c.requires.few in
+    omega (arith, ap length c.deref-5.ensures.value, length-named (λ (p : SheetSpace). p.name) c.in_ok-spaces.spaces.items c.args.more.now.spaces c.as_slice-4.result.now c.in_ok-spaces.ensures c.as_slice-4.ensures, f.spaces)
 
 pub returns : goal.returns
+unfolding are_known
 returns c =
-    let exports = at-true _ _ c.in_ok-insert_exports.field-0 c.if-not-branch.false c.in_ok-insert_exports.ensures in
-    let needs = at-true _ _ c.in_ok-insert_needs.field-0 c.if-not-branch-2.false c.in_ok-insert_needs.ensures in
-    let names = known-names c.args.sheet.now c.new-names.result.keys c.insert_exports.new.names.keys c.insert_needs.new.names.keys c.as_slice.result.now c.as_slice-2.result.now
-    c.new-names.ensures.empty c.as_slice.ensures c.as_slice-2.ensures exports.0 needs.0 in
-    known-from_keys c.args.sheet.now c.insert_needs.new.names.keys c.places_are.result c.as_slice-3.result.now names needs.1 c.as_slice-3.ensures c.places_are.ensures
+    let s = c.args.sheet.now in
+    let m = c.args.more.now in
+    let exports : names_of c.in_ok-exports.exports.items ≡ export_names s = c.in_ok-exports.ensures ∙ ap (map (λ (e : SheetExport). e.name)) c.as_slice.ensures in
+    let places : names_of c.deref.result.now ≡ place_names s =
+    ap names_of c.deref.ensures.value ∙ c.in_ok-places.ensures ∙ ap (map (λ (p : SheetPlace). p.symbol)) c.as_slice-2.ensures in
+    let gpl : names_of c.deref-3.result.now ≡ m.gpl =
+    ap names_of c.deref-3.ensures.value ∙ c.in_ok-gpl.ensures ∙ ap (map (λ (n : List ℕ). n)) c.as_slice-3.ensures ∙ map-same m.gpl in
+    let spaces : names_of c.deref-5.result.now ≡ spaced_names m =
+    ap names_of c.deref-5.ensures.value ∙ c.in_ok-spaces.ensures ∙ ap (map (λ (p : SheetSpace). p.name)) c.as_slice-4.ensures in
+    let first = c.in_ok-distinct.ensures ∙ ap are_distinct c.requires.symbols in
+    let second = c.in_ok-placed.ensures ∙ (λ i. list_all (is_among (c.requires.symbols i)) (places i)) in
+    let third = c.in_ok-gpl-2.ensures ∙ ap (λ l. are_chosen (names_of l) (names_of c.deref-3.result.now)) c.deref-2.ensures.value ∙ (λ i. are_chosen (exports i) (gpl i)) in
+    let fourth = c.in_ok-spaced.ensures ∙ ap (λ l. are_chosen (names_of l) (names_of c.deref-5.result.now)) c.deref-4.ensures.value ∙ (λ i. are_chosen (exports i) (spaces i)) in
+    c.all_of.ensures ∙ (λ i. first i && second i && third i && fourth i)

@@ -1,6 +1,6 @@
 use Rattle.std.proofs.Common.{◌≡◌, take}
 use Rattle.std.specs.List.{flat_map}
-use Rattle.tree_gen.specs.Contents.{with_nul}
+use Rattle.tree_gen.specs.Number.{with_nul}
 use Rattle.tree_gen.proofs.content.modinfo.Given as goal
 
 abbrev pub invariant-loop-text : goal.invariant-loop-text

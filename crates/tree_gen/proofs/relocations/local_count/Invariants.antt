@@ -1,10 +1,10 @@
 use Rattle.std.proofs.Common.{◌≡◌, ◌≤◌, ◌+◌, ◌*◌, take, length}
 use Rattle.std.specs.List.{flat_map}
-use Rattle.tree_gen.specs.Contents.{local_symbols}
+use Rattle.tree_gen.specs.Symbols.{local_symbols}
 use Rattle.tree_gen.proofs.relocations.local_count.Given as goal
 
 abbrev pub invariant-loop-export : goal.invariant-loop-export
 invariant-loop-export l = record {
-  sum : l.count ≡ 1 + length (flat_map local_symbols (take l.export-index l.exports));
-  bound : l.count ≤ 1 + 2 * l.export-index;
+  sum : l.count ≡ 1 + length (flat_map (local_symbols l.further.more.now) (take l.export-index l.exports));
+  bound : l.count ≤ 1 + 3 * l.export-index;
 }

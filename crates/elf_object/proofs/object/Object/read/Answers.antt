@@ -1,13 +1,14 @@
-use Rattle.std.proofs.lemmas.List.Elements.{All-weaker}
-use Rattle.elf_object.specs.Shape.{section_count}
-use Rattle.elf_object.specs.Places.{IsInSection, places_of}
-use Rattle.elf_object.specs.Symbols.{IsSectionBelow, symbols_of}
-use Rattle.elf_object.specs.Object.{IsPlaceIn, IsSymbolIn}
 use Rattle.std.proofs.Common.{ap, ◌∙◌, inl, inr}
 use Rattle.std.proofs.lemmas.Result.{err_from_is_err_and}
-use Rattle.elf_object.proofs.ObjectLemmas.{length-symbols_of, object_fault-from, object_fault-places, object_fault-symbols, IsPlaceIn-inside, IsSymbolIn-below}
-use Rattle.elf_object.specs.Sections.{FileSections, sections_of}
+use Rattle.elf_object.specs.Sections.{FileSections}
+use Rattle.elf_object.proofs.ObjectLemmas.{IsLoadable-passed, length-symbols_of, object_fault-from, object_fault-places, object_fault-symbols}
 use Rattle.elf_object.proofs.object.Object.read.Goals as goal
+
+pub read_all_places-requires-clause-read : goal.read_all_places-requires-clause-read
+read_all_places-requires-clause-read c =
+    let file = ap (λ (v : FileSections). v.file) c.in_ok-sections.ensures.sections in
+    let list = ap (λ (v : FileSections). v.list) c.in_ok-sections.ensures.sections in
+    rw (file, list) c.in_ok-sections.ensures.read
 
 pub returns-in_err-sections-clause-fault : goal.returns-in_err-sections-clause-fault
 returns-in_err-sections-clause-fault c =
@@ -41,15 +42,23 @@ returns-clause-passed c =
     object_fault-places c.args.bytes c.in_ok-sections.ensures.passed (rw file at c.in_ok-symbols.ensures.passed)
     ∙ rw file at c.in_ok-places.ensures.passed
 
+pub returns-clause-loadable : goal.returns-clause-loadable
+returns-clause-loadable c =
+    let file = ap (λ (v : FileSections). v.file) c.in_ok-sections.ensures.sections in
+    let list = ap (λ (v : FileSections). v.list) c.in_ok-sections.ensures.sections in
+    rw (c.in_ok-symbols.ensures.symbols, c.in_ok-places.ensures.places, file, list)
+    (IsLoadable-passed c.args.bytes c.in_ok-sections.ensures.read (rw file at c.in_ok-symbols.ensures.fit)
+    (rw file at c.in_ok-symbols.ensures.passed) (rw file at c.in_ok-places.ensures.passed))
+
 pub invariant_of-result : goal.invariant_of-result
 invariant_of-result c =
     let b = c.args.bytes in
     let file = ap (λ (v : FileSections). v.file) c.in_ok-sections.ensures.sections in
     let list = ap (λ (v : FileSections). v.list) c.in_ok-sections.ensures.sections in
-    let symbols_in = rw (c.in_ok-symbols.ensures.symbols, file) at c.in_ok-symbols.ensures.inside in
-    let places_in = rw (c.in_ok-places.ensures.places, file) at c.in_ok-places.ensures.inside in
+    let loadable = IsLoadable-passed b c.in_ok-sections.ensures.read (rw file at c.in_ok-symbols.ensures.fit)
+    (rw file at c.in_ok-symbols.ensures.passed) (rw file at c.in_ok-places.ensures.passed) in
     rw (c.in_ok-symbols.ensures.symbols, c.in_ok-places.ensures.places, file, list) (record {
+      small = c.requires;
       few = length-symbols_of b c.requires;
-      symbols_in = All-weaker (IsSectionBelow (section_count b)) (IsSymbolIn (sections_of b)) (IsSymbolIn-below b) (symbols_of b) symbols_in;
-      places_in = All-weaker (IsInSection b) (IsPlaceIn (sections_of b) (symbols_of b)) (IsPlaceIn-inside b) (places_of b) places_in;
+      loadable = loadable;
     })

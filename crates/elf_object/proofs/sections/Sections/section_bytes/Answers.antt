@@ -1,12 +1,12 @@
 use Rattle.std.proofs.Common.{◌<◌, length, ◌∙◌, ap, arith}
-use Rattle.elf_object.proofs.ShapeLemmas.{bytes_of-slice_get, length-sections_of}
-use Rattle.elf_object.specs.Shape.{section_count}
+use Rattle.elf_object.proofs.ShapeLemmas.{bytes_of-slice_get, length-contents, length-read}
+use Rattle.elf_object.specs.Shape.{contents, section_count}
 use Rattle.elf_object.specs.Sections.{FileSections}
 use Rattle.elf_object.proofs.sections.Sections.section_bytes.Goals as goal
 
 pub overflow_cast-i : goal.overflow_cast-i
 overflow_cast-i c =
-    let length_is = ap length c.self.invariant.list_is ∙ length-sections_of c.self.inside.bytes in
+    let count = length-read c.self.inside.bytes c.self.inside.sections c.self.invariant in
     let small = c.self.invariant.table.count in
     let same = ap (λ (v : FileSections). length v.list) c.self.view_is in
     let few : c.args.i < 65280 = omega arith in
@@ -14,15 +14,27 @@ overflow_cast-i c =
 
 pub contents-requires-clause-index : goal.contents-requires-clause-index
 contents-requires-clause-index c =
-    let length_is = ap length c.self.invariant.list_is ∙ length-sections_of c.self.inside.bytes in
+    let count = length-read c.self.inside.bytes c.self.inside.sections c.self.invariant in
     let same = ap (λ (v : FileSections). length v.list) c.self.view_is in
     let bytes = ap section_count c.as_bytes.ensures in
     omega arith
 
-pub returns : goal.returns
-returns c =
-    let length_is = ap length c.self.invariant.list_is ∙ length-sections_of c.self.inside.bytes in
+pub returns-clause-bytes : goal.returns-clause-bytes
+returns-clause-bytes c =
+    let count = length-read c.self.inside.bytes c.self.inside.sections c.self.invariant in
     let same = ap (λ (v : FileSections). length v.list) c.self.view_is in
     let is = rw c.as_bytes.ensures at c.contents.ensures in
     rw (← c.self.view_is, c.self.invariant.list_is)
     (bytes_of-slice_get c.self.inside.bytes c.args.i c.contents.result.now (omega arith) is)
+
+pub returns-clause-header : goal.returns-clause-header
+returns-clause-header c =
+    rw c.as_bytes.ensures at c.contents.ensures ∙ ap (λ (v : FileSections). contents v.file c.args.i) c.self.view_is
+
+pub returns-clause-short : goal.returns-clause-short
+returns-clause-short c =
+    let file = ap (λ (v : FileSections). length v.file) c.self.view_is in
+    let is = ap length c.contents.ensures in
+    let short = length-contents c.as_bytes.result.now c.args.i in
+    let bytes = ap length c.as_bytes.ensures in
+    omega arith

@@ -1,5 +1,6 @@
 use Rattle.std.proofs.Common.{◌*◌, ◌≡◌, [], ◌∷◌, arith, ap, ◌≤◌, length}
-use Rattle.tree_gen.specs.Contents.{SymbolEntry}
+use Rattle.tree_gen.specs.declared.part.TheConstants.{TEXT}
+use Rattle.tree_gen.specs.Symbols.{SymbolEntry}
 use Rattle.tree_gen.proofs.SymbolLemmas.{exports-next, Adds-length, length-names_bytes-one, short-at}
 use Rattle.tree_gen.proofs.symbols.SymbolTable.push_exports.Goals as goal
 
@@ -8,7 +9,7 @@ loop-j-preserved c =
     let j = c.loop-j.j in
     let x = c.index-exports-j.result in
     let name = c.as_bytes.result.now in
-    let here : SymbolEntry = record { name = name; info = 0x12; section = 1; value = 16 * j; size = 16 } in
+    let here : SymbolEntry = record { name = name; info = 0x12; section = TEXT; value = 16 * j; size = 16 } in
     let short : length x.name ≤ 4096 = short-at (λ e. e.name) c.args.exports.now j x c.loop-j-test.true c.index-exports-j.is c.requires.short in
     let same : length name ≡ length x.name = ap length c.as_bytes.ensures in
     record {

@@ -1,6 +1,6 @@
 use Rattle.std.proofs.Common.{◌≤◌, ◌+◌, ◌*◌, take, length}
-use Rattle.tree_gen.specs.Contents.{export_symbols}
-use Rattle.tree_gen.specs.Build.{Adds}
+use Rattle.tree_gen.specs.Symbols.{export_symbols}
+use Rattle.tree_gen.specs.Writing.{Adds}
 use Rattle.tree_gen.proofs.symbols.SymbolTable.push_exports.Given as goal
 
 abbrev pub invariant-loop-j : goal.invariant-loop-j

@@ -1,5 +1,6 @@
 use Rattle.std.proofs.Common.{◌≡◌, [], ◌∷◌, arith, ap, ◌≤◌, length}
-use Rattle.tree_gen.specs.Contents.{SymbolEntry}
+use Rattle.elf_format.specs.declared.symbol.TheConstants.{SHN_UNDEF}
+use Rattle.tree_gen.specs.Symbols.{SymbolEntry}
 use Rattle.tree_gen.proofs.SymbolLemmas.{needs-next, Adds-length, length-names_bytes-one, short-at}
 use Rattle.tree_gen.proofs.symbols.SymbolTable.push_needs.Goals as goal
 
@@ -8,7 +9,7 @@ loop-need-preserved c =
     let i = c.loop-need.need-index in
     let x = c.need-item.result in
     let name = c.as_bytes.result.now in
-    let here : SymbolEntry = record { name = name; info = c.need_info.result; section = 0; value = 0; size = 0 } in
+    let here : SymbolEntry = record { name = name; info = c.need_info.result; section = SHN_UNDEF; value = 0; size = 0 } in
     let short : length x.name ≤ 4096 = short-at (λ n. n.name) c.args.needs.now i x c.loop-need-test.true c.need-item.is c.requires.short in
     let same : length name ≡ length x.name = ap length c.as_bytes.ensures in
     record {

@@ -1,6 +1,6 @@
 use Rattle.std.proofs.Common.{◌≤◌, ◌+◌, ◌*◌, take, map, length}
-use Rattle.tree_gen.specs.Contents.{need_symbol}
-use Rattle.tree_gen.specs.Build.{Adds}
+use Rattle.tree_gen.specs.Symbols.{need_symbol}
+use Rattle.tree_gen.specs.Writing.{Adds}
 use Rattle.tree_gen.proofs.symbols.SymbolTable.push_needs.Given as goal
 
 abbrev pub invariant-loop-need : goal.invariant-loop-need

@@ -1,0 +1,78 @@
+ghost use Rattle.std.specs.Prelude.{◌≡◌, ◌<◌, ◌+◌, ◌-◌, ◌^◌, ℕ, List, [], ◌∷◌, ◌++◌, Option, Some, None, OnOk, OnErr, option_copied, if◌then◌else◌};
+ghost use Rattle.std.specs.Option.{option_or};
+ghost use Rattle.std.specs.Str.{bytes_eq};
+ghost use Rattle.indexmap.specs.IndexMap.{get_by, IsUnchanged};
+ghost use Rattle.name_table.specs.NameTable.{IsTableOf, place_of};
+
+use indexmap::IndexMap;
+use std::alloc::{AllocError, Global};
+use std::marker::Model;
+
+/// For each of some names the place of the first item that states it. The table has copies of the names. Contracts
+/// see the names with their places, and the count of items.
+#[derive(Drop)]
+pub struct OwnedNameTable {
+    places: IndexMap<Vec<u8>, u32>,
+    count: u32,
+}
+
+impl Model for OwnedNameTable {
+    ghost use Rattle.std.specs.Prelude.{map};
+    ghost use Rattle.name_table.specs.NameTable.{Table};
+
+    ghost Value = { Table };
+
+    ghost view = { λ t. record { entries = map (λ e. (e.0.items, e.1)) t.places.entries; count = t.count } };
+}
+
+// Puts a copy of a name in with its place, unless the name is there.
+fn keep_first(
+    alloc: Global,
+    places: &mut IndexMap<Vec<u8>, u32>,
+    name: &[u8],
+    place: u32,
+) -> Result<(), AllocError>
+    ensures ok { OnOk result ((other : List ℕ) → get_by (λ k. bytes_eq other k.items) places.new
+        ≡ option_or (get_by (λ k. bytes_eq other k.items) places.old) (if bytes_eq name.now other then Some place else None)) }
+    ensures err { OnErr result (IsUnchanged places.old places.new) }
+{
+    if places.get(name).is_none() {
+        places.insert(Vec::from_slice(alloc, name)?, place)?;
+    }
+    Ok(())
+}
+
+impl OwnedNameTable {
+    /// The table of no item. It takes no memory.
+    pub fn new(alloc: Global) -> Self
+        ensures empty { IsTableOf result [] }
+        ensures count { result.count ≡ 0 }
+    {
+        OwnedNameTable {
+            places: IndexMap::new(alloc),
+            count: 0,
+        }
+    }
+
+    /// Adds an item that states this name, or none. After a refusal the table is as before.
+    pub fn push(&mut self, alloc: Global, name: Option<&[u8]>) -> Result<(), AllocError>
+        requires { self.old.count < 2 ^ 32 - 1 }
+        ensures ok { OnOk result ((items : List (Option (List ℕ))) → IsTableOf self.old items →
+            IsTableOf self.new (items ++ option_copied name.entry ∷ [])) }
+        ensures count { OnOk result (self.new.count ≡ self.old.count + 1) }
+        ensures err { OnErr result (self.new ≡ self.old) }
+    {
+        if let Some(name) = name {
+            keep_first(alloc, &mut self.places, name, self.count)?;
+        }
+        self.count += 1;
+        Ok(())
+    }
+
+    /// The place of the first item that states this name. It takes no memory.
+    pub fn place(&self, name: &[u8]) -> Option<u32>
+        ensures { result ≡ place_of self.now name.now }
+    {
+        self.places.get(name).copied()
+    }
+}

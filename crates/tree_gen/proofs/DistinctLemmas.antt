@@ -1,0 +1,119 @@
+-- Names that stand once, an item more at a time.
+use Rattle.std.proofs.Common.{◌≡◌, ℕ, ◌+◌, ◌<◌, Bool, true, false, not, ◌&&◌, ◌||◌, List, [], ◌∷◌, ◌++◌, length, map, take, drop, get_or, Bor, Option, Some, is_some, refl, sym, ap, subst, ◌∙◌, true≢false}
+use Rattle.std.proofs.lemmas.Bool.{not_from_false, and_from, not-true}
+use Rattle.std.proofs.lemmas.List.{get_or_default, take_more, drop_more, take-append-drop, map-append}
+use Rattle.std.proofs.lemmas.List.Folds.{list_any-append, list_all-map, list_all_at, list_all_more}
+use Rattle.std.proofs.lemmas.Cmp.{nat_list_eq_equiv}
+use Rattle.std.specs.List.{list_all, list_any}
+use Rattle.std.specs.Str.{bytes_eq}
+use Rattle.tree_gen.specs.Sheet.{is_among, are_distinct}
+use Rattle.tree_gen.specs.Writing.{names_of}
+use Rattle.name_table.specs.NameTable.{Table, IsTableOf, place_of}
+use Rattle.tree_gen.proofs.NameLemmas.{is_among-first_place}
+
+both : (a b : Bool) → (a && b) ≡ true → (a ≡ true) × (b ≡ true)
+both true b h = (refl, h)
+both false b h = absurd (true≢false (sym h))
+
+neither : (a b : Bool) → (a || b) ≡ false → (a ≡ false) × (b ≡ false)
+neither false b h = (refl, h)
+neither true b h = absurd (true≢false h)
+
+and-false : (b : Bool) → (b && false) ≡ false
+and-false true = refl
+and-false false = refl
+
+or-true : (b : Bool) → (b || true) ≡ true
+or-true true = refl
+or-true false = refl
+
+-- of names that are distinct, and one more
+pub distinct-push : (names : List (List ℕ)) (n : List ℕ) → are_distinct names ≡ true → is_among names n ≡ false → are_distinct (names ++ n ∷ []) ≡ true
+distinct-push [] n d a = refl
+distinct-push (x ∷ xs) n d a =
+    let w = both (not (is_among xs x)) (are_distinct xs) d in
+    let v = neither (bytes_eq n x) (is_among xs n) a in
+    let none : is_among xs x ≡ false = not-true (is_among xs x) w.0 in
+    let other : bytes_eq x n ≡ false = nat_list_eq_equiv.symm x n ∙ v.0 in
+    let still : is_among (xs ++ n ∷ []) x ≡ false =
+    list_any-append (bytes_eq x) xs (n ∷ []) ∙ (λ i. none i || (other i || false)) in
+    and_from (not (is_among (xs ++ n ∷ []) x)) (are_distinct (xs ++ n ∷ [])) (not_from_false (is_among (xs ++ n ∷ []) x) still) (distinct-push xs n w.1 v.1)
+
+-- a name that is there twice
+twice-by : (b : Bool) (x n : List ℕ) (xs rest : List (List ℕ)) → bytes_eq n x ≡ b → (bytes_eq n x || is_among xs n) ≡ true → (is_among xs n ≡ true → are_distinct (xs ++ n ∷ rest) ≡ false)
+    → (not (is_among (xs ++ n ∷ rest) x) && are_distinct (xs ++ n ∷ rest)) ≡ false
+twice-by true x n xs rest e a later =
+    let here : is_among (xs ++ n ∷ rest) x ≡ true =
+    list_any-append (bytes_eq x) xs (n ∷ rest) ∙ ap (λ b. list_any (bytes_eq x) xs || (b || list_any (bytes_eq x) rest)) (nat_list_eq_equiv.symm x n ∙ e) ∙ or-true (list_any (bytes_eq x) xs) in
+    ap (λ b. not b && are_distinct (xs ++ n ∷ rest)) here
+twice-by false x n xs rest e a later =
+    ap (λ b. not (is_among (xs ++ n ∷ rest) x) && b) (later (ap (λ b. b || is_among xs n) (sym e) ∙ a)) ∙ and-false (not (is_among (xs ++ n ∷ rest) x))
+
+twice : (names : List (List ℕ)) (n : List ℕ) (rest : List (List ℕ)) → is_among names n ≡ true → are_distinct (names ++ n ∷ rest) ≡ false
+twice [] n rest a = absurd (true≢false (sym a))
+twice (x ∷ xs) n rest a = twice-by (bytes_eq n x) x n xs rest refl a (twice xs n rest)
+
+module _ (keys : List (Bor (List ℕ))) (i : ℕ) (k : Bor (List ℕ)) (within : i < length keys) (is : k ≡ get_or keys i k) where
+  pub names-more : names_of (take (i + 1) keys) ≡ names_of (take i keys) ++ k.now ∷ []
+  names-more =
+      ap names_of (take_more keys i k within ∙ ap (λ x. take i keys ++ x ∷ []) (sym is))
+      ∙ map-append (λ (x : Bor (List ℕ)). x.now) (take i keys) (k ∷ [])
+
+  names-split : names_of keys ≡ names_of (take i keys) ++ k.now ∷ names_of (drop (i + 1) keys)
+  names-split =
+      ap names_of (sym (take-append-drop i keys))
+      ∙ map-append (λ (x : Bor (List ℕ)). x.now) (take i keys) (drop i keys)
+      ∙ ap (λ r. names_of (take i keys) ++ names_of r) (drop_more keys i k within)
+      ∙ ap (λ (x : Bor (List ℕ)). names_of (take i keys) ++ x.now ∷ names_of (drop (i + 1) keys)) (sym is)
+
+  -- the end of a loop at a name that was there before
+  pub distinct-stop : is_among (names_of (take i keys)) k.now ≡ true → are_distinct (names_of keys) ≡ false
+  distinct-stop there = ap are_distinct names-split ∙ twice (names_of (take i keys)) k.now (names_of (drop (i + 1) keys)) there
+
+  -- and its step at one that wasn't
+  pub distinct-next : are_distinct (names_of (take i keys)) ≡ true → is_among (names_of (take i keys)) k.now ≡ false → are_distinct (names_of (take (i + 1) keys)) ≡ true
+  distinct-next d none = ap are_distinct names-more ∙ distinct-push (names_of (take i keys)) k.now d none
+
+module _ (keys : List (Bor (List ℕ))) (i : ℕ) (d : Bor (List ℕ)) (within : i < length keys) where
+  itself : get_or keys i d ≡ get_or keys i (get_or keys i d)
+  itself = get_or_default keys i d (get_or keys i d) within
+
+  -- the table of the names so far, with one more
+  pub table-more : (t : Table) → IsTableOf t (map (λ n. Some n) (names_of (take i keys)) ++ Some (get_or keys i d).now ∷ []) → IsTableOf t (map (λ n. Some n) (names_of (take (i + 1) keys)))
+  table-more t is =
+      subst (IsTableOf t)
+      (sym (ap (map (λ n. Some n)) (names-more keys i (get_or keys i d) within itself) ∙ map-append (λ n. Some n) (names_of (take i keys)) ((get_or keys i d).now ∷ [])))
+      is
+
+  module _ (t : Table) (found : Option ℕ) (place : found ≡ place_of t (get_or keys i d).now) where
+    among : (names : List (List ℕ)) → IsTableOf t (map (λ n. Some n) names) → is_some found ≡ is_among names (get_or keys i d).now
+    among names is = ap is_some (place ∙ is.places (get_or keys i d).now) ∙ is_among-first_place names (get_or keys i d).now
+
+    -- a name that was seen
+    pub seen-twice : (there : Bool) → IsTableOf t (map (λ n. Some n) (names_of (take i keys))) → there ≡ is_some found → there ≡ true → false ≡ are_distinct (names_of keys)
+    seen-twice there is some was =
+        sym (distinct-stop keys i (get_or keys i d) within itself (sym (among (names_of (take i keys)) is) ∙ sym some ∙ was))
+
+    -- and one that wasn't
+    pub seen-once : (there : Bool) → IsTableOf t (map (λ n. Some n) (names_of (take i keys))) → there ≡ is_some found → there ≡ false → are_distinct (names_of (take i keys)) ≡ true
+        → are_distinct (names_of (take (i + 1) keys)) ≡ true
+    seen-once there is some was distinct =
+        distinct-next keys i (get_or keys i d) within itself distinct (sym (among (names_of (take i keys)) is) ∙ sym some ∙ was)
+
+    -- a name that is one of the others
+    pub known-more : (others : List (Bor (List ℕ))) (none : Bool) → IsTableOf t (map (λ n. Some n) (names_of others)) → is_some found ≡ not none → none ≡ false
+        → list_all (is_among (names_of others)) (names_of (take i keys)) ≡ true → list_all (is_among (names_of others)) (names_of (take (i + 1) keys)) ≡ true
+    known-more others none is some was all =
+        let here : is_among (names_of others) (get_or keys i d).now ≡ true = sym (among (names_of others) is) ∙ some ∙ ap not was in
+        list_all-map (is_among (names_of others)) (λ (k : Bor (List ℕ)). k.now) (take (i + 1) keys)
+        ∙ list_all_more (λ (k : Bor (List ℕ)). is_among (names_of others) k.now) keys i d within
+        ∙ and_from _ _ (sym (list_all-map (is_among (names_of others)) (λ (k : Bor (List ℕ)). k.now) (take i keys)) ∙ all) here
+
+    -- and one that isn't
+    pub known-not : (others : List (Bor (List ℕ))) (none : Bool) → IsTableOf t (map (λ n. Some n) (names_of others)) → is_some found ≡ not none → none ≡ true
+        → false ≡ list_all (is_among (names_of others)) (names_of keys)
+    known-not others none is some was =
+        let here : is_among (names_of others) (get_or keys i d).now ≡ false = sym (among (names_of others) is) ∙ some ∙ ap not was in
+        sym
+        (list_all-map (is_among (names_of others)) (λ (k : Bor (List ℕ)). k.now) keys
+        ∙ list_all_at (λ (k : Bor (List ℕ)). is_among (names_of others) k.now) keys i d within here)

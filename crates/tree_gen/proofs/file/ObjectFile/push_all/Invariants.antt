@@ -1,0 +1,10 @@
+use Rattle.std.proofs.Common.{ℕ, ◌+◌, ◌*◌, ◌≤◌, take, fold}
+use Rattle.tree_gen.specs.File.{Laid, with_part}
+use Rattle.tree_gen.specs.Writing.{IsFileOf}
+use Rattle.tree_gen.proofs.file.ObjectFile.push_all.Given as goal
+
+abbrev pub invariant-loop-part : goal.invariant-loop-part
+invariant-loop-part l = record {
+  short : l.self.names ≤ 1 + 33 * l.part-index;
+  file : (m : Laid) (count : ℕ) → IsFileOf l.initial.self m count → IsFileOf l.self (fold with_part m (take l.part-index l.parts)) count;
+}

@@ -1,0 +1,59 @@
+-- An object file of some sections. gABI 4, "ELF Header", "Sections".
+use Rattle.std.specs.Prelude.{ℕ, ◌+◌, ◌-◌, ◌%◌, List, [], ◌∷◌, ◌++◌, length, fold}
+use Rattle.elf_format.specs.declared.file_header.TheConstants.{ELFCLASS64, ELFDATA2LSB, EV_CURRENT, ET_REL, EM_X86_64, EHDR_SIZE, SHDR_SIZE}
+use Rattle.tree_gen.specs.declared.part.Attributes.{Attributes}
+use Rattle.tree_gen.specs.declared.part.Part.{Part}
+use Rattle.tree_gen.specs.declared.part.TheConstants.{SECTION_NAMES}
+use Rattle.tree_gen.specs.Number.{half, word, xword, zeros, with_nul}
+
+-- How many zeros stand before what begins at the next multiple of 8.
+abbrev pub gap : ℕ → ℕ
+gap at = (8 - at % 8) % 8
+
+-- The file header, by the place of the section header table and the count of sections. Elf64_Ehdr.
+unfoldable pub header : ℕ → ℕ → List ℕ
+header table count =
+    0x7f ∷ 0x45 ∷ 0x4c ∷ 0x46 ∷ ELFCLASS64 ∷ ELFDATA2LSB ∷ EV_CURRENT ∷ zeros 9
+    ++ half ET_REL ++ half EM_X86_64 ++ word EV_CURRENT
+    ++ zeros 16 ++ xword table
+    ++ zeros 4 ++ half EHDR_SIZE ++ zeros 4 ++ half SHDR_SIZE ++ half count ++ half SECTION_NAMES
+
+-- A section header: where the section's name stands among the names of sections, its attributes, where its content
+-- stands in the file, and how long that is. Elf64_Shdr.
+unfoldable pub section_header : ℕ → Attributes → ℕ → ℕ → List ℕ
+section_header name a at size =
+    word name ++ word a.kind ++ xword a.flags ++ zeros 8 ++ xword at
+    ++ xword size ++ word a.link ++ word a.info ++ xword a.align
+    ++ xword a.entry_size
+
+-- Sections in a file: what follows the file header, the section headers, and the names of sections.
+pub record Laid : Type 0 where
+  pub contents : List ℕ
+  pub headers : List ℕ
+  pub names : List ℕ
+
+-- Section 0: it has no content, a header of zeros, and no name.
+abbrev pub start : Laid
+start = record { contents = []; headers = zeros SHDR_SIZE; names = 0 ∷ [] }
+
+-- A section more: its content begins at the next multiple of 8, its header says where content and name stand, and its
+-- name follows the others.
+unfoldable pub with_part : Laid → Part → Laid
+with_part l p =
+    let at = EHDR_SIZE + length l.contents in
+    record {
+      contents = l.contents ++ zeros (gap at) ++ p.content;
+      headers = l.headers ++ section_header (length l.names) p.attributes (at + gap at) (length p.content);
+      names = l.names ++ with_nul p.name;
+    }
+
+-- The sections from 1 on.
+abbrev pub laid : List Part → Laid
+laid parts = fold with_part start parts
+
+-- The file of these sections: the header, the contents, and the section header table at the next multiple of 8.
+unfoldable pub file_of : List Part → List ℕ
+file_of parts =
+    let l = laid parts in
+    let end = EHDR_SIZE + length l.contents in
+    header (end + gap end) (1 + length parts) ++ l.contents ++ zeros (gap end) ++ l.headers
