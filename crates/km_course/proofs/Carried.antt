@@ -1,18 +1,18 @@
 -- A command that followed its course and was concluded carries it.
-use Rattle.std.proofs.Common.{◌≡◌, ℕ, ◌+◌, ◌≤◌, ◌<◌, Bool, true, false, List, [], ◌∷◌, ◌++◌, take, length, refl, sym, ◌∙◌, ap, subst, arith, append_assoc, append-nil, length-append, inl, inr}
+use Rattle.std.proofs.Common.{◌≡◌, ℕ, ◌≤◌, Bool, true, false, List, [], ◌∷◌, ◌++◌, take, length, refl, sym, ◌∙◌, ap, subst, arith, append_assoc, append-nil, length-append, inl, inr}
 use Rattle.std.proofs.Math.Seq.{take-append_seam}
 use Rattle.std.specs.Prelude.{Option, Some, None, Result, Ok, Err, IfSome, IsSomeAnd, ⊤, ◌⊎◌}
 use Rattle.std.specs.Option.{option_map}
 use Rattle.km_outside.specs.Counts.{Rose}
-use Rattle.km_outside.specs.OutSeen.{OutSeen, Within, WriteAnswers}
+use Rattle.km_outside.specs.OutSeen.{OutSeen, WriteAnswers}
 use Rattle.km_outside.specs.declared.out.OutFailed.{OutFailed}
 use Rattle.km_course.specs.Lines.{end_line, end_status, file_fault, output_fault, out_of_memory}
-use Rattle.km_course.specs.Course.{Act, Outcome, Run, Stage}
+use Rattle.km_course.specs.Course.{Act, Stage}
 use Rattle.km_course.specs.Course.Act.{read, list, say, warn, put}
 use Rattle.km_course.specs.Course.Outcome.{value, end}
 use Rattle.km_course.specs.World.{World, world, Shown, Tells, Keeps, KeepsOut, Extends, NoFault, FitsRooms, act_done, act_begun, done, begun}
-use Rattle.km_course.specs.Follows.{StopsAt, next_act, CallFailed, OutputFailed, WarningFailed, Free, PassesRoom, EndCounts, Follows}
-use Rattle.km_course.specs.Carries.{Carries, CutShort, MayCome, HasEnded, HasRoomFor, OutcomeCounts, ActFailed, failed_line, closing_acts, whole_acts, outcome_status, outcome_line, Closes, Concludes, IsRefused, closed_status, stop_status, unwritten_status}
+use Rattle.km_course.specs.Follows.{StopsAt, next_act, CallFailed, OutputFailed, WarningFailed, PassesRoom, EndCounts, Follows}
+use Rattle.km_course.specs.Carries.{Carries, CutShort, HasEnded, HasRoomFor, OutcomeCounts, ActFailed, failed_line, closing_acts, whole_acts, outcome_status, Closes, Concludes, closed_status, stop_status, unwritten_status}
 use Rattle.km_course.specs.declared.end.End.{End}
 use Rattle.km_course.specs.declared.end.End.TheVariants.{Refused, NotUnderstood, NoFile, TooLarge, Inner}
 use Rattle.km_course.specs.declared.stop.Stop.{Stop}

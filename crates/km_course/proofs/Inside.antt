@@ -1,16 +1,16 @@
 -- What the status of a call says of its course, where the call is made inside another command.
-use Rattle.std.proofs.Common.{◌≡◌, ℕ, ◌+◌, ◌≤◌, ◌<◌, ◌||◌, Bool, true, false, List, [], ◌∷◌, ◌++◌, length, refl, sym, ◌∙◌, ap, subst, arith, inl, inr, if◌then◌else◌}
-use Rattle.std.specs.Prelude.{Option, Some, None, IfSome, IsSomeAnd, nat_lt, ⊤, ◌⊎◌}
-use Rattle.std.proofs.lemmas.Bool.{le-ltb, lt-ltb, ltb-true, ltb-false}
+use Rattle.std.proofs.Common.{◌≡◌, ℕ, ◌≤◌, ◌||◌, Bool, true, false, List, [], ◌∷◌, ◌++◌, length, refl, sym, ◌∙◌, ap, subst, arith, inl, inr, if◌then◌else◌}
+use Rattle.std.specs.Prelude.{Some, IfSome, IsSomeAnd, nat_lt, ⊤, ◌⊎◌}
+use Rattle.std.proofs.lemmas.Bool.{le-ltb, ltb-false}
 use Rattle.km_outside.specs.Contents.{Contents}
 use Rattle.km_outside.specs.OutSeen.{OutSeen, Within}
 use Rattle.km_course.specs.Lines.{end_line, end_status}
-use Rattle.km_course.specs.Course.{Act, Outcome, Run, Stage}
+use Rattle.km_course.specs.Course.{Outcome, Run, Stage}
 use Rattle.km_course.specs.Course.Act.{warn}
 use Rattle.km_course.specs.Course.Outcome.{value, end}
-use Rattle.km_course.specs.World.{World, Shown, Tells, FitsRooms, done}
+use Rattle.km_course.specs.World.{World, Shown, Tells, done}
 use Rattle.km_course.specs.Carries.{Carries, HasEnded, HasRoomFor, closing_acts, outcome_status}
-use Rattle.km_course.specs.Inner.{Left, bare, inner_told, overfull, inner_end, inner_fitting, inner_outcome, InnerCame}
+use Rattle.km_course.specs.Inner.{Left, bare, inner_told, inner_end, inner_fitting, inner_outcome, InnerCame}
 use Rattle.km_course.specs.declared.end.End.{End}
 use Rattle.km_course.specs.declared.end.End.TheVariants as ends
 use Rattle.km_course.specs.declared.refusal.Refusal.TheVariants.{InnerOutputFull}

@@ -1,31 +1,30 @@
 -- Each call of the traits follows its stage.
-use Rattle.std.proofs.Common.{◌≡◌, ◌≢◌, ℕ, ◌+◌, ◌≤◌, ◌<◌, List, [], ◌∷◌, ◌++◌, take, length, refl, sym, ◌∙◌, ap, subst, arith, min, max, if◌then◌else◌, true, false, Bool, cond, filter, inl, inr}
-use Rattle.std.specs.Prelude.{◌==◌, ◌⊎◌, nat_lt}
+use Rattle.std.proofs.Common.{◌≡◌, ◌≢◌, ℕ, ◌+◌, ◌≤◌, ◌<◌, List, [], ◌∷◌, ◌++◌, take, length, refl, sym, ◌∙◌, ap, subst, arith, min, if◌then◌else◌, true, false, Bool, cond, filter, inl, inr}
+use Rattle.std.specs.Prelude.{◌==◌}
 use Rattle.std.proofs.lemmas.Bool.{le-ltb, lt-ltb, eqb-true}
 use Rattle.std.specs.Prelude.{Option, Some, None, Result, Ok, Err, is_some, IfSome, IsSomeAnd, ⊤}
 use Rattle.std.specs.Option.{option_map}
 use Rattle.std.specs.FinMap as map
 use Rattle.km_names.specs.Limit.{file_limit}
-use Rattle.km_outside.specs.CallCounts.{CallCounts, NoneFell, made, refused, answered}
+use Rattle.km_outside.specs.CallCounts.{CallCounts, NoneFell, made, refused}
 use Rattle.km_outside.specs.Contents.{Contents, listed, rests_below, is_path, is_conf_name}
 use Rattle.km_outside.specs.Counts.{count_end, one_more}
 use Rattle.km_outside.specs.FilesSeen.{FilesSeen, ReadAnswers, IsReadAt, ListAnswers, IsListOf, ReplaceAnswers, list_limit}
 use Rattle.km_outside.specs.OutSeen.{OutSeen, WriteAnswers, LacksRoom}
 use Rattle.km_outside.specs.declared.files.FileAnswer.{FileAnswer}
 use Rattle.km_outside.specs.declared.files.FileAnswer.TheVariants as answers
-use Rattle.km_outside.specs.declared.files.ReplaceAnswer.{ReplaceAnswer}
 use Rattle.km_outside.specs.declared.files.ReplaceAnswer.TheVariants as replaces
 use Rattle.km_outside.specs.declared.out.OutFailed.{OutFailed}
-use Rattle.km_course.specs.Course.{Act, Outcome, Stage, act_with, reads_or, read_outcome, lists_or, list_outcome, says, warns, says_any, puts}
+use Rattle.km_course.specs.Course.{Act, Outcome, act_with, reads_or, read_outcome, lists_or, list_outcome, says, warns, says_any, puts}
 use Rattle.km_course.specs.Course.Act.{read, list, say, warn, put}
 use Rattle.km_course.specs.Course.Outcome.{value, end}
 use Rattle.km_course.specs.World.{World, world, Shown, Tells, Keeps, KeepsOut, Extends, NoFault, act_done, act_begun}
-use Rattle.km_course.specs.Follows.{StopsAt, CallFailed, IsCallAt, EndCounts, Follows, PassesRoom, stop_for}
+use Rattle.km_course.specs.Follows.{IsCallAt, EndCounts, Follows, PassesRoom, stop_for}
 use Rattle.km_course.specs.declared.end.End.{End}
 use Rattle.km_course.specs.declared.end.End.TheVariants.{NoFile, TooLarge}
 use Rattle.km_course.specs.declared.stop.Stop.{Stop}
 use Rattle.km_course.specs.declared.stop.Stop.TheVariants.{Ended, FileFault, OutputFault, WarningFault, Memory}
-use Rattle.km_course.proofs.Steps.{KeepsFiles-same, KeepsOut-same, no_memory, gave}
+use Rattle.km_course.proofs.Steps.{KeepsFiles-same, KeepsOut-same, gave}
 
 -- the files with these counts and nothing else changed
 abbrev pub counting : FilesSeen → CallCounts → FilesSeen

@@ -1,7 +1,6 @@
 -- How calls that follow stages compose.
 use Rattle.std.proofs.Common.{◌≡◌, ℕ, ◌≤◌, Bool, true, false, List, [], ◌∷◌, ◌++◌, refl, sym, ◌∙◌, ap, subst, arith, append_assoc, append-nil, inl, inr}
-use Rattle.std.specs.Prelude.{Option, Some, None, Result, Ok, Err, ⊤, ◌⊎◌}
-use Rattle.km_outside.specs.CallCounts.{NoneFell}
+use Rattle.std.specs.Prelude.{Option, Some, None, Result, Ok, Err}
 use Rattle.km_outside.specs.Contents.{Contents}
 use Rattle.km_outside.specs.Counts.{Rose}
 use Rattle.km_outside.specs.FilesSeen.{FilesSeen}
@@ -13,7 +12,6 @@ use Rattle.km_course.specs.World.{World, Shown, Tells, Keeps, KeepsFiles, KeepsO
 use Rattle.km_course.specs.Follows.{StopsAt, next_act, CallFailed, OutputFailed, WarningFailed, Free, Stopped, Told, EndCounts, StopCounts, Counts, Comes, Follows, Answers}
 use Rattle.km_course.specs.declared.end.End.{End}
 use Rattle.km_course.specs.declared.end.End.TheVariants.{Refused, NotUnderstood, NoFile, TooLarge, Inner}
-use Rattle.km_course.specs.declared.refusal.Refusal.{Refusal}
 use Rattle.km_course.specs.declared.stop.Stop.{Stop}
 use Rattle.km_course.specs.declared.stop.Stop.TheVariants.{Ended, FileFault, OutputFault, WarningFault, Memory}
 

@@ -1,12 +1,12 @@
 -- One write after another.
-use Rattle.std.proofs.Common.{◌≡◌, ℕ, ◌+◌, ◌≤◌, ◌<◌, List, [], ◌∷◌, ◌++◌, take, length, refl, sym, ◌∙◌, ap, subst, arith, append_assoc, length-append}
+use Rattle.std.proofs.Common.{◌≡◌, ℕ, ◌+◌, ◌<◌, List, [], ◌∷◌, ◌++◌, take, length, refl, sym, ◌∙◌, ap, subst, arith, append_assoc, length-append}
 use Rattle.std.proofs.Math.Seq.{take-append-add}
 use Rattle.std.proofs.lemmas.List.{take-append-le}
 use Rattle.std.specs.Prelude.{codes}
 use Rattle.km_course.specs.Lines.{too_large}
 use Rattle.std.specs.Prelude.{Option, Some, None, Result, Ok, Err, IfSome, ⊤}
 use Rattle.std.specs.Option.{option_map}
-use Rattle.km_outside.specs.OutSeen.{OutSeen, WriteAnswers, Within, appended, failed}
+use Rattle.km_outside.specs.OutSeen.{OutSeen, WriteAnswers, appended, failed}
 use Rattle.km_outside.specs.declared.out.OutFailed.{OutFailed}
 
 told-twice : (told : Option (List ℕ)) (a b : List ℕ) → option_map (λ bytes. bytes ++ b) (option_map (λ bytes. bytes ++ a) told) ≡ option_map (λ bytes. bytes ++ (a ++ b)) told

@@ -5,6 +5,7 @@ use crate::{
 use km_names::{Blob, Name, Names, PathText};
 use km_outside::{MemFiles, MemOut};
 use std::alloc::{AllocError, Global};
+use std::process::Abort;
 use std::test::Fail;
 
 fn path(alloc: Global, text: &[u8]) -> Result<PathText, AllocError> {
@@ -15,34 +16,50 @@ fn name(alloc: Global, text: &[u8]) -> Result<Name, AllocError> {
     Name::from_slice(alloc, text)
 }
 
-#[test]
-fn each_call_gives_what_is_there(rt: HostRuntime) -> Result<(), Fail> {
-    let alloc = rt.alloc();
+/// Two files, put by calls.
+fn made(alloc: Global) -> Result<MemFiles, Stop> {
     let mut files = MemFiles::new(alloc);
     put(alloc, &mut files, path(alloc, b"/e/a.conf")?, b"text")?;
     put(alloc, &mut files, path(alloc, b"/e/d/b.conf")?, b"")?;
-    let text = read_needed(alloc, &mut files, path(alloc, b"/e/a.conf")?)?;
-    assert_eq!(rt; text.as_bytes(), b"text".as_slice());
-    let text = read_optional(alloc, &mut files, path(alloc, b"/e/a.conf")?)?;
-    assert_eq!(rt; text.as_bytes(), b"text".as_slice());
-    assert!(rt; read_optional(alloc, &mut files, path(alloc, b"/none")?)?.is_empty());
-    assert_eq!(rt;
-        list_conf_needed(alloc, &mut files, path(alloc, b"/e")?)?.len(),
-        1
-    );
-    assert_eq!(rt;
-        list_conf_optional(alloc, &mut files, path(alloc, b"/e")?)?.len(),
-        1
-    );
-    assert_eq!(rt;
-        list_conf_optional(alloc, &mut files, path(alloc, b"/none")?)?.len(),
-        0
-    );
-    assert_eq!(rt;
-        list_tree_needed(alloc, &mut files, path(alloc, b"/e")?)?.len(),
-        2
-    );
-    let mut out = MemOut::with_room(alloc, 4)?;
+    Ok(files)
+}
+
+#[test]
+fn a_file_is_read(rt: HostRuntime) -> Result<(), Fail> {
+    let alloc = rt.alloc();
+    let mut files = made(alloc)?;
+    let needed = read_needed(alloc, &mut files, path(alloc, b"/e/a.conf")?)?;
+    assert_eq!(rt; needed.as_bytes(), b"text".as_slice());
+    let optional = read_optional(alloc, &mut files, path(alloc, b"/e/a.conf")?)?;
+    assert_eq!(rt; optional.as_bytes(), b"text".as_slice());
+    Ok(())
+}
+
+#[test]
+fn what_is_not_there_is_empty(rt: HostRuntime) -> Result<(), Fail> {
+    let alloc = rt.alloc();
+    let mut files = made(alloc)?;
+    let text = read_optional(alloc, &mut files, path(alloc, b"/none")?)?;
+    assert!(rt; text.is_empty());
+    let names = list_conf_optional(alloc, &mut files, path(alloc, b"/none")?)?;
+    assert!(rt; names.is_empty());
+    Ok(())
+}
+
+#[test]
+fn a_folder_is_listed(rt: HostRuntime) -> Result<(), Fail> {
+    let alloc = rt.alloc();
+    let mut files = made(alloc)?;
+    let names = list_conf_needed(alloc, &mut files, path(alloc, b"/e")?)?;
+    assert_eq!(rt; names.len(), 1);
+    let paths = list_tree_needed(alloc, &mut files, path(alloc, b"/e")?)?;
+    assert_eq!(rt; paths.len(), 2);
+    Ok(())
+}
+
+#[test]
+fn bytes_are_written(rt: HostRuntime) -> Result<(), Fail> {
+    let mut out = MemOut::with_room(rt.alloc(), 4)?;
     say(&mut out, b"ab")?;
     say_any(&mut out, b"")?;
     say_any(&mut out, b"c")?;
@@ -51,74 +68,77 @@ fn each_call_gives_what_is_there(rt: HostRuntime) -> Result<(), Fail> {
     Ok(())
 }
 
+/// Compares the status and the line of a stop with what is wanted.
+fn expect(rt: &impl Abort, alloc: Global, stop: Stop, want: (u8, &str)) -> Result<(), AllocError> {
+    let mut err = MemOut::with_room(alloc, 100)?;
+    let status = conclude(alloc, Err(stop), &mut err);
+    assert_eq!(rt; status, want.0);
+    assert_eq!(rt; err.bytes(), want.1.as_bytes());
+    Ok(())
+}
+
 #[test]
-fn a_stop_has_its_status_and_its_line(rt: HostRuntime) -> Result<(), Fail> {
+fn a_cycle_names_its_first_module_again(rt: HostRuntime) -> Result<(), Fail> {
     let alloc = rt.alloc();
     let mut names = Names::new(alloc);
-    for text in [b"a".as_slice(), b"b"] {
-        names.push(name(alloc, text)?)?;
-    }
-    let stops: [(Stop, u8, &str); 9] = [
-        (
-            Refusal::Cycle { names }.into(),
-            1,
-            "kmod: cycle a -> b -> a\n",
-        ),
-        (
-            Refusal::Version {
-                path: path(alloc, b"kernel/w.ko")?,
-                symbol: name(alloc, b"maybe")?,
-                provider: path(alloc, b"kernel/p.ko")?,
-            }
-            .into(),
-            1,
-            "kmod: version kernel/w.ko maybe kernel/p.ko\n",
-        ),
-        (
-            Refusal::BadLine {
-                file: path(alloc, b"/etc/modprobe.d/a.conf")?,
-                number: 4_294_967_295,
-            }
-            .into(),
-            1,
-            "kmod: /etc/modprobe.d/a.conf: bad line 4294967295\n",
-        ),
-        (
-            Refusal::ListedRefused {
-                name: name(alloc, b"m")?,
-                text: Blob::from_slice(alloc, b"already loaded")?,
-            }
-            .into(),
-            1,
-            "kmod: listed module m: already loaded\n",
-        ),
-        (
-            End::NotUnderstood.into(),
-            2,
-            "kmod: usage: kmod depmod|modprobe|modinfo|trial WORDS\n",
-        ),
-        (
-            End::Inner {
-                line: Blob::from_slice(alloc, b"kmod: no file /t/x\n")?,
-            }
-            .into(),
-            1,
-            "kmod: no file /t/x\n",
-        ),
-        (
-            Stop::FileFault {
-                path: path(alloc, b"/m/a.ko")?,
-            },
-            3,
-            "kmod: file fault /m/a.ko\n",
-        ),
-        (Stop::WarningFault, 3, ""),
-        (Stop::Memory, 4, "kmod: out of memory\n"),
-    ];
-    for (stop, status, line) in stops {
-        let mut err = MemOut::with_room(alloc, 100)?;
-        assert_eq!(rt; conclude(alloc, Err(stop), &mut err), status);
-        assert_eq!(rt; err.bytes(), line.as_bytes());
-    }
+    names.push(name(alloc, b"a")?)?;
+    names.push(name(alloc, b"b")?)?;
+    let stop = Stop::from(Refusal::Cycle { names });
+    expect(&rt, alloc, stop, (1, "kmod: cycle a -> b -> a\n"))?;
+    Ok(())
+}
+
+#[test]
+fn a_version_line_names_path_symbol_and_provider(rt: HostRuntime) -> Result<(), Fail> {
+    let alloc = rt.alloc();
+    let stop = Stop::from(Refusal::Version {
+        path: path(alloc, b"kernel/w.ko")?,
+        symbol: name(alloc, b"maybe")?,
+        provider: path(alloc, b"kernel/p.ko")?,
+    });
+    expect(
+        &rt,
+        alloc,
+        stop,
+        (1, "kmod: version kernel/w.ko maybe kernel/p.ko\n"),
+    )?;
+    Ok(())
+}
+
+#[test]
+fn a_bad_line_has_its_number(rt: HostRuntime) -> Result<(), Fail> {
+    let alloc = rt.alloc();
+    let file = path(alloc, b"/etc/modprobe.d/a.conf")?;
+    let stop = Stop::from(Refusal::BadLine { file, number: 10 });
+    expect(
+        &rt,
+        alloc,
+        stop,
+        (1, "kmod: /etc/modprobe.d/a.conf: bad line 10\n"),
+    )?;
+    Ok(())
+}
+
+#[test]
+fn an_inner_line_is_handed_on(rt: HostRuntime) -> Result<(), Fail> {
+    let alloc = rt.alloc();
+    let line = Blob::from_slice(alloc, b"kmod: cycle a -> a\n")?;
+    let stop = Stop::from(End::Inner { line });
+    expect(&rt, alloc, stop, (1, "kmod: cycle a -> a\n"))?;
+    Ok(())
+}
+
+#[test]
+fn a_failed_call_names_its_path(rt: HostRuntime) -> Result<(), Fail> {
+    let alloc = rt.alloc();
+    let path = path(alloc, b"/m/a.ko")?;
+    expect(
+        &rt,
+        alloc,
+        Stop::FileFault { path },
+        (3, "kmod: file fault /m/a.ko\n"),
+    )?;
+    expect(&rt, alloc, Stop::WarningFault, (3, ""))?;
+    expect(&rt, alloc, Stop::Memory, (4, "kmod: out of memory\n"))?;
     Ok(())
 }

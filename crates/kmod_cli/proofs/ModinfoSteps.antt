@@ -1,6 +1,6 @@
 -- The stages of `modinfo`, joined.
 use Rattle.std.proofs.Common.{◌≡◌, ℕ, List, sym, ap, ◌∙◌, inl, inr}
-use Rattle.std.specs.Prelude.{Some, None, Err, ◌⊎◌}
+use Rattle.std.specs.Prelude.{Some, None, ◌⊎◌}
 use Rattle.elf_object.specs.declared.fault.SectionFault.{SectionFault}
 use Rattle.elf_object.specs.declared.fault.SectionFault.TheVariants as faults
 use Rattle.elf_object.specs.FaultText.{section_fault_text}
