@@ -77,21 +77,25 @@ after_front (suc n) [] text low within plain same = absurd (omega (arith, low))
 after_front (suc n) (x ∷ key) [] low within plain same = absurd (omega (arith, within))
 after_front (suc n) (x ∷ key) (y ∷ text) low within plain same =
     let more = after_front n key text (omega (arith, low)) (omega (arith, within)) plain.1 (tail_is same) in
-    let head : x ≡ y = head_is same in
-    ( λ m. subst (λ z. Matches (x ∷ key) (z ∷ text)) head (itself x (not_star x plain.0) (not_question x plain.0) (not_bracket x plain.0) (more.0 m))
-    , λ m.
-        let g : Goes x key (y ∷ text) = plainly m plain.0 in
-        more.1 (subst (Matches key) (sym (tail_is g.is)) g.more)
+    let head : x ≡ y = head_is same in (
+      λ m. subst (λ z. Matches (x ∷ key) (z ∷ text)) head (itself x (not_star x plain.0) (not_question x plain.0) (not_bracket x plain.0) (more.0 m)),
+      λ m.
+          let g : Goes x key (y ∷ text) = plainly m plain.0 in
+          more.1 (subst (Matches key) (sym (tail_is g.is)) g.more),
     )
   where
     tail_is : {x y : ℕ} {xs ys : List ℕ} → x ∷ xs ≡ y ∷ ys → xs ≡ ys
     tail_is e = cc
+
     head_is : {x y : ℕ} {xs ys : List ℕ} → x ∷ xs ≡ y ∷ ys → x ≡ y
     head_is e = cc
+
     not_star : (x : ℕ) → is_special_byte x ≡ false → x ≢ star
     not_star x plain e = absurd (false≢true (sym plain ∙ ap is_special_byte e))
+
     not_question : (x : ℕ) → is_special_byte x ≡ false → x ≢ question
     not_question x plain e = absurd (false≢true (sym plain ∙ ap is_special_byte e))
+
     not_bracket : (x : ℕ) → is_special_byte x ≡ false → x ≢ bracket
     not_bracket x plain e = absurd (false≢true (sym plain ∙ ap is_special_byte e))
 

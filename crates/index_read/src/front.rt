@@ -42,13 +42,7 @@ pub(crate) fn may_match(key: &[u8], agreed: usize) -> bool
 
 /// Whether a node has values and its key, of which so many bytes agree, matches the text. The bytes that agree
 /// aren't read again.
-pub(crate) fn is_wanted(
-    nodes: &Nodes,
-    node: &Node,
-    key: &[u8],
-    text: &[u8],
-    agreed: usize,
-) -> bool
+pub(crate) fn is_wanted(nodes: &Nodes, node: &Node, key: &[u8], text: &[u8], agreed: usize) -> bool
     requires node { IsNodeOf nodes.now node.now }
     requires agrees { Agrees key.now text.now agreed }
     ensures wanted { result ≡ true → Matches key.now text.now }

@@ -190,7 +190,9 @@ fn look_deep<L: Ledger>(rt: &impl Abort, alloc: Global, blank: Blank) -> Result<
     let index = deep(alloc, 1_000_000)?;
     let key = letters(alloc, 1_000_000)?;
     let less = letters(alloc, 999_999)?;
-    let place = index.find_one(key.as_bytes(), &mut steps).ok_or("no value")?;
+    let place = index
+        .find_one(key.as_bytes(), &mut steps)
+        .ok_or("no value")?;
     assert_eq!(rt; place.priority(), 0);
     assert!(rt; index.find_one(less.as_bytes(), &mut steps).is_none());
     assert_eq!(rt; index.wild(alloc, key.as_bytes(), &mut steps)?.len(), 1);
