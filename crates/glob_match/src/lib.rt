@@ -1,6 +1,6 @@
 //! Wildcard patterns over bytes: `*`, `?` and sets in brackets, as fnmatch(3) and glob(7) describe them.
-//! [`matches`] decides exactly the relation of that name in `specs/`, takes no memory and needs no
-//! more steps than the product of the two lengths. The crate stands on nothing but std.
+//! [`matches`] decides exactly the relation of that name in `specs/` and takes no memory. The crate stands on
+//! nothing but std.
 #![tactic(auto)]
 
 mod element;

@@ -3,8 +3,7 @@ ghost use Rattle.glob_match.specs.Pattern.{Matches};
 
 use crate::meeting::{Meeting, meet};
 
-/// Whether the whole text matches the pattern. It takes no memory, and with a pattern of m bytes and a
-/// text of n bytes goes through its loop less than (m + 1) * (n + 1) times.
+/// Whether the whole text matches the pattern. It takes no memory.
 ///
 /// fnmatch(3) and glob(7) describe the patterns, with no escapes, no classes of characters and no byte of
 /// the text that is special: `*` is any run of bytes, `?` any one byte, `[..]` one byte of a set, or with

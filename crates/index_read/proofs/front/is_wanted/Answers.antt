@@ -1,4 +1,4 @@
-use Rattle.std.proofs.Common.{◌≡◌, sym, ap, ◌∙◌, subst, ◌-◌, true, false, inl, take, drop, length}
+use Rattle.std.proofs.Common.{sym, ◌∙◌, subst, ◌-◌, inl, take, drop, length}
 use Rattle.std.proofs.lemmas.Bool.{false≢true}
 use Rattle.std.proofs.lemmas.List.{take_rest}
 use Rattle.glob_match.specs.Pattern.{Matches}
