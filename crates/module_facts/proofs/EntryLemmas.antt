@@ -1,5 +1,5 @@
 -- The entries of a section `__versions`.
-use Rattle.std.proofs.Common.{◌≡◌, ℕ, ◌+◌, ◌*◌, ◌/◌, ◌%◌, ◌<◌, ◌≤◌, ◌==◌, true, false, Bool, not, Bor, List, length, Option, Some, None, is_none, is_some, option_copied, refl, ap, ◌∙◌, zero-add, arith}
+use Rattle.std.proofs.Common.{◌≡◌, ℕ, ◌/◌, ◌%◌, ◌<◌, ◌==◌, true, false, Bool, not, Bor, List, length, Option, Some, None, is_none, is_some, option_copied, refl}
 use Rattle.module_facts.specs.Versions.{are_bad_entries, entry_name}
 use Rattle.module_facts.proofs.ListLemmas.{no_number, or-true, some_number}
 

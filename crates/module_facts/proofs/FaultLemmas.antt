@@ -1,5 +1,5 @@
 -- What the tests of a module say.
-use Rattle.std.proofs.Common.{◌≡◌, ℕ, true, false, List, [], ◌∷◌, length, ltb, None, is_none, option_map, refl, sym, ap, ◌∙◌}
+use Rattle.std.proofs.Common.{◌≡◌, ℕ, true, false, List, [], ◌∷◌, length, ltb, None, refl, sym, ap, ◌∙◌}
 use Rattle.km_names.specs.First.{first}
 use Rattle.km_names.specs.Path.{is_compressed}
 use Rattle.elf_object.specs.Object.{FileObject, file_object, object_fault}
@@ -26,7 +26,7 @@ pub fact_fault-none : (path b : List ℕ) → is_compressed path ≡ false → o
 unfolding fact_fault module_tests
 fact_fault-none path b plain object facts = rw (plain, object, facts) refl
 
-object_facts-path : (path : List ℕ) (o : FileObject) → (object_facts path o).path ≡ path
+pub object_facts-path : (path : List ℕ) (o : FileObject) → (object_facts path o).path ≡ path
 unfolding object_facts
 object_facts-path path o = refl
 

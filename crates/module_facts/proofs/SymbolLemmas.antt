@@ -1,9 +1,8 @@
 -- The symbols that state names.
-use Rattle.std.proofs.Common.{◌≡◌, ℕ, ◌<◌, List, length, map, Option, Some, None, sym, ◌∙◌, arith}
+use Rattle.std.proofs.Common.{◌≡◌, ℕ, ◌<◌, List, length, Some, None, sym, arith}
 use Rattle.std.proofs.lemmas.List.{length-map}
 use Rattle.std.proofs.lemmas.List.Quantifiers.{position-Some}
-use Rattle.name_table.specs.NameTable.{first_place, states}
-use Rattle.elf_object.specs.declared.symbol.Symbol.{Symbol}
+use Rattle.name_table.specs.NameTable.{states}
 use Rattle.elf_object.specs.Object.{FileObject}
 use Rattle.module_facts.specs.declared.role.Role.{Role}
 use Rattle.module_facts.specs.Roles.{first_symbol, stated_name, stated_names}

@@ -5,7 +5,7 @@ use Rattle.std.proofs.lemmas.List.{take_more}
 use Rattle.std.proofs.lemmas.List.Sums.{sum_by_push}
 use Rattle.std.specs.Str.{bytes_eq}
 use Rattle.module_facts.specs.declared.facts.Export.{Export}
-use Rattle.module_facts.specs.Times.{seen, times, times_seen}
+use Rattle.module_facts.specs.Times.{seen, times}
 
 -- with one export more
 times-more : (exports : List Export) (i : ℕ) (e : Export) (name : List ℕ) → i < length exports → e ≡ get_or exports i e → times (take (i + 1) exports) name ≡ times (take i exports) name + cond (bytes_eq e.name name) 1 0

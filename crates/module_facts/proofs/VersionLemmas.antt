@@ -1,21 +1,21 @@
 -- Version lists.
-use Rattle.std.proofs.Common.{◌≡◌, ℕ, zero, suc, ◌+◌, ◌-◌, ◌*◌, ◌/◌, ◌<◌, ◌≤◌, Bool, true, false, ◌==◌, cond, ltb, Bor, List, [], ◌∷◌, ◌++◌, length, map, take, drop, position, find, Option, Some, None, option_map, refl, sym, ap, ◌∙◌, arith, zero-add, add-zero, append_assoc, append-nil}
-use Rattle.std.proofs.lemmas.Bool.{cases_lt, lt-ltb, le-ltb, ltb-true}
+use Rattle.std.proofs.Common.{◌≡◌, ℕ, suc, ◌+◌, ◌-◌, ◌*◌, ◌/◌, ◌<◌, ◌≤◌, Bool, true, false, ◌==◌, cond, ltb, List, [], ◌∷◌, ◌++◌, length, map, take, drop, position, find, Option, Some, None, option_map, refl, sym, ap, ◌∙◌, inl, inr, arith, zero-add, append_assoc, append-nil}
+use Rattle.std.proofs.lemmas.Bool.{cases_lt, lt-ltb, ltb-true}
 use Rattle.std.proofs.lemmas.Iterator.Adapters.{position_from-zero}
-use Rattle.std.proofs.lemmas.List.{map-append, take_all, drop_all, length-take-le}
+use Rattle.std.proofs.lemmas.List.{map-append, length-take-le}
 use Rattle.std.proofs.lemmas.List.Elements.{All-from_get_or, filter_map-append}
 use Rattle.std.proofs.lemmas.List.FromFn.{map-range_with_len_more}
 use Rattle.std.proofs.lemmas.List.Folds.{find_at}
 use Rattle.std.proofs.lemmas.List.Splits.{slice_split_first, slice_split_none, length-slice_split}
 use Rattle.std.proofs.lemmas.List.Sums.{fails_before_first}
-use Rattle.std.specs.List.{cons_option, filter_map, position_from, position_or_len, range_with_len, slice_get, slice_split, zip, before_first, after_first, count_by}
+use Rattle.std.specs.List.{cons_option, filter_map, position_from, position_or_len, range_with_len, slice_get, slice_split, zip, before_first, after_first}
 use Rattle.std.specs.Str.{bytes_eq}
 use Rattle.km_names.specs.Number.{le}
 use Rattle.km_names.specs.Strings.{first_string}
 use Rattle.name_table.specs.NameTable.{first_place, states}
 use Rattle.module_facts.specs.declared.versions.Version.{Version}
 use Rattle.module_facts.specs.Listed.{shown}
-use Rattle.module_facts.specs.Versions.{ended_names, entry, entry_name, stated_version, without_last}
+use Rattle.module_facts.specs.Versions.{ended_names, entry, entry_name, extended_list, stated_version, without_last}
 
 -- ---- entries
 
@@ -93,6 +93,15 @@ ended_names-none bytes is =
           let wrong : true ≡ false = sym (lt-ltb n len less) ∙ past in cc
       | inr more ↦ omega arith
     ]
+
+-- before the first extended version
+pub extended-start : (crcs names : List ℕ) (list : List Version) → list ≡ []
+    → extended_list crcs names ≡ map shown list ++ zip (ended_names names) (map (λ j. le crcs (4 * j) 4) (range_with_len 0 (length crcs / 4 - 0)))
+unfolding extended_list
+extended-start crcs names list empty =
+    let later : ℕ → List (List ℕ × ℕ) = λ n. zip (ended_names names) (map (λ j. le crcs (4 * j) 4) (range_with_len 0 n)) in
+    let same : length crcs / 4 ≡ length crcs / 4 - 0 = omega arith in
+    ap later same ∙ ap (λ l. map shown l ++ later (length crcs / 4 - 0)) (sym empty)
 
 -- an extended version is put at the end
 pub extended-given : (all : List (List ℕ × ℕ)) (list : List Version) (v : Version) (rest name : List ℕ) (g : ℕ → ℕ) (k n : ℕ) → k < n → Some name ≡ first_string rest → shown v ≡ (name, g k)

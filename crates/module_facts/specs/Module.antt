@@ -1,6 +1,5 @@
 -- Modules.
-use Rattle.std.specs.Prelude.{◌≡◌, ℕ, ◌<◌, ◌≤◌, length, All, AllPairs, IsTrue, None}
-use Rattle.std.specs.Str.{bytes_eq}
+use Rattle.std.specs.Prelude.{◌≡◌, ◌<◌, ◌≤◌, length, All, AllPairs, IsTrue, None}
 use Rattle.km_names.specs.Ascii.{is_graphic}
 use Rattle.elf_object.specs.Object.{FileObject, file_object}
 use Rattle.module_facts.specs.declared.facts.Export.{Export}

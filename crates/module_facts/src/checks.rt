@@ -90,7 +90,9 @@ fn is_undefined(object: &Object, tables: &SymbolTables, export: &Export) -> bool
     requires { HasTables tables.now object.now }
     ensures { result ≡ is_undefined object.now export.now }
 {
-    tables.first_symbol(Role::Definition, export.name.as_bytes()).is_none()
+    tables
+        .first_symbol(Role::Definition, export.name.as_bytes())
+        .is_none()
 }
 
 /// The first export that no symbol defines.

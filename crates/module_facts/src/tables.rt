@@ -21,11 +21,7 @@ pub(crate) struct SymbolTables<'a> {
 }
 
 /// The table of the names that symbols state in a role.
-fn table_of<'a>(
-    alloc: Global,
-    object: &'a Object,
-    role: Role,
-) -> Result<NameTable<'a>, AllocError>
+fn table_of<'a>(alloc: Global, object: &'a Object, role: Role) -> Result<NameTable<'a>, AllocError>
     ensures { IfOk result (λ table. IsTableOf table (stated_names role object.now)) }
 {
     let mut table = NameTable::new(alloc);

@@ -33,11 +33,7 @@ pub(crate) fn is_free(licenses: &Texts) -> bool
 }
 
 /// The values of a key, as names.
-pub(crate) fn names_of(
-    alloc: Global,
-    fields: &FieldList,
-    key: &[u8],
-) -> Result<Names, AllocError>
+pub(crate) fn names_of(alloc: Global, fields: &FieldList, key: &[u8]) -> Result<Names, AllocError>
     ensures { IfOk result (λ names. names ≡ values_of_key key.now fields.now) }
 {
     let values = fields.values_of(alloc, key)?;

@@ -1,6 +1,6 @@
 // The versions that a module states of its needs.
 
-ghost use Rattle.std.specs.Prelude.{◌≡◌, ◌+◌, ◌*◌, ◌/◌, ◌<◌, ◌≤◌, ◌-◌, ◌^◌, ◌==◌, [], length, map, Some, IfOk, IfSome, option_copied, option_map};
+ghost use Rattle.std.specs.Prelude.{◌≡◌, ◌+◌, ◌*◌, ◌/◌, ◌<◌, ◌≤◌, ◌-◌, ◌^◌, ◌==◌, [], length, map, drop, Some, IfOk, IfSome, option_copied, option_map};
 ghost use Rattle.std.specs.List.{count_by};
 ghost use Rattle.km_names.specs.Limit.{file_limit};
 ghost use Rattle.name_table.specs.NameTable.{IsTableOf};
@@ -67,7 +67,8 @@ fn are_bad_entries(bytes: &[u8]) -> bool
 #[tactic(auto, unfolding(crate::specs::Versions::entry_list))]
 fn entry_list<'a>(alloc: Global, bytes: &'a [u8]) -> Result<Versions<'a>, AllocError>
     requires { length bytes.now ≤ file_limit }
-    ensures { IfOk result (λ list. map shown list ≡ entry_list bytes.now) }
+    ensures list { IfOk result (λ list. map shown list ≡ entry_list bytes.now) }
+    ensures few { IfOk result (λ list. length list ≤ file_limit) }
 {
     let mut list = Versions::new(alloc);
     for k in 0..(bytes.len() / ENTRY) as u32 {
@@ -94,6 +95,14 @@ fn is_bad_extended(crcs: &[u8], names: &[u8]) -> bool
     crcs.len() % NUMBER != 0 || nul_count(names) < crcs.len() / NUMBER
 }
 
+/// What follows a name and the NUL after it.
+fn after_name<'a>(bytes: &'a [u8], name: &[u8]) -> &'a [u8]
+    requires { length name.now < length bytes.now }
+    ensures { result.now ≡ drop (length name.now + 1) bytes.now }
+{
+    &bytes[name.len() + 1..]
+}
+
 /// The list that extended versions give.
 fn extended_list<'a>(
     alloc: Global,
@@ -101,7 +110,8 @@ fn extended_list<'a>(
     names: &'a [u8],
 ) -> Result<Versions<'a>, AllocError>
     requires { length crcs.now ≤ file_limit }
-    ensures { IfOk result (λ list. map shown list ≡ extended_list crcs.now names.now) }
+    ensures list { IfOk result (λ list. map shown list ≡ extended_list crcs.now names.now) }
+    ensures few { IfOk result (λ list. length list ≤ file_limit) }
 {
     let mut list = Versions::new(alloc);
     let mut rest = names;
@@ -111,7 +121,7 @@ fn extended_list<'a>(
         };
         let number = u64::from(le_u32_at(crcs, NUMBER * k as usize));
         list.push(Version { name, number })?;
-        rest = &rest[name.len() + 1..];
+        rest = after_name(rest, name);
     }
     Ok(list)
 }
@@ -133,7 +143,8 @@ pub(crate) fn version_list<'a>(
     alloc: Global,
     object: &'a Object,
 ) -> Result<Versions<'a>, AllocError>
-    ensures { IfOk result (λ list. map shown list ≡ version_list object.now) }
+    ensures list { IfOk result (λ list. map shown list ≡ version_list object.now) }
+    ensures few { IfOk result (λ list. length list ≤ file_limit) }
 {
     match extended_sections(object) {
         Some(sections) => extended_list(alloc, sections.crcs, sections.names),
@@ -180,6 +191,8 @@ pub(crate) fn stated_version(list: &Versions, table: &NameTable, name: &[u8]) ->
     ensures { result ≡ stated_version (map shown list.now) name.now }
 {
     let place = table.place(name)?;
-    let version = list.get(place as usize)?;
-    Some(version.number)
+    match list.get(place as usize) {
+        Some(version) => Some(version.number),
+        None => None,
+    }
 }

@@ -1,7 +1,7 @@
 use Rattle.std.proofs.Common.{◌≡◌, true, false, cond, ltb, unwrap_or, Some, drop, find, ◌+◌, ap, sym, ◌∙◌, arith}
 use Rattle.std.proofs.lemmas.Bool.{le-ltb, lt-ltb}
 use Rattle.module_facts.specs.Faults.{is_twice}
-use Rattle.module_facts.specs.Times.{seen, times, times_seen}
+use Rattle.module_facts.specs.Times.{seen, times}
 use Rattle.module_facts.proofs.FindLemmas.{find-item}
 use Rattle.module_facts.proofs.TimesLemmas.{seen-twice}
 use Rattle.module_facts.proofs.checks.first_twice.Goals as goal

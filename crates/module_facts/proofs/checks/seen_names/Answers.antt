@@ -1,6 +1,6 @@
 use Rattle.std.proofs.Common.{◌≡◌, ◌+◌, Some, take, is_some, ap, sym, ◌∙◌}
 use Rattle.std.specs.Cmp.Lexicographic.{bytes_decides}
-use Rattle.module_facts.specs.Times.{seen, times, times_seen}
+use Rattle.module_facts.specs.Times.{seen, times}
 use Rattle.module_facts.proofs.TimesLemmas.{seen-again, seen-first, seen-more}
 use Rattle.module_facts.proofs.checks.seen_names.Goals as goal
 use Rattle.module_facts.proofs.checks.seen_names.Goals.{then-is_some, else-is_some}

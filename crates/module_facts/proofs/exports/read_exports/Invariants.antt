@@ -1,4 +1,4 @@
-use Rattle.std.proofs.Common.{◌≡◌, ◌≤◌, map, take}
+use Rattle.std.proofs.Common.{◌≡◌, map, take}
 use Rattle.std.specs.List.{filter_map}
 use Rattle.module_facts.specs.declared.role.Role.TheVariants.{Export}
 use Rattle.module_facts.specs.Roles.{stated_name}

@@ -1,4 +1,4 @@
-use Rattle.std.proofs.Common.{◌++◌, ◌∷◌, [], map, take, ◌∙◌, ap, sym, arith}
+use Rattle.std.proofs.Common.{◌++◌, ◌∷◌, [], map, take, ◌∙◌, ap, sym}
 use Rattle.std.specs.List.{enumerate_from, filter}
 use Rattle.module_facts.specs.Needs.{is_need, need_of}
 use Rattle.module_facts.specs.Versions.{version_list}
@@ -16,12 +16,9 @@ loop-i-preserved c =
       | then-is_need+in_ok-read_need+in_ok-push w ↦
           w.needs-is ∙ w.in_ok-push.ensures.ok
           ∙ rw (c.loop-i.invariant, w.in_ok-read_need.ensures)
-          (ap (λ l. map (λ p. need_of (version_list c.args.object.now) p.0 p.1) (filter (λ p. is_need p.0 p.1) (enumerate_from 0 (take i symbols))) ++ need_of l i s ∷ []) c.in_ok-versions.ensures
+          (ap (λ l. map (λ p. need_of (version_list c.args.object.now) p.0 p.1) (filter (λ p. is_need p.0 p.1) (enumerate_from 0 (take i symbols))) ++ need_of l i s ∷ []) c.in_ok-versions.ensures.list
           ∙ sym (numbered-passed (λ p. is_need p.0 p.1) (λ p. need_of versions p.0 p.1) symbols i s c.symbol-symbol.ensures.symbol (sym c.is_need.ensures ∙ w.if-is_need.true)))
       | else-is_need w ↦
           w.needs-is ∙ c.loop-i.invariant
           ∙ sym (numbered-failed (λ p. is_need p.0 p.1) (λ p. need_of versions p.0 p.1) symbols i s c.symbol-symbol.ensures.symbol (sym c.is_need.ensures ∙ w.if-is_need.false))
     ]
-
-pub version_table-requires : goal.version_table-requires
-version_table-requires c = ?

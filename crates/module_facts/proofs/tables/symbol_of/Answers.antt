@@ -1,4 +1,3 @@
-use Rattle.std.proofs.Common.{sym, ◌∙◌}
 use Rattle.module_facts.proofs.SymbolLemmas.{first_symbol-within}
 use Rattle.module_facts.proofs.tables.symbol_of.Goals as goal
 
