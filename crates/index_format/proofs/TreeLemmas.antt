@@ -11,7 +11,7 @@ use Rattle.std.specs.Ordering.{nat_cmp, ordering_then}
 use Rattle.std.specs.declared.cmp.Ordering.{Ordering}
 use Rattle.std.specs.declared.cmp.Ordering.TheVariants.{Less, Equal, Greater}
 use Rattle.index_format.specs.Map.{Value}
-use Rattle.index_format.specs.Tree.{Entry, Nodes, Node, common, narrowed, common_prefix, cut, ending, grouped, groups, siblings, nodes_below, longest, Above, Rises}
+use Rattle.index_format.specs.Tree.{Entry, Forest, Branch, common, narrowed, common_prefix, cut, ending, grouped, groups, siblings, nodes_below, longest, Above, Rises}
 
 abbrev pub R : List ℕ → List ℕ → Ordering
 R = slice_cmp nat_cmp
@@ -206,10 +206,10 @@ groups-ended ((d ∷ j, w) ∷ es) h = absurd (omega (arith, h.0))
 abbrev pub behind : List Entry → List Entry
 behind es = cut (length (common_prefix es)) es
 
-siblings-same : (f g : List Entry → Nodes) (gs : Groups) → AllByRecursion (λ e. f (behind e.1) ≡ g (behind e.1)) gs → siblings f gs ≡ siblings g gs
+siblings-same : (f g : List Entry → Forest) (gs : Groups) → AllByRecursion (λ e. f (behind e.1) ≡ g (behind e.1)) gs → siblings f gs ≡ siblings g gs
 siblings-same f g [] h = refl
 siblings-same f g ((byte, es) ∷ gs) h =
-    λ i. Node byte (common_prefix es) (ending (behind es)) (h.0 i) (siblings-same f g gs h.1 i)
+    λ i. Branch byte (common_prefix es) (ending (behind es)) (h.0 i) (siblings-same f g gs h.1 i)
 
 all_weaker : {X : Type 0} (P Q : X → Type 0) → ((x : X) → P x → Q x) → (xs : List X) → AllByRecursion P xs → AllByRecursion Q xs
 all_weaker P Q f [] h = tt

@@ -5,6 +5,7 @@ use Rattle.std.specs.Prelude.{ℕ, zero, suc, ◌+◌, ◌==◌, nat_eq, nat_lt,
 use Rattle.std.specs.List.{list_any, flat_map}
 use Rattle.km_names.specs.First.{first}
 use Rattle.km_names.specs.Number.{be}
+use Rattle.index_format.specs.declared.numbers.TheConstants.{MAGIC, VERSION, FIRST_PLACE}
 use Rattle.index_format.specs.Link.{place_of, has_prefix, has_values, has_children}
 use Rattle.index_format.specs.Node.{is_nul, root, after_text, after_prefix, first_byte, last_byte, children_size, children, after_children}
 
@@ -14,17 +15,6 @@ pub data Fault : Type 0 where
   BadVersion : Fault
   BadNode : ℕ → Fault
   Revisited : ℕ → Fault
-
--- The numbers with which a file begins: its magic and its version, 2.1.
-abbrev pub magic : ℕ
-magic = 0xB007F457
-
-abbrev pub version : ℕ
-version = 0x00020001
-
--- The first place of a node, after the magic, the version and the offset of the root.
-abbrev pub first_place : ℕ
-first_place = 12
 
 abbrev pub has_nul : List ℕ → Bool
 has_nul bytes = list_any is_nul bytes
@@ -65,7 +55,7 @@ pub record Arrival : Type 0 where
 -- root must.
 unfoldable pub is_sound : List ℕ → Arrival → Bool
 is_sound b a =
-    nat_le first_place (place_of a.link) && nat_le (place_of a.link) (length b)
+    nat_le FIRST_PLACE (place_of a.link) && nat_le (place_of a.link) (length b)
     && (prefix_fits b a.link && (children_fit b a.link && values_fit b a.link))
     && (a.is_root || (has_prefix a.link || (has_values a.link || has_children a.link)))
 
@@ -99,7 +89,7 @@ root_arrival b = record { above = length b + 1; is_root = true; link = root b }
 -- version ends; the offset of the root stands at 8.
 unfoldable pub index_fault : List ℕ → Option Fault
 index_fault b =
-    first ((if be b 0 4 == magic then None else Some BadMagic)
-    ∷ (if be b 4 4 == version then None else Some BadVersion)
-    ∷ (if nat_lt (length b) first_place then Some (BadNode 8) else None)
+    first ((if be b 0 4 == MAGIC then None else Some BadMagic)
+    ∷ (if be b 4 4 == VERSION then None else Some BadVersion)
+    ∷ (if nat_lt (length b) FIRST_PLACE then Some (BadNode 8) else None)
     ∷ arrival_faults b [] (arrivals b (length b + 1) (root_arrival b)))

@@ -7,8 +7,8 @@ use Rattle.std.specs.FinMap.{entries}
 use Rattle.index_format.specs.Map.{Value, KeyValues}
 use Rattle.index_format.specs.Link.{link_to}
 use Rattle.index_format.specs.Node.{upward}
-use Rattle.index_format.specs.Check.{magic, version, first_place}
-use Rattle.index_format.specs.Tree.{Nodes, tree, End, Node}
+use Rattle.index_format.specs.declared.numbers.TheConstants.{MAGIC, VERSION, FIRST_PLACE}
+use Rattle.index_format.specs.Tree.{Forest, tree, End, Branch}
 
 -- The bytes that lead to children, each with the offset of its child.
 abbrev pub Links : Type 0
@@ -57,9 +57,9 @@ pub record Written : Type 0 where
 
 -- Nodes side by side with all that is below them, written from a place on: what is below the first one, the
 -- first one itself, and then the nodes beside it.
-unfoldable pub written : ℕ → Nodes → Written
+unfoldable pub written : ℕ → Forest → Written
 written start End = record { bytes = []; links = [] }
-written start (Node byte prefix values below beside) =
+written start (Branch byte prefix values below beside) =
     let under = written start below in
     let at = start + length under.bytes in
     let node = node_bytes prefix under.links values in
@@ -68,12 +68,8 @@ written start (Node byte prefix values below beside) =
 
 -- A file: the magic, the version, the offset of the root, and the nodes. The root is the only node of its row.
 unfoldable pub file_of : Written → List ℕ
-file_of w = number magic ++ number version ++ number (offset w.links 0) ++ w.bytes
+file_of w = number MAGIC ++ number VERSION ++ number (offset w.links 0) ++ w.bytes
 
 -- The file of a map.
 unfoldable pub file : KeyValues → List ℕ
-file m = file_of (written first_place (tree (entries m)))
-
--- The most bytes that a file may have, 64 MiB.
-abbrev pub largest_file : ℕ
-largest_file = 67108864
+file m = file_of (written FIRST_PLACE (tree (entries m)))

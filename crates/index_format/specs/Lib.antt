@@ -3,6 +3,8 @@ pub mod Link
 pub mod Node
 pub mod Walk
 pub mod Check
+pub mod Nodes
+pub mod Listing
 pub mod Tree
 pub mod File
 pub mod Holds

@@ -12,9 +12,9 @@ Entry = List ℕ × List Value
 
 -- Nodes that stand side by side: the first one, with the byte that leads to it, its prefix, its values and
 -- the nodes below it, and then the nodes beside it.
-pub data Nodes : Type 0 where
-  End : Nodes
-  Node : (byte : ℕ) (prefix : List ℕ) (values : List Value) (below : Nodes) (beside : Nodes) → Nodes
+pub data Forest : Type 0 where
+  End : Forest
+  Branch : (byte : ℕ) (prefix : List ℕ) (values : List Value) (below : Forest) (beside : Forest) → Forest
 
 -- What two keys have in common at their front.
 abbrev pub common : List ℕ → List ℕ → List ℕ
@@ -55,15 +55,15 @@ groups (([], values) ∷ es) = groups es
 groups ((byte ∷ key, values) ∷ es) = grouped byte (key, values) (groups es)
 
 -- A node for each group. Below is what stands below a node, by the entries with its prefix taken off.
-abbrev pub siblings : (List Entry → Nodes) → List (ℕ × List Entry) → Nodes
+abbrev pub siblings : (List Entry → Forest) → List (ℕ × List Entry) → Forest
 siblings below [] = End
 siblings below ((byte, es) ∷ more) =
     let prefix = common_prefix es in
     let rest = cut (length prefix) es in
-    Node byte prefix (ending rest) (below rest) (siblings below more)
+    Branch byte prefix (ending rest) (below rest) (siblings below more)
 
 -- The nodes below a node, by the entries with its prefix taken off, down to a depth.
-unfoldable pub nodes_below : ℕ → List Entry → Nodes
+unfoldable pub nodes_below : ℕ → List Entry → Forest
 nodes_below zero es = End
 nodes_below (suc depth) es = siblings (nodes_below depth) (groups es)
 
@@ -73,8 +73,8 @@ longest [] = 0
 longest (e ∷ es) = max (length e.0) (longest es)
 
 -- The root, with an empty prefix. No byte leads to it.
-unfoldable pub tree : List Entry → Nodes
-tree es = Node 0 [] (ending es) (nodes_below (longest es) es) End
+unfoldable pub tree : List Entry → Forest
+tree es = Branch 0 [] (ending es) (nodes_below (longest es) es) End
 
 -- The keys of the entries rise, each above all before it, as those of a map do.
 abbrev pub Above : List ℕ → List Entry → Type 0

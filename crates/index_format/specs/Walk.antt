@@ -33,22 +33,39 @@ by_step Ends ends enters lost = ends
 by_step (Enters link rest) ends enters lost = enters link rest
 by_step Lost ends enters lost = lost
 
--- The values that a key reaches from a node by at most so many nodes.
-unfoldable pub at_within : List ℕ → ℕ → ℕ → List ℕ → List Value
-at_within b zero link key = []
-at_within b (suc n) link key = by_step (step b link key) (values b link) (at_within b n) []
+-- The nodes of a walk, one after the other, and the one at which the key ends; none where the walk is lost.
+-- A node whose prefix doesn't fit is one of them.
+pub record Walk : Type 0 where
+  pub nodes : List ℕ
+  pub reached : Option ℕ
 
--- The values that a key reaches from a node, none where its walk is lost. Each child takes a byte of the
--- key, so a walk has at most one node more than the key has bytes.
+-- A walk with one more node in front.
+abbrev pub through : ℕ → Walk → Walk
+through link w = record { nodes = link ∷ w.nodes; reached = w.reached }
+
+-- The walk of a key from a node, of at most so many nodes.
+unfoldable pub walk_within : List ℕ → ℕ → ℕ → List ℕ → Walk
+walk_within b zero link key = record { nodes = []; reached = None }
+walk_within b (suc n) link key =
+    by_step (step b link key)
+    (record { nodes = link ∷ []; reached = Some link })
+    (λ next rest. through link (walk_within b n next rest))
+    (record { nodes = link ∷ []; reached = None })
+
+-- The walk of a key from a node. Each child takes a byte of the key, so it has at most one node more than the
+-- key has bytes.
+unfoldable pub walk : List ℕ → ℕ → List ℕ → Walk
+walk b link key = walk_within b (length key + 1) link key
+
+-- The values of the node that was reached.
+abbrev pub values_at : List ℕ → Option ℕ → List Value
+values_at b (Some link) = values b link
+values_at b None = []
+
+-- The values that a key reaches from a node, none where its walk is lost.
 unfoldable pub at : List ℕ → ℕ → List ℕ → List Value
-at b link key = at_within b (length key + 1) link key
-
--- How many nodes the walk of a key has, from a node and by at most so many nodes. A node whose prefix
--- doesn't fit is one of them.
-unfoldable pub visits_within : List ℕ → ℕ → ℕ → List ℕ → ℕ
-visits_within b zero link key = 0
-visits_within b (suc n) link key = by_step (step b link key) 1 (λ next rest. 1 + visits_within b n next rest) 1
+at b link key = values_at b (walk b link key).reached
 
 -- How many nodes the walk of a key from the root has.
 unfoldable pub visits : List ℕ → List ℕ → ℕ
-visits b key = visits_within b (length key + 1) (root b) key
+visits b key = length (walk b (root b) key).nodes

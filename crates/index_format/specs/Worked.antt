@@ -88,3 +88,58 @@ node_reached_twice =
 -- The text of the root's value has no NUL.
 abbrev pub value_cut_off : List ℕ
 value_cut_off = head ++ (0x40 ∷ 0 ∷ 0 ∷ 0x0c ∷ 0 ∷ 0 ∷ 0 ∷ 1 ∷ 0 ∷ 0 ∷ 0 ∷ 0 ∷ 0x78 ∷ [])
+
+-- The root at 12 is its own child.
+abbrev pub child_at_parent : List ℕ
+child_at_parent = head ++ (0x20 ∷ 0 ∷ 0 ∷ 0x0c ∷ 0x61 ∷ 0x61 ∷ 0x20 ∷ 0 ∷ 0 ∷ 0x0c ∷ [])
+
+-- The root at 13 has a child at 12 without a field.
+abbrev pub child_without_field : List ℕ
+child_without_field = head ++ (0x20 ∷ 0 ∷ 0 ∷ 0x0d ∷ 0 ∷ 0x61 ∷ 0x61 ∷ 0 ∷ 0 ∷ 0 ∷ 0x0c ∷ [])
+
+-- The root's range is of the byte 128, of the byte 0, and from "b" down to "a"; its one child is absent.
+abbrev pub byte_over_127 : List ℕ
+byte_over_127 = head ++ (0x20 ∷ 0 ∷ 0 ∷ 0x0c ∷ 0x80 ∷ 0x80 ∷ 0 ∷ 0 ∷ 0 ∷ 0 ∷ [])
+
+abbrev pub byte_0 : List ℕ
+byte_0 = head ++ (0x20 ∷ 0 ∷ 0 ∷ 0x0c ∷ 0 ∷ 0 ∷ 0 ∷ 0 ∷ 0 ∷ 0 ∷ [])
+
+abbrev pub range_turned : List ℕ
+range_turned = head ++ (0x20 ∷ 0 ∷ 0 ∷ 0x0c ∷ 0x62 ∷ 0x61 ∷ 0 ∷ 0 ∷ 0 ∷ 0 ∷ [])
+
+-- The offset of the root's child, the root's prefix and the count of its values are cut off.
+abbrev pub offset_cut_off : List ℕ
+offset_cut_off = head ++ (0x20 ∷ 0 ∷ 0 ∷ 0x0c ∷ 0x61 ∷ 0x61 ∷ 0 ∷ 0 ∷ 0 ∷ [])
+
+abbrev pub prefix_cut_off : List ℕ
+prefix_cut_off = head ++ (0x80 ∷ 0 ∷ 0 ∷ 0x0c ∷ 0x6b ∷ [])
+
+abbrev pub count_cut_off : List ℕ
+count_cut_off = head ++ (0x40 ∷ 0 ∷ 0 ∷ 0x0c ∷ 0 ∷ 0 ∷ 0 ∷ [])
+
+-- The root stands at 11, in its own offset.
+abbrev pub root_at_11 : List ℕ
+root_at_11 = head ++ (0x80 ∷ 0 ∷ 0 ∷ 0x0b ∷ 0 ∷ [])
+
+-- The root's offset has the bit that says nothing, and no field.
+abbrev pub bit_28 : List ℕ
+bit_28 = head ++ (0x10 ∷ 0 ∷ 0 ∷ 0x0c ∷ [])
+
+-- Two offsets lead to the node at 12, of which the second says that it has no field.
+abbrev pub reached_without_field : List ℕ
+reached_without_field =
+    head ++ (0x20 ∷ 0 ∷ 0 ∷ 0x16 ∷ 0 ∷ 0 ∷ 0 ∷ 1 ∷ 0 ∷ 0 ∷ 0 ∷ 0 ∷ 0x78 ∷ 0 ∷ [])
+    ++ (0x61 ∷ 0x62 ∷ 0x40 ∷ 0 ∷ 0 ∷ 0x0c ∷ 0 ∷ 0 ∷ 0 ∷ 0x0c ∷ [])
+
+-- The root at 18 has children at 12 and at 11, and the one at 12 a child at 10.
+abbrev pub grandchild_at_10 : List ℕ
+grandchild_at_10 =
+    head ++ (0x20 ∷ 0 ∷ 0 ∷ 0x12 ∷ 0x61 ∷ 0x61 ∷ 0x20 ∷ 0 ∷ 0 ∷ 0x0a ∷ [])
+    ++ (0x61 ∷ 0x62 ∷ 0x20 ∷ 0 ∷ 0 ∷ 0x0c ∷ 0x20 ∷ 0 ∷ 0 ∷ 0x0b ∷ [])
+
+-- A file of another version, and the first three bytes of one.
+abbrev pub version_2_0 : List ℕ
+version_2_0 = 0xb0 ∷ 0x07 ∷ 0xf4 ∷ 0x57 ∷ 0x00 ∷ 0x02 ∷ 0x00 ∷ 0x00 ∷ 0 ∷ 0 ∷ 0 ∷ 0x0c ∷ []
+
+abbrev pub three_bytes : List ℕ
+three_bytes = 0xb0 ∷ 0x07 ∷ 0xf4 ∷ []

@@ -1,9 +1,11 @@
-ghost use Rattle.std.specs.Prelude.{◌≡◌, Some, None, [], ◌∷◌, codes};
+ghost use Rattle.std.specs.Prelude.{◌≡◌, Some, None, [], ◌∷◌, ◌++◌, codes};
 ghost use Rattle.index_format.specs.Node.{root};
 ghost use Rattle.index_format.specs.Walk.{at, visits};
 ghost use Rattle.index_format.specs.Check.{index_fault, BadNode, Revisited, BadMagic, BadVersion};
+ghost use Rattle.index_format.specs.Nodes.{node_count};
 ghost use Rattle.index_format.specs.File.{file};
 ghost use Rattle.index_format.specs.Worked.{head, no_keys, no_keys_file, five_keys, five_keys_file, two_modules, two_modules_file, child_after_parent, node_reached_twice, value_cut_off};
+ghost use Rattle.index_format.specs.Worked.{child_at_parent, child_without_field, byte_over_127, byte_0, range_turned, offset_cut_off, prefix_cut_off, count_cut_off, root_at_11, bit_28, reached_without_field, grandchild_at_10, version_2_0, three_bytes};
 
 /// The files of three small maps: without keys, with five keys of which one begins others, and with the
 /// dependencies of two modules.
@@ -25,12 +27,13 @@ pub fn small_lookups()
         ≡ (1, codes "kernel/b.ko: kernel/a.ko") ∷ [] }
 {}
 
-/// How many nodes the walks of keys through the file of the five keys have.
+/// How many nodes the walks of keys through the file of the five keys have, and how many nodes it has.
 pub fn small_walks()
     ensures key { visits five_keys_file (codes "once") ≡ 3 }
     ensures begins { visits five_keys_file (codes "on") ≡ 2 }
     ensures part { visits five_keys_file (codes "onc") ≡ 3 }
     ensures absent { visits five_keys_file (codes "b") ≡ 1 }
+    ensures all { node_count five_keys_file ≡ 7 }
 {}
 
 /// The small files are accepted, and these are refused.
@@ -45,4 +48,23 @@ pub fn refused_files()
     ensures after { index_fault child_after_parent ≡ Some (BadNode 18) }
     ensures twice { index_fault node_reached_twice ≡ Some (Revisited 12) }
     ensures cut_off { index_fault value_cut_off ≡ Some (BadNode 12) }
+{}
+
+/// What a reader says of files that only one of its tests, or their order, tells from sound ones.
+pub fn odd_files()
+    ensures three_bytes { index_fault three_bytes ≡ Some BadMagic }
+    ensures version { index_fault version_2_0 ≡ Some BadVersion }
+    ensures short { index_fault (head ++ (0 ∷ 0 ∷ 0 ∷ [])) ≡ Some (BadNode 8) }
+    ensures itself { index_fault child_at_parent ≡ Some (BadNode 12) }
+    ensures without_field { index_fault child_without_field ≡ Some (BadNode 12) }
+    ensures over_127 { index_fault byte_over_127 ≡ Some (BadNode 12) }
+    ensures byte_0 { index_fault byte_0 ≡ Some (BadNode 12) }
+    ensures turned { index_fault range_turned ≡ Some (BadNode 12) }
+    ensures offset { index_fault offset_cut_off ≡ Some (BadNode 12) }
+    ensures prefix { index_fault prefix_cut_off ≡ Some (BadNode 12) }
+    ensures count { index_fault count_cut_off ≡ Some (BadNode 12) }
+    ensures in_header { index_fault root_at_11 ≡ Some (BadNode 11) }
+    ensures bit_28 { index_fault bit_28 ≡ None }
+    ensures twice { index_fault reached_without_field ≡ Some (Revisited 12) }
+    ensures depth_first { index_fault grandchild_at_10 ≡ Some (BadNode 10) }
 {}

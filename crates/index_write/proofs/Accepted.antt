@@ -10,7 +10,8 @@ use Rattle.index_format.specs.Node.{after_prefix, first_byte, last_byte, childre
 use Rattle.index_format.specs.Check.{has_nul, prefix_fits, children_fit, whole_values, values_fit}
 use Rattle.index_format.specs.File.{Links, number, last, prefix_field, children_field, value_bytes, values_field}
 use Rattle.index_write.proofs.WriteLemmas.{length-offsets}
-use Rattle.index_write.proofs.Reading.{Fits, place_of-link_to, has_prefix-link_to, has_values-link_to, has_children-link_to, be-number, after_text-nul, read_first, read_last, read_size}
+use Rattle.index_format.proofs.BigEndian.{be-number}
+use Rattle.index_write.proofs.Reading.{Fits, place_of-link_to, has_prefix-link_to, has_values-link_to, has_children-link_to, after_text-nul, read_first, read_last, read_size}
 
 pub and_intro : (x y : Bool) → x ≡ true → y ≡ true → (x && y) ≡ true
 and_intro true y p q = q

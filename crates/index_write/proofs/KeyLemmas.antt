@@ -19,8 +19,8 @@ use Rattle.std.specs.FinMap.Entries.{is_sorted, by_order, below_all, is_sorted-p
 use Rattle.index_format.specs.Map.{Value, place, with_value, IsKey}
 use Rattle.index_format.specs.Tree.{Entry, Above, Rises}
 use Rattle.index_format.proofs.Maps.{entries-empty}
-use Rattle.index_write.specs.declared.key_map.Value.{Value as Held}
-use Rattle.index_write.specs.Lists.{KeyLists, value_of, values_in, entry_of, entries_of, map_of, found, with_one, IsStorable, IsSound, AreSound, AreOrdered}
+use Rattle.index_write.specs.declared.key_map.StoredValue.{StoredValue}
+use Rattle.index_write.specs.Lists.{KeyLists, value_of, shown_values, entry_of, entries_of, map_of, found, with_one, IsStorable, IsStorableEntry, AreStorable, AreOrdered}
 
 -- the order of the keys, as byte lists and as vectors
 abbrev R : List ℕ → List ℕ → Ordering
@@ -29,19 +29,19 @@ R = slice_cmp nat_cmp
 abbrev by_items : Vec ℕ Global → Vec ℕ Global → Ordering
 by_items x y = slice_cmp nat_cmp x.items y.items
 
-pub entries_of-insert_entry : (es : KeyLists) (k : Vec ℕ Global) (v : Vec Held Global) → entries_of (insert_entry by_items es k v) ≡ put R k.items (values_in v.items) (entries_of es)
+pub entries_of-insert_entry : (es : KeyLists) (k : Vec ℕ Global) (v : Vec StoredValue Global) → entries_of (insert_entry by_items es k v) ≡ put R k.items (shown_values v.items) (entries_of es)
 entries_of-insert_entry [] k v = refl
 entries_of-insert_entry (e ∷ es) k v =
-    elim (by_items k e.0) as (λ o. entries_of (match_ordering o ((k, v) ∷ e ∷ es) ((e.0, v) ∷ es) (e ∷ insert_entry by_items es k v)) ≡ by_order o ((k.items, values_in v.items) ∷ entry_of e ∷ entries_of es) ((e.0.items, values_in v.items) ∷ entries_of es) (entry_of e ∷ put R k.items (values_in v.items) (entries_of es))) [
+    elim (by_items k e.0) as (λ o. entries_of (match_ordering o ((k, v) ∷ e ∷ es) ((e.0, v) ∷ es) (e ∷ insert_entry by_items es k v)) ≡ by_order o ((k.items, shown_values v.items) ∷ entry_of e ∷ entries_of es) ((e.0.items, shown_values v.items) ∷ entries_of es) (entry_of e ∷ put R k.items (shown_values v.items) (entries_of es))) [
       | Less ↦ refl
       | Equal ↦ refl
       | Greater ↦ ap (λ xs. entry_of e ∷ xs) (entries_of-insert_entry es k v)
     ]
 
-pub find-entries_of : (es : KeyLists) (q : List ℕ) → find R q (entries_of es) ≡ option_map (λ v. values_in v.items) (lookup (λ k. is_eq (R q k.items)) es)
+pub find-entries_of : (es : KeyLists) (q : List ℕ) → find R q (entries_of es) ≡ option_map (λ v. shown_values v.items) (lookup (λ k. is_eq (R q k.items)) es)
 find-entries_of [] q = refl
 find-entries_of (e ∷ es) q =
-    elim (is_eq (R q e.0.items)) as (λ b. cond b (Some (values_in e.1.items)) (find R q (entries_of es)) ≡ option_map (λ v. values_in v.items) (cond b (Some e.1) (lookup (λ k. is_eq (R q k.items)) es))) [
+    elim (is_eq (R q e.0.items)) as (λ b. cond b (Some (shown_values e.1.items)) (find R q (entries_of es)) ≡ option_map (λ v. shown_values v.items) (cond b (Some e.1) (lookup (λ k. is_eq (R q k.items)) es))) [
       | true ↦ refl
       | false ↦ find-entries_of es q
     ]
@@ -84,10 +84,10 @@ same_value : {A : Type 0} (x : A) → Some x ≡ None → ⊥
 same_value x e = subst (λ o. elim o as (λ _. Type 0) [ Some y ↦ Unit {0} | None ↦ ⊥ ]) e tt
 
 -- a value that is written over that of a key in order
-pub entries_of-set_value : (es : KeyLists) (q : List ℕ) (w : Vec Held Global) (v : List Value) → AreOrdered es → find R q (entries_of es) ≡ Some v → entries_of (set_value (λ k. is_eq (R q k.items)) es w) ≡ put R q (values_in w.items) (entries_of es)
+pub entries_of-set_value : (es : KeyLists) (q : List ℕ) (w : Vec StoredValue Global) (v : List Value) → AreOrdered es → find R q (entries_of es) ≡ Some v → entries_of (set_value (λ k. is_eq (R q k.items)) es w) ≡ put R q (shown_values w.items) (entries_of es)
 entries_of-set_value [] q w v h f = absurd (same_value v (sym f))
 entries_of-set_value (e ∷ es) q w v h f =
-    elim (R q e.0.items) as (λ o. R q e.0.items ≡ o → cond (is_eq o) (Some (values_in e.1.items)) (find R q (entries_of es)) ≡ Some v → entries_of (cond (is_eq o) ((e.0, w) ∷ es) (e ∷ set_value (λ k. is_eq (R q k.items)) es w)) ≡ by_order o ((q, values_in w.items) ∷ entry_of e ∷ entries_of es) ((e.0.items, values_in w.items) ∷ entries_of es) (entry_of e ∷ put R q (values_in w.items) (entries_of es))) [
+    elim (R q e.0.items) as (λ o. R q e.0.items ≡ o → cond (is_eq o) (Some (shown_values e.1.items)) (find R q (entries_of es)) ≡ Some v → entries_of (cond (is_eq o) ((e.0, w) ∷ es) (e ∷ set_value (λ k. is_eq (R q k.items)) es w)) ≡ by_order o ((q, shown_values w.items) ∷ entry_of e ∷ entries_of es) ((e.0.items, shown_values w.items) ∷ entries_of es) (entry_of e ∷ put R q (shown_values w.items) (entries_of es))) [
       | Less ↦ λ p g. absurd (same_value v (sym g ∙ not_below q e.0.items (entries_of es) p (left _ _ h)))
       | Equal ↦ λ p g. refl
       | Greater ↦ λ p g. ap (λ xs. entry_of e ∷ xs) (entries_of-set_value es q w v (right _ _ h) g)
@@ -138,21 +138,21 @@ map_of-nothing = same_entries_map _ _ (entries-from_sorted R [] tt ∙ sym entri
 
 -- ---- one more value of a key that is there
 
-module _ (es : KeyLists) (key : List ℕ) (old w : Vec Held Global) (here : lookup (λ k. is_eq (R key k.items)) es ≡ Some old) where
-  pub set_value-with_one : (v : Value) → AreOrdered es → values_in w.items ≡ place (values_in old.items) v → entries_of (set_value (λ k. is_eq (R key k.items)) es w) ≡ with_one (entries_of es) key v
+module _ (es : KeyLists) (key : List ℕ) (old w : Vec StoredValue Global) (here : lookup (λ k. is_eq (R key k.items)) es ≡ Some old) where
+  pub set_value-with_one : (v : Value) → AreOrdered es → shown_values w.items ≡ place (shown_values old.items) v → entries_of (set_value (λ k. is_eq (R key k.items)) es w) ≡ with_one (entries_of es) key v
   set_value-with_one v h e =
-      let f = find-entries_of es key ∙ ap (option_map (λ v. values_in v.items)) here in
-      entries_of-set_value es key w (values_in old.items) h f
+      let f = find-entries_of es key ∙ ap (option_map (λ v. shown_values v.items)) here in
+      entries_of-set_value es key w (shown_values old.items) h f
       ∙ ap (λ vs. put R key vs (entries_of es)) (e ∙ ap (λ o. place (unwrap_or o []) v) (sym f))
 
 same_one : {A : Type 0} (x y : A) → Some x ≡ Some y → x ≡ y
 same_one x y e = ap (λ o. unwrap_or o x) e
 
-pub set_value-kept : (es : KeyLists) (key : List ℕ) (old w : Vec Held Global) → lookup (λ k. is_eq (R key k.items)) es ≡ Some old → w.items ≡ old.items → entries_of (set_value (λ k. is_eq (R key k.items)) es w) ≡ entries_of es
+pub set_value-kept : (es : KeyLists) (key : List ℕ) (old w : Vec StoredValue Global) → lookup (λ k. is_eq (R key k.items)) es ≡ Some old → w.items ≡ old.items → entries_of (set_value (λ k. is_eq (R key k.items)) es w) ≡ entries_of es
 set_value-kept [] key old w here e = refl
 set_value-kept (f ∷ es) key old w here e =
     elim (is_eq (R key f.0.items)) as (λ b. cond b (Some f.1) (lookup (λ k. is_eq (R key k.items)) es) ≡ Some old → entries_of (cond b ((f.0, w) ∷ es) (f ∷ set_value (λ k. is_eq (R key k.items)) es w)) ≡ entries_of (f ∷ es)) [
-      | true ↦ λ h. ap (λ items. (f.0.items, values_in items) ∷ entries_of es) (e ∙ sym (ap (λ v. v.items) (same_one f.1 old h)))
+      | true ↦ λ h. ap (λ items. (f.0.items, shown_values items) ∷ entries_of es) (e ∙ sym (ap (λ v. v.items) (same_one f.1 old h)))
       | false ↦ λ h. ap (λ xs. entry_of f ∷ xs) (set_value-kept es key old w h e)
     ] here
 
@@ -174,7 +174,7 @@ place-some (x ∷ vs) v =
       | false ↦ omega arith
     ]
 
-found-storable : (es : List Entry) (key : List ℕ) → AllByRecursion IsSound es → AllByRecursion IsStorable (found es key)
+found-storable : (es : List Entry) (key : List ℕ) → AllByRecursion IsStorableEntry es → AllByRecursion IsStorable (found es key)
 found-storable [] key h = tt
 found-storable (e ∷ es) key h =
     elim (is_eq (R key e.0)) as (λ b. AllByRecursion IsStorable (unwrap_or (cond b (Some e.1) (find R key es)) [])) [
@@ -182,65 +182,65 @@ found-storable (e ∷ es) key h =
       | false ↦ found-storable es key h.1
     ]
 
-put-sound : (es : List Entry) (key : List ℕ) (vs : List Value) → AllByRecursion IsSound es → IsKey key → 0 < length vs → AllByRecursion IsStorable vs → AllByRecursion IsSound (put R key vs es)
+put-sound : (es : List Entry) (key : List ℕ) (vs : List Value) → AllByRecursion IsStorableEntry es → IsKey key → 0 < length vs → AllByRecursion IsStorable vs → AllByRecursion IsStorableEntry (put R key vs es)
 put-sound [] key vs h k some s = (record { key = k; some = some; values = s }, tt)
 put-sound (e ∷ es) key vs h k some s =
-    elim (R key e.0) as (λ o. AllByRecursion IsSound (by_order o ((key, vs) ∷ e ∷ es) ((e.0, vs) ∷ es) (e ∷ put R key vs es))) [
+    elim (R key e.0) as (λ o. AllByRecursion IsStorableEntry (by_order o ((key, vs) ∷ e ∷ es) ((e.0, vs) ∷ es) (e ∷ put R key vs es))) [
       | Less ↦ (record { key = k; some = some; values = s }, h)
       | Equal ↦ (record { key = h.0.key; some = some; values = s }, h.1)
       | Greater ↦ (h.0, put-sound es key vs h.1 k some s)
     ]
 
-pub with_one-sound : (es : List Entry) (key : List ℕ) (v : Value) → AllByRecursion IsSound es → IsKey key → IsStorable v → AllByRecursion IsSound (with_one es key v)
+pub with_one-sound : (es : List Entry) (key : List ℕ) (v : Value) → AllByRecursion IsStorableEntry es → IsKey key → IsStorable v → AllByRecursion IsStorableEntry (with_one es key v)
 with_one-sound es key v h k s =
     put-sound es key (place (found es key) v) h k (place-some (found es key) v) (place-storable (found es key) v (found-storable es key h) s)
 
 -- after a call that grew the entries or left them
-pub sound_after : {A E : Type 0} (r : Result A E) (old new : KeyLists) (grown : List Entry) → OnOk r (entries_of new ≡ grown) → OnErr r (entries_of new ≡ entries_of old) → AllByRecursion IsSound grown → AreSound old → AreSound new
-sound_after (Ok x) old new grown e f g h = subst (AllByRecursion IsSound) (sym e) g
-sound_after (Err x) old new grown e f g h = subst (AllByRecursion IsSound) (sym f) h
+pub sound_after : {A E : Type 0} (r : Result A E) (old new : KeyLists) (grown : List Entry) → OnOk r (entries_of new ≡ grown) → OnErr r (entries_of new ≡ entries_of old) → AllByRecursion IsStorableEntry grown → AreStorable old → AreStorable new
+sound_after (Ok x) old new grown e f g h = subst (AllByRecursion IsStorableEntry) (sym e) g
+sound_after (Err x) old new grown e f g h = subst (AllByRecursion IsStorableEntry) (sym f) h
 
-inside : (xs : List Held) (n : ℕ) → suc n ≤ length xs → n < length (values_in xs)
+inside : (xs : List StoredValue) (n : ℕ) → suc n ≤ length xs → n < length (shown_values xs)
 inside xs n le = rw (length-map xs value_of) le
 
 -- the place found by a search from the end
-pub place_found : (xs : List Held) (n : ℕ) (d : Held) (v : Value) → 0 < n → n ≤ length xs → (get_or xs (n - 1) d).priority ≤ v.0 → list_all (greater v.0) (drop n (values_in xs)) ≡ true → insert_at (values_in xs) n v ≡ place (values_in xs) v
+pub place_found : (xs : List StoredValue) (n : ℕ) (d : StoredValue) (v : Value) → 0 < n → n ≤ length xs → (get_or xs (n - 1) d).priority ≤ v.0 → list_all (greater v.0) (drop n (shown_values xs)) ≡ true → insert_at (shown_values xs) n v ≡ place (shown_values xs) v
 place_found xs zero d v pos le low rest = absurd (omega arith)
 place_found xs (suc n) d v pos le low rest =
     let at : get_or xs (suc n - 1) d ≡ get_or xs n d = ap (λ i. get_or xs i d) (omega arith) in
     let low : (get_or xs n d).priority ≤ v.0 = subst (λ x. x.priority ≤ v.0) at low in
-    let item : get_or (values_in xs) n (value_of d) ≡ value_of (get_or xs n d) = get_or-map value_of xs n d in
-    place_after (values_in xs) n v (value_of d) (inside xs n le) (ap (λ x. nat_lt v.0 x.0) item ∙ le-ltb _ _ low) rest
+    let item : get_or (shown_values xs) n (value_of d) ≡ value_of (get_or xs n d) = get_or-map value_of xs n d in
+    place_after (shown_values xs) n v (value_of d) (inside xs n le) (ap (λ x. nat_lt v.0 x.0) item ∙ le-ltb _ _ low) rest
 
 -- one value more in the search
-pub place_before : (xs : List Held) (n p : ℕ) (d : Held) → 0 < n → n ≤ length xs → p < (get_or xs (n - 1) d).priority → list_all (greater p) (drop n (values_in xs)) ≡ true → list_all (greater p) (drop (n - 1) (values_in xs)) ≡ true
+pub place_before : (xs : List StoredValue) (n p : ℕ) (d : StoredValue) → 0 < n → n ≤ length xs → p < (get_or xs (n - 1) d).priority → list_all (greater p) (drop n (shown_values xs)) ≡ true → list_all (greater p) (drop (n - 1) (shown_values xs)) ≡ true
 place_before xs zero p d pos le high rest = absurd (omega arith)
 place_before xs (suc n) p d pos le high rest =
     let at : suc n - 1 ≡ n = omega arith in
-    let item : get_or (values_in xs) n (value_of d) ≡ value_of (get_or xs n d) = get_or-map value_of xs n d in
+    let item : get_or (shown_values xs) n (value_of d) ≡ value_of (get_or xs n d) = get_or-map value_of xs n d in
     let high : p < (get_or xs n d).priority = subst (λ i. p < (get_or xs i d).priority) at high in
-    ap (λ i. list_all (greater p) (drop i (values_in xs))) at
-    ∙ ap (list_all (greater p)) (drop-cons (values_in xs) n (value_of d) (inside xs n le))
-    ∙ ap (λ y. greater p y && list_all (greater p) (drop (suc n) (values_in xs))) item
-    ∙ ap (λ b. b && list_all (greater p) (drop (suc n) (values_in xs))) (lt-ltb _ _ high)
+    ap (λ i. list_all (greater p) (drop i (shown_values xs))) at
+    ∙ ap (list_all (greater p)) (drop-cons (shown_values xs) n (value_of d) (inside xs n le))
+    ∙ ap (λ y. greater p y && list_all (greater p) (drop (suc n) (shown_values xs))) item
+    ∙ ap (λ b. b && list_all (greater p) (drop (suc n) (shown_values xs))) (lt-ltb _ _ high)
     ∙ rest
 
 -- the search stays inside the list
-pub inside_list : (xs : List Held) (n : ℕ) → n ≤ length (values_in xs) → n ≤ length xs
+pub inside_list : (xs : List StoredValue) (n : ℕ) → n ≤ length (shown_values xs) → n ≤ length xs
 inside_list xs n le = rw (length-map xs value_of) at le
 
-pub values_in-insert : (xs : List Held) (n : ℕ) (v : Held) → values_in (insert_at xs n v) ≡ insert_at (values_in xs) n (value_of v)
-values_in-insert xs zero v = refl
-values_in-insert [] (suc n) v = refl
-values_in-insert (x ∷ xs) (suc n) v = ap (λ ys. value_of x ∷ ys) (values_in-insert xs n v)
+pub shown_values-insert : (xs : List StoredValue) (n : ℕ) (v : StoredValue) → shown_values (insert_at xs n v) ≡ insert_at (shown_values xs) n (value_of v)
+shown_values-insert xs zero v = refl
+shown_values-insert [] (suc n) v = refl
+shown_values-insert (x ∷ xs) (suc n) v = ap (λ ys. value_of x ∷ ys) (shown_values-insert xs n v)
 
 pub on_err_weaker : {A E P Q : Type 0} (r : Result A E) → (P → Q) → OnErr r P → OnErr r Q
 on_err_weaker (Ok x) f h = tt
 on_err_weaker (Err x) f h = f h
 
 -- a search that came to the front
-pub place_front : (xs : List Held) (n : ℕ) (v : Value) → n ≤ 0 → list_all (greater v.0) (drop n (values_in xs)) ≡ true → insert_at (values_in xs) n v ≡ place (values_in xs) v
-place_front xs zero v le h = sym (place_first (values_in xs) v h)
+pub place_front : (xs : List StoredValue) (n : ℕ) (v : Value) → n ≤ 0 → list_all (greater v.0) (drop n (shown_values xs)) ≡ true → insert_at (shown_values xs) n v ≡ place (shown_values xs) v
+place_front xs zero v le h = sym (place_first (shown_values xs) v h)
 place_front xs (suc n) v le h = absurd (omega arith)
 
 -- ---- the entries in their order

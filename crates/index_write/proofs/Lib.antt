@@ -1,5 +1,6 @@
 pub mod KeyLemmas
 pub mod NodeLemmas
+pub mod Ends
 pub mod SizeLemmas
 pub mod WriteLemmas
 pub mod Reading

@@ -6,16 +6,16 @@ use Rattle.std.proofs.Math.Seq.{drop-cons}
 use Rattle.std.proofs.lemmas.List.{drop-drop, drop-map, take-map, length-map, map-append, reverse-append}
 use Rattle.std.specs.List.{AllByRecursion}
 use Rattle.index_format.specs.Map.{Value}
-use Rattle.index_format.specs.Tree.{Entry, Nodes, common, narrowed, common_prefix, cut, ending, grouped, groups, siblings, nodes_below, longest, tree, Rises}
+use Rattle.index_format.specs.Tree.{Entry, Forest, common, narrowed, common_prefix, cut, ending, grouped, groups, siblings, nodes_below, longest, tree, Rises}
 use Rattle.index_format.proofs.TreeLemmas.{Above-goes_on, Rises-cut, common_prefix-front, groups-rise, Within, Within-longest, Within-cut, groups-within, nodes_below-groups}
 use Rattle.std.specs.declared.alloc.Global.{Global}
 use Rattle.index_write.specs.declared.node.KeyEntry.{KeyEntry}
 use Rattle.index_write.specs.declared.node.Group.{Group}
-use Rattle.index_write.specs.declared.node.Node.{Node as Made}
+use Rattle.index_write.specs.declared.node.TreeNode.{TreeNode}
 use Rattle.index_write.specs.declared.node.Span.{Span}
-use Rattle.index_write.specs.Lists.{values_in}
+use Rattle.index_write.specs.Lists.{shown_values}
 use Rattle.index_write.specs.Parts.{Part, bytes_of, span_of, last_of, parts_of}
-use Rattle.index_write.specs.Groups.{entry_of, shown, at_depth, group_of, groups_of, ended, leading, AllGoOn, part_of, below, part_for, root_part, IsReady, AreReady}
+use Rattle.index_write.specs.Groups.{entry_shown, shown, at_depth, group_of, groups_of, ended, leading, AllGoOn, part_of, below, part_for, root_part, IsReady, AreReady}
 
 -- ---- common bytes
 
@@ -87,7 +87,7 @@ abbrev Groups : Type 0
 Groups = List (ℕ × List Entry)
 
 -- the nodes of groups
-abbrev pub nodes_of : ℕ → Groups → Nodes
+abbrev pub nodes_of : ℕ → Groups → Forest
 nodes_of most gs = siblings (nodes_below most) gs
 
 pub parts_of-append : (most : ℕ) (xs ys : Groups) → parts_of (nodes_of most (xs ++ ys)) ≡ parts_of (nodes_of most xs) ++ parts_of (nodes_of most ys)
@@ -153,10 +153,10 @@ AreReady-back most (x ∷ xs) ys p = AreReady-back most xs ys p.1
 
 -- ---- entries at a place
 
-same_one : {A : Type 0} (x y : A) → Some x ≡ Some y → x ≡ y
+pub same_one : {A : Type 0} (x y : A) → Some x ≡ Some y → x ≡ y
 same_one x y e = ap (λ o. unwrap_or o x) e
 
-none_there : {A : Type 0} (x : A) → None ≡ Some x → ⊥
+pub none_there : {A : Type 0} (x : A) → None ≡ Some x → ⊥
 none_there x e = subst (λ o. elim o as (λ _. Type 0) [ Some y ↦ ⊥ | None ↦ Unit {0} ]) e tt
 
 pub drop_all : {A : Type 0} (n : ℕ) (xs : List A) → length xs ≤ n → drop n xs ≡ []
@@ -166,7 +166,7 @@ drop_all (suc n) [] h = refl
 drop_all (suc n) (x ∷ xs) h = drop_all n xs (omega arith)
 
 -- the entry at a place, and those after it
-pub at_depth-place : (d n : ℕ) (es : List KeyEntry) (x : KeyEntry) → n < length es → drop n (at_depth d es) ≡ (drop d (get_or es n x).key.now, values_in (get_or es n x).values.now) ∷ drop (suc n) (at_depth d es)
+pub at_depth-place : (d n : ℕ) (es : List KeyEntry) (x : KeyEntry) → n < length es → drop n (at_depth d es) ≡ (drop d (get_or es n x).key.now, shown_values (get_or es n x).values.now) ∷ drop (suc n) (at_depth d es)
 at_depth-place d n [] x h = absurd (omega arith)
 at_depth-place d zero (e ∷ es) x h = refl
 at_depth-place d (suc n) (e ∷ es) x h = at_depth-place d n es x (omega arith)
@@ -195,13 +195,13 @@ pub first_ended : (d : ℕ) (es : List KeyEntry) (first : KeyEntry) → slice_ge
 first_ended d [] first is h = absurd (none_there first is)
 first_ended d (e ∷ es) first is h =
     ap (λ f. ended (at_depth d (f ∷ es))) (same_one e first is)
-    ∙ ap (λ k. ended ((k, values_in first.values.now) ∷ at_depth d es)) (drop-cons first.key.now d 0 h)
+    ∙ ap (λ k. ended ((k, shown_values first.values.now) ∷ at_depth d es)) (drop-cons first.key.now d 0 h)
 
 pub first_ending : (d : ℕ) (es : List KeyEntry) (first : KeyEntry) → slice_get es 0 ≡ Some first → d < length first.key.now → ending (at_depth d es) ≡ []
 first_ending d [] first is h = absurd (none_there first is)
 first_ending d (e ∷ es) first is h =
     ap (λ f. ending (at_depth d (f ∷ es))) (same_one e first is)
-    ∙ ap (λ k. ending ((k, values_in first.values.now) ∷ at_depth d es)) (drop-cons first.key.now d 0 h)
+    ∙ ap (λ k. ending ((k, shown_values first.values.now) ∷ at_depth d es)) (drop-cons first.key.now d 0 h)
 
 pub first_goes_on : (d : ℕ) (es : List KeyEntry) (first : KeyEntry) → slice_get es 0 ≡ Some first → AllGoOn (at_depth d es) → d < length first.key.now
 first_goes_on d [] first is h = absurd (none_there first is)
@@ -219,7 +219,7 @@ first_groups d (e ∷ es) first byte is h b =
     let longer : d < length e.key.now = subst (λ f. d < length f.key.now) (sym same) longer in
     let b : get_or e.key.now d 0 ≡ byte = ap (λ f. get_or f.key.now d 0) same ∙ b in
     let key : drop d e.key.now ≡ byte ∷ drop (suc d) e.key.now = drop-cons e.key.now d 0 longer ∙ ap (λ c. c ∷ drop (suc d) e.key.now) b in
-    let vs = values_in e.values.now in
+    let vs = shown_values e.values.now in
     subst (λ k. groups ((k, vs) ∷ at_depth d es) ≡ Run byte ((k, vs) ∷ at_depth d es)) (sym key)
     (groups-leading byte (drop (suc d) e.key.now) vs (at_depth d es) h.1)
 
@@ -230,14 +230,14 @@ leading-first d (e ∷ es) first byte is h b =
     let longer = first_goes_on d (e ∷ es) first is h in
     let longer : d < length e.key.now = subst (λ f. d < length f.key.now) (sym same) longer in
     let b : get_or e.key.now d 0 ≡ byte = ap (λ f. get_or f.key.now d 0) same ∙ b in
-    omega (arith, leading-same byte d e.key.now (values_in e.values.now) (at_depth d es) longer b)
+    omega (arith, leading-same byte d e.key.now (shown_values e.values.now) (at_depth d es) longer b)
 
 -- a part of the entries, at a depth
 pub at_depth-take : (d n : ℕ) (es : List KeyEntry) → at_depth d (take n es) ≡ take n (at_depth d es)
-at_depth-take d n es = ap (cut d) (sym (take-map entry_of n es)) ∙ cut-take d n (shown es)
+at_depth-take d n es = ap (cut d) (sym (take-map entry_shown n es)) ∙ cut-take d n (shown es)
 
 pub at_depth-drop : (d n : ℕ) (es : List KeyEntry) → at_depth d (drop n es) ≡ drop n (at_depth d es)
-at_depth-drop d n es = ap (cut d) (sym (drop-map entry_of n es)) ∙ cut-drop d n (shown es)
+at_depth-drop d n es = ap (cut d) (sym (drop-map entry_shown n es)) ∙ cut-drop d n (shown es)
 
 pub cut-at_depth : (m d : ℕ) (es : List KeyEntry) → cut m (at_depth d es) ≡ at_depth (d + m) es
 cut-at_depth m d es = cut-cut m d (shown es)
@@ -265,22 +265,22 @@ pub narrowed-place : (d i : ℕ) (es : List KeyEntry) (x : KeyEntry) (prefix nex
 narrowed-place d i es x prefix next h is e =
     let one : i + 1 ≡ suc i = omega arith in
     (λ j. narrowed (e j) (drop (one j) (at_depth d es)))
-    ∙ sym (ap (narrowed prefix) (at_depth-place d i es x h ∙ (λ j. (drop d (sym is j).key.now, values_in (sym is j).values.now) ∷ drop (suc i) (at_depth d es))))
+    ∙ sym (ap (narrowed prefix) (at_depth-place d i es x h ∙ (λ j. (drop d (sym is j).key.now, shown_values (sym is j).values.now) ∷ drop (suc i) (at_depth d es))))
 
-at_item : (d n : ℕ) (es : List KeyEntry) (x : KeyEntry) → n < length es → x ≡ get_or es n x → drop n (at_depth d es) ≡ (drop d x.key.now, values_in x.values.now) ∷ drop (suc n) (at_depth d es)
-at_item d n es x h is = at_depth-place d n es x h ∙ (λ j. (drop d (sym is j).key.now, values_in (sym is j).values.now) ∷ drop (suc n) (at_depth d es))
+at_item : (d n : ℕ) (es : List KeyEntry) (x : KeyEntry) → n < length es → x ≡ get_or es n x → drop n (at_depth d es) ≡ (drop d x.key.now, shown_values x.values.now) ∷ drop (suc n) (at_depth d es)
+at_item d n es x h is = at_depth-place d n es x h ∙ (λ j. (drop d (sym is j).key.now, shown_values (sym is j).values.now) ∷ drop (suc n) (at_depth d es))
 
 pub leading-stop_ended : (byte d n : ℕ) (es : List KeyEntry) (x : KeyEntry) → n < length es → x ≡ get_or es n x → length x.key.now ≤ d → leading byte (drop n (at_depth d es)) ≡ 0
-leading-stop_ended byte d n es x h is le = ap (leading byte) (at_item d n es x h is) ∙ leading-ended byte d x.key.now (values_in x.values.now) (drop (suc n) (at_depth d es)) le
+leading-stop_ended byte d n es x h is le = ap (leading byte) (at_item d n es x h is) ∙ leading-ended byte d x.key.now (shown_values x.values.now) (drop (suc n) (at_depth d es)) le
 
 pub leading-stop_other : (byte d n : ℕ) (es : List KeyEntry) (x : KeyEntry) → n < length es → x ≡ get_or es n x → d < length x.key.now → (get_or x.key.now d 0 ≡ byte → ⊥) → leading byte (drop n (at_depth d es)) ≡ 0
-leading-stop_other byte d n es x h is lt ne = ap (leading byte) (at_item d n es x h is) ∙ leading-other byte d x.key.now (values_in x.values.now) (drop (suc n) (at_depth d es)) lt ne
+leading-stop_other byte d n es x h is lt ne = ap (leading byte) (at_item d n es x h is) ∙ leading-other byte d x.key.now (shown_values x.values.now) (drop (suc n) (at_depth d es)) lt ne
 
 pub leading-next : (byte d n : ℕ) (es : List KeyEntry) (x : KeyEntry) → n < length es → x ≡ get_or es n x → d < length x.key.now → get_or x.key.now d 0 ≡ byte → leading byte (drop n (at_depth d es)) ≡ suc (leading byte (drop (n + 1) (at_depth d es)))
 leading-next byte d n es x h is lt e =
     let one : suc n ≡ n + 1 = omega arith in
     ap (leading byte) (at_item d n es x h is)
-    ∙ leading-same byte d x.key.now (values_in x.values.now) (drop (suc n) (at_depth d es)) lt e
+    ∙ leading-same byte d x.key.now (shown_values x.values.now) (drop (suc n) (at_depth d es)) lt e
     ∙ ap (λ i. suc (leading byte (drop i (at_depth d es)))) one
 
 pub group-shown : (d n : ℕ) (es : List KeyEntry) → cut 1 (take n (at_depth d es)) ≡ at_depth (d + 1) (take n es)
@@ -370,7 +370,7 @@ new-groups old new gs n e at =
 reverse-push : {A : Type 0} (xs : List A) (x : A) → reverse (xs ++ x ∷ []) ≡ x ∷ reverse xs
 reverse-push xs x = reverse-append xs (x ∷ [])
 
-pub parts-push : (ns : List Made) (n : Made) (p : Part) → part_of n ≡ p → reverse (map part_of (ns ++ n ∷ [])) ≡ p ∷ reverse (map part_of ns)
+pub parts-push : (ns : List TreeNode) (n : TreeNode) (p : Part) → part_of n ≡ p → reverse (map part_of (ns ++ n ∷ [])) ≡ p ∷ reverse (map part_of ns)
 parts-push ns n p e = ap reverse (map-append part_of ns (n ∷ [])) ∙ reverse-push (map part_of ns) (part_of n) ∙ ap (λ q. q ∷ reverse (map part_of ns)) e
 
 -- the pending groups and the nodes that were made

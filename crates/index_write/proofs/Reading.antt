@@ -1,8 +1,14 @@
 -- What a reader finds where a node was written.
-use Rattle.std.proofs.Common.{◌≡◌, refl, sym, ap, ◌∙◌, ℕ, zero, suc, ◌+◌, ◌-◌, ◌*◌, ◌/◌, ◌%◌, ◌^◌, ◌<◌, ◌≤◌, false, not, cond, ◌==◌, ◌&&◌, nat_le, ⊎_elim, List, [], ◌∷◌, ◌++◌, length, take, drop, get_or, flat_map, None, arith, append_assoc}
-use Rattle.std.proofs.lemmas.Bool.{le-leb}
+use Rattle.std.proofs.Common.{◌≡◌, refl, ap, ◌∙◌, ℕ, zero, suc, ◌+◌, ◌-◌, ◌*◌, ◌/◌, ◌%◌, ◌^◌, ◌<◌, ◌≤◌, false, not, cond, ◌==◌, ◌&&◌, nat_le, ⊎_elim, List, [], ◌∷◌, ◌++◌, length, take, drop, get_or, flat_map, None, arith, append_assoc}
+use Rattle.std.proofs.Math.Nat.{zero-mul, one-mul}
+use Rattle.std.proofs.lemmas.Bool.{le-leb, ne_eqb}
 use Rattle.std.proofs.lemmas.Bool.Decides.{eqb_tells}
-use Rattle.std.proofs.lemmas.Nat.{from_be_bytes-to_be_bytes_4}
+use Rattle.std.proofs.lemmas.Nat.{and_mask, pow_pos}
+use Rattle.std.proofs.lemmas.Nat.Bits.{and_pow}
+use Rattle.std.specs.Prelude.{bit_and}
+use Rattle.std.specs.Int.{bit_at}
+use Rattle.index_format.specs.declared.numbers.TheConstants.{PLACE_MASK}
+use Rattle.index_format.proofs.BigEndian.{be-at, be-number}
 use Rattle.std.specs.List.{AllByRecursion, prefix_len}
 use Rattle.km_names.specs.Number.{be}
 use Rattle.index_format.specs.Map.{Value}
@@ -18,8 +24,11 @@ flag_small : {A : Type 0} (xs : List A) → flag xs ≤ 1
 flag_small [] = omega arith
 flag_small (x ∷ xs) = omega arith
 
-low_bits : (p v c at : ℕ) → at < 2 ^ 28 → (p * 2 ^ 31 + v * 2 ^ 30 + c * 2 ^ 29 + at) % 2 ^ 28 ≡ at
-low_bits p v c at h = omega arith
+low_bits : (p v c at : ℕ) → at < 2 ^ 28 → bit_and (p * 2 ^ 31 + v * 2 ^ 30 + c * 2 ^ 29 + at) PLACE_MASK ≡ at
+low_bits p v c at h =
+    let n = p * 2 ^ 31 + v * 2 ^ 30 + c * 2 ^ 29 + at in
+    let low : n % 2 ^ 28 ≡ at = omega arith in
+    and_mask n 28 ∙ low
 
 bit_31 : (p v c at : ℕ) → p ≤ 1 → v ≤ 1 → c ≤ 1 → at < 2 ^ 28 → (p * 2 ^ 31 + v * 2 ^ 30 + c * 2 ^ 29 + at) / 2 ^ 31 % 2 ≡ p
 bit_31 p v c at hp hv hc h = omega arith
@@ -30,43 +39,27 @@ bit_30 p v c at hp hv hc h = omega arith
 bit_29 : (p v c at : ℕ) → p ≤ 1 → v ≤ 1 → c ≤ 1 → at < 2 ^ 28 → (p * 2 ^ 31 + v * 2 ^ 30 + c * 2 ^ 29 + at) / 2 ^ 29 % 2 ≡ c
 bit_29 p v c at hp hv hc h = omega arith
 
+-- the test of a bit that is 0 or 1
+bit_test : {A : Type 0} (n k : ℕ) (xs : List A) → bit_at n k ≡ flag xs → not (bit_and n (2 ^ k) == 0) ≡ (flag xs == 1)
+bit_test n k [] e = ap (λ m. not (m == 0)) (and_pow n k ∙ ap (λ m. m * 2 ^ k) e ∙ zero-mul (2 ^ k))
+bit_test n k (x ∷ xs) e =
+    ap (λ m. not (m == 0)) (and_pow n k ∙ ap (λ m. m * 2 ^ k) e ∙ one-mul (2 ^ k))
+    ∙ ap not (ne_eqb (2 ^ k) 0 (λ z. omega (arith, z, pow_pos k)))
+
 module _ {A B : Type 0} (at : ℕ) (p : List ℕ) (links : List A) (vs : List B) (low : at < 2 ^ 28) where
   pub place_of-link_to : place_of (link_to at p links vs) ≡ at
   place_of-link_to = low_bits (flag p) (flag vs) (flag links) at low
 
   pub has_prefix-link_to : has_prefix (link_to at p links vs) ≡ (flag p == 1)
-  has_prefix-link_to = ap (λ n. n == 1) (bit_31 (flag p) (flag vs) (flag links) at (flag_small p) (flag_small vs) (flag_small links) low)
+  has_prefix-link_to = bit_test (link_to at p links vs) 31 p (bit_31 (flag p) (flag vs) (flag links) at (flag_small p) (flag_small vs) (flag_small links) low)
 
   pub has_values-link_to : has_values (link_to at p links vs) ≡ (flag vs == 1)
-  has_values-link_to = ap (λ n. n == 1) (bit_30 (flag p) (flag vs) (flag links) at (flag_small p) (flag_small vs) (flag_small links) low)
+  has_values-link_to = bit_test (link_to at p links vs) 30 vs (bit_30 (flag p) (flag vs) (flag links) at (flag_small p) (flag_small vs) (flag_small links) low)
 
   pub has_children-link_to : has_children (link_to at p links vs) ≡ (flag links == 1)
-  has_children-link_to = ap (λ n. n == 1) (bit_29 (flag p) (flag vs) (flag links) at (flag_small p) (flag_small vs) (flag_small links) low)
+  has_children-link_to = bit_test (link_to at p links vs) 29 links (bit_29 (flag p) (flag vs) (flag links) at (flag_small p) (flag_small vs) (flag_small links) low)
 
--- ---- numbers and texts
-
-from_place : (b : List ℕ) (o i : ℕ) → get_or (drop o b) i 0 ≡ get_or b (o + i) 0
-from_place b zero i = ap (λ k. get_or b k 0) (omega arith)
-from_place [] (suc o) i = refl
-from_place (x ∷ b) (suc o) i =
-    let at : suc o + i ≡ suc (o + i) = omega arith in
-    from_place b o i ∙ ap (λ k. get_or (x ∷ b) k 0) (sym at)
-
-be-drop : (b : List ℕ) (o q n : ℕ) → be (drop o b) q n ≡ be b (o + q) n
-unfolding be
-be-drop b o q zero = refl
-be-drop b o q (suc n) =
-    let at : o + (q + 1) ≡ o + q + 1 = omega arith in
-    (λ i. from_place b o q i * 256 ^ n + be-drop b o (q + 1) n i) ∙ ap (λ k. get_or b (o + q) 0 * 256 ^ n + be b k n) at
-
-pub be-at : (b : List ℕ) (o n : ℕ) → be b o n ≡ be (drop o b) 0 n
-be-at b o n =
-    let at : o ≡ o + 0 = omega arith in
-    ap (λ k. be b k n) at ∙ sym (be-drop b o 0 n)
-
-pub be-number : (n : ℕ) (r : List ℕ) → n < 2 ^ 32 → be (number n ++ r) 0 4 ≡ n
-unfolding be
-be-number n r h = omega (arith, from_be_bytes-to_be_bytes_4 n h)
+-- ---- texts
 
 -- no byte is a NUL
 abbrev pub NoNul : List ℕ → Type 0

@@ -4,10 +4,11 @@ use Rattle.std.proofs.Math.ListN.{length-drop}
 use Rattle.std.proofs.lemmas.Bool.{le-leb, lt-ltb}
 use Rattle.std.proofs.lemmas.List.{length-map}
 use Rattle.std.specs.List.{AllByRecursion}
+use Rattle.index_format.specs.declared.numbers.TheConstants.{FIRST_PLACE}
 use Rattle.index_format.specs.Map.{Value}
 use Rattle.index_format.specs.Link.{place_of, has_prefix, has_values, has_children, link_to}
 use Rattle.index_format.specs.Node.{after_prefix, child, children}
-use Rattle.index_format.specs.Check.{first_place, prefix_fits, children_fit, values_fit, Arrival, is_sound, arrivals}
+use Rattle.index_format.specs.Check.{prefix_fits, children_fit, values_fit, Arrival, is_sound, arrivals}
 use Rattle.index_format.specs.Tree.{Entry, common_prefix, cut, ending, grouped, groups, siblings, nodes_below, Rises}
 use Rattle.index_format.specs.File.{Links, offset, prefix_field, children_field, values_field, node_bytes, written}
 use Rattle.index_format.proofs.TreeLemmas.{behind, groups-rise, Within, groups-within, nodes_below-groups}
@@ -18,7 +19,8 @@ use Rattle.index_write.proofs.Reading.{NoNul, Fits, place_of-link_to, has_values
 use Rattle.index_write.proofs.Lookup.{has, BytesRise, groups-bytes}
 use Rattle.index_write.proofs.Walks.{Stands, RowStands, Good, Good-behind, NoNul-prefix, Fits-ending, Within-suc, length-fields, after_children_are, groups-all, row_last, as_row, row, at_place, link_row, row_tail, at_low, child_is, no_child, below, place, place_tail, first_own, first_own_start, row_inside, others_stand, under, node, next}
 use Rattle.index_write.proofs.Accepted.{and_intro, or_right, sound_prefix, sound_children, sound_no_children, sound_values}
-use Rattle.index_write.proofs.Visits.{seen_after, NotIn, RowOk, row-cons, row-append, row-nil, row-more, narrow, arrival-ok, row_lookup, row_rise, last-bounds, children_of}
+use Rattle.index_format.proofs.Passing.{seen_after}
+use Rattle.index_write.proofs.Visits.{NotIn, RowOk, row-cons, row-append, row-nil, row-more, narrow, arrival-ok, row_lookup, row_rise, last-bounds, children_of}
 
 -- ---- entries of keys with bytes from 1 to 127, each with a value
 
@@ -207,7 +209,7 @@ module _ (b : List ℕ) (d : ℕ) (p : List ℕ) (es : List Entry) (link : ℕ) 
   node_sound above top h =
       and_intro _ _
       (and_intro _ _
-      (and_intro _ _ (le-leb first_place (place_of link) (omega (arith, place_is, q_is, st.high))) (le-leb (place_of link) (length b) (omega (arith, place_is, q_inside))))
+      (and_intro _ _ (le-leb FIRST_PLACE (place_of link) (omega (arith, place_is, q_is, st.high))) (le-leb (place_of link) (length b) (omega (arith, place_is, q_inside))))
       fields_fit)
       h
 

@@ -5,12 +5,13 @@ use Rattle.std.specs.FinMap.{entries}
 use Rattle.std.specs.List.{AllByRecursion}
 use Rattle.km_names.specs.First.{first}
 use Rattle.km_names.specs.Number.{be}
+use Rattle.index_format.specs.declared.numbers.TheConstants.{FIRST_PLACE, MAGIC, VERSION}
 use Rattle.index_format.specs.Map.{KeyValues}
-use Rattle.index_format.specs.Check.{BadMagic, BadVersion, BadNode, magic, version, first_place, arrival_faults, arrivals, root_arrival, index_fault}
+use Rattle.index_format.specs.Check.{BadMagic, BadVersion, BadNode, arrival_faults, arrivals, root_arrival, index_fault}
 use Rattle.index_format.specs.Tree.{Entry, longest, tree, Rises}
 use Rattle.index_format.specs.File.{number, offset, written, file_of, file}
 use Rattle.index_format.specs.Holds.{Holds}
-use Rattle.index_write.proofs.Reading.{be-at, be-number}
+use Rattle.index_format.proofs.BigEndian.{be-at, be-number}
 use Rattle.index_write.proofs.Walks.{Sound, Good-sound, bytes, root_link, root_stands, root_start, root_is, file-values}
 use Rattle.index_write.proofs.Visits.{RowOk}
 use Rattle.index_write.proofs.Rows.{KeyBytes, Fine, node_sound, place_is, q_inside, node_visited, claim_below}
@@ -30,11 +31,11 @@ fine_some (e ∷ es) h = (h.0.some, fine_some es h.1)
 Fine-sound : (es : List Entry) → Sound es → Fine es
 Fine-sound es h = record { keys = fine_keys es h; some = fine_some es h }
 
-module _ (es : List Entry) (low : length (file_of (written first_place (tree es))) ≤ 2 ^ 26) (r : Rises es) (h : Sound es) where
+module _ (es : List Entry) (low : length (file_of (written FIRST_PLACE (tree es))) ≤ 2 ^ 26) (r : Rises es) (h : Sound es) where
   b : List ℕ
   b = bytes es low
 
-  long_enough : first_place ≤ length b
+  long_enough : FIRST_PLACE ≤ length b
   unfolding b bytes file_of
   long_enough = omega arith
 
@@ -59,25 +60,25 @@ module _ (es : List Entry) (low : length (file_of (written first_place (tree es)
       ap (λ l. first (arrival_faults b [] (arrivals b (length b + 1) (record { above = length b + 1; is_root = true; link = l })))) (root_is es low)
       ∙ visited.passes
 
-  magic_is : be b 0 4 ≡ magic
+  magic_is : be b 0 4 ≡ MAGIC
   unfolding b bytes file_of
   magic_is =
-      let w = written first_place (tree es) in
-      be-number magic (number version ++ (number (offset w.links 0) ++ w.bytes)) (lit< tt)
+      let w = written FIRST_PLACE (tree es) in
+      be-number MAGIC (number VERSION ++ (number (offset w.links 0) ++ w.bytes)) (lit< tt)
 
-  version_is : be b 4 4 ≡ version
+  version_is : be b 4 4 ≡ VERSION
   unfolding b bytes file_of
   version_is =
-      let w = written first_place (tree es) in
-      be-at b 4 4 ∙ be-number version (number (offset w.links 0) ++ w.bytes) (lit< tt)
+      let w = written FIRST_PLACE (tree es) in
+      be-at b 4 4 ∙ be-number VERSION (number (offset w.links 0) ++ w.bytes) (lit< tt)
 
   pub accepted : index_fault (bytes es low) ≡ None
   unfolding index_fault b
   accepted =
       let faults = arrival_faults b [] (arrivals b (length b + 1) (root_arrival b)) in
-      (λ i. first (cond (eq-eqb (be b 0 4) magic magic_is i) None (Some BadMagic)
-      ∷ cond (eq-eqb (be b 4 4) version version_is i) None (Some BadVersion)
-      ∷ cond (le-ltb (length b) first_place long_enough i) (Some (BadNode 8)) None
+      (λ i. first (cond (eq-eqb (be b 0 4) MAGIC magic_is i) None (Some BadMagic)
+      ∷ cond (eq-eqb (be b 4 4) VERSION version_is i) None (Some BadVersion)
+      ∷ cond (le-ltb (length b) FIRST_PLACE long_enough i) (Some (BadNode 8)) None
       ∷ faults))
       ∙ nodes_pass
 

@@ -3,26 +3,19 @@ use Rattle.std.proofs.Common.{◌≡◌, refl, sym, ap, subst, ◌∙◌, ◌⊎
 use Rattle.std.proofs.lemmas.Bool.{lt-ltb}
 use Rattle.std.proofs.lemmas.Bool.Decides.{eqb_tells}
 use Rattle.std.specs.List.{AllByRecursion, list_any, cons_option}
-use Rattle.km_names.specs.First.{first}
 use Rattle.index_format.specs.Map.{Value}
 use Rattle.index_format.specs.Link.{place_of, link_to}
 use Rattle.index_format.specs.Node.{after_prefix, child, children, upward}
-use Rattle.index_format.specs.Check.{Fault, BadNode, Revisited, Arrival, is_sound, arrival_fault, arrival_faults}
+use Rattle.index_format.specs.Check.{BadNode, Revisited, Arrival, is_sound, arrival_fault, arrival_faults}
 use Rattle.index_format.specs.Tree.{Entry, common_prefix, ending, siblings, nodes_below}
 use Rattle.index_format.specs.File.{Links, offset, last, children_field, node_bytes, written}
 use Rattle.index_format.proofs.TreeLemmas.{behind}
+use Rattle.index_format.proofs.Passing.{Passes, seen_after, passes-cons, passes-append, seen_after-append}
 use Rattle.index_write.proofs.Reading.{read_first, read_last}
 use Rattle.index_write.proofs.Lookup.{has, AllAbove, BytesRise}
 use Rattle.index_write.proofs.Accepted.{lookup, LinksRise, Between, sweep}
 
 -- ---- tests that pass, one after the other
-
-abbrev pub Passes : List ℕ → List ℕ → List Arrival → Type 0
-Passes b seen rs = first (arrival_faults b seen rs) ≡ None
-
-abbrev pub seen_after : List Arrival → List ℕ → List ℕ
-seen_after [] seen = seen
-seen_after (a ∷ rs) seen = seen_after rs (place_of a.link ∷ seen)
 
 -- no place that was seen is from s on and below e
 abbrev pub NotIn : ℕ → ℕ → List ℕ → Type 0
@@ -31,25 +24,6 @@ NotIn s e seen = AllByRecursion (λ q. (q < s) ⊎ (e ≤ q)) seen
 pub record RowOk (b seen : List ℕ) (rs : List Arrival) (e : ℕ) : Type 0 where
   pub passes : Passes b seen rs
   pub after : (s2 e2 : ℕ) → e ≤ s2 → NotIn s2 e2 seen → NotIn s2 e2 (seen_after rs seen)
-
-first_none : (o : Option Fault) (os : List (Option Fault)) → first (o ∷ os) ≡ None → (o ≡ None) × (first os ≡ None)
-first_none None os h = (refl, h)
-first_none (Some f) os h = absurd (cc)
-
-passes-cons : (b seen : List ℕ) (a : Arrival) (rs : List Arrival) → arrival_fault b seen a ≡ None → Passes b (place_of a.link ∷ seen) rs → Passes b seen (a ∷ rs)
-unfolding arrival_faults
-passes-cons b seen a rs e h = ap (λ o. first (o ∷ arrival_faults b (place_of a.link ∷ seen) rs)) e ∙ h
-
-passes-append : (b : List ℕ) (xs ys : List Arrival) (seen : List ℕ) → Passes b seen xs → Passes b (seen_after xs seen) ys → Passes b seen (xs ++ ys)
-unfolding arrival_faults
-passes-append b [] ys seen p q = q
-passes-append b (a ∷ xs) ys seen p q =
-    let both = first_none (arrival_fault b seen a) (arrival_faults b (place_of a.link ∷ seen) xs) p in
-    ap (λ o. first (o ∷ arrival_faults b (place_of a.link ∷ seen) (xs ++ ys))) both.0 ∙ passes-append b xs ys (place_of a.link ∷ seen) both.1 q
-
-seen_after-append : (xs ys : List Arrival) (seen : List ℕ) → seen_after (xs ++ ys) seen ≡ seen_after ys (seen_after xs seen)
-seen_after-append [] ys seen = refl
-seen_after-append (a ∷ xs) ys seen = seen_after-append xs ys (place_of a.link ∷ seen)
 
 pub row-append : (b seen : List ℕ) (xs ys : List Arrival) (e f : ℕ) → e ≤ f → RowOk b seen xs e → RowOk b (seen_after xs seen) ys f → RowOk b seen (xs ++ ys) f
 row-append b seen xs ys e f le p q = record {

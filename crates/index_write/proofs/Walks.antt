@@ -5,21 +5,23 @@ use Rattle.std.proofs.lemmas.Bool.Decides.{eqb_tells}
 use Rattle.std.proofs.Math.ListN.{length-drop}
 use Rattle.std.proofs.lemmas.List.{drop-drop}
 use Rattle.std.specs.List.{AllByRecursion, starts_with}
+use Rattle.index_format.specs.declared.numbers.TheConstants.{FIRST_PLACE}
 use Rattle.index_format.specs.Map.{Value, KeyValues, values_of}
 use Rattle.std.specs.FinMap.{entries, get-entries}
 use Rattle.index_format.specs.Link.{place_of, flag, link_to}
 use Rattle.index_format.specs.Node.{root, prefix, child, values, present, after_prefix, after_children}
-use Rattle.index_format.specs.Walk.{Lost, enters, onward, step, by_step, at_within, at}
-use Rattle.index_format.specs.Check.{first_place}
+use Rattle.index_format.specs.Walk.{Lost, enters, onward, step, by_step, walk, at}
+use Rattle.index_format.proofs.BigEndian.{be-at, be-number}
+use Rattle.index_format.proofs.WalkLemmas.{at_within, at_within-zero, at_within-suc}
 use Rattle.index_format.specs.Tree.{Entry, common_prefix, cut, ending, grouped, groups, siblings, nodes_below, longest, tree, Rises}
 use Rattle.index_format.specs.File.{Links, Written, offset, last, prefix_field, children_field, values_field, node_bytes, written, file_of, file}
 use Rattle.index_format.proofs.TreeLemmas.{common_prefix-front, Rises-cut, groups-rise, Within, Within-longest, Within-cut, groups-within, nodes_below-groups, behind}
-use Rattle.index_write.specs.Lists.{found, IsStorable, IsSound}
+use Rattle.index_write.specs.Lists.{found, IsStorable, IsStorableEntry}
 use Rattle.index_write.specs.Parts.{last_of}
 use Rattle.index_write.proofs.Lookup.{true_false, has, group_for, AllAbove, BytesRise, no_group, groups-bytes, found-ending, found-behind, found-other, found-group, starts_front, starts_back}
 use Rattle.index_write.proofs.NodeLemmas.{bytes_of-nodes_of}
 use Rattle.index_write.proofs.WriteLemmas.{length-le-values_field, last-bytes, links-bytes}
-use Rattle.index_write.proofs.Reading.{NoNul, Fits, be-at, be-number, place_of-link_to, fields, drop_sized, read_prefix, read_after_prefix, read_no_child, read_no_children, read_after_children, read_child, read_outside, read_values}
+use Rattle.index_write.proofs.Reading.{NoNul, Fits, place_of-link_to, fields, drop_sized, read_prefix, read_after_prefix, read_no_child, read_no_children, read_after_children, read_child, read_outside, read_values}
 
 -- ---- where nodes stand
 
@@ -27,7 +29,7 @@ use Rattle.index_write.proofs.Reading.{NoNul, Fits, be-at, be-number, place_of-l
 pub record Stands (b : List ℕ) (d : ℕ) (p : List ℕ) (es : List Entry) (link : ℕ) : Type 0 where
   pub start : ℕ
   pub rest : List ℕ
-  pub high : first_place ≤ start
+  pub high : FIRST_PLACE ≤ start
   pub low : start + length (written start (nodes_below d es)).bytes + length (node_bytes p (written start (nodes_below d es)).links (ending es)) ≤ 2 ^ 26
   pub tail : drop start b ≡ (written start (nodes_below d es)).bytes ++ (node_bytes p (written start (nodes_below d es)).links (ending es) ++ rest)
   pub is : link ≡ link_to (start + length (written start (nodes_below d es)).bytes) p (written start (nodes_below d es)).links (ending es)
@@ -35,7 +37,7 @@ pub record Stands (b : List ℕ) (d : ℕ) (p : List ℕ) (es : List Entry) (lin
 -- The nodes of groups stand in b from a place on.
 pub record RowStands (b : List ℕ) (d : ℕ) (gs : List (ℕ × List Entry)) (start : ℕ) : Type 0 where
   pub rest : List ℕ
-  pub high : first_place ≤ start
+  pub high : FIRST_PLACE ≤ start
   pub low : start + length (written start (siblings (nodes_below d) gs)).bytes ≤ 2 ^ 26
   pub tail : drop start b ≡ (written start (siblings (nodes_below d) gs)).bytes ++ rest
 
@@ -438,22 +440,22 @@ module _ (n : ℕ) (b : List ℕ) (d : ℕ) (p : List ℕ) (es : List Entry) (li
             ∙ sym (found-group c k es good.rises ∙ ap (λ fs. found fs k) (no_group c (groups es) h))
       ] refl
 
-pub walk : (n : ℕ) (b : List ℕ) (d : ℕ) (p : List ℕ) (es : List Entry) (link : ℕ) → Stands b d p es link → Good d es → NoNul p → Finds b n p es link
-unfolding at_within
-walk zero b d p es link st good text = record { values = λ k lt. absurd (omega (arith, lt)); nothing = λ key h. refl }
-walk (suc n) b d p es link st good text =
+pub walk_finds : (n : ℕ) (b : List ℕ) (d : ℕ) (p : List ℕ) (es : List Entry) (link : ℕ) → Stands b d p es link → Good d es → NoNul p → Finds b n p es link
+walk_finds zero b d p es link st good text =
+    record { values = λ k lt. absurd (omega (arith, lt)); nothing = λ key h. at_within-zero b link key }
+walk_finds (suc n) b d p es link st good text =
     let further = λ (c child_link : ℕ) (h : has c (groups es) ≡ true) (there : Stands b d (common_prefix (group_for c (groups es))) (behind (group_for c (groups es))) child_link).
-    walk n b d (common_prefix (group_for c (groups es))) (behind (group_for c (groups es))) child_link there (Good-behind d (group_for c (groups es)) (Good-group d c es good h)) (NoNul-prefix (group_for c (groups es)) (Good-group d c es good h).keys) in
+    walk_finds n b d (common_prefix (group_for c (groups es))) (behind (group_for c (groups es))) child_link there (Good-behind d (group_for c (groups es)) (Good-group d c es good h)) (NoNul-prefix (group_for c (groups es)) (Good-group d c es good h).keys) in
     record {
-      values = λ k lt. ap (λ s. by_step s (values b link) (at_within b n) []) (step_front b d p es link st good text k) ∙ goes_on n b d p es link st good text further k lt;
-      nothing = λ key h. ap (λ s. by_step s (values b link) (at_within b n) []) (step_lost b d p es link st good text key h);
+      values = λ k lt. at_within-suc b n link (p ++ k) ∙ ap (λ s. by_step s (values b link) (at_within b n) []) (step_front b d p es link st good text k) ∙ goes_on n b d p es link st good text further k lt;
+      nothing = λ key h. at_within-suc b n link key ∙ ap (λ s. by_step s (values b link) (at_within b n) []) (step_lost b d p es link st good text key h);
     }
 
 -- ---- the whole file
 
 -- the entries of a map whose file can be read
 abbrev pub Sound : List Entry → Type 0
-Sound es = AllByRecursion IsSound es
+Sound es = AllByRecursion IsStorableEntry es
 
 text_is : (text : List ℕ) → All (λ byte. 0 < byte) text → NoNul text
 text_is [] h = tt
@@ -478,20 +480,20 @@ sound_fit (e ∷ es) h = (fits_all e.1 h.0.values, sound_fit es h.1)
 pub Good-sound : (es : List Entry) → Rises es → Sound es → Good (longest es) es
 Good-sound es r h = record { rises = r; within = Within-longest es; keys = sound_keys es h; fit = sound_fit es h }
 
-module _ (es : List Entry) (low : length (file_of (written first_place (tree es))) ≤ 2 ^ 26) where
+module _ (es : List Entry) (low : length (file_of (written FIRST_PLACE (tree es))) ≤ 2 ^ 26) where
   unfoldable pub bytes : List ℕ
-  bytes = file_of (written first_place (tree es))
+  bytes = file_of (written FIRST_PLACE (tree es))
 
   unfoldable pub under_root : Written
-  under_root = written first_place (nodes_below (longest es) es)
+  under_root = written FIRST_PLACE (nodes_below (longest es) es)
 
   unfoldable pub root_link : ℕ
-  root_link = link_to (first_place + length under_root.bytes) [] under_root.links (ending es)
+  root_link = link_to (FIRST_PLACE + length under_root.bytes) [] under_root.links (ending es)
 
   pub root_stands : Stands bytes (longest es) [] es root_link
   unfolding bytes under_root root_link file_of written tree
   root_stands = record {
-    start = first_place;
+    start = FIRST_PLACE;
     rest = [];
     high = omega arith;
     low = omega (arith, low, length-append (under_root.bytes ++ node_bytes [] under_root.links (ending es)) [], length-append under_root.bytes (node_bytes [] under_root.links (ending es)));
@@ -499,7 +501,7 @@ module _ (es : List Entry) (low : length (file_of (written first_place (tree es)
     is = refl;
   }
 
-  pub root_start : root_stands.start ≡ first_place
+  pub root_start : root_stands.start ≡ FIRST_PLACE
   unfolding root_stands
   root_start = refl
 
@@ -510,10 +512,10 @@ module _ (es : List Entry) (low : length (file_of (written first_place (tree es)
       ∙ be-number root_link (under_root.bytes ++ node_bytes [] under_root.links (ending es) ++ []) (link_small bytes (longest es) [] es root_link root_stands)
 
   pub values_at : Rises es → Sound es → (key : List ℕ) → at bytes (root bytes) key ≡ found es key
-  unfolding at
+  unfolding at walk at_within
   values_at r h key =
       ap (λ l. at_within bytes (length key + 1) l key) root_is
-      ∙ (walk (length key + 1) bytes (longest es) [] es root_link root_stands (Good-sound es r h) tt).values key (omega arith)
+      ∙ (walk_finds (length key + 1) bytes (longest es) [] es root_link root_stands (Good-sound es r h) tt).values key (omega arith)
 
 -- each key reaches its values in the file of a map
 pub file-values : (m : KeyValues) → Rises (entries m) → Sound (entries m) → length (file m) ≤ 2 ^ 26 → (key : List ℕ) → at (file m) (root (file m)) key ≡ values_of m key

@@ -6,21 +6,21 @@ use Rattle.std.proofs.Math.ListN.{length-drop}
 use Rattle.std.proofs.lemmas.List.{append-nil, take_all, drop-map, take-map, map-append, length-map}
 use Rattle.std.proofs.lemmas.List.Sums.{sum_by-append}
 use Rattle.std.specs.FinMap.{entries}
+use Rattle.index_format.specs.declared.numbers.TheConstants.{FIRST_PLACE}
 use Rattle.index_format.specs.Map.{Value, KeyValues}
 use Rattle.index_format.specs.Link.{flag, link_to}
-use Rattle.index_format.specs.Tree.{Nodes, End, Node, tree, Entry}
-use Rattle.index_format.specs.Check.{first_place}
+use Rattle.index_format.specs.Tree.{Forest, End, Branch, tree, Entry}
 use Rattle.index_format.specs.File.{Links, Written, number, offset, last, prefix_field, children_field, value_bytes, values_field, node_bytes, written, file_of, file}
-use Rattle.index_write.specs.Parts.{Part, bytes_of, last_of, span_of, parts_of, with_part, with_parts, prefix_size, children_size, value_size, values_size, part_size, headed, rooted, offsets_bytes}
-use Rattle.index_write.specs.declared.bytes.Link.{Link}
+use Rattle.index_write.specs.Parts.{Part, bytes_of, last_of, span_of, parts_of, with_part, with_parts, prefix_size, span_size, value_size, values_size, part_size, headed, rooted, offsets_bytes}
+use Rattle.index_write.specs.declared.bytes.ChildLink.{ChildLink}
 use Rattle.index_write.specs.Links.{bit, links_of}
 
 -- ---- the links of nodes side by side
 
-pub links-bytes : (f : Nodes) (start : ℕ) → map (λ l. l.0) (written start f).links ≡ bytes_of f
+pub links-bytes : (f : Forest) (start : ℕ) → map (λ l. l.0) (written start f).links ≡ bytes_of f
 unfolding written
 links-bytes End start = refl
-links-bytes (Node byte prefix values below beside) start =
+links-bytes (Branch byte prefix values below beside) start =
     ap (λ bytes. byte ∷ bytes) (links-bytes beside (start + length (written start below).bytes + length (node_bytes prefix (written start below).links values)))
 
 lengths : (links : Links) → length (map (λ l. l.0) links) ≡ length links
@@ -31,7 +31,7 @@ count_of : (bytes : List ℕ) → (span_of bytes).count ≡ length bytes
 count_of [] = refl
 count_of (b ∷ bytes) = refl
 
-count-links : (start : ℕ) (f : Nodes) → (span_of (bytes_of f)).count ≡ length (written start f).links
+count-links : (start : ℕ) (f : Forest) → (span_of (bytes_of f)).count ≡ length (written start f).links
 count-links start f = count_of (bytes_of f) ∙ ap length (sym (links-bytes f start)) ∙ lengths (written start f).links
 
 -- ---- the end of a list
@@ -50,7 +50,7 @@ before_end xs ys n e = omega (arith, length-append xs ys, e)
 -- ---- written one after the other
 
 -- nodes side by side, written after what is there
-abbrev pub after : Nodes → Written → Written
+abbrev pub after : Forest → Written → Written
 after f w = record {
   bytes = w.bytes ++ (written (length w.bytes) f).bytes;
   links = w.links ++ (written (length w.bytes) f).links;
@@ -60,7 +60,7 @@ after-End : (w : Written) → after End w ≡ w
 unfolding written
 after-End w = λ i. record { bytes = append-nil w.bytes i; links = append-nil w.links i }
 
-module _ (byte : ℕ) (prefix : List ℕ) (values : List Value) (below beside : Nodes) (w : Written) where
+module _ (byte : ℕ) (prefix : List ℕ) (values : List Value) (below beside : Forest) (w : Written) where
   under : Written
   under = written (length w.bytes) below
 
@@ -91,7 +91,7 @@ module _ (byte : ℕ) (prefix : List ℕ) (values : List Value) (below beside : 
         links = front i ++ (byte, link_to (length-append w.bytes under.bytes i) prefix (kids i) values) ∷ [];
       }
 
-  after-beside : after beside with_node ≡ after (Node byte prefix values below beside) w
+  after-beside : after beside with_node ≡ after (Branch byte prefix values below beside) w
   unfolding written with_node node place under
   after-beside =
       let at : length ((w.bytes ++ under.bytes) ++ node) ≡ place + length node = omega (arith, length-append (w.bytes ++ under.bytes) node, length-append w.bytes under.bytes) in
@@ -103,10 +103,10 @@ module _ (byte : ℕ) (prefix : List ℕ) (values : List Value) (below beside : 
             ∙ append_assoc w.links ((byte, link_to place prefix under.links values) ∷ []) (written (place + length node) beside).links) i;
       }
 
-pub with_parts-written : (f : Nodes) (ps : List Part) (w : Written) → with_parts (parts_of f ++ ps) w ≡ with_parts ps (after f w)
+pub with_parts-written : (f : Forest) (ps : List Part) (w : Written) → with_parts (parts_of f ++ ps) w ≡ with_parts ps (after f w)
 unfolding with_parts part
 with_parts-written End ps w = ap (with_parts ps) (sym (after-End w))
-with_parts-written (Node byte prefix values below beside) ps w =
+with_parts-written (Branch byte prefix values below beside) ps w =
     ap (λ qs. with_parts qs w) (append_assoc (parts_of below) (part byte prefix values below beside w ∷ parts_of beside) ps)
     ∙ with_parts-written below (part byte prefix values below beside w ∷ (parts_of beside ++ ps)) w
     ∙ ap (with_parts (parts_of beside ++ ps)) (with_part-below byte prefix values below beside w)
@@ -139,11 +139,11 @@ length-prefix_field (b ∷ prefix) = length-append (b ∷ prefix) (0 ∷ [])
 suc_not_zero : (n : ℕ) → (suc n == 0) ≡ false
 suc_not_zero n = ⊎_elim (λ p. absurd (omega (arith, p.1))) (λ p. p.0) (eqb_tells (suc n) 0)
 
-length-children_field : (links : Links) → length (children_field links) ≡ children_size (span_of (map (λ l. l.0) links))
+length-children_field : (links : Links) → length (children_field links) ≡ span_size (span_of (map (λ l. l.0) links))
 length-children_field [] = refl
 length-children_field (l ∷ links) =
     let n = length (map (λ x. x.0) links) in
-    let span : children_size (span_of (map (λ x. x.0) (l ∷ links))) ≡ 2 + 4 * (last_of l.0 (map (λ x. x.0) links) - l.0 + 1)
+    let span : span_size (span_of (map (λ x. x.0) (l ∷ links))) ≡ 2 + 4 * (last_of l.0 (map (λ x. x.0) links) - l.0 + 1)
     = ap (λ b. cond b 0 (2 + 4 * (last_of l.0 (map (λ x. x.0) links) - l.0 + 1))) (suc_not_zero n) in
     omega (arith, span, length-offsets (l ∷ links) l.0 (last l.0 links - l.0 + 1), last-bytes l.0 links)
 
@@ -151,20 +151,20 @@ length-values_field : (vs : List Value) → length (values_field vs) ≡ values_
 length-values_field [] = refl
 length-values_field (v ∷ vs) = omega (arith, length-values (v ∷ vs))
 
-pub length-node_bytes : (prefix : List ℕ) (links : Links) (vs : List Value) → length (node_bytes prefix links vs) ≡ prefix_size prefix + children_size (span_of (map (λ l. l.0) links)) + values_size vs
+pub length-node_bytes : (prefix : List ℕ) (links : Links) (vs : List Value) → length (node_bytes prefix links vs) ≡ prefix_size prefix + span_size (span_of (map (λ l. l.0) links)) + values_size vs
 unfolding node_bytes
 length-node_bytes prefix links vs =
     omega (arith, length-append (prefix_field prefix ++ children_field links) (values_field vs), length-append (prefix_field prefix) (children_field links), length-prefix_field prefix, length-children_field links, length-values_field vs)
 
-pub length-written : (f : Nodes) (start : ℕ) → length (written start f).bytes ≡ sum_by part_size (parts_of f)
+pub length-written : (f : Forest) (start : ℕ) → length (written start f).bytes ≡ sum_by part_size (parts_of f)
 unfolding written
 length-written End start = refl
-length-written (Node byte prefix values below beside) start =
+length-written (Branch byte prefix values below beside) start =
     let under = written start below in
     let node = node_bytes prefix under.links values in
     let more = written (start + length under.bytes + length node) beside in
     let p : Part = record { byte = byte; prefix = prefix; values = values; children = span_of (bytes_of below) } in
-    let size : length node ≡ part_size p = length-node_bytes prefix under.links values ∙ ap (λ bytes. prefix_size prefix + children_size (span_of bytes) + values_size values) (links-bytes below start) in
+    let size : length node ≡ part_size p = length-node_bytes prefix under.links values ∙ ap (λ bytes. prefix_size prefix + span_size (span_of bytes) + values_size values) (links-bytes below start) in
     omega (arith, length-append (under.bytes ++ node) more.bytes, length-append under.bytes node, length-written below start, length-written beside (start + length under.bytes + length node), size, sum_by-append part_size (parts_of below) (p ∷ parts_of beside), sum_by-cons part_size p (parts_of beside))
 
 -- ---- room
@@ -200,15 +200,15 @@ pub written-tree : (es : List Entry) → with_parts (parts_of (tree es)) headed 
 unfolding with_parts
 written-tree es = ap (λ ps. with_parts ps headed) (sym (append-nil (parts_of (tree es)))) ∙ with_parts-written (tree es) [] headed
 
-pub rooted-tree : (es : List Entry) → rooted (after (tree es) headed) ≡ file_of (written first_place (tree es))
+pub rooted-tree : (es : List Entry) → rooted (after (tree es) headed) ≡ file_of (written FIRST_PLACE (tree es))
 unfolding file_of
 rooted-tree es = refl
 
-pub length-file : (es : List Entry) → length (file_of (written first_place (tree es))) ≡ first_place + sum_by part_size (parts_of (tree es))
+pub length-file : (es : List Entry) → length (file_of (written FIRST_PLACE (tree es))) ≡ FIRST_PLACE + sum_by part_size (parts_of (tree es))
 unfolding file_of
-length-file es = omega (arith, length-written (tree es) first_place)
+length-file es = omega (arith, length-written (tree es) FIRST_PLACE)
 
-pub length-headed : (es : List Entry) → length (after (tree es) headed).bytes ≡ length (file_of (written first_place (tree es)))
+pub length-headed : (es : List Entry) → length (after (tree es) headed).bytes ≡ length (file_of (written FIRST_PLACE (tree es)))
 unfolding file_of
 length-headed es = refl
 
@@ -280,23 +280,23 @@ module _ (p : Part) (bytes : List ℕ) (links : Links) (out1 out2 out3 : List �
 
 -- ---- the vectors of links
 
-abbrev pub link_of : Link → ℕ × ℕ
+abbrev pub link_of : ChildLink → ℕ × ℕ
 link_of l = (l.byte, l.offset)
 
-pub links_of-end : (before now : List Link) (start : ℕ) → now ≡ before → links_of (take (length now - start) (drop start now)) ≡ drop start (links_of before)
+pub links_of-end : (before now : List ChildLink) (start : ℕ) → now ≡ before → links_of (take (length now - start) (drop start now)) ≡ drop start (links_of before)
 links_of-end before now start e =
     ap links_of (take_all (length now - start) (drop start now) (omega (arith, length-drop start now)))
     ∙ sym (drop-map (λ l. (l.byte, l.offset)) start now)
     ∙ ap (λ ls. drop start (links_of ls)) e
 
-pub links_of-push : (before cut new : List Link) (start : ℕ) (l : Link) → cut ≡ take start before → new ≡ cut ++ l ∷ [] → links_of new ≡ take start (links_of before) ++ (l.byte, l.offset) ∷ []
+pub links_of-push : (before cut new : List ChildLink) (start : ℕ) (l : ChildLink) → cut ≡ take start before → new ≡ cut ++ l ∷ [] → links_of new ≡ take start (links_of before) ++ (l.byte, l.offset) ∷ []
 links_of-push before cut new start l c e =
     ap links_of e
     ∙ map-append (λ l. (l.byte, l.offset)) cut (l ∷ [])
     ∙ ap (λ ls. links_of ls ++ (l.byte, l.offset) ∷ []) c
     ∙ ap (λ ls. ls ++ (l.byte, l.offset) ∷ []) (sym (take-map (λ l. (l.byte, l.offset)) start before))
 
-pub length-links_of : (ls : List Link) → length (links_of ls) ≡ length ls
+pub length-links_of : (ls : List ChildLink) → length (links_of ls) ≡ length ls
 length-links_of ls = length-map ls link_of
 
 pub same_length : {A B : Type 0} (f : A → B) (xs : List A) → (length xs == 0) ≡ (length (map f xs) == 0)
@@ -310,11 +310,11 @@ same_one x y e = ap (λ o. unwrap_or o x) e
 none_there : {A : Type 0} (x : A) → None ≡ Some x → ⊥
 none_there x e = subst (λ o. elim o as (λ _. Type 0) [ Some y ↦ ⊥ | None ↦ Unit {0} ]) e tt
 
-last_link : (f l : Link) (ls : List Link) → slice_get (f ∷ ls) (length ls) ≡ Some l → last f.byte (links_of ls) ≡ l.byte
+last_link : (f l : ChildLink) (ls : List ChildLink) → slice_get (f ∷ ls) (length ls) ≡ Some l → last f.byte (links_of ls) ≡ l.byte
 last_link f l [] h = ap (λ x. x.byte) (same_one f l h)
 last_link f l (g ∷ ls) h = last_link g l ls h
 
-pub children-ends : (links : List Link) (first end : Link) (out0 out1 out2 out : List ℕ) (start count : ℕ) → slice_get links 0 ≡ Some first → slice_get links (length links - 1) ≡ Some end → out1 ≡ out0 ++ first.byte ∷ [] → out2 ≡ out1 ++ end.byte ∷ [] → start ≡ first.byte → count ≡ end.byte - first.byte + 1 → out ≡ out2 ++ offsets_bytes (links_of links) start count → out ≡ out0 ++ children_field (links_of links)
+pub children-ends : (links : List ChildLink) (first end : ChildLink) (out0 out1 out2 out : List ℕ) (start count : ℕ) → slice_get links 0 ≡ Some first → slice_get links (length links - 1) ≡ Some end → out1 ≡ out0 ++ first.byte ∷ [] → out2 ≡ out1 ++ end.byte ∷ [] → start ≡ first.byte → count ≡ end.byte - first.byte + 1 → out ≡ out2 ++ offsets_bytes (links_of links) start count → out ≡ out0 ++ children_field (links_of links)
 children-ends [] first end out0 out1 out2 out start count f l one two s c e = absurd (none_there first f)
 children-ends (g ∷ links) first end out0 out1 out2 out start count f l one two s c e =
     let at : length (g ∷ links) - 1 ≡ length links = omega arith in
@@ -333,19 +333,19 @@ children-ends (g ∷ links) first end out0 out1 out2 out start count f l one two
 pub take_whole : {A : Type 0} (n : ℕ) (xs ys : List A) → n ≡ length xs → take n (xs ++ ys) ≡ xs
 take_whole n xs ys e = ap (λ k. take k (xs ++ ys)) e ∙ take_front xs ys
 
-pub rooted-steps : (w : Written) (bytes now out : List ℕ) (links : Links) (root : ℕ) → ◌≡◌ {A = Written} (record { bytes = bytes; links = links }) w → now ≡ bytes → root ≡ offset links 0 → out ≡ take 8 now ++ number root ++ drop first_place now → out ≡ rooted w
+pub rooted-steps : (w : Written) (bytes now out : List ℕ) (links : Links) (root : ℕ) → ◌≡◌ {A = Written} (record { bytes = bytes; links = links }) w → now ≡ bytes → root ≡ offset links 0 → out ≡ take 8 now ++ number root ++ drop FIRST_PLACE now → out ≡ rooted w
 rooted-steps w bytes now out links root e n r o =
     o
-    ∙ ap (λ xs. take 8 xs ++ number root ++ drop first_place xs) n
-    ∙ ap (λ k. take 8 bytes ++ number k ++ drop first_place bytes) r
+    ∙ ap (λ xs. take 8 xs ++ number root ++ drop FIRST_PLACE xs) n
+    ∙ ap (λ k. take 8 bytes ++ number k ++ drop FIRST_PLACE bytes) r
     ∙ ap rooted e
 
 -- ---- the file of a map
 
 module _ (m : KeyValues) (ps : List Part) (e : ps ≡ parts_of (tree (entries m))) where
-  pub file-size : length (file m) ≡ first_place + sum_by part_size ps
+  pub file-size : length (file m) ≡ FIRST_PLACE + sum_by part_size ps
   unfolding file
-  file-size = length-file (entries m) ∙ ap (λ qs. first_place + sum_by part_size qs) (sym e)
+  file-size = length-file (entries m) ∙ ap (λ qs. FIRST_PLACE + sum_by part_size qs) (sym e)
 
   whole : with_parts ps headed ≡ after (tree (entries m)) headed
   whole = ap (λ qs. with_parts qs headed) e ∙ written-tree (entries m)

@@ -4,16 +4,16 @@ use Rattle.std.specs.List.{AllByRecursion}
 use Rattle.index_format.specs.Tree.{Entry, common_prefix, cut, ending, groups, Rises}
 use Rattle.index_write.specs.declared.node.KeyEntry.{KeyEntry}
 use Rattle.index_write.specs.declared.node.Group.{Group}
-use Rattle.index_write.specs.declared.node.Node.{Node}
-use Rattle.index_write.specs.Lists.{values_in}
+use Rattle.index_write.specs.declared.node.TreeNode.{TreeNode}
+use Rattle.index_write.specs.Lists.{shown_values}
 use Rattle.index_write.specs.Parts.{Part, span_of}
 
-abbrev pub entry_of : KeyEntry → Entry
-entry_of e = (e.key.now, values_in e.values.now)
+abbrev pub entry_shown : KeyEntry → Entry
+entry_shown e = (e.key.now, shown_values e.values.now)
 
 -- The entries, and what is left of them at a depth.
 abbrev pub shown : List KeyEntry → List Entry
-shown es = map entry_of es
+shown es = map entry_shown es
 
 abbrev pub at_depth : ℕ → List KeyEntry → List Entry
 at_depth depth es = cut depth (shown es)
@@ -41,8 +41,8 @@ leading byte [] = 0
 leading byte (([], values) ∷ es) = 0
 leading byte ((c ∷ key, values) ∷ es) = if byte == c then suc (leading byte es) else 0
 
-abbrev pub part_of : Node → Part
-part_of n = record { byte = n.byte; prefix = n.prefix.now; values = values_in n.values.now; children = n.children }
+abbrev pub part_of : TreeNode → Part
+part_of n = record { byte = n.byte; prefix = n.prefix.now; values = shown_values n.values.now; children = n.children }
 
 -- The entries of a group with the prefix of its node taken off, and that node.
 abbrev pub below : List Entry → List Entry

@@ -7,21 +7,21 @@ use Rattle.std.specs.Cmp.Lexicographic.{slice_cmp}
 use Rattle.std.specs.FinMap.{from_sorted, find, put, is_sorted}
 use Rattle.index_format.specs.Map.{Value, KeyValues, place, IsKey, IsText}
 use Rattle.index_format.specs.Tree.{Entry}
-use Rattle.index_write.specs.declared.key_map.Value.{Value as Held}
+use Rattle.index_write.specs.declared.key_map.StoredValue.{StoredValue}
 
 -- A value, and the values of a list.
-abbrev pub value_of : Held → Value
+abbrev pub value_of : StoredValue → Value
 value_of v = (v.priority, v.text)
 
-abbrev pub values_in : List Held → List Value
-values_in vs = map value_of vs
+abbrev pub shown_values : List StoredValue → List Value
+shown_values vs = map value_of vs
 
 abbrev pub KeyLists : Type 0
-KeyLists = List (Vec ℕ Global × Vec Held Global)
+KeyLists = List (Vec ℕ Global × Vec StoredValue Global)
 
 -- The entries of the lists.
-abbrev pub entry_of : Vec ℕ Global × Vec Held Global → Entry
-entry_of e = (e.0.items, values_in e.1.items)
+abbrev pub entry_of : Vec ℕ Global × Vec StoredValue Global → Entry
+entry_of e = (e.0.items, shown_values e.1.items)
 
 abbrev pub entries_of : KeyLists → List Entry
 entries_of es = map entry_of es
@@ -47,10 +47,10 @@ abbrev pub IsStorable : Value → Type 0
 IsStorable v = (v.0 < 2 ^ 32) × IsText v.1
 
 -- What the lists keep: each has a key of the allowed bytes, and values, each of which a file can have.
-pub record IsSound (e : Entry) : Type 0 where
+pub record IsStorableEntry (e : Entry) : Type 0 where
   pub key : IsKey e.0
   pub some : 0 < length e.1
   pub values : AllByRecursion IsStorable e.1
 
-abbrev pub AreSound : KeyLists → Type 0
-AreSound es = AllByRecursion IsSound (entries_of es)
+abbrev pub AreStorable : KeyLists → Type 0
+AreStorable es = AllByRecursion IsStorableEntry (entries_of es)

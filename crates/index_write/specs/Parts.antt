@@ -1,11 +1,11 @@
 -- The nodes of a file one after the other, as they are written: each finds the links to its children at the
 -- end of the links that wait for their parents.
 use Rattle.std.specs.Prelude.{ℕ, ◌+◌, ◌-◌, ◌*◌, ◌==◌, List, [], ◌∷◌, ◌++◌, length, take, drop, sum_by, flat_map, if◌then◌else◌}
+use Rattle.index_format.specs.declared.numbers.TheConstants.{FIRST_PLACE, MAGIC, VERSION}
 use Rattle.index_format.specs.Map.{Value}
 use Rattle.index_format.specs.Link.{link_to}
-use Rattle.index_format.specs.Tree.{Nodes, End, Node}
+use Rattle.index_format.specs.Tree.{Forest, End, Branch}
 use Rattle.index_format.specs.Node.{upward}
-use Rattle.index_format.specs.Check.{magic, version, first_place}
 use Rattle.index_format.specs.File.{Written, Links, number, offset, node_bytes}
 use Rattle.index_write.specs.declared.node.Span.{Span}
 
@@ -17,9 +17,9 @@ pub record Part : Type 0 where
   pub children : Span
 
 -- The bytes that lead to nodes side by side.
-abbrev pub bytes_of : Nodes → List ℕ
+abbrev pub bytes_of : Forest → List ℕ
 bytes_of End = []
-bytes_of (Node byte prefix values below beside) = byte ∷ bytes_of beside
+bytes_of (Branch byte prefix values below beside) = byte ∷ bytes_of beside
 
 -- The last one of some bytes.
 abbrev pub last_of : ℕ → List ℕ → ℕ
@@ -32,9 +32,9 @@ span_of [] = record { first = 0; last = 0; count = 0 }
 span_of (byte ∷ bytes) = record { first = byte; last = last_of byte bytes; count = length (byte ∷ bytes) }
 
 -- The nodes in the order of the file.
-abbrev pub parts_of : Nodes → List Part
+abbrev pub parts_of : Forest → List Part
 parts_of End = []
-parts_of (Node byte prefix values below beside) =
+parts_of (Branch byte prefix values below beside) =
     parts_of below
     ++ (record { byte = byte; prefix = prefix; values = values; children = span_of (bytes_of below) }) ∷ parts_of beside
 
@@ -56,8 +56,8 @@ abbrev pub prefix_size : List ℕ → ℕ
 prefix_size [] = 0
 prefix_size (byte ∷ prefix) = length (byte ∷ prefix) + 1
 
-abbrev pub children_size : Span → ℕ
-children_size s = if s.count == 0 then 0 else 2 + 4 * (s.last - s.first + 1)
+abbrev pub span_size : Span → ℕ
+span_size s = if s.count == 0 then 0 else 2 + 4 * (s.last - s.first + 1)
 
 abbrev pub value_size : Value → ℕ
 value_size v = 4 + length v.1 + 1
@@ -67,14 +67,14 @@ values_size [] = 0
 values_size (v ∷ values) = 4 + sum_by value_size (v ∷ values)
 
 abbrev pub part_size : Part → ℕ
-part_size p = prefix_size p.prefix + children_size p.children + values_size p.values
+part_size p = prefix_size p.prefix + span_size p.children + values_size p.values
 
 -- What stands before the nodes, with 0 for the offset of the root, and the same with that offset.
 abbrev pub headed : Written
-headed = record { bytes = number magic ++ number version ++ number 0; links = [] }
+headed = record { bytes = number MAGIC ++ number VERSION ++ number 0; links = [] }
 
 abbrev pub rooted : Written → List ℕ
-rooted w = take 8 w.bytes ++ number (offset w.links 0) ++ drop first_place w.bytes
+rooted w = take 8 w.bytes ++ number (offset w.links 0) ++ drop FIRST_PLACE w.bytes
 
 -- The offsets of children for so many bytes.
 abbrev pub offsets_bytes : Links → ℕ → ℕ → List ℕ

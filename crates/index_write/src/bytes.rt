@@ -1,31 +1,21 @@
-ghost use Rattle.std.specs.Prelude.{◌≡◌, ◌≤◌, ◌<◌, ◌+◌, ◌*◌, ◌^◌, ◌++◌, length, take, drop, map, OnOk, IfOk};
-ghost use Rattle.index_format.specs.Check.{first_place};
-ghost use Rattle.index_format.specs.File.{number, offset, prefix_field, children_field, values_field, value_bytes, largest_file};
-ghost use Rattle.index_write.specs.Lists.{value_of, values_in};
+ghost use Rattle.std.specs.Prelude.{◌≡◌, ℕ, ◌≤◌, ◌<◌, ◌+◌, ◌*◌, ◌^◌, ◌++◌, length, take, drop, map, slice_index, OnOk, IfOk};
+ghost use Rattle.km_names.specs.Limit.{file_limit};
+ghost use Rattle.index_format.specs.declared.numbers.TheConstants.{FIRST_PLACE};
+ghost use Rattle.index_format.specs.File.{number, offset, prefix_field, children_field, values_field, value_bytes};
+ghost use Rattle.index_write.specs.Lists.{value_of, shown_values};
 ghost use Rattle.index_write.specs.Parts.{with_part, with_parts, headed, rooted, offsets_bytes};
 ghost use Rattle.index_write.specs.Groups.{part_of};
 ghost use Rattle.index_write.specs.Links.{links_of, state, bit};
 
-use crate::key_map::Value;
-use crate::node::Node;
+use crate::key_map::StoredValue;
+use crate::node::TreeNode;
 use byteorder::{BigEndian, ByteOrder};
+use index_format::{HAS_CHILDREN, HAS_PREFIX, HAS_VALUES, MAGIC, VERSION};
 use std::alloc::{AllocError, Global};
-
-/// With what a file begins, and the version of its format.
-const MAGIC: u32 = 0xb007_f457;
-
-const VERSION: u32 = 0x0002_0001;
-
-/// The bits of an offset that say which fields its node has.
-const HAS_PREFIX: u32 = 0x8000_0000;
-
-const HAS_VALUES: u32 = 0x4000_0000;
-
-const HAS_CHILDREN: u32 = 0x2000_0000;
 
 /// The offset of a node that waits for its parent, with the byte that leads to it.
 #[derive(Clone, Copy)]
-pub(crate) struct Link {
+pub(crate) struct ChildLink {
     byte: u8,
     offset: u32,
 }
@@ -52,7 +42,7 @@ fn push_prefix(out: &mut Vec<u8>, prefix: &[u8]) -> Result<(), AllocError>
 }
 
 /// The offset for a byte, 0 where no child has it.
-fn offset_of(links: &[Link], byte: usize) -> u32
+fn offset_of(links: &[ChildLink], byte: usize) -> u32
     ensures { result ≡ offset (links_of links.now) byte }
 {
     for link in links {
@@ -63,24 +53,36 @@ fn offset_of(links: &[Link], byte: usize) -> u32
     0
 }
 
+/// The offset for each byte, 0 where no child has it.
+fn offset_table(links: &[ChildLink]) -> [u32; 256]
+    ensures { (byte : ℕ) → byte < 256 → slice_index result byte ≡ offset (links_of links.now) byte }
+{
+    let mut table = [0; 256];
+    for n in (0..links.len()).rev() {
+        table[usize::from(links[n].byte)] = links[n].offset;
+    }
+    table
+}
+
 /// Puts the offsets for so many bytes at the end.
 fn push_offsets(
     out: &mut Vec<u8>,
-    links: &[Link],
+    links: &[ChildLink],
     first: usize,
     count: usize,
 ) -> Result<(), AllocError>
-    requires { first + count < 2 ^ 64 }
+    requires { first + count ≤ 256 }
     ensures { OnOk result (out.new.items ≡ out.old.items ++ offsets_bytes (links_of links.now) first count) }
 {
+    let table = offset_table(links);
     for n in 0..count {
-        push_number(out, offset_of(links, first + n))?;
+        push_number(out, table[first + n])?;
     }
     Ok(())
 }
 
 /// Puts the range of children at the end, with their offsets.
-fn push_children(out: &mut Vec<u8>, links: &[Link]) -> Result<(), AllocError>
+fn push_children(out: &mut Vec<u8>, links: &[ChildLink]) -> Result<(), AllocError>
     ensures { OnOk result (out.new.items ≡ out.old.items ++ children_field (links_of links.now)) }
 {
     let (Some(first), Some(last)) = (links.first(), links.last()) else {
@@ -94,7 +96,7 @@ fn push_children(out: &mut Vec<u8>, links: &[Link]) -> Result<(), AllocError>
 }
 
 /// Puts a value at the end.
-fn push_value(out: &mut Vec<u8>, value: &Value) -> Result<(), AllocError>
+fn push_value(out: &mut Vec<u8>, value: &StoredValue) -> Result<(), AllocError>
     ensures { OnOk result (out.new.items ≡ out.old.items ++ value_bytes (value_of value.now)) }
 {
     push_number(out, value.priority)?;
@@ -104,9 +106,9 @@ fn push_value(out: &mut Vec<u8>, value: &Value) -> Result<(), AllocError>
 }
 
 /// Puts values at the end, with their count.
-fn push_values(out: &mut Vec<u8>, values: &[Value]) -> Result<(), AllocError>
+fn push_values(out: &mut Vec<u8>, values: &[StoredValue]) -> Result<(), AllocError>
     requires { length values.now < 2 ^ 32 }
-    ensures { OnOk result (out.new.items ≡ out.old.items ++ values_field (values_in values.now)) }
+    ensures { OnOk result (out.new.items ≡ out.old.items ++ values_field (shown_values values.now)) }
 {
     if values.is_empty() {
         return Ok(());
@@ -121,7 +123,7 @@ fn push_values(out: &mut Vec<u8>, values: &[Value]) -> Result<(), AllocError>
 /// The offset of the node at a place, by whether it has a prefix, children and values.
 fn link_to(place: u32, has_prefix: bool, has_children: bool, has_values: bool) -> u32
     requires { place < 2 ^ 28 }
-    ensures { result ≡ bit has_prefix * 2 ^ 31 + bit has_values * 2 ^ 30 + bit has_children * 2 ^ 29 + place }
+    ensures { result ≡ bit has_prefix * HAS_PREFIX + bit has_values * HAS_VALUES + bit has_children * HAS_CHILDREN + place }
 {
     let prefix = if has_prefix { HAS_PREFIX } else { 0 };
     let values = if has_values { HAS_VALUES } else { 0 };
@@ -131,8 +133,12 @@ fn link_to(place: u32, has_prefix: bool, has_children: bool, has_values: bool) -
 
 /// Writes a node. It takes the links to its children from the end of those that wait, and its own link waits
 /// in their place.
-fn write_node(out: &mut Vec<u8>, links: &mut Vec<Link>, node: &Node) -> Result<(), AllocError>
-    requires { length (with_part (part_of node.now) (state out.old.items links.old.items)).bytes ≤ largest_file }
+fn write_node(
+    out: &mut Vec<u8>,
+    links: &mut Vec<ChildLink>,
+    node: &TreeNode,
+) -> Result<(), AllocError>
+    requires { length (with_part (part_of node.now) (state out.old.items links.old.items)).bytes ≤ file_limit }
     ensures { OnOk result (state out.new.items links.new.items ≡ with_part (part_of node.now) (state out.old.items links.old.items)) }
 {
     let start = links.len().saturating_sub(node.children.count);
@@ -148,7 +154,7 @@ fn write_node(out: &mut Vec<u8>, links: &mut Vec<Link>, node: &Node) -> Result<(
     push_children(out, children)?;
     push_values(out, node.values)?;
     links.truncate(start);
-    links.push(Link {
+    links.push(ChildLink {
         byte: node.byte,
         offset,
     })?;
@@ -157,15 +163,19 @@ fn write_node(out: &mut Vec<u8>, links: &mut Vec<Link>, node: &Node) -> Result<(
 
 /// Puts the offset of the root into its place.
 fn put_root(out: &mut [u8], root: u32)
-    requires { first_place ≤ length out.old }
-    ensures { out.new ≡ take 8 out.old ++ number root ++ drop first_place out.old }
+    requires { FIRST_PLACE ≤ length out.old }
+    ensures { out.new ≡ take 8 out.old ++ number root ++ drop FIRST_PLACE out.old }
 {
     BigEndian::write_u32(&mut out[8..], root);
 }
 
 /// The file of these nodes, which take so many bytes.
-pub(crate) fn write(alloc: Global, nodes: &[Node], capacity: usize) -> Result<Vec<u8>, AllocError>
-    requires { length (with_parts (map part_of nodes.now) headed).bytes ≤ largest_file }
+pub(crate) fn write(
+    alloc: Global,
+    nodes: &[TreeNode],
+    capacity: usize,
+) -> Result<Vec<u8>, AllocError>
+    requires { length (with_parts (map part_of nodes.now) headed).bytes ≤ file_limit }
     ensures { IfOk result (λ v. v.items ≡ rooted (with_parts (map part_of nodes.now) headed)) }
 {
     let mut out = Vec::with_capacity(alloc, capacity)?;

@@ -1,5 +1,6 @@
 ghost use Rattle.std.specs.Prelude.{◌≡◌, ℕ, ◌≤◌, ◌<◌, ◌-◌, ◌^◌, min, length, IfOk, OnOk, Err};
-ghost use Rattle.index_format.specs.File.{file, largest_file};
+ghost use Rattle.km_names.specs.Limit.{file_limit};
+ghost use Rattle.index_format.specs.File.{file};
 ghost use Rattle.index_format.specs.Holds.{Holds};
 
 use crate::bytes::write;
@@ -7,25 +8,22 @@ use crate::fault::WriteFault;
 use crate::key_map::KeyMap;
 use crate::node::nodes;
 use crate::size::file_size;
-use km_names::Blob;
+use km_names::{Blob, FILE_LIMIT};
 use std::alloc::Global;
-
-/// The most bytes that a file may have, 64 MiB.
-const LARGEST_FILE: u64 = 67_108_864;
 
 /// The file of a map in kmod's index format 2.1. Where it would be longer than 67,108,864 bytes nothing of that
 /// size is built.
 pub fn encode(alloc: Global, map: &KeyMap) -> Result<Blob, WriteFault>
     ensures file { IfOk result (λ b. b ≡ file map.now) }
     ensures holds { IfOk result (λ b. Holds b map.now) }
-    ensures within { OnOk result (length (file map.now) ≤ largest_file) }
-    ensures too_large { (n : ℕ) → result ≡ Err (WriteFault.IndexTooLarge n) → largest_file < length (file map.now) }
+    ensures within { OnOk result (length (file map.now) ≤ file_limit) }
+    ensures too_large { (n : ℕ) → result ≡ Err (WriteFault.IndexTooLarge n) → file_limit < length (file map.now) }
     ensures length { (n : ℕ) → result ≡ Err (WriteFault.IndexTooLarge n) → n ≡ min (length (file map.now)) (2 ^ 64 - 1) }
 {
     let entries = map.entries(alloc)?;
     let nodes = nodes(alloc, &entries)?;
     let length = file_size(&nodes);
-    if length > LARGEST_FILE {
+    if length > FILE_LIMIT as u64 {
         return Err(WriteFault::IndexTooLarge { length });
     }
     let bytes = write(alloc, &nodes, length as usize)?;

@@ -12,7 +12,7 @@ use std::marker::Model;
 
 /// A value of a key.
 #[derive(Drop)]
-pub(crate) struct Value {
+pub(crate) struct StoredValue {
     pub(crate) priority: u32,
     pub(crate) text: Blob,
 }
@@ -22,7 +22,7 @@ pub(crate) struct Value {
 #[derive(Drop)]
 pub struct KeyMap {
     alloc: Global,
-    lists: BTreeMap<Vec<u8>, Vec<Value>>,
+    lists: BTreeMap<Vec<u8>, Vec<StoredValue>>,
 }
 
 impl Model for KeyMap {
@@ -32,16 +32,16 @@ impl Model for KeyMap {
 
     ghost coded = { key_values_code };
 
-    ghost use Rattle.index_write.specs.Lists.{map_of, AreSound};
+    ghost use Rattle.index_write.specs.Lists.{map_of, AreStorable};
 
     ghost view = { λ m. map_of m.lists.entries };
 
-    ghost invariant = { λ m. AreSound m.lists.entries };
+    ghost invariant = { λ m. AreStorable m.lists.entries };
 }
 
 impl KeyMap {
     ghost use Rattle.index_format.specs.Tree.{Rises};
-    ghost use Rattle.index_write.specs.Lists.{IsSound};
+    ghost use Rattle.index_write.specs.Lists.{IsStorableEntry};
     ghost use Rattle.index_write.specs.Groups.{shown};
 
     /// The map without keys. It takes no memory.
@@ -62,7 +62,7 @@ impl KeyMap {
         ensures ok { OnOk result (self.new ≡ with_value self.old key.now (priority, text.now)) }
         ensures err { OnErr result (self.new ≡ self.old) }
     {
-        let value = Value {
+        let value = StoredValue {
             priority,
             text: Blob::from_slice(self.alloc, text)?,
         };
@@ -73,7 +73,7 @@ impl KeyMap {
     pub(crate) fn entries(&self, alloc: Global) -> Result<Vec<KeyEntry<'_>>, AllocError>
         ensures shown { IfOk result (λ v. shown v.items ≡ map.entries self.now) }
         ensures rises { OnOk result (Rises (map.entries self.now)) }
-        ensures sound { OnOk result (AllByRecursion IsSound (map.entries self.now)) }
+        ensures sound { OnOk result (AllByRecursion IsStorableEntry (map.entries self.now)) }
     {
         let mut entries = Vec::new(alloc);
         for (key, list) in &self.lists {

@@ -1,17 +1,17 @@
 ghost use Rattle.std.specs.Prelude.{◌≡◌, ◌≤◌, ◌<◌, ◌+◌, ◌^◌, [], ◌∷◌, ◌++◌, length, take, drop, map, OnOk, IfOk, IfNone, IfSome};
 ghost use Rattle.index_format.specs.Tree.{common, common_prefix, ending, groups, tree, Rises};
-ghost use Rattle.index_write.specs.Lists.{values_in};
+ghost use Rattle.index_write.specs.Lists.{shown_values};
 ghost use Rattle.index_write.specs.Parts.{span_of, parts_of};
 ghost use Rattle.index_write.specs.Groups.{shown, at_depth, group_of, groups_of, ended, leading, AllGoOn, part_of, below, part_for, root_part};
 
-use crate::key_map::Value;
+use crate::key_map::StoredValue;
 use std::alloc::{AllocError, Global};
 
 /// A key with its values.
 #[derive(Clone, Copy)]
 pub(crate) struct KeyEntry<'a> {
     pub(crate) key: &'a [u8],
-    pub(crate) values: &'a [Value],
+    pub(crate) values: &'a [StoredValue],
 }
 
 /// Entries whose keys begin alike, with the byte that leads to their node and the number of bytes that are
@@ -33,10 +33,10 @@ pub(crate) struct Span {
 
 /// A node without its children.
 #[derive(Clone, Copy)]
-pub(crate) struct Node<'a> {
+pub(crate) struct TreeNode<'a> {
     pub(crate) byte: u8,
     pub(crate) prefix: &'a [u8],
-    pub(crate) values: &'a [Value],
+    pub(crate) values: &'a [StoredValue],
     pub(crate) children: Span,
 }
 
@@ -64,25 +64,24 @@ fn common_length(a: &[u8], b: &[u8]) -> usize
     n
 }
 
-/// The longest prefix that is common to what is left of the keys.
+/// The longest prefix that is common to what is left of the keys. They rise, so it is common to the first and
+/// the last of them.
 fn common_prefix<'a>(entries: &[KeyEntry<'a>], depth: usize) -> &'a [u8]
+    requires { Rises (at_depth depth entries.now) }
     ensures prefix { result.now ≡ common_prefix (at_depth depth entries.now) }
     ensures fits { depth + length result.now < 2 ^ 64 }
 {
-    let Some((first, others)) = entries.split_first() else {
+    let (Some(first), Some(last)) = (entries.first(), entries.last()) else {
         return &[];
     };
-    let mut prefix = rest_of(first.key, depth);
-    for entry in others {
-        let common = common_length(prefix, rest_of(entry.key, depth));
-        prefix = &prefix[..common];
-    }
-    prefix
+    let prefix = rest_of(first.key, depth);
+    let common = common_length(prefix, rest_of(last.key, depth));
+    &prefix[..common]
 }
 
 /// The values of the key that ends here.
-fn ending<'a>(entries: &[KeyEntry<'a>], depth: usize) -> &'a [Value]
-    ensures { values_in result.now ≡ ending (at_depth depth entries.now) }
+fn ending<'a>(entries: &[KeyEntry<'a>], depth: usize) -> &'a [StoredValue]
+    ensures { shown_values result.now ≡ ending (at_depth depth entries.now) }
 {
     let Some(first) = entries.first() else {
         return &[];
@@ -176,7 +175,7 @@ fn span_of(groups: &[Group]) -> Span
 fn node_of<'e, 'a>(
     group: &Group<'e, 'a>,
     pending: &mut Vec<Group<'e, 'a>>,
-) -> Result<Node<'a>, AllocError>
+) -> Result<TreeNode<'a>, AllocError>
     requires { Rises (group_of group.now).1 }
     ensures node { IfOk result (λ n. part_of n ≡ part_for group.now.byte (group_of group.now).1) }
     ensures pending { OnOk result (groups_of pending.new.items ≡ groups_of pending.old.items ++ groups (below (group_of group.now).1)) }
@@ -185,7 +184,7 @@ fn node_of<'e, 'a>(
     let depth = group.depth + prefix.len();
     let start = pending.len();
     push_groups(group.entries, depth, pending)?;
-    Ok(Node {
+    Ok(TreeNode {
         byte: group.byte,
         prefix,
         values: ending(group.entries, depth),
@@ -197,14 +196,14 @@ fn node_of<'e, 'a>(
 fn root_of<'e, 'a>(
     entries: &'e [KeyEntry<'a>],
     pending: &mut Vec<Group<'e, 'a>>,
-) -> Result<Node<'a>, AllocError>
+) -> Result<TreeNode<'a>, AllocError>
     requires { Rises (shown entries.now) }
     ensures node { IfOk result (λ n. part_of n ≡ root_part (shown entries.now)) }
     ensures pending { OnOk result (groups_of pending.new.items ≡ groups_of pending.old.items ++ groups (shown entries.now)) }
 {
     let start = pending.len();
     push_groups(entries, 0, pending)?;
-    Ok(Node {
+    Ok(TreeNode {
         byte: 0,
         prefix: &[],
         values: ending(entries, 0),
@@ -217,7 +216,7 @@ fn root_of<'e, 'a>(
 pub(crate) fn nodes<'a>(
     alloc: Global,
     entries: &[KeyEntry<'a>],
-) -> Result<Vec<Node<'a>>, AllocError>
+) -> Result<Vec<TreeNode<'a>>, AllocError>
     requires { Rises (shown entries.now) }
     ensures { IfOk result (λ v. map part_of v.items ≡ parts_of (tree (shown entries.now))) }
 {

@@ -1,14 +1,12 @@
 ghost use Rattle.std.specs.Prelude.{◌≡◌, ◌+◌, ◌-◌, ◌^◌, min, map, sum_by};
-ghost use Rattle.index_format.specs.Check.{first_place};
-ghost use Rattle.index_write.specs.Lists.{values_in};
-ghost use Rattle.index_write.specs.Parts.{prefix_size, children_size, values_size, part_size};
+ghost use Rattle.index_format.specs.declared.numbers.TheConstants.{FIRST_PLACE};
+ghost use Rattle.index_write.specs.Lists.{shown_values};
+ghost use Rattle.index_write.specs.Parts.{prefix_size, span_size, values_size, part_size};
 ghost use Rattle.index_write.specs.Groups.{part_of};
 
-use crate::key_map::Value;
-use crate::node::{Node, Span};
-
-/// The bytes before the first node: the magic, the version and the offset of the root.
-const HEADER_SIZE: u64 = 12;
+use crate::key_map::StoredValue;
+use crate::node::{Span, TreeNode};
+use index_format::FIRST_PLACE;
 
 /// How many bytes a prefix takes with its NUL.
 fn prefix_size(prefix: &[u8]) -> u64
@@ -22,8 +20,8 @@ fn prefix_size(prefix: &[u8]) -> u64
 }
 
 /// How many bytes the range of a node's children takes with its offsets.
-fn children_size(children: &Span) -> u64
-    ensures { result ≡ children_size children.now }
+fn span_size(children: &Span) -> u64
+    ensures { result ≡ span_size children.now }
 {
     if children.count == 0 {
         0
@@ -33,8 +31,8 @@ fn children_size(children: &Span) -> u64
 }
 
 /// How many bytes values take with their count.
-fn values_size(values: &[Value]) -> u64
-    ensures { result ≡ min (values_size (values_in values.now)) (2 ^ 64 - 1) }
+fn values_size(values: &[StoredValue]) -> u64
+    ensures { result ≡ min (values_size (shown_values values.now)) (2 ^ 64 - 1) }
 {
     if values.is_empty() {
         return 0;
@@ -49,19 +47,19 @@ fn values_size(values: &[Value]) -> u64
 }
 
 /// How many bytes a node takes.
-fn node_size(node: &Node) -> u64
+fn node_size(node: &TreeNode) -> u64
     ensures { result ≡ min (part_size (part_of node.now)) (2 ^ 64 - 1) }
 {
     prefix_size(node.prefix)
-        .saturating_add(children_size(&node.children))
+        .saturating_add(span_size(&node.children))
         .saturating_add(values_size(node.values))
 }
 
 /// How many bytes the file of these nodes has.
-pub(crate) fn file_size(nodes: &[Node]) -> u64
-    ensures { result ≡ min (first_place + sum_by part_size (map part_of nodes.now)) (2 ^ 64 - 1) }
+pub(crate) fn file_size(nodes: &[TreeNode]) -> u64
+    ensures { result ≡ min (FIRST_PLACE + sum_by part_size (map part_of nodes.now)) (2 ^ 64 - 1) }
 {
-    let mut total = HEADER_SIZE;
+    let mut total = u64::from(FIRST_PLACE);
     for node in nodes {
         total = total.saturating_add(node_size(node));
     }

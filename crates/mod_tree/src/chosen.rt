@@ -10,10 +10,10 @@ use crate::places::Places;
 use km_names::{PathText, module_name};
 use std::alloc::{AllocError, Global};
 
-// A path of a module as it is compared with others: its module name, its rank, and the path.
+/// A path of a module as it is compared with others: its module name, its rank, and the path.
 type Candidate<'a> = (Vec<u8>, usize, &'a [u8]);
 
-// The chosen ones among paths of modules, one for each module name.
+/// The chosen ones among paths of modules, one for each module name.
 pub(crate) fn chosen_paths<'a>(
     alloc: Global,
     modules: &[&'a PathText],
@@ -44,7 +44,7 @@ fn candidates<'a>(
     Ok(list)
 }
 
-// Where each search word first stands.
+/// Where each search word first stands.
 fn word_places<'a>(alloc: Global, search: &'a Search) -> Result<Places<'a>, AllocError>
     ensures { IfOk result (λ places. IsPlacesOf search.now places) }
 {
@@ -55,7 +55,7 @@ fn word_places<'a>(alloc: Global, search: &'a Search) -> Result<Places<'a>, Allo
     Ok(places)
 }
 
-// The rank of a path among search words whose places are known.
+/// The rank of a path among search words whose places are known.
 fn rank(places: &Places<'_>, path: &[u8]) -> usize
     ensures { (search : List (List ℕ)) → IsPlacesOf search places.now → result ≡ rank_of search path.now }
 {
@@ -67,7 +67,7 @@ fn rank(places: &Places<'_>, path: &[u8]) -> usize
     }
 }
 
-// The least place of a word that names a folder of the path, or the count of words.
+/// The least place of a word that names a folder of the path, or the count of words.
 fn folder_place(places: &Places<'_>, path: &[u8]) -> usize
     ensures { (search : List (List ℕ)) → IsPlacesOf search places.now
         → result ≡ position_or_len (is_folder_of path.now) search }
@@ -81,7 +81,7 @@ fn folder_place(places: &Places<'_>, path: &[u8]) -> usize
     least
 }
 
-// Of candidates in order, the first of each name.
+/// Of candidates in order, the first of each name.
 fn first_of_each<'a>(alloc: Global, list: &[Candidate<'a>]) -> Result<Vec<&'a [u8]>, AllocError>
     ensures { IfOk result (λ chosen. (search : List (List ℕ)) → All (IsCandidate search) list.now
         → shown chosen.items ≡ heads None (map path_of list.now)) }

@@ -10,11 +10,11 @@ use crate::places::Places;
 use km_names::{PathText, Paths, first_line};
 use std::alloc::{AllocError, Global};
 
-// A path as it is compared with others: the place of its first line in modules.order, or the number of
+/// A path as it is compared with others: the place of its first line in modules.order, or the number of
 // lines where it has none, and the path.
 type Listing<'a> = (usize, &'a [u8]);
 
-// The chosen paths in the order of the tree.
+/// The chosen paths in the order of the tree.
 pub(crate) fn tree_in_order(
     alloc: Global,
     chosen: &[&[u8]],
@@ -29,7 +29,7 @@ pub(crate) fn tree_in_order(
     listed_paths(alloc, list.as_slice())
 }
 
-// Where each line of a text first stands.
+/// Where each line of a text first stands.
 fn line_places(alloc: Global, text: &[u8]) -> Result<Places<'_>, AllocError>
     ensures { IfOk result (λ places. IsPlacesOf (lines_of text.now) places) }
 {

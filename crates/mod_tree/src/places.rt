@@ -6,7 +6,7 @@ ghost use Rattle.mod_tree.specs.Places.{IsPlacesOf};
 use std::alloc::{AllocError, Global};
 use std::collections::BTreeMap;
 
-// The first place of each of some byte lists, and how many byte lists there are.
+/// The first place of each of some byte lists, and how many byte lists there are.
 #[derive(Drop)]
 pub(crate) struct Places<'a> {
     first: BTreeMap<&'a [u8], usize>,
@@ -23,14 +23,14 @@ impl<'a> Places<'a> {
         }
     }
 
-    // How many byte lists there are.
+    /// How many byte lists there are.
     pub(crate) fn count(&self) -> usize
         ensures { (items : List (List ℕ)) → IsPlacesOf items self.now → result ≡ length items }
     {
         self.count
     }
 
-    // Adds one more byte list at the end.
+    /// Adds one more byte list at the end.
     pub(crate) fn add(&mut self, item: &'a [u8]) -> Result<(), AllocError>
         requires { self.old.count + 1 < 2 ^ 64 }
         ensures count { OnOk result (self.new.count ≡ self.old.count + 1) }
@@ -43,7 +43,7 @@ impl<'a> Places<'a> {
         Ok(())
     }
 
-    // The first place of a byte list, or the count where it isn't there.
+    /// The first place of a byte list, or the count where it isn't there.
     pub(crate) fn first_place(&self, item: &[u8]) -> usize
         ensures { (items : List (List ℕ)) → IsPlacesOf items self.now → result ≡ position_or_len (bytes_eq item.now) items }
     {

@@ -1,4 +1,5 @@
 ghost use Rattle.std.specs.Prelude.{◌≡◌, ◌≤◌, ◌⊎◌, ◌++◌, List, ℕ, length, All, IfOk, IfErr, OnOk};
+ghost use Rattle.km_names.specs.Limit.{file_limit};
 ghost use Rattle.std.specs.List.{flat_map};
 ghost use Rattle.mod_tree.specs.Search.{search_of, words_of_lines};
 ghost use Rattle.km_names.specs.Space.{words as words_of};
@@ -39,7 +40,7 @@ impl Statement for SearchLine {
 /// `updates built-in` where there is none. `BadLine` comes exactly at the first line that states anything
 /// else, or that has no word after `search`.
 pub fn parse_search(alloc: Global, files: &ConfFiles) -> Result<Search, ConfFault>
-    requires { All (λ file. length file.bytes ≤ 67108864) files.now }
+    requires { All (λ file. length file.bytes ≤ file_limit) files.now }
     ensures ok { IfOk result (λ search. search_of files.now ≡ Ok search) }
     ensures err { IfErr result (λ fault.
         (fault ≡ ConfFault.Memory) ⊎ (search_of files.now ≡ Err fault)) }
@@ -48,7 +49,7 @@ pub fn parse_search(alloc: Global, files: &ConfFiles) -> Result<Search, ConfFaul
     Ok(all_words(alloc, &lines)?)
 }
 
-// The words of all lines, in order, or the usual ones where there is no line.
+/// The words of all lines, in order, or the usual ones where there is no line.
 fn all_words(alloc: Global, lines: &Items<SearchLine>) -> Result<Search, AllocError>
     ensures { IfOk result (λ search. search ≡ words_of_lines lines.now) }
 {
@@ -73,7 +74,7 @@ fn push_words(alloc: Global, search: &mut Search, words: &Names) -> Result<(), A
     Ok(())
 }
 
-// The words of a text, as names.
+/// The words of a text, as names.
 fn name_words(alloc: Global, text: &[u8]) -> Result<Names, AllocError>
     ensures { IfOk result (λ names. names ≡ words_of text.now) }
 {

@@ -1,4 +1,5 @@
 ghost use Rattle.std.specs.Prelude.{◌≤◌, length, All, IfOk};
+ghost use Rattle.km_names.specs.Limit.{file_limit};
 
 use crate::{TreeFault, choose, parse_search};
 use km_names::{Blob, ConfFault, ConfFile, ConfFiles, Name, Names, PathText, Paths};
@@ -23,7 +24,7 @@ fn names_of(alloc: Global, texts: &[&[u8]]) -> Result<Names, AllocError> {
 }
 
 fn file_of(rt: &impl Abort, alloc: Global, text: &[u8]) -> Result<ConfFiles, AllocError>
-    ensures { IfOk result (λ files. All (λ file. length file.bytes ≤ 67108864) files) }
+    ensures { IfOk result (λ files. All (λ file. length file.bytes ≤ file_limit) files) }
 {
     assert!(rt;
         text.len() <= 67_108_864,

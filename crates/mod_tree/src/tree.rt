@@ -77,7 +77,7 @@ pub fn choose(
     Ok(tree_in_order(alloc, chosen.as_slice(), order_file)?)
 }
 
-// The paths that are those of modules.
+/// The paths that are those of modules.
 fn module_paths(alloc: Global, paths: &Paths) -> Result<Vec<&PathText>, AllocError>
     ensures { IfOk result (λ modules. shown modules.items ≡ filter has_module_path paths.now) }
 {
@@ -96,7 +96,7 @@ fn is_module_path(path: &PathText) -> bool
     path.as_bytes().ends_with(b".ko") || is_compressed(path)
 }
 
-// The least path by bytes that has a byte which can't stand there.
+/// The least path by bytes that has a byte which can't stand there.
 fn bad_path<'a>(modules: &[&'a PathText]) -> Option<&'a PathText>
     ensures { option_copied result ≡ bad_path_of (shown modules.now) }
 {
@@ -118,7 +118,7 @@ fn has_bad_byte(path: &[u8]) -> bool
     path.iter().any(|b| *b < 33 || *b > 126 || *b == b':')
 }
 
-// The lesser by bytes of a path and what may be another.
+/// The lesser by bytes of a path and what may be another.
 fn lesser<'a>(path: &'a PathText, other: Option<&'a PathText>) -> &'a PathText
     ensures { Some result.now ≡ lesser_of path.now (option_copied other.entry) }
 {

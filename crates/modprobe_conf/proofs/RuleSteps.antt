@@ -64,8 +64,3 @@ other-more done marker word items i belongs l is mark off out =
 -- the item at a place, at any default
 pub item-is : (items : List (List ℕ)) (i : ℕ) (item word : List ℕ) → i < length items → item ≡ get_or items i item → word ≡ item → word ≡ get_or items i word
 item-is items i item word l is same = same ∙ get_or_read items i item l is word
-
--- what the test of a command says of the line's first word
-pub command-is : {cut word slice command : List ℕ} {r v : Bool} → cut ≡ word → slice ≡ command → r ≡ bytes_eq cut slice → r ≡ v → bytes_eq word command ≡ v
-command-is {cut = cut} {command = command} first same test is =
-    ap (λ w. bytes_eq w command) (sym first) ∙ ap (bytes_eq cut) (sym same) ∙ sym test ∙ is

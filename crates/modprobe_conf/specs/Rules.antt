@@ -1,6 +1,6 @@
 -- The rules of modprobe.d(5): what each line of its files states.
 use Rattle.std.specs.Prelude.{ℕ, List, [], ◌∷◌, ◌++◌, Bool, not, ◌||◌, if◌then◌else◌, codes, Option, Some, None, Result, map}
-use Rattle.std.specs.Option.{option_map}
+use Rattle.std.specs.Option.{option_map, option_and_then}
 use Rattle.std.specs.List.{take_while}
 use Rattle.std.specs.Str.{bytes_eq}
 use Rattle.km_names.specs.Path.{underscored}
@@ -9,6 +9,9 @@ use Rattle.km_names.specs.Space.{first_word, rest_after_word, words}
 use Rattle.km_names.specs.Statements.{parsed}
 use Rattle.km_names.specs.declared.conf.ConfFile.{ConfFile}
 use Rattle.km_names.specs.declared.conf.ConfFault.{ConfFault}
+use Rattle.modprobe_conf.specs.declared.rule.Command.{Command}
+use Rattle.modprobe_conf.specs.declared.rule.Command.TheVariants as commands
+use Rattle.modprobe_conf.specs.declared.rule.Named.{Named}
 use Rattle.modprobe_conf.specs.declared.rule.Rule.{Rule}
 use Rattle.modprobe_conf.specs.declared.rule.Rule.TheVariants.{Alias, Blacklist, Options, Install, Remove, Softdep}
 
@@ -28,8 +31,9 @@ unfoldable pub blacklist_rule : List ℕ → Option Rule
 blacklist_rule rest = unless_empty (first_word rest) (Some (Blacklist (underscored (first_word rest))))
 
 -- A name, and a rest that isn't empty and is kept as it stands.
-unfoldable pub name_with_rest : List ℕ → Option (List ℕ × List ℕ)
-name_with_rest rest = unless_empty (rest_after_word rest) (Some (underscored (first_word rest), rest_after_word rest))
+unfoldable pub name_with_rest : List ℕ → Option Named
+name_with_rest rest =
+    unless_empty (rest_after_word rest) (Some (record { name = underscored (first_word rest); text = rest_after_word rest }))
 
 -- Whether a word says where the words after it belong, in a line of soft dependencies.
 abbrev pub is_marker : List ℕ → Bool
@@ -48,19 +52,30 @@ softdep_rule rest =
     let names : List ℕ → List (List ℕ) = λ marker. map underscored (words_after marker (words list)) in
     unless_empty list (Some (Softdep (underscored (first_word rest)) (names (codes "pre:")) (names (codes "post:"))))
 
--- What a line states, if it is understood: the rule of its command, where `options NAME REST`,
--- `install NAME REST` and `remove NAME REST` are a name with a rest.
-unfoldable pub rule_of : List ℕ → Option Rule
-rule_of text =
-    let command = first_word text in
-    let rest = rest_after_word text in
-    if bytes_eq command (codes "alias") then alias_rule rest
-    else (if bytes_eq command (codes "blacklist") then blacklist_rule rest
-    else (if bytes_eq command (codes "options") then option_map (λ p. Options p.0 p.1) (name_with_rest rest)
-    else (if bytes_eq command (codes "install") then option_map (λ p. Install p.0 p.1) (name_with_rest rest)
-    else (if bytes_eq command (codes "remove") then option_map (λ p. Remove p.0 p.1) (name_with_rest rest)
-    else (if bytes_eq command (codes "softdep") then softdep_rule rest
+-- The command of this name, if it is one.
+unfoldable pub command_of : List ℕ → Option Command
+command_of word =
+    if bytes_eq word (codes "alias") then Some commands.Alias
+    else (if bytes_eq word (codes "blacklist") then Some commands.Blacklist
+    else (if bytes_eq word (codes "options") then Some commands.Options
+    else (if bytes_eq word (codes "install") then Some commands.Install
+    else (if bytes_eq word (codes "remove") then Some commands.Remove
+    else (if bytes_eq word (codes "softdep") then Some commands.Softdep
     else None)))))
+
+-- What a line of a command states, from what follows the command: `options NAME REST`, `install NAME REST` and
+-- `remove NAME REST` are a name with a rest.
+abbrev pub rule_of_command : Command → List ℕ → Option Rule
+rule_of_command commands.Alias rest = alias_rule rest
+rule_of_command commands.Blacklist rest = blacklist_rule rest
+rule_of_command commands.Options rest = option_map (λ n. Options n.name n.text) (name_with_rest rest)
+rule_of_command commands.Install rest = option_map (λ n. Install n.name n.text) (name_with_rest rest)
+rule_of_command commands.Remove rest = option_map (λ n. Remove n.name n.text) (name_with_rest rest)
+rule_of_command commands.Softdep rest = softdep_rule rest
+
+-- What a line states, if it is understood: the rule of its command.
+unfoldable pub rule_of : List ℕ → Option Rule
+rule_of text = option_and_then (λ command. rule_of_command command (rest_after_word text)) (command_of (first_word text))
 
 -- The rules of the files, one for each line, in order, or the first line that isn't understood.
 abbrev pub rules_of : List ConfFile → Result (List Rule) ConfFault

@@ -5,6 +5,7 @@
 #![tactic(auto)]
 
 ghost use Rattle.std.specs.Prelude.{◌≡◌, ◌≤◌, ◌⊎◌, length, All, IfOk, IfErr};
+ghost use Rattle.km_names.specs.Limit.{file_limit};
 ghost use Rattle.modprobe_conf.specs.Rules.{rules_of};
 
 mod rule;
@@ -19,7 +20,7 @@ use std::alloc::Global;
 /// and each file's lines. `BadLine` comes exactly at the first line whose command isn't one of
 /// modprobe.d(5) that this crate knows, or that has too little after it. modprobe.d(5).
 pub fn parse(alloc: Global, files: &ConfFiles) -> Result<Rules, ConfFault>
-    requires { All (λ file. length file.bytes ≤ 67108864) files.now }
+    requires { All (λ file. length file.bytes ≤ file_limit) files.now }
     ensures ok { IfOk result (λ rules. rules_of files.now ≡ Ok rules) }
     ensures err { IfErr result (λ fault.
         (fault ≡ ConfFault.Memory) ⊎ (rules_of files.now ≡ Err fault)) }

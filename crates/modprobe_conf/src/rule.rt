@@ -1,6 +1,6 @@
 ghost use Rattle.std.specs.Prelude.{◌≡◌, IfOk, IsTrue, map};
 ghost use Rattle.km_names.specs.Path.{underscored as underscored_bytes};
-ghost use Rattle.modprobe_conf.specs.Rules.{rule_of, alias_rule as alias_of, blacklist_rule as blacklist_of, name_with_rest as name_with_rest_of, softdep_rule as softdep_of, is_marker as is_marker_word, words_after};
+ghost use Rattle.modprobe_conf.specs.Rules.{command_of as command_of_word, rule_of_command as rule_of_rest, alias_rule as alias_of, blacklist_rule as blacklist_of, name_with_rest as name_with_rest_of, softdep_rule as softdep_of, is_marker as is_marker_word, words_after};
 
 use km_names::{
     Alias, Blob, List, Name, Names, Statement, Texts, normal_alias, split_word, underscored, words,
@@ -33,29 +33,92 @@ impl Statement for Rule {
     ghost read = { rule_of };
 
     fn parse(alloc: Global, text: &[u8]) -> Result<Option<Rule>, AllocError> {
-        let (command, rest) = split_word(text);
-        if command == b"alias".as_slice() {
-            return alias_rule(alloc, rest);
+        let (word, rest) = split_word(text);
+        match command_of(word) {
+            Some(command) => rule_of_command(alloc, command, rest),
+            None => Ok(None),
         }
-        if command == b"blacklist".as_slice() {
-            return blacklist_rule(alloc, rest);
-        }
-        if command == b"options".as_slice() {
-            let both = name_with_rest(alloc, rest)?;
-            return Ok(both.map(|(name, text)| Rule::Options { name, text }));
-        }
-        if command == b"install".as_slice() {
-            let both = name_with_rest(alloc, rest)?;
-            return Ok(both.map(|(name, command)| Rule::Install { name, command }));
-        }
-        if command == b"remove".as_slice() {
-            let both = name_with_rest(alloc, rest)?;
-            return Ok(both.map(|(name, command)| Rule::Remove { name, command }));
-        }
-        if command == b"softdep".as_slice() {
-            return softdep_rule(alloc, rest);
-        }
-        Ok(None)
+    }
+}
+
+/// What a line of modprobe.d(5) begins with.
+#[derive(Clone, Copy)]
+pub(crate) enum Command {
+    Alias,
+    Blacklist,
+    Options,
+    Install,
+    Remove,
+    Softdep,
+}
+
+/// The command of this name.
+#[tactic(auto, unfolding(crate::specs::Rules::command_of))]
+fn command_of(word: &[u8]) -> Option<Command>
+    ensures { result ≡ command_of_word word.now }
+{
+    if word == b"alias".as_slice() {
+        Some(Command::Alias)
+    } else if word == b"blacklist".as_slice() {
+        Some(Command::Blacklist)
+    } else if word == b"options".as_slice() {
+        Some(Command::Options)
+    } else if word == b"install".as_slice() {
+        Some(Command::Install)
+    } else if word == b"remove".as_slice() {
+        Some(Command::Remove)
+    } else if word == b"softdep".as_slice() {
+        Some(Command::Softdep)
+    } else {
+        None
+    }
+}
+
+/// What a line of this command states, from what follows the command.
+fn rule_of_command(alloc: Global, command: Command, rest: &[u8]) -> Result<Option<Rule>, AllocError>
+    ensures { IfOk result (λ rule. rule ≡ rule_of_rest command rest.now) }
+{
+    match command {
+        Command::Alias => alias_rule(alloc, rest),
+        Command::Blacklist => blacklist_rule(alloc, rest),
+        Command::Softdep => softdep_rule(alloc, rest),
+        Command::Options => Ok(name_with_rest(alloc, rest)?.map(options_rule)),
+        Command::Install => Ok(name_with_rest(alloc, rest)?.map(install_rule)),
+        Command::Remove => Ok(name_with_rest(alloc, rest)?.map(remove_rule)),
+    }
+}
+
+/// A module's name, and the rest of a line as it stands.
+#[derive(Drop)]
+pub(crate) struct Named {
+    pub(crate) name: Name,
+    pub(crate) text: Blob,
+}
+
+fn options_rule(named: Named) -> Rule
+    ensures { result ≡ Rule.Options named.name named.text }
+{
+    let Named { name, text } = named;
+    Rule::Options { name, text }
+}
+
+fn install_rule(named: Named) -> Rule
+    ensures { result ≡ Rule.Install named.name named.text }
+{
+    let Named { name, text } = named;
+    Rule::Install {
+        name,
+        command: text,
+    }
+}
+
+fn remove_rule(named: Named) -> Rule
+    ensures { result ≡ Rule.Remove named.name named.text }
+{
+    let Named { name, text } = named;
+    Rule::Remove {
+        name,
+        command: text,
     }
 }
 
@@ -88,15 +151,18 @@ fn blacklist_rule(alloc: Global, rest: &[u8]) -> Result<Option<Rule>, AllocError
     }))
 }
 
-// A name, and the rest after it, which has to be there.
-fn name_with_rest(alloc: Global, rest: &[u8]) -> Result<Option<(Name, Blob)>, AllocError>
+/// A name, and the rest after it, which has to be there.
+fn name_with_rest(alloc: Global, rest: &[u8]) -> Result<Option<Named>, AllocError>
     ensures { IfOk result (λ both. both ≡ name_with_rest_of rest.now) }
 {
     let (name, text) = split_word(rest);
     if text.is_empty() {
         return Ok(None);
     }
-    Ok(Some((underscored(alloc, name)?, Blob::from_slice(alloc, text)?)))
+    Ok(Some(Named {
+        name: underscored(alloc, name)?,
+        text: Blob::from_slice(alloc, text)?,
+    }))
 }
 
 fn softdep_rule(alloc: Global, rest: &[u8]) -> Result<Option<Rule>, AllocError>
@@ -114,14 +180,14 @@ fn softdep_rule(alloc: Global, rest: &[u8]) -> Result<Option<Rule>, AllocError>
     }))
 }
 
-// Whether a word of a line of soft dependencies says where the words after it belong.
+/// Whether a word of a line of soft dependencies says where the words after it belong.
 fn is_marker(word: &[u8]) -> bool
     ensures { result ≡ is_marker_word word.now }
 {
     word == b"pre:".as_slice() || word == b"post:".as_slice()
 }
 
-// The names after each such marker, up to the next marker of either kind.
+/// The names after each such marker, up to the next marker of either kind.
 fn names_after(alloc: Global, words: &Texts, marker: &[u8]) -> Result<Names, AllocError>
     requires { IsTrue (is_marker_word marker.now) }
     ensures { IfOk result (λ names. names ≡ map underscored_bytes (words_after marker.now words.now)) }

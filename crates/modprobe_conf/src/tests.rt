@@ -1,4 +1,5 @@
 ghost use Rattle.std.specs.Prelude.{◌≤◌, length, All, IfOk};
+ghost use Rattle.km_names.specs.Limit.{file_limit};
 
 use crate::{Rule, Rules, parse};
 use km_names::{Blob, ConfFault, ConfFile, ConfFiles, Names, PathText};
@@ -7,7 +8,7 @@ use std::process::Abort;
 use std::test::Fail;
 
 fn file_of(rt: &impl Abort, alloc: Global, name: u8, text: &[u8]) -> Result<ConfFile, AllocError>
-    ensures { IfOk result (λ file. length file.bytes ≤ 67108864) }
+    ensures { IfOk result (λ file. length file.bytes ≤ file_limit) }
 {
     assert!(rt;
         text.len() <= 67_108_864,
@@ -26,7 +27,7 @@ fn files_of(
     first: &[u8],
     second: &[u8],
 ) -> Result<ConfFiles, AllocError>
-    ensures { IfOk result (λ files. All (λ file. length file.bytes ≤ 67108864) files) }
+    ensures { IfOk result (λ files. All (λ file. length file.bytes ≤ file_limit) files) }
 {
     let mut files = ConfFiles::new(alloc);
     files.push(file_of(rt, alloc, b'0', first)?)?;

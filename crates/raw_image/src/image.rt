@@ -2,21 +2,32 @@ ghost use Rattle.std.specs.Prelude.{◌≡◌, ◌≤◌, ◌+◌, length, repli
 ghost use Rattle.std.specs.Int.{to_le_bytes, w32, w64};
 ghost use Rattle.raw_image.specs.Bytes.{with_bytes};
 
+use crate::block::Block;
 use std::alloc::{AllocError, Global};
 use std::marker::Model;
 
 /// The bytes of a module in memory. Contracts see it as the list of its bytes, and its length stays the same.
-#[derive(Drop)]
 pub struct Image {
-    bytes: Vec<u8>,
+    block: Option<Block>,
+    alloc: Global,
 }
 
 impl Model for Image {
-    ghost use Rattle.std.specs.Prelude.{List, ℕ};
+    ghost use Rattle.std.specs.Prelude.{List, ℕ, []};
+    ghost use Rattle.std.specs.Option.{option_map_or};
 
     ghost Value = { List ℕ };
 
-    ghost view = { λ i. i.bytes.items };
+    ghost view = { λ i. option_map_or (λ b. b.bytes) i.block [] };
+}
+
+impl Drop for Image {
+    fn drop(self) {
+        let Image { block, alloc } = self;
+        if let Some(block) = block {
+            block.free(&alloc);
+        }
+    }
 }
 
 impl Image {
@@ -24,9 +35,14 @@ impl Image {
     pub fn zeroed(alloc: Global, len: usize) -> Result<Self, AllocError>
         ensures { IfOk result (λ i. i ≡ replicate len 0) }
     {
-        Ok(Image {
-            bytes: vec![in alloc; 0u8; len]?,
-        })
+        if len == 0 {
+            return Ok(Image { block: None, alloc });
+        }
+        if len > isize::MAX as usize {
+            return Err(AllocError);
+        }
+        let block = Some(Block::zeroed(&alloc, len)?);
+        Ok(Image { block, alloc })
     }
 
     /// Puts the bytes at place `at`. Every other byte is as before.
@@ -35,7 +51,9 @@ impl Image {
         ensures bytes { self.new ≡ with_bytes self.old at bytes.now }
         ensures len { length self.new ≡ length self.old }
     {
-        self.bytes[at..at + bytes.len()].copy_from_slice(bytes);
+        if let Some(block) = &mut self.block {
+            block.copy_in(at, bytes);
+        }
     }
 
     /// Puts the four bytes of `v`, the lowest first, at place `at`. Every other byte is as before.
@@ -44,8 +62,9 @@ impl Image {
         ensures bytes { self.new ≡ with_bytes self.old at (to_le_bytes w32 v) }
         ensures len { length self.new ≡ length self.old }
     {
-        let four = v.to_le_bytes();
-        self.copy_in(at, &four);
+        if let Some(block) = &mut self.block {
+            block.put_four(at, v.to_le_bytes());
+        }
     }
 
     /// Puts the eight bytes of `v`, the lowest first, at place `at`. Every other byte is as before.
@@ -54,15 +73,19 @@ impl Image {
         ensures bytes { self.new ≡ with_bytes self.old at (to_le_bytes w64 v) }
         ensures len { length self.new ≡ length self.old }
     {
-        let eight = v.to_le_bytes();
-        self.copy_in(at, &eight);
+        if let Some(block) = &mut self.block {
+            block.put_eight(at, v.to_le_bytes());
+        }
     }
 
     /// The bytes of the image.
     pub fn as_bytes(&self) -> &[u8]
         ensures { result.now ≡ self.now }
     {
-        self.bytes.as_slice()
+        match &self.block {
+            Some(block) => block.as_bytes(),
+            None => &[],
+        }
     }
 }
 
@@ -85,6 +108,15 @@ mod tests {
         image.put_u32(7, 0x0a0b_0c0d);
         let want = [97, 98, 99, 0xef, 0xcd, 0xab, 0x89, 0x0d, 0x0c, 0x0b, 0x0a];
         assert_eq!(rt; image.as_bytes(), want.as_slice());
+        Ok(())
+    }
+
+    /// An image of no bytes, which has no block.
+    #[test]
+    fn no_bytes(rt: HostRuntime) -> Result<(), Fail> {
+        let mut image = Image::zeroed(rt.alloc(), 0)?;
+        image.copy_in(0, b"");
+        assert_eq!(rt; image.as_bytes().len(), 0);
         Ok(())
     }
 }

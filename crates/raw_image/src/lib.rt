@@ -1,8 +1,11 @@
-//! The image of a module: the bytes that it has in memory. Contracts see an [`Image`] as the list of its
-//! bytes, and nothing else of it: a later image may be one block of raw memory under the same contracts.
-//! The crate stands on nothing but std.
+//! The image of a module: the bytes that it has in memory, in one block that the image owns. Contracts see an [`Image`]
+//! as the list of its bytes, and nothing else of it.
+//!
+//! The block is raw memory: `block.rt` is the one file with a pointer, and no pointer becomes a number. An image of no
+//! bytes has no block. The crate stands on nothing but std.
 #![tactic(auto)]
 
+mod block;
 mod image;
 
 pub use image::Image;

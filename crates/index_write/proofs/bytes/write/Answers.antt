@@ -1,5 +1,5 @@
 use Rattle.std.proofs.Common.{ap, ◌∙◌, sym, arith, drop, length, map, ◌++◌, ◌+◌}
-use Rattle.index_format.specs.Check.{magic, version}
+use Rattle.index_format.specs.declared.numbers.TheConstants.{MAGIC, VERSION}
 use Rattle.index_format.specs.File.{number, offset}
 use Rattle.index_write.specs.Parts.{with_part, with_parts, headed}
 use Rattle.index_write.specs.Groups.{part_of}
@@ -12,7 +12,7 @@ pub loop-node-init : goal.loop-node-init
 loop-node-init c =
     λ i. with_parts (map part_of c.args.nodes.now) (record {
       bytes = (c.in_ok-push_number-3.ensures
-          ∙ ap (λ xs. xs ++ number 0) (c.in_ok-push_number-2.ensures ∙ ap (λ xs. xs ++ number version) (c.in_ok-push_number.ensures ∙ ap (λ xs. xs ++ number magic) c.in_ok-out.ensures.items))) i;
+          ∙ ap (λ xs. xs ++ number 0) (c.in_ok-push_number-2.ensures ∙ ap (λ xs. xs ++ number VERSION) (c.in_ok-push_number.ensures ∙ ap (λ xs. xs ++ number MAGIC) c.in_ok-out.ensures.items))) i;
       links = ap links_of c.new-links.ensures.items i;
     })
 

@@ -11,13 +11,13 @@ pub nodes-requires : goal.nodes-requires
 nodes-requires c =
     subst Rises (sym (ap shown c.deref.ensures.value ∙ c.in_ok-entries.ensures.shown)) c.in_ok-entries.ensures.rises
 
-pub returns-then-length-gt-LARGEST_FILE-clause-too_large : goal.returns-then-length-gt-LARGEST_FILE-clause-too_large
-returns-then-length-gt-LARGEST_FILE-clause-too_large c =
+pub returns-then-length-clause-too_large : goal.returns-then-length-clause-too_large
+returns-then-length-clause-too_large c =
     let parts = ap (map part_of) c.deref-2.ensures.value ∙ c.in_ok-nodes.ensures ∙ ap (λ es. parts_of (tree es)) (ap shown c.deref.ensures.value ∙ c.in_ok-entries.ensures.shown) in
     λ n e. omega (arith, file-size c.args.map.now (map part_of c.deref-2.result.now) parts)
 
-pub returns-then-length-gt-LARGEST_FILE-clause-length : goal.returns-then-length-gt-LARGEST_FILE-clause-length
-returns-then-length-gt-LARGEST_FILE-clause-length c =
+pub returns-then-length-clause-length : goal.returns-then-length-clause-length
+returns-then-length-clause-length c =
     let parts = ap (map part_of) c.deref-2.ensures.value ∙ c.in_ok-nodes.ensures ∙ ap (λ es. parts_of (tree es)) (ap shown c.deref.ensures.value ∙ c.in_ok-entries.ensures.shown) in
     λ n e. let same : n ≡ c.file_size-length.result = cc in omega (arith, same, file-size c.args.map.now (map part_of c.deref-2.result.now) parts)
 

@@ -3,7 +3,7 @@ use Rattle.std.proofs.lemmas.Result.{on_ok_weaker}
 use Rattle.std.specs.Ordering.{nat_cmp}
 use Rattle.std.specs.Cmp.Lexicographic.{slice_cmp}
 use Rattle.std.specs.FinMap.{find}
-use Rattle.index_write.specs.Lists.{value_of, values_in, entries_of}
+use Rattle.index_write.specs.Lists.{value_of, shown_values, entries_of}
 use Rattle.index_write.proofs.KeyLemmas.{find-entries_of, ordered, set_value-with_one, set_value-kept, on_err_weaker}
 use Rattle.index_write.proofs.lists.add_value.Goals as goal
 
@@ -11,7 +11,7 @@ pub add_key-requires : goal.add_key-requires
 add_key-requires c =
     ap (λ m. find (slice_cmp nat_cmp) c.args.key.now (entries_of m.entries)) c.get_mut.follows.holds-at-none
     ∙ find-entries_of c.args.lists.now.entries c.args.key.now
-    ∙ ap (option_map (λ v. values_in v.items)) (sym c.in-None.ensures.value)
+    ∙ ap (option_map (λ v. shown_values v.items)) (sym c.in-None.ensures.value)
 
 pub returns-in-Some-clause-ok : goal.returns-in-Some-clause-ok
 returns-in-Some-clause-ok c =

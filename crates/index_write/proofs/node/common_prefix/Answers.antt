@@ -1,12 +1,10 @@
-use Rattle.std.proofs.Common.{◌∙◌, ap, arith, length-take}
+use Rattle.std.proofs.Common.{◌∙◌, sym}
 use Rattle.index_format.specs.Tree.{common}
-use Rattle.index_write.proofs.NodeLemmas.{narrowed-place}
+use Rattle.index_write.proofs.Ends.{ends_prefix}
 use Rattle.index_write.proofs.node.common_prefix.Goals as goal
 
-pub loop-entry-preserved : goal.loop-entry-preserved
-loop-entry-preserved c =
-    let kept = c.common_length-common.ensures.common ∙ ap (common c.loop-entry.prefix.now) c.rest_of.ensures.rest in
-    record {
-      same = narrowed-place c.args.depth c.loop-entry.entry-index c.in-Some.others.now c.entry-item.result c.loop-entry.prefix.now _ c.loop-entry-test.true c.entry-item.is kept ∙ c.loop-entry.invariant.same;
-      fits = omega (arith, length-take c.common_length-common.result c.loop-entry.prefix.now, c.loop-entry.invariant.fits);
-    }
+pub returns-clause-prefix : goal.returns-clause-prefix
+returns-clause-prefix c =
+    c.common_length-common.ensures.common
+    ∙ (λ i. common (c.rest_of-prefix.ensures.rest i) (c.rest_of.ensures.rest i))
+    ∙ ends_prefix c.args.depth c.args.entries.now c.in-Some-Some.first.now c.in-Some-Some.last.now (sym c.in-Some-Some.ensures.value) (sym c.in-Some-Some.ensures'.value) c.requires

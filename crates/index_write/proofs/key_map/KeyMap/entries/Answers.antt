@@ -3,7 +3,7 @@ use Rattle.std.proofs.lemmas.List.{append-nil}
 use Rattle.std.specs.FinMap.{entries}
 use Rattle.std.specs.List.{AllByRecursion}
 use Rattle.index_format.specs.Tree.{Rises}
-use Rattle.index_write.specs.Lists.{entries_of, IsSound}
+use Rattle.index_write.specs.Lists.{entries_of, IsStorableEntry}
 use Rattle.index_write.specs.Groups.{shown}
 use Rattle.index_write.proofs.KeyLemmas.{ordered, rises, entries-map_of}
 use Rattle.index_write.proofs.key_map.KeyMap.entries.Goals as goal
@@ -28,4 +28,4 @@ pub returns-clause-sound : goal.returns-clause-sound
 returns-clause-sound c =
     let gives = c.into_iter-key-iterator.ensures.into_iter_gives in
     let order = ordered c.self.inside.lists.entries gives.5 in
-    subst (AllByRecursion IsSound) (sym (entries-map_of c.self.inside.lists.entries order) ∙ ap entries c.self.view_is) c.self.invariant
+    subst (AllByRecursion IsStorableEntry) (sym (entries-map_of c.self.inside.lists.entries order) ∙ ap entries c.self.view_is) c.self.invariant

@@ -1,0 +1,5 @@
+pub mod Faults
+pub mod Fields
+pub mod Places
+pub mod Visited
+pub mod Pending

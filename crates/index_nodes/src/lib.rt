@@ -1,0 +1,27 @@
+//! The nodes of a module index, read in place: a file is checked once, and from then on each node that is read is
+//! one step on a ledger that the caller gives.
+//!
+//! `Nodes` keeps the bytes of a file and nothing else. [`Nodes::adopt`] refuses a file exactly for the first
+//! fault that a reader meets, in time linear in the file. It takes one bit a byte for the places that were
+//! visited, and an entry for each level on which children are still to be visited; nothing in it calls
+//! itself. The crate is the only one that reads an index's bytes. It stands on `km_names` for numbers and names,
+//! on the definitions of `index_format`, and on `thiserror` for the error traits.
+#![tactic(auto)]
+
+mod check;
+mod fault;
+mod fields;
+mod node;
+mod nodes;
+mod place;
+mod place_set;
+mod read;
+mod steps;
+#[cfg(test)]
+mod tests;
+
+pub use fault::IndexFault;
+pub use node::{Node, NodeRef};
+pub use nodes::Nodes;
+pub use place::Place;
+pub use steps::Steps;

@@ -1,0 +1,137 @@
+ghost use Rattle.std.specs.Prelude.{◌≡◌, ◌+◌, ◌≤◌, ◌<◌, ◌∷◌, [], ℕ, Some, None, IfOk, OnOk, IfErr, IfNone, IfSome, slice_get};
+ghost use Rattle.index_format.specs.Node.{root, prefix, child, values};
+ghost use Rattle.index_format.specs.Check.{index_fault};
+ghost use Rattle.index_format.specs.Nodes.{IsNode};
+ghost use Rattle.index_nodes.specs.Faults.{IsFirstFault};
+ghost use Rattle.index_nodes.specs.Fields.{link_of, IsNodeOf};
+ghost use Rattle.index_nodes.specs.Places.{IsPlaceOf, values_left, value_at};
+
+use crate::check::check;
+use crate::fault::IndexFault;
+use crate::fields::node_at;
+use crate::node::{Node, NodeRef};
+use crate::place::Place;
+use crate::read::{child_link, first_place, next_link, next_place, prefix_of, text_at};
+use crate::steps::Steps;
+use km_names::{Blob, be_u32_at};
+use std::alloc::Global;
+use std::marker::Model;
+use std::sync::ledger::Ledger;
+
+/// The place of the root's offset.
+const ROOT_PLACE: usize = 8;
+
+/// A module index that was checked. Contracts see it as the bytes of its file.
+#[derive(Drop)]
+pub struct Nodes {
+    bytes: Blob,
+}
+
+impl Model for Nodes {
+    ghost use Rattle.std.specs.Prelude.{◌≡◌, List, ℕ, None};
+    ghost use Rattle.index_format.specs.Check.{index_fault};
+
+    ghost Value = { List ℕ };
+
+    ghost view = { λ n. n.bytes };
+
+    ghost invariant = { λ n. index_fault n.bytes ≡ None };
+}
+
+impl Nodes {
+    /// Takes the bytes of a file in kmod's index format 2.1. It is refused exactly for the first fault that the
+    /// format's reader meets, or for want of memory.
+    pub fn adopt(alloc: Global, bytes: Blob) -> Result<Nodes, IndexFault>
+        ensures bytes { IfOk result (λ nodes. nodes ≡ bytes) }
+        ensures accepted { OnOk result (index_fault bytes ≡ None) }
+        ensures fault { IfErr result (IsFirstFault (index_fault bytes)) }
+    {
+        check(alloc, bytes.as_bytes())?;
+        Ok(Nodes { bytes })
+    }
+
+    /// The name of the root.
+    pub fn root(&self) -> NodeRef
+        ensures root { result ≡ root self.now }
+        ensures node { IsNode self.now result }
+        ensures accepted { index_fault self.now ≡ None }
+    {
+        NodeRef {
+            link: be_u32_at(self.bytes.as_bytes(), ROOT_PLACE),
+        }
+    }
+
+    /// The node of a name. It is one step.
+    pub fn node<L: Ledger>(&self, at: &NodeRef, steps: &mut Steps<L>) -> Node
+        requires { IsNode self.now at.now }
+        ensures node { IsNodeOf self.now result }
+        ensures name { link_of result ≡ at.now }
+        ensures step { steps.new ≡ steps.old + 1 }
+    {
+        steps.tick();
+        node_at(self.bytes.as_bytes(), at.link).unwrap()
+    }
+
+    /// The prefix of a node, empty where it has none.
+    pub fn prefix(&self, node: &Node) -> &[u8]
+        requires { IsNodeOf self.now node.now }
+        ensures { result.now ≡ prefix self.now (link_of node.now) }
+    {
+        prefix_of(self.bytes.as_bytes(), node)
+    }
+
+    /// The name of the child of a node for a byte. None exactly where that child is absent.
+    pub fn child(&self, node: &Node, byte: u8) -> Option<NodeRef>
+        requires { IsNodeOf self.now node.now }
+        ensures none { IfNone result (child self.now (link_of node.now) byte ≡ None) }
+        ensures some { IfSome result (λ next. child self.now (link_of node.now) byte ≡ Some next) }
+        ensures node { IfSome result (IsNode self.now) }
+    {
+        let link = child_link(self.bytes.as_bytes(), node, byte)?;
+        Some(NodeRef { link })
+    }
+
+    /// The first child of a node for a byte from `from` on: its byte and its name. None exactly where there is no
+    /// such child.
+    pub fn next_child(&self, node: &Node, from: u8) -> Option<(u8, NodeRef)>
+        requires { IsNodeOf self.now node.now }
+        ensures none { IfNone result ((byte : ℕ) → from ≤ byte → child self.now (link_of node.now) byte ≡ None) }
+        ensures some { IfSome result (λ next. child self.now (link_of node.now) next.0 ≡ Some next.1) }
+        ensures from { IfSome result (λ next. from ≤ next.0) }
+        ensures first { IfSome result (λ next. (byte : ℕ) → from ≤ byte → byte < next.0 → child self.now (link_of node.now) byte ≡ None) }
+        ensures top { IfSome result (λ next. next.0 ≤ 127) }
+        ensures node { IfSome result (λ next. IsNode self.now next.1) }
+    {
+        let (byte, link) = next_link(self.bytes.as_bytes(), node, from)?;
+        Some((byte, NodeRef { link }))
+    }
+
+    /// The place of a node's first value. None exactly where it has no value.
+    pub fn first_value(&self, node: &Node) -> Option<Place>
+        requires { IsNodeOf self.now node.now }
+        ensures none { IfNone result (values self.now (link_of node.now) ≡ []) }
+        ensures some { IfSome result (λ at. values_left self.now at ≡ values self.now (link_of node.now)) }
+        ensures first { IfSome result (λ at. slice_get (values self.now (link_of node.now)) 0 ≡ Some (value_at self.now at)) }
+        ensures place { IfSome result (IsPlaceOf self.now) }
+    {
+        first_place(self.bytes.as_bytes(), node)
+    }
+
+    /// The place of the value after another one. None exactly where that one is the last of its node.
+    pub fn next_value(&self, at: &Place) -> Option<Place>
+        requires { IsPlaceOf self.now at.now }
+        ensures none { IfNone result (values_left self.now at.now ≡ value_at self.now at.now ∷ []) }
+        ensures some { IfSome result (λ next. values_left self.now at.now ≡ value_at self.now at.now ∷ values_left self.now next) }
+        ensures place { IfSome result (IsPlaceOf self.now) }
+    {
+        next_place(self.bytes.as_bytes(), at)
+    }
+
+    /// The text of the value at a place.
+    pub fn text(&self, at: &Place) -> &[u8]
+        requires { IsPlaceOf self.now at.now }
+        ensures { result.now ≡ (value_at self.now at.now).1 }
+    {
+        text_at(self.bytes.as_bytes(), at)
+    }
+}

@@ -1,0 +1,53 @@
+ghost use Rattle.std.specs.Prelude.{◌≡◌, ◌++◌, map, OnOk, IfSome};
+ghost use Rattle.index_format.specs.Node.{values};
+ghost use Rattle.index_nodes.specs.Fields.{link_of, IsNodeOf};
+ghost use Rattle.index_read.specs.Values.{shown};
+
+use index_nodes::{Node, Nodes};
+use km_names::{Blob, List};
+use std::alloc::{AllocError, Global};
+
+/// A value of a key.
+#[derive(Debug, Drop)]
+pub struct Value {
+    /// Its priority; a lower one comes first.
+    pub priority: u32,
+    /// Its text, without a NUL.
+    pub text: Blob,
+}
+
+/// A key with one of its values.
+#[derive(Debug, Drop)]
+pub struct Pair {
+    /// The bytes of the key.
+    pub key: Blob,
+    /// One of its values.
+    pub value: Value,
+}
+
+/// A list of values.
+pub type Values = List<Value>;
+
+/// A list of keys, each with one of its values.
+pub type Pairs = List<Pair>;
+
+/// Puts the values of a node at the end.
+pub(crate) fn push_values(
+    alloc: Global,
+    nodes: &Nodes,
+    node: &Node,
+    found: &mut Vec<Value>,
+) -> Result<(), AllocError>
+    requires { IsNodeOf nodes.now node.now }
+    ensures { OnOk result (shown found.new.items ≡ shown found.old.items ++ values nodes.now (link_of node.now)) }
+{
+    let mut next = nodes.first_value(node);
+    while let Some(place) = next {
+        found.push(Value {
+            priority: place.priority(),
+            text: Blob::from_slice(alloc, nodes.text(&place))?,
+        })?;
+        next = nodes.next_value(&place);
+    }
+    Ok(())
+}

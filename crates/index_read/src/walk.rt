@@ -1,0 +1,123 @@
+ghost use Rattle.std.specs.Prelude.{◌≡◌, ◌+◌, ◌≤◌, ◌∷◌, ◌++◌, [], length, take, IfOk, OnOk, None};
+ghost use Rattle.index_format.specs.Check.{index_fault};
+ghost use Rattle.index_format.specs.Node.{prefix};
+ghost use Rattle.index_nodes.specs.Fields.{link_of, IsNodeOf};
+ghost use Rattle.index_read.specs.Keys.{all_items};
+ghost use Rattle.index_read.specs.Walks.{left, left_after, IsWalking, IsAtNode, GoesOn, LeavesOut, after_byte, level_of};
+
+use index_nodes::{Node, Nodes, Steps};
+use std::alloc::{AllocError, Global};
+use std::sync::ledger::Ledger;
+
+/// A node whose children are visited: how long its key is, and the byte from which on they are still to come.
+#[derive(Clone, Copy)]
+pub(crate) struct Level {
+    pub(crate) node: Node,
+    pub(crate) key_length: usize,
+    pub(crate) next: u8,
+}
+
+/// A walk over all nodes in the order of their keys. It keeps the levels that it is on.
+#[derive(Drop)]
+pub(crate) struct KeyWalk {
+    /// The key of the node to which the walk came last.
+    pub(crate) key: Vec<u8>,
+    pub(crate) levels: Vec<Level>,
+    /// How many bytes of the key are those of the key before.
+    pub(crate) kept: usize,
+}
+
+impl KeyWalk {
+    /// Begins a walk: it comes to the root, which is one step.
+    pub(crate) fn start<L: Ledger>(
+        alloc: Global,
+        nodes: &Nodes,
+        steps: &mut Steps<L>,
+    ) -> Result<(KeyWalk, Node), AllocError>
+        ensures cost { steps.new ≡ steps.old + 1 }
+        ensures still { IfOk result (λ r. all_items nodes.now ≡ (r.0.key.items, link_of r.1) ∷ left nodes.now r.0) }
+        ensures node { IfOk result (λ r. IsNodeOf nodes.now r.1) }
+        ensures walking { IfOk result (λ r. IsWalking nodes.now r.0) }
+        ensures at_node { IfOk result (λ r. IsAtNode r.0) }
+        ensures kept { IfOk result (λ r. r.0.kept ≡ 0) }
+        ensures accepted { index_fault nodes.now ≡ None }
+    {
+        let node = nodes.node(&nodes.root(), steps);
+        let key = Vec::from_slice(alloc, nodes.prefix(&node))?;
+        let mut levels = Vec::new(alloc);
+        levels.push(Level {
+            node,
+            key_length: key.len(),
+            next: 0,
+        })?;
+        let walk = KeyWalk {
+            key,
+            levels,
+            kept: 0,
+        };
+        Ok((walk, node))
+    }
+
+    /// Comes to the child of a level for a byte.
+    fn enter(
+        &mut self,
+        nodes: &Nodes,
+        level: &Level,
+        byte: u8,
+        node: &Node,
+    ) -> Result<(), AllocError>
+        requires node { IsNodeOf nodes.now node.now }
+        requires byte { byte ≤ 127 }
+        ensures key { OnOk result (self.new.key.items ≡ (take level.now.key_length self.old.key.items ++ byte ∷ []) ++ prefix nodes.now (link_of node.now)) }
+        ensures levels { OnOk result (self.new.levels.items ≡ (self.old.levels.items ++ after_byte level.now byte ∷ []) ++ level_of node.now (length self.new.key.items) ∷ []) }
+        ensures kept { OnOk result (self.new.kept ≡ level.now.key_length) }
+    {
+        self.kept = level.key_length;
+        self.key.truncate(level.key_length);
+        self.key.push(byte)?;
+        self.key.extend_from_slice(nodes.prefix(node))?;
+        self.levels.push(Level {
+            node: level.node,
+            key_length: level.key_length,
+            next: byte + 1,
+        })?;
+        self.levels.push(Level {
+            node: *node,
+            key_length: self.key.len(),
+            next: 0,
+        })?;
+        Ok(())
+    }
+
+    /// Goes on to the next node, which is one step. None where there is none left.
+    pub(crate) fn next<L: Ledger>(
+        &mut self,
+        nodes: &Nodes,
+        steps: &mut Steps<L>,
+    ) -> Result<Option<Node>, AllocError>
+        requires walking { IsWalking nodes.now self.old }
+        requires accepted { index_fault nodes.now ≡ None }
+        ensures goes_on { IfOk result (GoesOn nodes.now self.old self.new) }
+        ensures cost { steps.new + length (left_after result nodes.now self.new) ≤ steps.old + length (left nodes.now self.old) }
+    {
+        while let Some(level) = self.levels.pop() {
+            let Some((byte, at)) = nodes.next_child(&level.node, level.next) else {
+                continue;
+            };
+            let node = nodes.node(&at, steps);
+            self.enter(nodes, &level, byte, &node)?;
+            return Ok(Some(node));
+        }
+        Ok(None)
+    }
+
+    /// Leaves out the nodes below the one to which the walk came.
+    pub(crate) fn skip_below(&mut self, nodes: &Nodes)
+        requires walking { IsWalking nodes.now self.old }
+        requires at_node { IsAtNode self.old }
+        requires accepted { index_fault nodes.now ≡ None }
+        ensures { LeavesOut nodes.now self.old self.new }
+    {
+        let _ = self.levels.pop();
+    }
+}

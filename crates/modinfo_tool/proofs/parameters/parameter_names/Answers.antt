@@ -1,0 +1,25 @@
+use Rattle.std.proofs.Common.{◌≤◌, ℕ, List, Bor, length, ap, ◌∙◌, sym, map, refl, arith}
+use Rattle.modinfo_tool.specs.Parameters.{name_of, parameter_names}
+use Rattle.modinfo_tool.proofs.ParameterSteps.{names-taken, names-left}
+use Rattle.modinfo_tool.proofs.parameters.parameter_names.Goals as goal
+use Rattle.modinfo_tool.proofs.parameters.parameter_names.Goals.{in-Some+then-is_parameter+in_ok-insert, in-Some+else-is_parameter, in_default}
+
+pub loop-i-init : goal.loop-i-init
+unfolding parameter_names
+loop-i-init c = ap (map (λ (name : Bor (List ℕ)). name.now)) c.new-names.ensures.empty
+
+pub loop-i-preserved : goal.loop-i-preserved
+loop-i-preserved c = elim c.match-get.branch [
+  | in-Some+then-is_parameter+in_ok-insert w ↦
+      let name = w.split_at_byte.result.0 in
+      ap (λ n. map (λ (name : Bor (List ℕ)). name.now) n.keys) w.names-is
+      ∙ names-taken c.args.fields.now c.loop-i.i w.in-Some.field.now (sym w.in-Some.ensures.item) c.loop-i.names.keys w.insert.new.self.keys name
+      (sym w.is_parameter.ensures ∙ w.if-is_parameter.true) w.in_ok-insert.ensures.keys (w.split_at_byte.ensures.before ∙ ap name_of w.as_bytes.ensures) c.loop-i.invariant
+  | in-Some+else-is_parameter w ↦
+      ap (λ n. map (λ (name : Bor (List ℕ)). name.now) n.keys) w.names-is
+      ∙ names-left c.args.fields.now c.loop-i.i w.in-Some.field.now (sym w.in-Some.ensures.item) (map (λ (name : Bor (List ℕ)). name.now) c.loop-i.names.keys)
+      (sym w.is_parameter.ensures ∙ w.if-is_parameter.false) c.loop-i.invariant
+  | in_default w ↦
+      let past : length c.args.fields.now ≤ c.loop-i.i = w.in_default.ensures.past_end.0 refl in
+      absurd (omega (arith, past, c.loop-i-test.true, c.len-i-end.ensures))
+]

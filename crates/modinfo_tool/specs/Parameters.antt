@@ -1,0 +1,46 @@
+-- The parameters of a module, as its fields `parm` and `parmtype` tell of them: the kernel's MODULE_PARM_DESC and
+-- module_param write these as `NAME:REST` (include/linux/moduleparam.h). modinfo(8), "parameters".
+use Rattle.std.specs.Prelude.{ℕ, ◌==◌, ◌||◌, Bool, not, List, [], ◌∷◌, ◌++◌, Option, Some, None, option_map, codes, map, filter}
+use Rattle.std.specs.List.{find, before_first, after_first}
+use Rattle.std.specs.Str.{bytes_eq}
+use Rattle.modinfo_fields.specs.declared.piece.Field.{Field}
+use Rattle.modinfo_fields.specs.Fields.{values_of_key}
+
+-- The parameter that a value tells of: what stands before the first `:`, or all where there is none.
+abbrev pub name_of : List ℕ → List ℕ
+name_of value = before_first (λ b. b == 58) value
+
+-- What a value tells of its parameter: what stands after the first `:`.
+abbrev pub rest_of : List ℕ → List ℕ
+rest_of value = after_first (λ b. b == 58) value
+
+-- Whether a field tells of a parameter.
+abbrev pub is_parameter : Field → Bool
+is_parameter field = bytes_eq field.key (codes "parm") || bytes_eq field.key (codes "parmtype")
+
+-- The list without repeats, the first of equal items kept.
+abbrev pub first_seen : List (List ℕ) → List (List ℕ)
+first_seen [] = []
+first_seen (x ∷ xs) = x ∷ filter (λ y. not (bytes_eq y x)) (first_seen xs)
+
+-- The parameters that any field tells of, in the order in which they are first seen.
+unfoldable pub parameter_names : List Field → List (List ℕ)
+parameter_names fields = first_seen (map (λ (field : Field). name_of field.value) (filter is_parameter fields))
+
+-- What the first of some values that tells of this parameter tells of it.
+unfoldable pub first_told : List (List ℕ) → List ℕ → Option (List ℕ)
+first_told values name = option_map rest_of (find (λ value. bytes_eq (name_of value) name) values)
+
+-- The value of a parameter, by its text and its type.
+abbrev pub described : List ℕ → Option (List ℕ) → Option (List ℕ) → List ℕ
+described name (Some text) (Some kind) = name ++ codes ":" ++ text ++ codes " (" ++ kind ++ codes ")"
+described name (Some text) None = name ++ codes ":" ++ text
+described name None (Some kind) = name ++ codes ":" ++ kind
+described name None None = name ++ codes ":"
+
+-- The values of the parameters, in the order in which they are first seen: the text is what the first `parm` tells, the type
+-- what the first `parmtype` tells.
+unfoldable pub parameter_values : List Field → List (List ℕ)
+parameter_values fields =
+    map (λ name. described name (first_told (values_of_key (codes "parm") fields) name) (first_told (values_of_key (codes "parmtype") fields) name))
+    (parameter_names fields)

@@ -1,0 +1,121 @@
+ghost use Rattle.std.specs.Prelude.{◌≡◌, ℕ, List, IfOk, OnOk, map, option_map, Some, None, if◌then◌else◌};
+ghost use Rattle.std.specs.Option.{option_or};
+ghost use Rattle.std.specs.Str.{bytes_eq};
+ghost use Rattle.modinfo_tool.specs.Parameters.{is_parameter as tells_of_parameter, parameter_names as names_of_parameters, first_told as first_told_of, described, parameter_values as values_of_parameters};
+ghost use Rattle.modinfo_tool.specs.Tables.{told_in};
+
+use indexmap::{IndexMap, IndexSet};
+use km_names::{Blob, Texts, split_at_byte};
+use modinfo_fields::{Field, FieldList};
+use std::alloc::{AllocError, Global};
+
+// What is told of parameters, by their names.
+type Told<'a> = IndexMap<&'a [u8], &'a [u8]>;
+
+/// Whether the field tells of a parameter.
+pub(crate) fn is_parameter(field: &Field) -> bool
+    ensures { result ≡ tells_of_parameter field.now }
+{
+    let key = field.key.as_bytes();
+    key == b"parm".as_slice() || key == b"parmtype".as_slice()
+}
+
+/// The values of the parameters that the fields tell of, in the order in which they are first seen.
+#[tactic(auto, unfolding(crate::specs::Parameters::parameter_values))]
+pub(crate) fn parameter_values(alloc: Global, fields: &FieldList) -> Result<Texts, AllocError>
+    ensures { IfOk result (λ values. values ≡ values_of_parameters fields.now) }
+{
+    let names = parameter_names(alloc, fields)?;
+    let parms = fields.values_of(alloc, b"parm")?;
+    let types = fields.values_of(alloc, b"parmtype")?;
+    let texts = first_told(alloc, parms.as_slice())?;
+    let kinds = first_told(alloc, types.as_slice())?;
+    described_all(alloc, names.as_slice(), &texts, &kinds)
+}
+
+// The values of parameters, by what is told of them.
+fn described_all(
+    alloc: Global,
+    names: &[&[u8]],
+    texts: &Told<'_>,
+    kinds: &Told<'_>,
+) -> Result<Texts, AllocError>
+    ensures { IfOk result (λ values. values
+        ≡ map (λ name. described name.now (told_in texts.now name.now) (told_in kinds.now name.now)) names.now) }
+{
+    let mut values = Texts::new(alloc);
+    for name in names {
+        let text = texts.get(*name).copied();
+        let kind = kinds.get(*name).copied();
+        values.push(describe(alloc, name, text, kind)?)?;
+    }
+    Ok(values)
+}
+
+// The value of a parameter, by its text and its type.
+fn describe(
+    alloc: Global,
+    name: &[u8],
+    text: Option<&[u8]>,
+    kind: Option<&[u8]>,
+) -> Result<Blob, AllocError>
+    ensures { IfOk result (λ value. value
+        ≡ described name.now (option_map (λ t. t.now) text.entry) (option_map (λ t. t.now) kind.entry)) }
+{
+    let mut value = Blob::from_slice(alloc, name)?;
+    value.push(b':')?;
+    match (text, kind) {
+        (Some(text), Some(kind)) => {
+            value.extend(text)?;
+            value.extend(b" (")?;
+            value.extend(kind)?;
+            value.push(b')')?;
+        }
+        (Some(text), None) => value.extend(text)?,
+        (None, Some(kind)) => value.extend(kind)?,
+        (None, None) => {}
+    }
+    Ok(value)
+}
+
+// For each parameter, what the first of the values that tells of it tells of it.
+fn first_told<'a>(alloc: Global, values: &'a [Blob]) -> Result<Told<'a>, AllocError>
+    ensures { IfOk result (λ told. (name : List ℕ) → told_in told name ≡ first_told_of values.now name) }
+{
+    let mut told = IndexMap::new(alloc);
+    for value in values {
+        let (name, rest) = split_at_byte(value.as_bytes(), b':');
+        keep_first(&mut told, name, rest)?;
+    }
+    Ok(told)
+}
+
+// Puts in what is told under a name, unless something is.
+fn keep_first<'a>(told: &mut Told<'a>, name: &'a [u8], rest: &'a [u8]) -> Result<(), AllocError>
+    ensures ok { OnOk result ((other : List ℕ) → told_in told.new other
+        ≡ option_or (told_in told.old other) (if bytes_eq name.now other then Some rest.now else None)) }
+{
+    if told.get(name).is_none() {
+        told.insert(name, rest)?;
+    }
+    Ok(())
+}
+
+// The parameters that any field tells of, in the order in which they are first seen.
+fn parameter_names<'a>(
+    alloc: Global,
+    fields: &'a FieldList,
+) -> Result<IndexSet<&'a [u8]>, AllocError>
+    ensures { IfOk result (λ names. map (λ name. name.now) names.keys ≡ names_of_parameters fields.now) }
+{
+    let mut names = IndexSet::new(alloc);
+    for i in 0..fields.len() {
+        if let Some(field) = fields.get(i) {
+            if is_parameter(field) {
+                let (name, _rest) = split_at_byte(field.value.as_bytes(), b':');
+                names.insert(name)?;
+            }
+        }
+    }
+    Ok(names)
+}

@@ -1,0 +1,140 @@
+ghost use Rattle.std.specs.Prelude.{◌≡◌, ◌-◌, ◌++◌, ◌∷◌, [], codes, length, map, filter, not, IfOk, OnOk};
+ghost use Rattle.std.specs.List.{repeat};
+ghost use Rattle.modinfo_fields.specs.declared.piece.Field.{Field};
+ghost use Rattle.modinfo_tool.specs.Parameters.{is_parameter as tells_of_parameter};
+ghost use Rattle.modinfo_tool.specs.Show.{labelled, all_lines, values_under as values_under_key, ended, line_end as end_of_line, shown};
+
+use crate::parameters::{is_parameter, parameter_values};
+use km_names::{Blob, Name, PathText, Texts};
+use modinfo_fields::FieldList;
+use std::alloc::{AllocError, Global};
+
+/// What modinfo is to show of a module, and how.
+#[derive(Debug, Drop)]
+pub struct ShowOptions {
+    /// The key whose values alone are shown: `filename` is the path, `parm` are the parameters. `None` shows all.
+    pub field: Option<Name>,
+    /// Whether a line ends with a NUL in place of a line end.
+    pub zero: bool,
+}
+
+/// The text that modinfo shows of the module at a path, with these fields. modinfo(8).
+///
+/// Without a key it has a line for the path, one for each field in order but `parm` and `parmtype`, and one for
+/// each parameter in the order in which they are first seen. The value of a parameter is `NAME:TEXT (TYPE)`, by its
+/// first `parm` and its first `parmtype`. With a key it has the values of that key alone.
+#[tactic(auto, unfolding(crate::specs::Show::shown))]
+pub fn show(
+    alloc: Global,
+    path: &PathText,
+    fields: &FieldList,
+    options: &ShowOptions,
+) -> Result<Blob, AllocError>
+    ensures { IfOk result (λ text. text ≡ shown path.now fields.now options.now) }
+{
+    let end = line_end(options.zero);
+    match &options.field {
+        None => all_text(alloc, path, fields, end),
+        Some(key) => {
+            let values = values_under(alloc, key.as_bytes(), path, fields)?;
+            lines_text(alloc, values.as_slice(), end)
+        }
+    }
+}
+
+fn line_end(zero: bool) -> u8
+    ensures { result ≡ end_of_line zero }
+{
+    if zero { 0 } else { b'\n' }
+}
+
+// All that is known of a module.
+#[tactic(auto, unfolding(crate::specs::Show::all_lines))]
+fn all_text(alloc: Global, path: &PathText, fields: &FieldList, end: u8) -> Result<Blob, AllocError>
+    ensures { IfOk result (λ text. text ≡ ended end (all_lines path.now fields.now)) }
+{
+    let mut text = Blob::new(alloc);
+    push_labelled(&mut text, b"filename", path.as_bytes(), end)?;
+    push_fields(&mut text, fields, end)?;
+    let parameters = parameter_values(alloc, fields)?;
+    push_parameters(&mut text, parameters.as_slice(), end)?;
+    Ok(text)
+}
+
+// A line for each field but those that tell of parameters.
+fn push_fields(text: &mut Blob, fields: &FieldList, end: u8) -> Result<(), AllocError>
+    ensures ok { OnOk result (text.new ≡ text.old ++ ended end
+        (map (λ (field : Field). labelled field.key field.value) (filter (λ field. not (tells_of_parameter field)) fields.now))) }
+{
+    for i in 0..fields.len() {
+        if let Some(field) = fields.get(i) {
+            if !is_parameter(field) {
+                push_labelled(text, field.key.as_bytes(), field.value.as_bytes(), end)?;
+            }
+        }
+    }
+    Ok(())
+}
+
+// A line for each parameter.
+fn push_parameters(text: &mut Blob, values: &[Blob], end: u8) -> Result<(), AllocError>
+    ensures ok { OnOk result (text.new ≡ text.old ++ ended end (map (labelled (codes "parm")) values.now)) }
+{
+    for value in values {
+        push_labelled(text, b"parm", value.as_bytes(), end)?;
+    }
+    Ok(())
+}
+
+// A value under its key, on a line of its own.
+fn push_labelled(text: &mut Blob, key: &[u8], value: &[u8], end: u8) -> Result<(), AllocError>
+    ensures ok { OnOk result (text.new ≡ text.old ++ (labelled key.now value.now ++ end ∷ [])) }
+{
+    text.extend(key)?;
+    text.push(b':')?;
+    push_spaces(text, 15usize.saturating_sub(key.len()))?;
+    text.extend(value)?;
+    text.push(end)
+}
+
+fn push_spaces(text: &mut Blob, count: usize) -> Result<(), AllocError>
+    ensures ok { OnOk result (text.new ≡ text.old ++ repeat count (codes " ")) }
+{
+    for _space in 0..count {
+        text.push(b' ')?;
+    }
+    Ok(())
+}
+
+// The values under a key.
+#[tactic(auto, unfolding(crate::specs::Show::values_under))]
+fn values_under(
+    alloc: Global,
+    key: &[u8],
+    path: &PathText,
+    fields: &FieldList,
+) -> Result<Texts, AllocError>
+    ensures { IfOk result (λ values. values ≡ values_under_key key.now path.now fields.now) }
+{
+    if key == b"filename".as_slice() {
+        let mut values = Texts::new(alloc);
+        values.push(Blob::from_slice(alloc, path.as_bytes())?)?;
+        return Ok(values);
+    }
+    if key == b"parm".as_slice() {
+        return parameter_values(alloc, fields);
+    }
+    fields.values_of(alloc, key)
+}
+
+// The lines, each with its end.
+fn lines_text(alloc: Global, lines: &[Blob], end: u8) -> Result<Blob, AllocError>
+    ensures { IfOk result (λ text. text ≡ ended end lines.now) }
+{
+    let mut text = Blob::new(alloc);
+    for line in lines {
+        text.extend(line.as_bytes())?;
+        text.push(end)?;
+    }
+    Ok(text)
+}

@@ -1,0 +1,13 @@
+pub mod Answer
+pub mod Builder
+pub mod Closures
+pub mod Cycle
+pub mod Least
+pub mod Nearest
+pub mod Placing
+pub mod Reached
+pub mod Rounds
+pub mod Search
+pub mod Sets
+pub mod Spread
+pub mod Walks

@@ -1,0 +1,33 @@
+-- Sets of items, as lists of them, and relations between items.
+use Rattle.std.specs.Prelude.{ℕ, zero, suc, List, Bool, false, map, length, nat_eq, slice_index_or, [], filter}
+use Rattle.std.specs.List.{list_any, range_with_len}
+use Rattle.std.specs.Global.{Vec}
+
+-- Whether a first item goes to a second.
+abbrev pub Relation : Type 0
+Relation = ℕ → ℕ → Bool
+
+-- Whether an item stands in a list.
+abbrev pub has : List ℕ → ℕ → Bool
+has items x = list_any (nat_eq x) items
+
+-- The items below a number, in order.
+abbrev pub below : ℕ → List ℕ
+below n = range_with_len 0 n
+
+-- The places of marks, in order.
+abbrev pub marked : List Bool → List ℕ
+marked marks = filter (λ y. slice_index_or marks y false) (below (length marks))
+
+-- What a step makes of a value when it is taken a number of times.
+abbrev pub times : {X : Type 0} → ℕ → (X → X) → X → X
+times zero step x = x
+times (suc n) step x = step (times n step x)
+
+-- The list of an item, which has those that it goes to.
+abbrev pub successors : List (Vec ℕ) → ℕ → List ℕ
+successors lists x = slice_index_or (map (λ (v : Vec ℕ). v.items) lists) x []
+
+-- Each item goes to those in its list.
+abbrev pub goes : List (Vec ℕ) → Relation
+goes lists x y = has (successors lists x) y

@@ -1,0 +1,6 @@
+pub mod Symbols
+pub mod Needs
+pub mod Provider
+pub mod Unmet
+pub mod Table
+pub mod Worked
