@@ -1,21 +1,7 @@
 -- The entries of a section `__versions`.
-use Rattle.std.proofs.Common.{◌≡◌, ℕ, ◌+◌, ◌*◌, ◌/◌, ◌%◌, ◌<◌, ◌≤◌, ◌==◌, true, false, Bool, not, Bor, List, length, Option, Some, None, is_none, is_some, option_copied, refl, ap, ◌∙◌, zero-add, arith}
-use Rattle.std.proofs.lemmas.List.FromFn.{length-range_with_len}
-use Rattle.std.specs.List.{slice_get}
-use Rattle.module_facts.specs.Roles.{first_stating}
-use Rattle.module_facts.specs.Versions.{are_bad_entries, entry_name, entry_numbers}
-use Rattle.module_facts.proofs.FirstLemmas.{first_stating-within}
-use Rattle.module_facts.proofs.ListLemmas.{no_number, or-true, range-at, some_number}
-
--- the first entry of a name is whole
-pub first_stating-whole : (bytes name : List ℕ) (k : ℕ) → first_stating (entry_name bytes) (entry_numbers bytes) name ≡ Some k → 64 * k + 64 ≤ length bytes
-first_stating-whole bytes name k is =
-    let within : k < length (entry_numbers bytes) = first_stating-within (entry_name bytes) (entry_numbers bytes) k 0 name is in
-    omega (arith, length-range_with_len 0 (length bytes / 64))
-
--- the entries by their numbers
-pub entry_numbers-at : (bytes : List ℕ) (k : ℕ) → k < length bytes / 64 → slice_get (entry_numbers bytes) k ≡ Some k
-entry_numbers-at bytes k less = range-at 0 (length bytes / 64) k less ∙ ap Some (zero-add k)
+use Rattle.std.proofs.Common.{◌≡◌, ℕ, ◌/◌, ◌%◌, ◌<◌, ◌==◌, true, false, Bool, not, Bor, List, length, Option, Some, None, is_none, is_some, option_copied, refl}
+use Rattle.module_facts.specs.Versions.{are_bad_entries, entry_name}
+use Rattle.module_facts.proofs.ListLemmas.{no_number, or-true, some_number}
 
 -- the name that was looked for isn't there
 pub nameless : (found : Option (Bor (List ℕ))) (name : Option (List ℕ)) (none : Bool) → option_copied found ≡ name → is_some found ≡ not none → none ≡ true → is_none name ≡ true

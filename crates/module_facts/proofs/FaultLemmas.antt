@@ -1,39 +1,32 @@
 -- What the tests of a module say.
-use Rattle.std.proofs.Common.{◌≡◌, ℕ, false, List, [], ◌∷◌, length, ltb, None, is_none, option_map, refl, sym, ap, ◌∙◌}
+use Rattle.std.proofs.Common.{◌≡◌, ℕ, true, false, List, [], ◌∷◌, length, ltb, None, refl, sym, ap, ◌∙◌}
 use Rattle.km_names.specs.First.{first}
 use Rattle.km_names.specs.Path.{is_compressed}
 use Rattle.elf_object.specs.Object.{FileObject, file_object, object_fault}
 use Rattle.elf_object.specs.Shape.{fault_if}
-use Rattle.module_facts.specs.declared.facts.Export.{Export}
 use Rattle.module_facts.specs.declared.facts.Facts.{Facts}
-use Rattle.module_facts.specs.declared.fault.ModuleFault.TheVariants.{BadVersions, ExportUndefined}
-use Rattle.module_facts.specs.declared.table.NameTable.{NameTable}
-use Rattle.module_facts.specs.Roles.{defined_name}
-use Rattle.module_facts.specs.NameTable.{HasFirsts}
+use Rattle.module_facts.specs.declared.fault.ModuleFault.TheVariants.{BadVersions}
 use Rattle.module_facts.specs.Facts.{object_facts}
-use Rattle.module_facts.specs.Missing.{is_missing, missing_test}
 use Rattle.module_facts.specs.Module.{IsModule}
-use Rattle.module_facts.specs.Faults.{fact_fault, facts_tests, has_bad_name, has_bad_versions, is_undefined, module_tests, twice_test, undefined_test}
-use Rattle.module_facts.proofs.FindLemmas.{find-same}
-
--- an export that the table of definitions hasn't is undefined
-pub undefined_test-table : (o : FileObject) (t : NameTable) (exports : List Export) → HasFirsts t defined_name o.symbols → missing_test t exports ≡ undefined_test o exports
-unfolding is_undefined
-undefined_test-table o t exports table =
-    ap (option_map (λ (e : Export). ExportUndefined e.name))
-    (find-same (is_missing t) (is_undefined o) exports (λ e. ap is_none (table.at e.name)))
+use Rattle.module_facts.specs.Faults.{fact_fault, facts_tests, has_bad_versions, has_good_names, module_tests, space_test, twice_test, undefined_test}
 
 -- after the tests of the names the others decide
-pub facts_tests-rest : (o : FileObject) (f : Facts) → ltb 55 (length f.name) ≡ false → has_bad_name f ≡ false → first (facts_tests o f) ≡ first (twice_test f.exports ∷ undefined_test o f.exports ∷ fault_if (has_bad_versions o f.exports) BadVersions ∷ [])
+pub facts_tests-rest : (o : FileObject) (f : Facts) → ltb 55 (length f.name) ≡ false → has_good_names f ≡ true
+    → first (facts_tests o f) ≡ first (twice_test f.exports ∷ undefined_test o f.exports ∷ fault_if (has_bad_versions o f.exports) BadVersions ∷ space_test o f.exports ∷ [])
 unfolding facts_tests
 facts_tests-rest o f short good = rw (short, good) refl
+
+-- and after those of each export the last
+pub facts_tests-last : (o : FileObject) (f : Facts) → ltb 55 (length f.name) ≡ false → has_good_names f ≡ true → twice_test f.exports ≡ None → undefined_test o f.exports ≡ None
+    → first (facts_tests o f) ≡ first (fault_if (has_bad_versions o f.exports) BadVersions ∷ space_test o f.exports ∷ [])
+facts_tests-last o f short good once defined = facts_tests-rest o f short good ∙ rw (once, defined) refl
 
 -- all tests of the module pass
 pub fact_fault-none : (path b : List ℕ) → is_compressed path ≡ false → object_fault b ≡ None → first (facts_tests (file_object b) (object_facts path (file_object b))) ≡ None → fact_fault path b ≡ None
 unfolding fact_fault module_tests
 fact_fault-none path b plain object facts = rw (plain, object, facts) refl
 
-object_facts-path : (path : List ℕ) (o : FileObject) → (object_facts path o).path ≡ path
+pub object_facts-path : (path : List ℕ) (o : FileObject) → (object_facts path o).path ≡ path
 unfolding object_facts
 object_facts-path path o = refl
 

@@ -1,7 +1,8 @@
-pub mod ContentLemmas
 pub mod EntryLemmas
 pub mod FaultLemmas
 pub mod FindLemmas
-pub mod FirstLemmas
 pub mod ListLemmas
+pub mod SoundLemmas
+pub mod SymbolLemmas
 pub mod TimesLemmas
+pub mod VersionLemmas

@@ -12,6 +12,10 @@ take-item xs i x is =
     let here : get_or xs i x ≡ x = get_or_from_slice_get xs i x x is in
     take_more xs i x within ∙ ap (λ y. take i xs ++ y ∷ []) here
 
+-- what a function makes of the front with the item at i
+pub map-item : {X Y : Type 0} (f : X → Y) (xs : List X) (i : ℕ) (x : X) → slice_get xs i ≡ Some x → map f (take (i + 1) xs) ≡ map f (take i xs) ++ f x ∷ []
+map-item f xs i x is = ap (map f) (take-item xs i x is) ∙ map-append f (take i xs) (x ∷ [])
+
 -- the item at i gives y
 pub filter_map-given : {X Y Z : Type 0} (f : X → Option Y) (g : Y → Z) (xs : List X) (i : ℕ) (x : X) (y : Y) → slice_get xs i ≡ Some x → Some y ≡ f x → map g (filter_map f (take (i + 1) xs)) ≡ map g (filter_map f (take i xs)) ++ g y ∷ []
 filter_map-given f g xs i x y is gives =

@@ -1,8 +1,10 @@
 -- The bytes of an object's sections. gABI 4, "Sections".
-use Rattle.std.specs.Prelude.{ℕ, List, [], slice_get}
+use Rattle.std.specs.Prelude.{ℕ, ◌==◌, List, [], slice_get, Option, Some, None, option_and_then, unwrap_or, codes, if◌then◌else◌}
 use Rattle.std.specs.List.{position}
 use Rattle.std.specs.Option.{option_map_or}
 use Rattle.std.specs.Str.{bytes_eq}
+use Rattle.elf_format.specs.declared.section.TheConstants.{SHT_NOBITS}
+use Rattle.elf_object.specs.declared.section.Section.{Section}
 use Rattle.elf_object.specs.Object.{FileObject}
 use Rattle.elf_object.specs.Sections.{bytes_of}
 
@@ -10,6 +12,18 @@ use Rattle.elf_object.specs.Sections.{bytes_of}
 unfoldable pub section_contents : FileObject → ℕ → List ℕ
 section_contents o i = option_map_or (bytes_of o.file) (slice_get o.sections i) []
 
--- The bytes of the first section of this name; none where there is no such section.
-unfoldable pub named_contents : FileObject → List ℕ → List ℕ
-named_contents o name = option_map_or (section_contents o) (position (λ s. bytes_eq s.name name) o.sections) []
+-- The first section of this name.
+unfoldable pub named_section : FileObject → List ℕ → Option Section
+named_section o name = option_and_then (slice_get o.sections) (position (λ s. bytes_eq s.name name) o.sections)
+
+-- What the file has of a section: its bytes, maybe an empty list of them, and nothing where it is of type NOBITS.
+abbrev pub bytes_in : List ℕ → Section → Option (List ℕ)
+bytes_in file s = if s.kind == SHT_NOBITS then None else Some (bytes_of file s)
+
+-- What the file has of the first section of this name; nothing too where no section has the name.
+unfoldable pub named_bytes : FileObject → List ℕ → Option (List ℕ)
+named_bytes o name = option_and_then (bytes_in o.file) (named_section o name)
+
+-- The bytes of the section `.modinfo`.
+unfoldable pub modinfo_bytes : FileObject → List ℕ
+modinfo_bytes o = unwrap_or (named_bytes o (codes ".modinfo")) []

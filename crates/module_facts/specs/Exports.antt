@@ -1,13 +1,17 @@
--- What a module exports, with the versions of its exports.
-use Rattle.std.specs.Prelude.{ℕ, ◌+◌, ◌==◌, nat_le, List, length, map, slice_get, Option, Some, None, unwrap_or, option_and_then, if◌then◌else◌}
+-- What a module exports, with the versions and the namespaces of its exports. The kernel's include/linux/export.h.
+use Rattle.std.specs.Prelude.{ℕ, ◌+◌, ◌==◌, nat_le, Bool, false, List, [], length, map, codes, slice_get, Option, Some, None, unwrap_or, option_and_then, if◌then◌else◌}
 use Rattle.std.specs.List.{filter_map}
+use Rattle.std.specs.Option.{option_map_or}
+use Rattle.std.specs.Str.{bytes_eq}
 use Rattle.km_names.specs.Number.{le}
+use Rattle.km_names.specs.Strings.{string_at}
+use Rattle.elf_format.specs.declared.symbol.TheConstants.{SHN_ABS}
 use Rattle.elf_object.specs.declared.symbol.Symbol.{Symbol}
 use Rattle.elf_object.specs.Object.{FileObject}
-use Rattle.module_facts.specs.declared.role.TheConstants.{SHN_ABS}
 use Rattle.module_facts.specs.declared.facts.Export.{Export}
+use Rattle.module_facts.specs.declared.role.Role.TheVariants.{Export as OfExport, Version, Space, Definition}
 use Rattle.module_facts.specs.Contents.{section_contents}
-use Rattle.module_facts.specs.Roles.{defined_name, exported_name, first_stating, versioned_name}
+use Rattle.module_facts.specs.Roles.{first_symbol, stated_name, symbol_of}
 
 -- The version that a symbol gives: its value where it is absolute, else the number in the 4 bytes at its value
 -- in its section, where that one has them.
@@ -18,18 +22,26 @@ given_version o s =
     else if nat_le (s.value + 4) (length bytes) then Some (le bytes s.value 4)
     else None
 
--- The symbol that gives the version of a name: the first.
-unfoldable pub version_symbol : FileObject → List ℕ → Option Symbol
-version_symbol o name = option_and_then (slice_get o.symbols) (first_stating versioned_name o.symbols name)
+-- The symbol lies in a section for exports that modules of a free license alone may use.
+unfoldable pub is_gpl_entry : FileObject → Symbol → Bool
+is_gpl_entry o s = option_map_or (λ x. bytes_eq x.name (codes "__ksymtab_gpl")) (slice_get o.sections s.section) false
 
--- The export of this name: its symbol is the first that defines the name, 0 where none does.
+-- The namespace that a symbol gives: the text at its value in its section, up to the next NUL. An absolute symbol gives
+-- none, nor does one whose section has no bytes in the file.
+unfoldable pub given_space : FileObject → Symbol → Option (List ℕ)
+given_space o s = string_at (section_contents o s.section) s.value
+
+-- The export of this name: its symbol is the first that defines the name, 0 where none does; it is GPL-only by its first
+-- `__ksymtab_N`; its namespace is empty where no symbol gives one.
 unfoldable pub export_of : FileObject → List ℕ → Export
 export_of o name = record {
   name = name;
-  symbol = unwrap_or (first_stating defined_name o.symbols name) 0;
-  crc = option_and_then (given_version o) (version_symbol o name);
+  symbol = unwrap_or (first_symbol Definition o name) 0;
+  crc = option_and_then (given_version o) (symbol_of Version o name);
+  gpl = option_map_or (is_gpl_entry o) (symbol_of OfExport o name) false;
+  space = unwrap_or (option_and_then (given_space o) (symbol_of Space o name)) [];
 }
 
 -- The exports, in the order of the symbols that state them.
 unfoldable pub exports_of : FileObject → List Export
-exports_of o = map (export_of o) (filter_map exported_name o.symbols)
+exports_of o = map (export_of o) (filter_map (stated_name OfExport) o.symbols)

@@ -4,7 +4,7 @@ use Rattle.elf_object.specs.declared.fault.ObjectFault.{ObjectFault}
 use Rattle.elf_object.specs.declared.fault.ObjectFault.TheVariants.{Memory as ObjectMemory}
 use Rattle.elf_object.specs.FaultText.{object_fault_text}
 use Rattle.module_facts.specs.declared.fault.ModuleFault.{ModuleFault}
-use Rattle.module_facts.specs.declared.fault.ModuleFault.TheVariants.{Compressed, Object, NameTooLong, BadName, ExportTwice, ExportUndefined, BadVersions, Memory}
+use Rattle.module_facts.specs.declared.fault.ModuleFault.TheVariants.{Compressed, Object, NameTooLong, BadName, ExportTwice, ExportUndefined, BadVersions, BadNamespace, Memory}
 
 -- The text of what is wrong with a module.
 abbrev pub module_fault_text : ModuleFault → List ℕ
@@ -15,6 +15,7 @@ module_fault_text BadName = codes "bad name"
 module_fault_text (ExportTwice name) = codes "export " ++ name ++ codes " twice"
 module_fault_text (ExportUndefined name) = codes "export " ++ name ++ codes " undefined"
 module_fault_text BadVersions = codes "bad versions"
+module_fault_text (BadNamespace name) = codes "bad namespace of " ++ name
 module_fault_text Memory = codes "out of memory"
 
 -- A fault of the object as one of the module.

@@ -1,29 +1,29 @@
 -- What is wrong with a module.
-use Rattle.std.specs.Prelude.{ℕ, ◌==◌, ◌||◌, nat_lt, Bool, false, List, [], ◌∷◌, length, find, Option, is_none, option_map}
-use Rattle.std.specs.List.{count_by, list_any}
+use Rattle.std.specs.Prelude.{ℕ, ◌&&◌, ◌||◌, nat_lt, not, Bool, false, List, [], ◌∷◌, length, find, Option, is_none, option_map}
+use Rattle.std.specs.List.{count_by, list_all, list_any}
 use Rattle.std.specs.Option.{option_map_or}
 use Rattle.std.specs.Str.{bytes_eq}
+use Rattle.km_names.specs.Ascii.{is_graphic}
 use Rattle.km_names.specs.First.{first}
 use Rattle.km_names.specs.Path.{is_compressed}
 use Rattle.elf_object.specs.Object.{FileObject, file_object, object_fault}
 use Rattle.elf_object.specs.Shape.{fault_if}
 use Rattle.module_facts.specs.declared.facts.Export.{Export}
+use Rattle.module_facts.specs.declared.facts.Need.{Need}
 use Rattle.module_facts.specs.declared.facts.Facts.{Facts}
 use Rattle.module_facts.specs.declared.fault.ModuleFault.{ModuleFault}
-use Rattle.module_facts.specs.declared.fault.ModuleFault.TheVariants.{Compressed, Object, NameTooLong, BadName, ExportTwice, ExportUndefined, BadVersions}
-use Rattle.module_facts.specs.Roles.{defined_name, first_stating}
-use Rattle.module_facts.specs.Versions.{are_bad_entries, version_bytes}
-use Rattle.module_facts.specs.Exports.{given_version, version_symbol}
+use Rattle.module_facts.specs.declared.fault.ModuleFault.TheVariants.{Compressed, Object, NameTooLong, BadName, ExportTwice, ExportUndefined, BadVersions, BadNamespace}
+use Rattle.module_facts.specs.declared.role.Role.TheVariants.{Version, Space, Definition}
+use Rattle.module_facts.specs.Roles.{first_symbol, symbol_of}
+use Rattle.module_facts.specs.Versions.{is_bad_list}
+use Rattle.module_facts.specs.Exports.{given_space, given_version}
 use Rattle.module_facts.specs.Facts.{object_facts}
 
--- A name can't stand as a word of a line: it is empty, or has a byte that isn't a visible character of ASCII.
-unfoldable pub is_bad_name : List ℕ → Bool
-is_bad_name name = length name == 0 || list_any (λ b. nat_lt b 33 || nat_lt 126 b) name
-
--- The module, one of its exports or one of its needs has such a name.
-unfoldable pub has_bad_name : Facts → Bool
-has_bad_name f =
-    is_bad_name f.name || list_any (λ e. is_bad_name e.name) f.exports || list_any (λ n. is_bad_name n.name) f.needs
+-- The module, its exports and its needs have names that can stand as words of a line: none is empty, and all bytes are
+-- visible characters of ASCII.
+unfoldable pub has_good_names : Facts → Bool
+has_good_names f =
+    is_graphic f.name && list_all (λ (e : Export). is_graphic e.name) f.exports && list_all (λ (n : Need). is_graphic n.name) f.needs
 
 -- Two of the exports, or more, have this one's name.
 unfoldable pub is_twice : List Export → Export → Bool
@@ -35,7 +35,7 @@ twice_test exports = option_map (λ e. ExportTwice e.name) (find (is_twice expor
 
 -- No symbol defines the export.
 unfoldable pub is_undefined : FileObject → Export → Bool
-is_undefined o e = is_none (first_stating defined_name o.symbols e.name)
+is_undefined o e = is_none (first_symbol Definition o e.name)
 
 -- The test that each export is defined; the first that isn't is named.
 abbrev pub undefined_test : FileObject → List Export → Option ModuleFault
@@ -43,20 +43,29 @@ undefined_test o exports = option_map (λ e. ExportUndefined e.name) (find (is_u
 
 -- The symbol that gives the export's version lies where its section has no 4 bytes in the file.
 unfoldable pub has_bad_version : FileObject → Export → Bool
-has_bad_version o e = option_map_or (λ s. is_none (given_version o s)) (version_symbol o e.name) false
+has_bad_version o e = option_map_or (λ s. is_none (given_version o s)) (symbol_of Version o e.name) false
 
 -- The versions of the needs or of the exports can't be as they are.
 unfoldable pub has_bad_versions : FileObject → List Export → Bool
-has_bad_versions o exports = are_bad_entries (version_bytes o) || list_any (has_bad_version o) exports
+has_bad_versions o exports = is_bad_list o || list_any (has_bad_version o) exports
+
+-- The symbol that is to give the export's namespace gives none.
+unfoldable pub has_bad_space : FileObject → Export → Bool
+has_bad_space o e = option_map_or (λ s. is_none (given_space o s)) (symbol_of Space o e.name) false
+
+-- The test that each symbol for a namespace gives one; the first export for which it doesn't is named.
+abbrev pub space_test : FileObject → List Export → Option ModuleFault
+space_test o exports = option_map (λ e. BadNamespace e.name) (find (has_bad_space o) exports)
 
 -- The tests of the facts, in order.
 unfoldable pub facts_tests : FileObject → Facts → List (Option ModuleFault)
 facts_tests o f =
     fault_if (nat_lt 55 (length f.name)) NameTooLong
-    ∷ fault_if (has_bad_name f) BadName
+    ∷ fault_if (not (has_good_names f)) BadName
     ∷ twice_test f.exports
     ∷ undefined_test o f.exports
     ∷ fault_if (has_bad_versions o f.exports) BadVersions
+    ∷ space_test o f.exports
     ∷ []
 
 -- The tests of the module at a path, in order: its path, its object, and its facts.

@@ -1,13 +1,12 @@
-pub mod Roles
-pub mod NameTable
 pub mod Contents
-pub mod Versions
+pub mod Roles
 pub mod SymbolTables
+pub mod Versions
+pub mod Listed
 pub mod Exports
 pub mod Needs
 pub mod Facts
 pub mod Faults
 pub mod FaultText
-pub mod Times
-pub mod Missing
 pub mod Module
+pub mod Times

@@ -1,10 +1,13 @@
 -- The tables of the names that an object's symbols state.
 use Rattle.elf_object.specs.Object.{FileObject}
+use Rattle.name_table.specs.NameTable.{IsTableOf}
+use Rattle.module_facts.specs.declared.role.Role.TheVariants.{Export, Version, Space, Definition}
 use Rattle.module_facts.specs.declared.tables.SymbolTables.{SymbolTables}
-use Rattle.module_facts.specs.NameTable.{HasFirsts}
-use Rattle.module_facts.specs.Roles.{defined_name, versioned_name}
+use Rattle.module_facts.specs.Roles.{stated_names}
 
 -- The tables are those of the object.
 pub record HasTables (t : SymbolTables) (o : FileObject) : Type 0 where
-  pub definitions : HasFirsts t.definitions defined_name o.symbols
-  pub versions : HasFirsts t.versions versioned_name o.symbols
+  pub exports : IsTableOf t.exports (stated_names Export o)
+  pub versions : IsTableOf t.versions (stated_names Version o)
+  pub spaces : IsTableOf t.spaces (stated_names Space o)
+  pub definitions : IsTableOf t.definitions (stated_names Definition o)

@@ -1,12 +1,16 @@
 -- How often a table has seen each name.
 use Rattle.std.specs.Prelude.{◌≡◌, ℕ, zero, suc, List, Option, Some, None}
 use Rattle.std.specs.List.{count_by}
+use Rattle.std.specs.HashMap.{get_by}
 use Rattle.std.specs.Str.{bytes_eq}
 use Rattle.module_facts.specs.declared.facts.Export.{Export}
-use Rattle.module_facts.specs.declared.table.NameTable.{NameTable}
-use Rattle.module_facts.specs.NameTable.{number_of}
+use Rattle.module_facts.specs.declared.seen.SeenNames.{SeenNames}
 
--- What a table has for a name that was seen so often: nothing, 1, or 2 for more.
+-- What a table has for a name.
+abbrev pub times_seen : SeenNames → List ℕ → Option ℕ
+times_seen t name = get_by (λ k. bytes_eq name k.now) t.times
+
+-- What it has for a name that was seen so often: nothing, 1, or 2 for more.
 abbrev pub seen : ℕ → Option ℕ
 seen zero = None
 seen (suc zero) = Some 1
@@ -17,5 +21,5 @@ abbrev pub times : List Export → List ℕ → ℕ
 times exports name = count_by (λ e. bytes_eq e.name name) exports
 
 -- The table has seen the names of the exports.
-pub record HasSeen (t : NameTable) (exports : List Export) : Type 0 where
-  pub at : (name : List ℕ) → number_of t name ≡ seen (times exports name)
+pub record HasSeen (t : SeenNames) (exports : List Export) : Type 0 where
+  pub at : (name : List ℕ) → times_seen t name ≡ seen (times exports name)

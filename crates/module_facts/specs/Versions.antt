@@ -1,37 +1,81 @@
--- The versions of a module's needs: the entries of a section `__versions`, each of 64 bytes, as the kernel's
--- struct modversion_info has them (include/linux/module.h): a number, and a name that ends with a NUL.
-use Rattle.std.specs.Prelude.{ℕ, ◌+◌, ◌*◌, ◌/◌, ◌%◌, ◌==◌, ◌||◌, not, Bool, List, length, take, drop, codes, Option, is_none, option_map}
-use Rattle.std.specs.List.{list_any, position, range_with_len}
+-- The versions that a module states of its needs, a list of names with numbers. Two sections give it in the extended
+-- form: `__version_ext_crcs` the numbers, `__version_ext_names` the names (the kernel's scripts/mod/modpost.c). Where these
+-- two don't both stand, `__versions` gives it in entries of 64 bytes, as the kernel's struct modversion_info has them
+-- (include/linux/module.h): a number, and a name that ends with a NUL.
+use Rattle.std.specs.Prelude.{ℕ, ◌+◌, ◌*◌, ◌/◌, ◌%◌, ◌==◌, ◌||◌, nat_lt, not, Bool, false, List, [], ◌∷◌, length, map, take, drop, codes, Option, is_none, option_map, option_and_then, find}
+use Rattle.std.specs.List.{count_by, filter_map, list_any, range_with_len, slice_split, zip}
+use Rattle.std.specs.Option.{option_map_or}
+use Rattle.std.specs.Str.{bytes_eq}
 use Rattle.km_names.specs.Number.{le}
+use Rattle.km_names.specs.Strings.{first_string}
 use Rattle.elf_object.specs.Object.{FileObject}
-use Rattle.module_facts.specs.Contents.{named_contents}
-use Rattle.module_facts.specs.Roles.{first_stating}
+use Rattle.module_facts.specs.Contents.{named_bytes}
 
--- The bytes of the section `__versions`.
-abbrev pub version_bytes : FileObject → List ℕ
-version_bytes o = named_contents o (codes "__versions")
+-- ---- the extended form
+
+-- The bytes of its two sections, where both stand in the file.
+unfoldable pub extended_bytes : FileObject → Option (List ℕ × List ℕ)
+extended_bytes o =
+    option_and_then (λ crcs. option_map (λ names. (crcs, names)) (named_bytes o (codes "__version_ext_names")))
+    (named_bytes o (codes "__version_ext_crcs"))
+
+-- The numbers of 4 bytes.
+abbrev pub crcs_of : List ℕ → List ℕ
+crcs_of bytes = map (λ k. le bytes (4 * k) 4) (range_with_len 0 (length bytes / 4))
+
+-- The pieces without the last one.
+abbrev pub without_last : List (List ℕ) → List (List ℕ)
+without_last [] = []
+without_last (piece ∷ []) = []
+without_last (piece ∷ next ∷ pieces) = piece ∷ without_last (next ∷ pieces)
+
+-- The names, each ended by a NUL; what follows the last NUL isn't one.
+unfoldable pub ended_names : List ℕ → List (List ℕ)
+ended_names bytes = without_last (slice_split (λ b. b == 0) bytes)
+
+-- The names with the numbers, in order.
+unfoldable pub extended_list : List ℕ → List ℕ → List (List ℕ × ℕ)
+extended_list crcs names = zip (ended_names names) (crcs_of crcs)
+
+-- The numbers aren't whole, or are more than the NULs.
+unfoldable pub is_bad_extended : List ℕ → List ℕ → Bool
+is_bad_extended crcs names = not (length crcs % 4 == 0) || nat_lt (count_by (λ b. b == 0) names) (length crcs / 4)
+
+-- ---- the entries of `__versions`
+
+-- The name of the entry k: what stands before the NUL in its last 56 bytes.
+unfoldable pub entry_name : List ℕ → ℕ → Option (List ℕ)
+entry_name bytes k = first_string (take 56 (drop (64 * k + 8) bytes))
+
+-- The entry k: its name, where that ends, and its number.
+abbrev pub entry : List ℕ → ℕ → Option (List ℕ × ℕ)
+entry bytes k = option_map (λ name. (name, le bytes (64 * k) 8)) (entry_name bytes k)
 
 -- The numbers of the entries.
 abbrev pub entry_numbers : List ℕ → List ℕ
 entry_numbers bytes = range_with_len 0 (length bytes / 64)
 
--- The bytes before the first NUL, where there is one.
-abbrev pub before_nul : List ℕ → Option (List ℕ)
-before_nul bytes = option_map (λ n. take n bytes) (position (λ b. b == 0) bytes)
+unfoldable pub entry_list : List ℕ → List (List ℕ × ℕ)
+entry_list bytes = filter_map (entry bytes) (entry_numbers bytes)
 
--- The name of the entry k: what stands before the NUL in its last 56 bytes.
-unfoldable pub entry_name : List ℕ → ℕ → Option (List ℕ)
-entry_name bytes k = before_nul (take 56 (drop (64 * k + 8) bytes))
-
--- The version that the entry k states.
-abbrev pub entry_version : List ℕ → ℕ → ℕ
-entry_version bytes k = le bytes (64 * k) 8
-
--- The version that the first entry of a name states.
-unfoldable pub stated_version : List ℕ → List ℕ → Option ℕ
-stated_version bytes name = option_map (entry_version bytes) (first_stating (entry_name bytes) (entry_numbers bytes) name)
-
--- The entries can't be as they are: the last isn't whole, or a name has no NUL.
+-- The last entry isn't whole, or a name has no NUL.
 unfoldable pub are_bad_entries : List ℕ → Bool
-are_bad_entries bytes =
-    not (length bytes % 64 == 0) || list_any (λ k. is_none (entry_name bytes k)) (entry_numbers bytes)
+are_bad_entries bytes = not (length bytes % 64 == 0) || list_any (λ k. is_none (entry_name bytes k)) (entry_numbers bytes)
+
+-- ---- the list
+
+-- The bytes of `__versions`.
+abbrev pub entry_bytes : FileObject → Option (List ℕ)
+entry_bytes o = named_bytes o (codes "__versions")
+
+-- The version list: an extended one counts, also an empty one; where neither form stands the list is empty.
+unfoldable pub version_list : FileObject → List (List ℕ × ℕ)
+version_list o = option_map_or (λ p. extended_list p.0 p.1) (extended_bytes o) (option_map_or entry_list (entry_bytes o) [])
+
+-- What gives the list can't be as it is.
+unfoldable pub is_bad_list : FileObject → Bool
+is_bad_list o = option_map_or (λ p. is_bad_extended p.0 p.1) (extended_bytes o) (option_map_or are_bad_entries (entry_bytes o) false)
+
+-- The number that a list has for a name: that of the first entry of the name.
+unfoldable pub stated_version : List (List ℕ × ℕ) → List ℕ → Option ℕ
+stated_version list name = option_map (λ v. v.1) (find (λ v. bytes_eq v.0 name) list)

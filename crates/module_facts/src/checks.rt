@@ -1,71 +1,55 @@
 // The tests of a module's facts.
 
-ghost use Rattle.std.specs.Prelude.{◌≡◌, ◌≤◌, ◌⊎◌, ◌||◌, nat_lt, length, find, None, Some, IfOk, IfErr, OnOk, option_copied};
-ghost use Rattle.std.specs.List.{list_any};
+ghost use Rattle.std.specs.Prelude.{◌≡◌, ◌⊎◌, find, None, Some, IfOk, IfErr, OnOk, option_copied};
+ghost use Rattle.std.specs.List.{list_all, list_any};
+ghost use Rattle.km_names.specs.Ascii.{is_graphic};
 ghost use Rattle.km_names.specs.First.{first};
-ghost use Rattle.module_facts.specs.NameTable.{HasFirsts};
-ghost use Rattle.module_facts.specs.Roles.{versioned_name};
-ghost use Rattle.module_facts.specs.Missing.{is_missing, missing_test};
 ghost use Rattle.module_facts.specs.Times.{HasSeen};
 ghost use Rattle.module_facts.specs.SymbolTables.{HasTables};
-ghost use Rattle.module_facts.specs.Faults.{facts_tests, has_bad_name, has_bad_version, has_bad_versions, is_bad_name, is_twice, twice_test};
+ghost use Rattle.module_facts.specs.Faults.{facts_tests, has_bad_space, has_bad_version, has_bad_versions, has_good_names, is_twice, is_undefined, space_test, twice_test, undefined_test};
 
-use crate::exports::{given_version, version_symbol};
-use crate::table::NameTable;
-use crate::tables::SymbolTables;
-use crate::versions::{are_bad_entries, version_bytes};
+use crate::exports::{given_space, given_version};
+use crate::role::Role;
+use crate::seen::SeenNames;
+use crate::tables::{SymbolTables, symbol_of};
+use crate::versions::is_bad_list;
 use crate::{Export, Facts, ModuleFault, Need};
 use elf_object::Object;
-use km_names::Name;
+use km_names::{Name, is_graphic};
 use std::alloc::{AllocError, Global};
 
 /// The most bytes that the name of a module can have: the kernel's MODULE_NAME_LEN, less the NUL.
 const NAME_MAX: usize = 55;
 
-/// Whether a byte isn't a visible character of ASCII.
-fn has_bad_byte(name: &[u8]) -> bool
-    ensures { result ≡ list_any (λ b. nat_lt b 33 || nat_lt 126 b) name.now }
+/// Whether the names of exports can stand as words of a line.
+fn have_good_names(exports: &[Export]) -> bool
+    ensures { result ≡ list_all (λ e. is_graphic e.name) exports.now }
 {
-    name.iter().any(|b| *b < 33 || 126 < *b)
+    exports.iter().all(|e| is_graphic(e.name.as_bytes()))
 }
 
-/// Whether a name can't stand as a word of a line.
-#[tactic(auto, unfolding(crate::specs::Faults::is_bad_name))]
-fn is_bad_name(name: &[u8]) -> bool
-    ensures { result ≡ is_bad_name name.now }
+/// Whether those of needs can.
+fn needs_have_good_names(needs: &[Need]) -> bool
+    ensures { result ≡ list_all (λ n. is_graphic n.name) needs.now }
 {
-    name.is_empty() || has_bad_byte(name)
+    needs.iter().all(|n| is_graphic(n.name.as_bytes()))
 }
 
-/// Whether one of the exports has such a name.
-fn has_bad_export_name(exports: &[Export]) -> bool
-    ensures { result ≡ list_any (λ e. is_bad_name e.name) exports.now }
+/// Whether the names of the module, its exports and its needs can.
+#[tactic(auto, unfolding(crate::specs::Faults::has_good_names))]
+fn has_good_names(facts: &Facts) -> bool
+    ensures { result ≡ has_good_names facts.now }
 {
-    exports.iter().any(|e| is_bad_name(e.name.as_bytes()))
-}
-
-/// Whether one of the needs has such a name.
-fn has_bad_need_name(needs: &[Need]) -> bool
-    ensures { result ≡ list_any (λ n. is_bad_name n.name) needs.now }
-{
-    needs.iter().any(|n| is_bad_name(n.name.as_bytes()))
-}
-
-/// Whether the module, one of its exports or one of its needs has such a name.
-#[tactic(auto, unfolding(crate::specs::Faults::has_bad_name))]
-fn has_bad_name(facts: &Facts) -> bool
-    ensures { result ≡ has_bad_name facts.now }
-{
-    is_bad_name(facts.name.as_bytes())
-        || has_bad_export_name(facts.exports.as_slice())
-        || has_bad_need_name(facts.needs.as_slice())
+    is_graphic(facts.name.as_bytes())
+        && have_good_names(facts.exports.as_slice())
+        && needs_have_good_names(facts.needs.as_slice())
 }
 
 /// A table that has seen the names of the exports.
-fn seen_names<'a>(alloc: Global, exports: &'a [Export]) -> Result<NameTable<'a>, AllocError>
+fn seen_names<'a>(alloc: Global, exports: &'a [Export]) -> Result<SeenNames<'a>, AllocError>
     ensures { IfOk result (λ table. HasSeen table exports.now) }
 {
-    let mut table = NameTable::new(alloc);
+    let mut table = SeenNames::new(alloc);
     for export in exports {
         let name = export.name.as_bytes();
         let times = if table.get(name).is_some() { 2 } else { 1 };
@@ -100,28 +84,46 @@ fn check_once(alloc: Global, exports: &[Export]) -> Result<(), ModuleFault>
     }
 }
 
-/// The first export whose name isn't in the table of definitions.
-fn first_missing<'a>(definitions: &NameTable, exports: &'a [Export]) -> Option<&'a Export>
-    ensures { option_copied result ≡ find (is_missing definitions.now) exports.now }
+/// Whether no symbol defines an export.
+#[tactic(auto, unfolding(crate::specs::Faults::is_undefined))]
+fn is_undefined(object: &Object, tables: &SymbolTables, export: &Export) -> bool
+    requires { HasTables tables.now object.now }
+    ensures { result ≡ is_undefined object.now export.now }
+{
+    tables
+        .first_symbol(Role::Definition, export.name.as_bytes())
+        .is_none()
+}
+
+/// The first export that no symbol defines.
+fn first_undefined<'a>(
+    object: &Object,
+    tables: &SymbolTables,
+    exports: &'a [Export],
+) -> Option<&'a Export>
+    requires { HasTables tables.now object.now }
+    ensures { option_copied result ≡ find (is_undefined object.now) exports.now }
 {
     for export in exports {
-        if definitions.get(export.name.as_bytes()).is_none() {
+        if is_undefined(object, tables, export) {
             return Some(export);
         }
     }
     None
 }
 
-/// Tests that the name of each export is in the table of definitions.
-fn check_present(
+/// Tests that each export is defined.
+fn check_defined(
     alloc: Global,
-    definitions: &NameTable,
+    object: &Object,
+    tables: &SymbolTables,
     exports: &[Export],
 ) -> Result<(), ModuleFault>
-    ensures passed { OnOk result (missing_test definitions.now exports.now ≡ None) }
-    ensures fault { IfErr result (λ e. (e ≡ ModuleFault.Memory) ⊎ (missing_test definitions.now exports.now ≡ Some e)) }
+    requires { HasTables tables.now object.now }
+    ensures passed { OnOk result (undefined_test object.now exports.now ≡ None) }
+    ensures fault { IfErr result (λ e. (e ≡ ModuleFault.Memory) ⊎ (undefined_test object.now exports.now ≡ Some e)) }
 {
-    match first_missing(definitions, exports) {
+    match first_undefined(object, tables, exports) {
         Some(export) => Err(ModuleFault::ExportUndefined {
             name: Name::from_slice(alloc, export.name.as_bytes())?,
         }),
@@ -131,23 +133,23 @@ fn check_present(
 
 /// Whether the symbol that gives the export's version lies where its section has no 4 bytes.
 #[tactic(auto, unfolding(crate::specs::Faults::has_bad_version))]
-fn has_bad_version(object: &Object, versions: &NameTable, export: &Export) -> bool
-    requires { HasFirsts versions.now versioned_name object.now.symbols }
+fn has_bad_version(object: &Object, tables: &SymbolTables, export: &Export) -> bool
+    requires { HasTables tables.now object.now }
     ensures { result ≡ has_bad_version object.now export.now }
 {
-    match version_symbol(object, versions, export.name.as_bytes()) {
+    match symbol_of(object, tables, Role::Version, export.name.as_bytes()) {
         Some(symbol) => given_version(object, symbol).is_none(),
         None => false,
     }
 }
 
 /// Whether one of the exports has such a version.
-fn has_bad_export_version(object: &Object, versions: &NameTable, exports: &[Export]) -> bool
-    requires { HasFirsts versions.now versioned_name object.now.symbols }
+fn has_bad_export_version(object: &Object, tables: &SymbolTables, exports: &[Export]) -> bool
+    requires { HasTables tables.now object.now }
     ensures { result ≡ list_any (has_bad_version object.now) exports.now }
 {
     for export in exports {
-        if has_bad_version(object, versions, export) {
+        if has_bad_version(object, tables, export) {
             return true;
         }
     }
@@ -156,12 +158,59 @@ fn has_bad_export_version(object: &Object, versions: &NameTable, exports: &[Expo
 
 /// Whether the versions of the needs or of the exports can't be as they are.
 #[tactic(auto, unfolding(crate::specs::Faults::has_bad_versions))]
-fn has_bad_versions(object: &Object, versions: &NameTable, exports: &[Export]) -> bool
-    requires small { length object.now.file ≤ 67108864 }
-    requires versions { HasFirsts versions.now versioned_name object.now.symbols }
+fn has_bad_versions(object: &Object, tables: &SymbolTables, exports: &[Export]) -> bool
+    requires { HasTables tables.now object.now }
     ensures { result ≡ has_bad_versions object.now exports.now }
 {
-    are_bad_entries(version_bytes(object)) || has_bad_export_version(object, versions, exports)
+    is_bad_list(object) || has_bad_export_version(object, tables, exports)
+}
+
+/// Whether the symbol that is to give the export's namespace gives none.
+#[tactic(auto, unfolding(crate::specs::Faults::has_bad_space))]
+fn has_bad_space(object: &Object, tables: &SymbolTables, export: &Export) -> bool
+    requires { HasTables tables.now object.now }
+    ensures { result ≡ has_bad_space object.now export.now }
+{
+    match symbol_of(object, tables, Role::Space, export.name.as_bytes()) {
+        Some(symbol) => given_space(object, symbol).is_none(),
+        None => false,
+    }
+}
+
+/// The first export of which that is so.
+fn first_bad_space<'a>(
+    object: &Object,
+    tables: &SymbolTables,
+    exports: &'a [Export],
+) -> Option<&'a Export>
+    requires { HasTables tables.now object.now }
+    ensures { option_copied result ≡ find (has_bad_space object.now) exports.now }
+{
+    for export in exports {
+        if has_bad_space(object, tables, export) {
+            return Some(export);
+        }
+    }
+    None
+}
+
+/// Tests that each symbol for a namespace gives one.
+fn check_spaces(
+    alloc: Global,
+    object: &Object,
+    tables: &SymbolTables,
+    exports: &[Export],
+) -> Result<(), ModuleFault>
+    requires { HasTables tables.now object.now }
+    ensures passed { OnOk result (space_test object.now exports.now ≡ None) }
+    ensures fault { IfErr result (λ e. (e ≡ ModuleFault.Memory) ⊎ (space_test object.now exports.now ≡ Some e)) }
+{
+    match first_bad_space(object, tables, exports) {
+        Some(export) => Err(ModuleFault::BadNamespace {
+            name: Name::from_slice(alloc, export.name.as_bytes())?,
+        }),
+        None => Ok(()),
+    }
 }
 
 /// Tests the facts of an object.
@@ -172,8 +221,7 @@ pub(crate) fn check_facts(
     tables: &SymbolTables,
     facts: &Facts,
 ) -> Result<(), ModuleFault>
-    requires small { length object.now.file ≤ 67108864 }
-    requires tables { HasTables tables.now object.now }
+    requires { HasTables tables.now object.now }
     ensures passed { OnOk result (first (facts_tests object.now facts.now) ≡ None) }
     ensures fault { IfErr result
         (λ e. (e ≡ ModuleFault.Memory) ⊎ (first (facts_tests object.now facts.now) ≡ Some e)) }
@@ -182,13 +230,14 @@ pub(crate) fn check_facts(
     if facts.name.len() > NAME_MAX {
         return Err(ModuleFault::NameTooLong);
     }
-    if has_bad_name(facts) {
+    if !has_good_names(facts) {
         return Err(ModuleFault::BadName);
     }
     check_once(alloc, exports)?;
-    check_present(alloc, &tables.definitions, exports)?;
-    if has_bad_versions(object, &tables.versions, exports) {
+    check_defined(alloc, object, tables, exports)?;
+    if has_bad_versions(object, tables, exports) {
         return Err(ModuleFault::BadVersions);
     }
+    check_spaces(alloc, object, tables, exports)?;
     Ok(())
 }

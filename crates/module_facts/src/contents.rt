@@ -1,8 +1,10 @@
 // The bytes of an object's sections.
 
-ghost use Rattle.std.specs.Prelude.{◌≡◌};
-ghost use Rattle.module_facts.specs.Contents.{named_contents, section_contents};
+ghost use Rattle.std.specs.Prelude.{◌≡◌, ◌≤◌, length, IfSome, option_copied};
+ghost use Rattle.km_names.specs.Limit.{file_limit};
+ghost use Rattle.module_facts.specs.Contents.{modinfo_bytes, named_bytes, section_contents};
 
+use elf_format::SHT_NOBITS;
 use elf_object::Object;
 
 /// The bytes of the section `i`; none where there is no such section.
@@ -17,13 +19,24 @@ pub(crate) fn section_contents(object: &Object, i: u32) -> &[u8]
     }
 }
 
-/// The bytes of the first section of this name; none where there is no such section.
-#[tactic(auto, unfolding(crate::specs::Contents::named_contents))]
-pub(crate) fn named_contents<'a>(object: &'a Object, name: &[u8]) -> &'a [u8]
-    ensures { result.now ≡ named_contents object.now name.now }
+/// The bytes of the first section of this name; `None` where no section has the name, and where that one is of type
+/// NOBITS.
+#[tactic(auto, unfolding(crate::specs::Contents::named_section, crate::specs::Contents::named_bytes))]
+pub(crate) fn named_bytes<'a>(object: &'a Object, name: &[u8]) -> Option<&'a [u8]>
+    ensures bytes { option_copied result ≡ named_bytes object.now name.now }
+    ensures short { IfSome result (λ bytes. length bytes.now ≤ file_limit) }
 {
-    match object.section_named(name) {
-        Some(i) => section_contents(object, i),
-        None => &[],
+    let i = object.section_named(name)?;
+    if object.section(i).kind == SHT_NOBITS {
+        return None;
     }
+    Some(object.section_bytes(i))
+}
+
+/// The bytes of the section `.modinfo`.
+#[tactic(auto, unfolding(crate::specs::Contents::modinfo_bytes))]
+pub(crate) fn modinfo_bytes(object: &Object) -> &[u8]
+    ensures { result.now ≡ modinfo_bytes object.now }
+{
+    named_bytes(object, b".modinfo").unwrap_or(&[])
 }

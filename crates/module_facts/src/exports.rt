@@ -1,18 +1,18 @@
 // What a module exports.
 
-ghost use Rattle.std.specs.Prelude.{◌≡◌, IfOk, option_copied};
-ghost use Rattle.module_facts.specs.NameTable.{HasFirsts};
-ghost use Rattle.module_facts.specs.Roles.{defined_name, versioned_name};
-ghost use Rattle.module_facts.specs.Exports.{export_of, exports_of, given_version, version_symbol};
+ghost use Rattle.std.specs.Prelude.{◌≡◌, ◌≤◌, [], false, length, IfOk, option_and_then, option_copied, unwrap_or};
+ghost use Rattle.std.specs.Option.{option_map_or};
+ghost use Rattle.module_facts.specs.Roles.{symbol_of};
+ghost use Rattle.module_facts.specs.Exports.{export_of, exports_of, given_space, given_version, is_gpl_entry};
 ghost use Rattle.module_facts.specs.SymbolTables.{HasTables};
 
 use crate::contents::section_contents;
-use crate::role::{Role, SHN_ABS, stated_name};
-use crate::table::NameTable;
-use crate::tables::SymbolTables;
+use crate::role::{Role, stated_name};
+use crate::tables::{SymbolTables, symbol_of};
 use crate::{Export, Exports};
+use elf_format::SHN_ABS;
 use elf_object::{Object, Symbol};
-use km_names::{Name, le_u32_at};
+use km_names::{FILE_LIMIT, Name, le_u32_at, string_at};
 use std::alloc::{AllocError, Global};
 
 /// The version that a symbol gives: its value where it is absolute, else the number in the 4 bytes at its
@@ -33,45 +33,89 @@ pub(crate) fn given_version(object: &Object, symbol: &Symbol) -> Option<u64>
     }
 }
 
-/// The symbol that gives the version of a name: the first.
-#[tactic(auto, unfolding(crate::specs::Exports::version_symbol))]
-pub(crate) fn version_symbol<'a>(
-    object: &'a Object,
-    versions: &NameTable,
-    name: &[u8],
-) -> Option<&'a Symbol>
-    requires { HasFirsts versions.now versioned_name object.now.symbols }
-    ensures { option_copied result ≡ version_symbol object.now name.now }
+/// Whether a symbol lies in the section for exports that modules of a free license alone may use.
+#[tactic(auto, unfolding(crate::specs::Exports::is_gpl_entry))]
+fn is_gpl_entry(object: &Object, symbol: &Symbol) -> bool
+    ensures { result ≡ is_gpl_entry object.now symbol.now }
 {
-    match versions.get(name) {
-        Some(i) => Some(object.symbol(i)),
-        None => None,
+    let i = u32::from(symbol.section);
+    i < object.section_count() && object.section(i).name.as_bytes() == b"__ksymtab_gpl".as_slice()
+}
+
+/// The namespace that a symbol gives: the text at its value in its section. An absolute symbol gives none, nor does
+/// one whose section has no bytes in the file.
+#[tactic(auto, unfolding(crate::specs::Exports::given_space))]
+pub(crate) fn given_space<'a>(object: &'a Object, symbol: &Symbol) -> Option<&'a [u8]>
+    ensures { option_copied result ≡ given_space object.now symbol.now }
+{
+    let bytes = section_contents(object, u32::from(symbol.section));
+    string_at(bytes, symbol.value as usize)
+}
+
+/// The namespace of an export, empty where no symbol gives one.
+fn space_of<'a>(object: &'a Object, tables: &SymbolTables, name: &[u8]) -> &'a [u8]
+    requires { HasTables tables.now object.now }
+    ensures { result.now ≡ unwrap_or (option_and_then (given_space object.now) (symbol_of Role.Space object.now name.now)) [] }
+{
+    match symbol_of(object, tables, Role::Space, name) {
+        Some(symbol) => given_space(object, symbol).unwrap_or(&[]),
+        None => &[],
     }
 }
 
-/// The export of a name.
+/// The version of an export, where a symbol gives one.
+fn version_of(object: &Object, tables: &SymbolTables, name: &[u8]) -> Option<u64>
+    requires { HasTables tables.now object.now }
+    ensures { result ≡ option_and_then (given_version object.now) (symbol_of Role.Version object.now name.now) }
+{
+    let symbol = symbol_of(object, tables, Role::Version, name)?;
+    given_version(object, symbol)
+}
+
+/// Whether an export is for modules of a free license alone.
+fn is_gpl(object: &Object, tables: &SymbolTables, name: &[u8]) -> bool
+    requires { HasTables tables.now object.now }
+    ensures { result ≡ option_map_or (is_gpl_entry object.now) (symbol_of Role.Export object.now name.now) false }
+{
+    match symbol_of(object, tables, Role::Export, name) {
+        Some(symbol) => is_gpl_entry(object, symbol),
+        None => false,
+    }
+}
+
+/// The export of a name, whose namespace has at most so many bytes.
+///
+/// # Errors
+///
+/// Want of memory, also where the namespace is longer.
 #[tactic(auto, unfolding(crate::specs::Exports::export_of))]
 fn read_export(
     alloc: Global,
     object: &Object,
     tables: &SymbolTables,
     name: &[u8],
+    left: usize,
 ) -> Result<Export, AllocError>
     requires { HasTables tables.now object.now }
-    ensures { IfOk result (λ export. export ≡ export_of object.now name.now) }
+    ensures export { IfOk result (λ export. export ≡ export_of object.now name.now) }
+    ensures short { IfOk result (λ export. length export.space ≤ left) }
 {
-    let crc = match version_symbol(object, &tables.versions, name) {
-        Some(symbol) => given_version(object, symbol),
-        None => None,
-    };
+    let space = space_of(object, tables, name);
+    if left < space.len() {
+        return Err(AllocError);
+    }
     Ok(Export {
         name: Name::from_slice(alloc, name)?,
-        symbol: tables.definitions.get(name).unwrap_or(0),
-        crc,
+        symbol: tables.first_symbol(Role::Definition, name).unwrap_or(0),
+        crc: version_of(object, tables, name),
+        gpl: is_gpl(object, tables, name),
+        space: Name::from_slice(alloc, space)?,
     })
 }
 
-/// The exports, in the order of the symbols that state them.
+/// The exports, in the order of the symbols that state them. Namespaces may share their bytes in the file, so a small
+/// file can ask for any number of them: where they would have more bytes together than a file may have, memory is
+/// wanting.
 #[tactic(auto, unfolding(crate::specs::Exports::exports_of))]
 pub(crate) fn read_exports(
     alloc: Global,
@@ -82,9 +126,12 @@ pub(crate) fn read_exports(
     ensures { IfOk result (λ exports. exports ≡ exports_of object.now) }
 {
     let mut exports = Exports::new(alloc);
+    let mut left = FILE_LIMIT;
     for i in 0..object.symbol_count() {
         if let Some(name) = stated_name(Role::Export, object.symbol(i)) {
-            exports.push(read_export(alloc, object, tables, name)?)?;
+            let export = read_export(alloc, object, tables, name, left)?;
+            left -= export.space.len();
+            exports.push(export)?;
         }
     }
     Ok(exports)

@@ -6,11 +6,10 @@ use bstr::BStr;
 use elf_object::ObjectFault;
 use km_names::{Blob, Name};
 use std::alloc::{AllocError, AllocFailed, Global};
-use std::fmt;
 use thiserror::Error;
 
 /// Why a file isn't taken for a kernel module.
-#[derive(Drop, Error)]
+#[derive(Debug, Drop, Error)]
 pub enum ModuleFault {
     /// Its path is that of a compressed module.
     #[error("compressed")]
@@ -34,30 +33,12 @@ pub enum ModuleFault {
     /// The versions of the needs or of the exports can't be as they are.
     #[error("bad versions")]
     BadVersions,
+    /// The symbol that is to give the namespace of the export `name` gives none.
+    #[error("bad namespace of {}", BStr::new(.name.as_bytes()))]
+    BadNamespace { name: Name },
     /// Memory ran out.
     #[error("out of memory")]
     Memory,
-}
-
-impl fmt::Debug for ModuleFault {
-    fn fmt<W: fmt::Write>(&self, f: &mut fmt::Formatter<W>) -> fmt::Result {
-        match self {
-            ModuleFault::Compressed => f.write_str("Compressed"),
-            ModuleFault::Object(fault) => f.debug_tuple("Object").field(fault).finish(),
-            ModuleFault::NameTooLong => f.write_str("NameTooLong"),
-            ModuleFault::BadName => f.write_str("BadName"),
-            ModuleFault::ExportTwice { name } => f
-                .debug_struct("ExportTwice")
-                .field("name", &BStr::new(name.as_bytes()))
-                .finish(),
-            ModuleFault::ExportUndefined { name } => f
-                .debug_struct("ExportUndefined")
-                .field("name", &BStr::new(name.as_bytes()))
-                .finish(),
-            ModuleFault::BadVersions => f.write_str("BadVersions"),
-            ModuleFault::Memory => f.write_str("Memory"),
-        }
-    }
 }
 
 impl From<AllocError> for ModuleFault {
@@ -108,6 +89,11 @@ impl ModuleFault {
             ModuleFault::ExportTwice { name } => export_text(alloc, name, b" twice"),
             ModuleFault::ExportUndefined { name } => export_text(alloc, name, b" undefined"),
             ModuleFault::BadVersions => Blob::from_slice(alloc, b"bad versions"),
+            ModuleFault::BadNamespace { name } => {
+                let mut text = Blob::from_slice(alloc, b"bad namespace of ")?;
+                text.extend(name.as_bytes())?;
+                Ok(text)
+            }
             ModuleFault::Memory => Blob::from_slice(alloc, b"out of memory"),
         }
     }

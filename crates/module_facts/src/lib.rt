@@ -1,8 +1,9 @@
-//! The facts of a kernel module: what it exports and needs, with the versions of both, its aliases and its
-//! soft dependencies, or why it is refused.
+//! The facts of a kernel module: what it exports and needs, with the versions of both, who may use the exports, its
+//! aliases and its soft dependencies, or why it is refused.
 //!
-//! It stands on `km_names`, on `elf_object`, whose symbols and sections it reads, and on `modinfo_fields`
-//! for the texts of the section `.modinfo`.
+//! It stands on `km_names`, on `elf_object`, whose symbols and sections it reads, on `modinfo_fields` for the texts of
+//! the section `.modinfo`, and on `name_table`: for each thing that symbols state of names one table has the first
+//! symbol that states it. Facts own what they have, and are small beside the file.
 #![tactic(auto)]
 
 mod checks;
@@ -14,10 +15,11 @@ mod module;
 mod needs;
 mod read;
 mod role;
-mod table;
+mod seen;
 mod tables;
 #[cfg(test)]
 mod tests;
+mod texts;
 mod versions;
 
 pub use facts::{Export, Exports, Facts, Need, Needs};

@@ -1,6 +1,6 @@
 // A module.
 
-ghost use Rattle.module_facts.specs.Module.{IsModule};
+ghost use Rattle.module_facts.specs.Module.{IsModule, IsSound};
 
 use crate::Facts;
 use elf_object::Object;
@@ -14,4 +14,5 @@ pub struct Module {
     /// What it states.
     pub facts: Facts,
     ghost valid: { IsModule object facts },
+    ghost sound: { IsSound object facts },
 }

@@ -1,16 +1,16 @@
 // What a module needs.
 
-ghost use Rattle.std.specs.Prelude.{◌≡◌, ◌≤◌, length, IfOk};
-ghost use Rattle.module_facts.specs.NameTable.{HasFirsts};
+ghost use Rattle.std.specs.Prelude.{◌≡◌, length, map, Some, IfOk};
+ghost use Rattle.name_table.specs.NameTable.{IsTableOf};
+ghost use Rattle.module_facts.specs.Listed.{shown};
 ghost use Rattle.module_facts.specs.Needs.{is_need, need_of, needs_of};
-ghost use Rattle.module_facts.specs.Versions.{entry_name, entry_numbers};
 
-use crate::role::{SHN_UNDEF, STB_WEAK};
-use crate::table::NameTable;
-use crate::versions::{first_entries, stated_version, version_bytes};
+use crate::versions::{Versions, stated_version, version_list, version_table};
 use crate::{Need, Needs};
+use elf_format::{SHN_UNDEF, STB_WEAK};
 use elf_object::{Object, Symbol};
 use km_names::Name;
+use name_table::NameTable;
 use std::alloc::{AllocError, Global};
 
 /// Whether the symbol `i` is needed from elsewhere.
@@ -23,40 +23,39 @@ fn is_need(i: u32, symbol: &Symbol) -> bool
         && symbol.name.as_bytes() != b"_GLOBAL_OFFSET_TABLE_".as_slice()
 }
 
-/// The need that the symbol `i` states, by the bytes and the table of the section `__versions`.
+/// The need that the symbol `i` states, by a version list and the table of its names.
 #[tactic(auto, unfolding(crate::specs::Needs::need_of))]
 fn read_need(
     alloc: Global,
-    versions: &[u8],
-    entries: &NameTable,
+    versions: &Versions,
+    table: &NameTable,
     i: u32,
     symbol: &Symbol,
 ) -> Result<Need, AllocError>
-    requires { HasFirsts entries.now (entry_name versions.now) (entry_numbers versions.now) }
-    ensures { IfOk result (λ need. need ≡ need_of versions.now i symbol.now) }
+    requires { IsTableOf table.now (map (λ v. Some v.name.now) versions.now) }
+    ensures { IfOk result (λ need. need ≡ need_of (map shown versions.now) i symbol.now) }
 {
     let name = symbol.name.as_bytes();
     Ok(Need {
         name: Name::from_slice(alloc, name)?,
         symbol: i,
         weak: symbol.binding == STB_WEAK,
-        crc: stated_version(versions, entries, name),
+        crc: stated_version(versions, table, name),
     })
 }
 
 /// The needs, in the order of their symbols.
 #[tactic(auto, unfolding(crate::specs::Needs::needs_of))]
 pub(crate) fn read_needs(alloc: Global, object: &Object) -> Result<Needs, AllocError>
-    requires { length object.now.file ≤ 67108864 }
     ensures { IfOk result (λ needs. needs ≡ needs_of object.now) }
 {
-    let versions = version_bytes(object);
-    let entries = first_entries(alloc, versions)?;
+    let versions = version_list(alloc, object)?;
+    let table = version_table(alloc, versions.as_slice())?;
     let mut needs = Needs::new(alloc);
     for i in 0..object.symbol_count() {
         let symbol = object.symbol(i);
         if is_need(i, symbol) {
-            needs.push(read_need(alloc, versions, &entries, i, symbol)?)?;
+            needs.push(read_need(alloc, &versions, &table, i, symbol)?)?;
         }
     }
     Ok(needs)

@@ -2,16 +2,19 @@
 
 ghost use Rattle.std.specs.Prelude.{◌≡◌, ◌≤◌, ◌⊎◌, length, None, Some, IfOk, IfErr, OnOk};
 ghost use Rattle.km_names.specs.First.{first};
+ghost use Rattle.km_names.specs.Limit.{file_limit};
+ghost use Rattle.module_facts.specs.Module.{IsSound};
 ghost use Rattle.elf_object.specs.Object.{file_object};
 ghost use Rattle.module_facts.specs.SymbolTables.{HasTables};
 ghost use Rattle.module_facts.specs.Facts.{facts_of, object_facts, texts_of};
 ghost use Rattle.module_facts.specs.Faults.{fact_fault, facts_tests};
 
 use crate::checks::check_facts;
-use crate::contents::named_contents;
+use crate::contents::modinfo_bytes;
 use crate::exports::read_exports;
 use crate::needs::read_needs;
-use crate::tables::{SymbolTables, symbol_tables};
+use crate::tables::SymbolTables;
+use crate::texts::{is_free, names_of};
 use crate::{Facts, Module, ModuleFault};
 use elf_object::Object;
 use km_names::{Blob, PathText, is_compressed, module_name};
@@ -26,11 +29,11 @@ fn read_facts(
     object: &Object,
     tables: &SymbolTables,
 ) -> Result<Facts, AllocError>
-    requires small { length object.now.file ≤ 67108864 }
-    requires tables { HasTables tables.now object.now }
+    requires { HasTables tables.now object.now }
     ensures { IfOk result (λ facts. facts ≡ object_facts path.now object.now) }
 {
-    let texts = fields(alloc, named_contents(object, b".modinfo"))?;
+    let texts = fields(alloc, modinfo_bytes(object))?;
+    let licenses = texts.values_of(alloc, b"license")?;
     Ok(Facts {
         path: PathText::from_slice(alloc, path.as_bytes())?,
         name: module_name(alloc, path)?,
@@ -38,18 +41,19 @@ fn read_facts(
         needs: read_needs(alloc, object)?,
         aliases: texts.values_of(alloc, b"alias")?,
         softdeps: texts.values_of(alloc, b"softdep")?,
+        free: is_free(&licenses),
+        imports: names_of(alloc, &texts, b"import_ns")?,
     })
 }
 
 /// The facts of the module at a path, after all tests that they must pass.
 fn checked_facts(alloc: Global, path: &PathText, object: &Object) -> Result<Facts, ModuleFault>
-    requires { length object.now.file ≤ 67108864 }
     ensures facts { IfOk result (λ facts. facts ≡ object_facts path.now object.now) }
     ensures passed { OnOk result (first (facts_tests object.now (object_facts path.now object.now)) ≡ None) }
     ensures fault { IfErr result
         (λ e. (e ≡ ModuleFault.Memory) ⊎ (first (facts_tests object.now (object_facts path.now object.now)) ≡ Some e)) }
 {
-    let tables = symbol_tables(alloc, object)?;
+    let tables = SymbolTables::new(alloc, object)?;
     let facts = read_facts(alloc, path, object, &tables)?;
     check_facts(alloc, object, &tables, &facts)?;
     Ok(facts)
@@ -63,9 +67,11 @@ fn checked_facts(alloc: Global, path: &PathText, object: &Object) -> Result<Fact
 /// The first test of the module that fails, or `Memory`.
 #[tactic(auto, unfolding(crate::specs::Faults::fact_fault, crate::specs::Faults::module_tests))]
 pub fn read_module(alloc: Global, path: &PathText, bytes: Blob) -> Result<Module, ModuleFault>
-    requires { length bytes ≤ 67108864 }
+    requires { length bytes ≤ file_limit }
     ensures object { IfOk result (λ m. m.object ≡ file_object bytes) }
     ensures facts { IfOk result (λ m. m.facts ≡ facts_of path.now bytes) }
+    ensures path { IfOk result (λ m. m.facts.path ≡ path.now) }
+    ensures sound { IfOk result (λ m. IsSound m.object m.facts) }
     ensures passed { OnOk result (fact_fault path.now bytes ≡ None) }
     ensures fault { IfErr result (λ e. (e ≡ ModuleFault.Memory) ⊎ (fact_fault path.now bytes ≡ Some e)) }
 {

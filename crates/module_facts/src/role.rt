@@ -3,16 +3,8 @@
 ghost use Rattle.std.specs.Prelude.{◌≡◌, option_copied};
 ghost use Rattle.module_facts.specs.Roles.{stated_name};
 
+use elf_format::{SHN_UNDEF, STB_GLOBAL, STB_WEAK};
 use elf_object::Symbol;
-
-/// The section number of an undefined symbol. gABI 4, "Sections", special section indexes.
-pub(crate) const SHN_UNDEF: u16 = 0;
-/// The section number of a symbol whose value is absolute.
-pub(crate) const SHN_ABS: u16 = 0xfff1;
-/// The binding of a symbol that other files see. gABI 4, "Symbol Table", st_info.
-pub(crate) const STB_GLOBAL: u8 = 1;
-/// The binding of a symbol that other files see, and that may stay undefined.
-pub(crate) const STB_WEAK: u8 = 2;
 
 /// What a defined symbol may state of a name.
 #[derive(Clone, Copy)]
@@ -21,12 +13,14 @@ pub(crate) enum Role {
     Export,
     /// `__crc_N` gives the version of N.
     Version,
+    /// `__kstrtabns_N` gives the namespace of N.
+    Space,
     /// A global or weak symbol N is what N stands for.
     Definition,
 }
 
 /// The name that a symbol states in a role.
-#[tactic(auto, unfolding(crate::specs::Roles::exported_name, crate::specs::Roles::versioned_name, crate::specs::Roles::defined_name))]
+#[tactic(auto, unfolding(crate::specs::Roles::stated_name))]
 pub(crate) fn stated_name(role: Role, symbol: &Symbol) -> Option<&[u8]>
     ensures { option_copied result ≡ stated_name role symbol.now }
 {
@@ -37,6 +31,7 @@ pub(crate) fn stated_name(role: Role, symbol: &Symbol) -> Option<&[u8]>
     match role {
         Role::Export => name.strip_prefix(b"__ksymtab_"),
         Role::Version => name.strip_prefix(b"__crc_"),
+        Role::Space => name.strip_prefix(b"__kstrtabns_"),
         Role::Definition => {
             if symbol.binding == STB_GLOBAL || symbol.binding == STB_WEAK {
                 Some(name)

@@ -1,48 +1,75 @@
 // The tables of the names that an object's symbols state.
 
-ghost use Rattle.std.specs.Prelude.{IfOk};
-ghost use Rattle.module_facts.specs.Roles.{stated_name};
-ghost use Rattle.module_facts.specs.NameTable.{HasFirsts};
+ghost use Rattle.std.specs.Prelude.{◌≡◌, IfOk, option_copied};
+ghost use Rattle.name_table.specs.NameTable.{IsTableOf};
+ghost use Rattle.elf_object.specs.Object.{FileObject};
+ghost use Rattle.module_facts.specs.Roles.{first_symbol, stated_names, symbol_of};
 ghost use Rattle.module_facts.specs.SymbolTables.{HasTables};
 
 use crate::role::{Role, stated_name};
-use crate::table::NameTable;
-use elf_object::Object;
+use elf_object::{Object, Symbol};
+use name_table::NameTable;
 use std::alloc::{AllocError, Global};
 
-/// For each name the number of the first symbol that defines it, and of the first that gives its version.
+/// For each role the table of the names that symbols state in it.
 #[derive(Drop)]
 pub(crate) struct SymbolTables<'a> {
-    pub(crate) definitions: NameTable<'a>,
+    pub(crate) exports: NameTable<'a>,
     pub(crate) versions: NameTable<'a>,
+    pub(crate) spaces: NameTable<'a>,
+    pub(crate) definitions: NameTable<'a>,
 }
 
-/// The number of the first symbol that states a name in this role, for each name.
-fn first_symbols<'a>(
-    alloc: Global,
-    object: &'a Object,
-    role: Role,
-) -> Result<NameTable<'a>, AllocError>
-    ensures { IfOk result (λ table. HasFirsts table (stated_name role) object.now.symbols) }
+/// The table of the names that symbols state in a role.
+fn table_of<'a>(alloc: Global, object: &'a Object, role: Role) -> Result<NameTable<'a>, AllocError>
+    ensures { IfOk result (λ table. IsTableOf table (stated_names role object.now)) }
 {
     let mut table = NameTable::new(alloc);
-    for i in (0..object.symbol_count()).rev() {
-        if let Some(name) = stated_name(role, object.symbol(i)) {
-            table.put(name, i)?;
-        }
+    for i in 0..object.symbol_count() {
+        table.push(stated_name(role, object.symbol(i)))?;
     }
     Ok(table)
 }
 
-/// The tables of an object.
-pub(crate) fn symbol_tables<'a>(
-    alloc: Global,
+impl<'a> SymbolTables<'a> {
+    /// The tables of an object.
+    pub(crate) fn new(alloc: Global, object: &'a Object) -> Result<SymbolTables<'a>, AllocError>
+        ensures { IfOk result (λ tables. HasTables tables object.now) }
+    {
+        Ok(SymbolTables {
+            exports: table_of(alloc, object, Role::Export)?,
+            versions: table_of(alloc, object, Role::Version)?,
+            spaces: table_of(alloc, object, Role::Space)?,
+            definitions: table_of(alloc, object, Role::Definition)?,
+        })
+    }
+
+    /// The number of the first symbol that states a name in a role.
+    pub(crate) fn first_symbol(&self, role: Role, name: &[u8]) -> Option<u32>
+        ensures { (object : FileObject) → HasTables self.now object → result ≡ first_symbol role object name.now }
+    {
+        match role {
+            Role::Export => self.exports.place(name),
+            Role::Version => self.versions.place(name),
+            Role::Space => self.spaces.place(name),
+            Role::Definition => self.definitions.place(name),
+        }
+    }
+}
+
+/// The first symbol that states a name in a role.
+#[tactic(auto, unfolding(crate::specs::Roles::symbol_of))]
+pub(crate) fn symbol_of<'a>(
     object: &'a Object,
-) -> Result<SymbolTables<'a>, AllocError>
-    ensures { IfOk result (λ tables. HasTables tables object.now) }
+    tables: &SymbolTables,
+    role: Role,
+    name: &[u8],
+) -> Option<&'a Symbol>
+    requires { HasTables tables.now object.now }
+    ensures { option_copied result ≡ symbol_of role object.now name.now }
 {
-    Ok(SymbolTables {
-        definitions: first_symbols(alloc, object, Role::Definition)?,
-        versions: first_symbols(alloc, object, Role::Version)?,
-    })
+    match tables.first_symbol(role, name) {
+        Some(i) => Some(object.symbol(i)),
+        None => None,
+    }
 }

@@ -42,6 +42,8 @@ fn an_object_without_symbols_states_nothing(rt: HostRuntime) -> Result<(), Fail>
     assert!(rt; module.facts.needs.is_empty());
     assert!(rt; module.facts.aliases.is_empty());
     assert!(rt; module.facts.softdeps.is_empty());
+    assert!(rt; module.facts.free);
+    assert!(rt; module.facts.imports.is_empty());
     assert_eq!(rt; module.object.section_count(), 3);
     Ok(())
 }
@@ -90,6 +92,13 @@ fn faults_have_texts(rt: HostRuntime) -> Result<(), Fail> {
         "export fa undefined",
     )?;
     assert_text(&rt, alloc, &ModuleFault::BadVersions, "bad versions")?;
+    let name = Name::from_slice(alloc, b"fa")?;
+    assert_text(
+        &rt,
+        alloc,
+        &ModuleFault::BadNamespace { name },
+        "bad namespace of fa",
+    )?;
     assert_text(&rt, alloc, &ModuleFault::Memory, "out of memory")
 }
 

@@ -1,54 +1,40 @@
 // The versions that a module states of its needs.
 
-ghost use Rattle.std.specs.Prelude.{◌≡◌, ◌+◌, ◌*◌, ◌/◌, ◌<◌, ◌≤◌, ◌==◌, length, IfOk, IfSome, option_copied};
-ghost use Rattle.std.specs.List.{position};
-ghost use Rattle.elf_object.specs.Object.{FileObject};
-ghost use Rattle.module_facts.specs.NameTable.{HasFirsts};
-ghost use Rattle.module_facts.specs.Versions.{are_bad_entries, before_nul, entry_name, entry_numbers, stated_version, version_bytes};
+ghost use Rattle.std.specs.Prelude.{◌≡◌, ◌+◌, ◌*◌, ◌/◌, ◌<◌, ◌≤◌, ◌-◌, ◌^◌, ◌==◌, [], length, map, drop, Some, IfOk, IfSome, option_copied, option_map};
+ghost use Rattle.std.specs.List.{count_by};
+ghost use Rattle.km_names.specs.Limit.{file_limit};
+ghost use Rattle.name_table.specs.NameTable.{IsTableOf};
+ghost use Rattle.module_facts.specs.Listed.{shown};
+ghost use Rattle.module_facts.specs.Versions.{are_bad_entries, entry_bytes, entry_list, entry_name, extended_bytes, extended_list, is_bad_extended, is_bad_list, stated_version, version_list};
 
-use crate::contents::named_contents;
-use crate::table::NameTable;
+use crate::contents::named_bytes;
 use elf_object::Object;
-use km_names::le_u64_at;
+use km_names::{List, first_string, le_u32_at, le_u64_at};
+use name_table::NameTable;
 use std::alloc::{AllocError, Global};
 
 /// The bytes of an entry of the section `__versions`. The kernel's struct modversion_info,
 /// include/linux/module.h.
 const ENTRY: usize = 64;
 
-/// The bytes of the section `__versions`.
-pub(crate) fn version_bytes(object: &Object) -> &[u8]
-    requires { length object.now.file ≤ 67108864 }
-    ensures bytes { result.now ≡ version_bytes object.now }
-    ensures small { length result.now ≤ 67108864 }
-{
-    named_contents(object, b"__versions")
+/// The bytes of a number of the section `__version_ext_crcs`.
+const NUMBER: usize = 4;
+
+/// A version that a module states of a symbol.
+#[derive(Clone, Copy)]
+pub(crate) struct Version<'a> {
+    name: &'a [u8],
+    number: u64,
 }
 
-/// How many whole entries there are.
-fn entry_count(bytes: &[u8]) -> u32
-    requires { length bytes.now ≤ 67108864 }
-    ensures { result ≡ length bytes.now / 64 }
-{
-    (bytes.len() / ENTRY) as u32
-}
+/// A version list.
+pub(crate) type Versions<'a> = List<Version<'a>>;
 
-/// The place of the first NUL.
-fn nul_place(field: &[u8]) -> Option<usize>
-    ensures place { result ≡ position (λ b. b == 0) field.now }
-    ensures within { IfSome result (λ place. place < length field.now) }
-{
-    field.iter().position(|b| *b == 0)
-}
-
-/// The bytes before the first NUL, where there is one.
-fn before_nul(field: &[u8]) -> Option<&[u8]>
-    ensures { option_copied result ≡ before_nul field.now }
-{
-    match nul_place(field) {
-        Some(end) => Some(&field[..end]),
-        None => None,
-    }
+/// The two sections of extended versions.
+#[derive(Clone, Copy)]
+pub(crate) struct Extended<'a> {
+    crcs: &'a [u8],
+    names: &'a [u8],
 }
 
 /// The name of the entry `k`: what stands before the NUL in its last 56 bytes.
@@ -57,19 +43,19 @@ fn entry_name(bytes: &[u8], k: u32) -> Option<&[u8]>
     ensures { option_copied result ≡ entry_name bytes.now k }
 {
     let start = ENTRY * k as usize + 8;
-    before_nul(&bytes[start..start + 56])
+    first_string(&bytes[start..start + 56])
 }
 
 /// Whether the entries can't be as they are: the last isn't whole, or a name has no NUL.
 #[tactic(auto, unfolding(crate::specs::Versions::are_bad_entries))]
-pub(crate) fn are_bad_entries(bytes: &[u8]) -> bool
-    requires { length bytes.now ≤ 67108864 }
+fn are_bad_entries(bytes: &[u8]) -> bool
+    requires { length bytes.now ≤ file_limit }
     ensures { result ≡ are_bad_entries bytes.now }
 {
     if bytes.len() % ENTRY != 0 {
         return true;
     }
-    for k in 0..entry_count(bytes) {
+    for k in 0..(bytes.len() / ENTRY) as u32 {
         if entry_name(bytes, k).is_none() {
             return true;
         }
@@ -77,28 +63,136 @@ pub(crate) fn are_bad_entries(bytes: &[u8]) -> bool
     false
 }
 
-/// The number of the first entry of a name, for each name.
-pub(crate) fn first_entries<'a>(alloc: Global, bytes: &'a [u8]) -> Result<NameTable<'a>, AllocError>
-    requires { length bytes.now ≤ 67108864 }
-    ensures { IfOk result (λ table. HasFirsts table (entry_name bytes.now) (entry_numbers bytes.now)) }
+/// The list that entries give.
+#[tactic(auto, unfolding(crate::specs::Versions::entry_list))]
+fn entry_list<'a>(alloc: Global, bytes: &'a [u8]) -> Result<Versions<'a>, AllocError>
+    requires { length bytes.now ≤ file_limit }
+    ensures list { IfOk result (λ list. map shown list ≡ entry_list bytes.now) }
+    ensures few { IfOk result (λ list. length list ≤ file_limit) }
+{
+    let mut list = Versions::new(alloc);
+    for k in 0..(bytes.len() / ENTRY) as u32 {
+        if let Some(name) = entry_name(bytes, k) {
+            let number = le_u64_at(bytes, ENTRY * k as usize);
+            list.push(Version { name, number })?;
+        }
+    }
+    Ok(list)
+}
+
+/// How many NULs there are.
+fn nul_count(bytes: &[u8]) -> usize
+    ensures { result ≡ count_by (λ b. b == 0) bytes.now }
+{
+    bytes.iter().filter(|b| **b == 0).count()
+}
+
+/// Whether extended versions can't be as they are: the numbers aren't whole, or are more than the names.
+#[tactic(auto, unfolding(crate::specs::Versions::is_bad_extended))]
+fn is_bad_extended(crcs: &[u8], names: &[u8]) -> bool
+    ensures { result ≡ is_bad_extended crcs.now names.now }
+{
+    crcs.len() % NUMBER != 0 || nul_count(names) < crcs.len() / NUMBER
+}
+
+/// What follows a name and the NUL after it.
+fn after_name<'a>(bytes: &'a [u8], name: &[u8]) -> &'a [u8]
+    requires { length name.now < length bytes.now }
+    ensures { result.now ≡ drop (length name.now + 1) bytes.now }
+{
+    &bytes[name.len() + 1..]
+}
+
+/// The list that extended versions give.
+fn extended_list<'a>(
+    alloc: Global,
+    crcs: &[u8],
+    names: &'a [u8],
+) -> Result<Versions<'a>, AllocError>
+    requires { length crcs.now ≤ file_limit }
+    ensures list { IfOk result (λ list. map shown list ≡ extended_list crcs.now names.now) }
+    ensures few { IfOk result (λ list. length list ≤ file_limit) }
+{
+    let mut list = Versions::new(alloc);
+    let mut rest = names;
+    for k in 0..(crcs.len() / NUMBER) as u32 {
+        let Some(name) = first_string(rest) else {
+            return Ok(list);
+        };
+        let number = u64::from(le_u32_at(crcs, NUMBER * k as usize));
+        list.push(Version { name, number })?;
+        rest = after_name(rest, name);
+    }
+    Ok(list)
+}
+
+/// The sections of extended versions, where both stand in the file.
+#[tactic(auto, unfolding(crate::specs::Versions::extended_bytes))]
+fn extended_sections(object: &Object) -> Option<Extended<'_>>
+    ensures bytes { option_map (λ x. (x.crcs.now, x.names.now)) result ≡ extended_bytes object.now }
+    ensures short { IfSome result (λ x. length x.crcs.now ≤ file_limit) }
+{
+    let crcs = named_bytes(object, b"__version_ext_crcs")?;
+    let names = named_bytes(object, b"__version_ext_names")?;
+    Some(Extended { crcs, names })
+}
+
+/// The version list of a module.
+#[tactic(auto, unfolding(crate::specs::Versions::version_list))]
+pub(crate) fn version_list<'a>(
+    alloc: Global,
+    object: &'a Object,
+) -> Result<Versions<'a>, AllocError>
+    ensures list { IfOk result (λ list. map shown list ≡ version_list object.now) }
+    ensures few { IfOk result (λ list. length list ≤ file_limit) }
+{
+    match extended_sections(object) {
+        Some(sections) => extended_list(alloc, sections.crcs, sections.names),
+        None => match named_bytes(object, b"__versions") {
+            Some(bytes) => entry_list(alloc, bytes),
+            None => Ok(Versions::new(alloc)),
+        },
+    }
+}
+
+/// Whether what gives the version list can't be as it is.
+#[tactic(auto, unfolding(crate::specs::Versions::is_bad_list))]
+pub(crate) fn is_bad_list(object: &Object) -> bool
+    ensures { result ≡ is_bad_list object.now }
+{
+    match extended_sections(object) {
+        Some(sections) => is_bad_extended(sections.crcs, sections.names),
+        None => match named_bytes(object, b"__versions") {
+            Some(bytes) => are_bad_entries(bytes),
+            None => false,
+        },
+    }
+}
+
+/// The table of the names of a version list.
+pub(crate) fn version_table<'a>(
+    alloc: Global,
+    list: &[Version<'a>],
+) -> Result<NameTable<'a>, AllocError>
+    requires { length list.now < 2 ^ 32 - 1 }
+    ensures { IfOk result (λ t. IsTableOf t (map (λ v. Some v.name.now) list.now)) }
 {
     let mut table = NameTable::new(alloc);
-    for k in (0..entry_count(bytes)).rev() {
-        if let Some(name) = entry_name(bytes, k) {
-            table.put(name, k)?;
-        }
+    for version in list {
+        table.push(Some(version.name))?;
     }
     Ok(table)
 }
 
-/// The version that the first entry of a name states.
+/// The version that a list has for a name: that of the first entry of the name.
 #[tactic(auto, unfolding(crate::specs::Versions::stated_version))]
-pub(crate) fn stated_version(bytes: &[u8], table: &NameTable, name: &[u8]) -> Option<u64>
-    requires { HasFirsts table.now (entry_name bytes.now) (entry_numbers bytes.now) }
-    ensures { result ≡ stated_version bytes.now name.now }
+pub(crate) fn stated_version(list: &Versions, table: &NameTable, name: &[u8]) -> Option<u64>
+    requires { IsTableOf table.now (map (λ v. Some v.name.now) list.now) }
+    ensures { result ≡ stated_version (map shown list.now) name.now }
 {
-    match table.get(name) {
-        Some(k) => Some(le_u64_at(bytes, ENTRY * k as usize)),
+    let place = table.place(name)?;
+    match list.get(place as usize) {
+        Some(version) => Some(version.number),
         None => None,
     }
 }

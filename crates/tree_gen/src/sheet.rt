@@ -86,7 +86,7 @@ pub struct SheetSpace {
     /// The export.
     pub name: Name,
     /// The namespace, which isn't empty.
-    pub space: Blob,
+    pub space: Name,
 }
 
 /// A list of namespaces of exports.

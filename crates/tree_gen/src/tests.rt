@@ -284,7 +284,7 @@ fn versioned(alloc: Global, name: &[u8], crc: u64) -> Result<SheetVersion, Alloc
 fn spaced(alloc: Global, name: &[u8], space: &[u8]) -> Result<SheetSpace, AllocError> {
     Ok(SheetSpace {
         name: Name::from_slice(alloc, name)?,
-        space: Blob::from_slice(alloc, space)?,
+        space: Name::from_slice(alloc, space)?,
     })
 }
 

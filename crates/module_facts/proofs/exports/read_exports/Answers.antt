@@ -1,9 +1,10 @@
 use Rattle.std.proofs.Common.{◌∙◌, sym}
-use Rattle.module_facts.specs.Roles.{exported_name}
+use Rattle.module_facts.specs.declared.role.Role.TheVariants.{Export}
+use Rattle.module_facts.specs.Roles.{stated_name}
 use Rattle.module_facts.specs.Exports.{export_of}
 use Rattle.module_facts.proofs.ListLemmas.{filter_map-given, filter_map-silent}
 use Rattle.module_facts.proofs.exports.read_exports.Goals as goal
-use Rattle.module_facts.proofs.exports.read_exports.Goals.{in-Some+in_ok-read_export+in_ok-push, in_default}
+use Rattle.module_facts.proofs.exports.read_exports.Goals.{in-Some+in_ok-export+in_ok-push, in_default}
 
 pub loop-i-preserved : goal.loop-i-preserved
 loop-i-preserved c =
@@ -11,11 +12,11 @@ loop-i-preserved c =
     let i = c.loop-i.i in
     let s = c.symbol.result.now in
     elim c.match-stated_name.branch [
-      | in-Some+in_ok-read_export+in_ok-push w ↦
+      | in-Some+in_ok-export+in_ok-push w ↦
           w.exports-is ∙ w.in_ok-push.ensures.ok
-          ∙ rw (c.loop-i.invariant, w.in_ok-read_export.ensures)
-          (sym (filter_map-given exported_name (export_of o) o.symbols i s w.in-Some.name.now c.symbol.ensures.symbol w.in-Some.ensures))
+          ∙ rw (c.loop-i.invariant, w.in_ok-export.ensures.export)
+          (sym (filter_map-given (stated_name Export) (export_of o) o.symbols i s w.in-Some.name.now c.symbol.ensures.symbol w.in-Some.ensures))
       | in_default w ↦
           w.exports-is ∙ c.loop-i.invariant
-          ∙ sym (filter_map-silent exported_name (export_of o) o.symbols i s c.symbol.ensures.symbol w.in_default.ensures)
+          ∙ sym (filter_map-silent (stated_name Export) (export_of o) o.symbols i s c.symbol.ensures.symbol w.in_default.ensures)
     ]

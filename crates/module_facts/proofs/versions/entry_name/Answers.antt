@@ -1,5 +1,6 @@
 use Rattle.std.proofs.Common.{◌≡◌, ◌+◌, ◌-◌, ◌*◌, ◌∙◌, take, drop, ap, arith}
-use Rattle.module_facts.specs.Versions.{before_nul, entry_name}
+use Rattle.km_names.specs.Strings.{first_string}
+use Rattle.module_facts.specs.Versions.{entry_name}
 use Rattle.module_facts.proofs.versions.entry_name.Goals as goal
 
 pub returns : goal.returns
@@ -7,4 +8,4 @@ unfolding entry_name
 returns c =
     let start = 64 * c.args.k + 8 in
     let size : start + 56 - start ≡ 56 = omega arith in
-    c.before_nul.ensures ∙ ap (λ n. before_nul (take n (drop start c.args.bytes.now))) size
+    c.first_string.ensures.string ∙ ap (λ n. first_string (take n (drop start c.args.bytes.now))) size

@@ -1,8 +1,12 @@
-use Rattle.std.proofs.Common.{◌∙◌, sym, arith}
-use Rattle.module_facts.proofs.EntryLemmas.{first_stating-whole}
+use Rattle.std.proofs.Common.{ap, option_map, ◌∙◌}
+use Rattle.module_facts.specs.declared.versions.Version.{Version}
+use Rattle.module_facts.proofs.VersionLemmas.{stated-found, stated-none}
 use Rattle.module_facts.proofs.versions.stated_version.Goals as goal
 
-pub le_u64_at-requires : goal.le_u64_at-requires
-le_u64_at-requires c =
-    let whole = first_stating-whole c.args.bytes.now c.args.name.now c.in-Some.k (sym (c.requires.at c.args.name.now) ∙ sym c.in-Some.ensures) in
-    omega arith
+pub returns-in_err-place : goal.returns-in_err-place
+returns-in_err-place c = c.from_residual.ensures ∙ stated-none c.args.list.now c.args.name.now (c.in_err-place.ensures ∙ c.requires.places c.args.name.now)
+
+pub returns-in-Some : goal.returns-in-Some
+returns-in-Some c =
+    ap (option_map (λ (v : Version). v.number)) c.in-Some.ensures.item
+    ∙ stated-found c.args.list.now c.args.name.now c.in_ok-place.place (c.in_ok-place.ensures ∙ c.requires.places c.args.name.now)

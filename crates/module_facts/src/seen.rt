@@ -1,0 +1,42 @@
+// How often names are seen.
+
+ghost use Rattle.std.specs.Prelude.{◌≡◌, ℕ, List, None, Some, OnOk, if◌then◌else◌};
+ghost use Rattle.std.specs.Str.{bytes_eq};
+
+use indexmap::IndexMap;
+use std::alloc::{AllocError, Global};
+
+/// How often some names were seen: once, or 2 for more.
+#[derive(Drop)]
+pub(crate) struct SeenNames<'a> {
+    times: IndexMap<&'a [u8], u8>,
+}
+
+impl<'a> SeenNames<'a> {
+    ghost use Rattle.module_facts.specs.Times.{times_seen};
+
+    /// No name was seen.
+    pub(crate) fn new(alloc: Global) -> Self
+        ensures { (name : List ℕ) → times_seen result name ≡ None }
+    {
+        SeenNames {
+            times: IndexMap::new(alloc),
+        }
+    }
+
+    /// Puts in how often a name was seen.
+    pub(crate) fn put(&mut self, name: &'a [u8], times: u8) -> Result<(), AllocError>
+        ensures { OnOk result ((other : List ℕ) → times_seen self.new other
+            ≡ (if bytes_eq name.now other then Some times else times_seen self.old other)) }
+    {
+        self.times.insert(name, times)?;
+        Ok(())
+    }
+
+    /// How often a name was seen, if it was.
+    pub(crate) fn get(&self, name: &[u8]) -> Option<u8>
+        ensures { result ≡ times_seen self.now name.now }
+    {
+        self.times.get(name).copied()
+    }
+}

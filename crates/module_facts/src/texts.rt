@@ -1,0 +1,45 @@
+// What the texts of the section `.modinfo` state.
+
+ghost use Rattle.std.specs.Prelude.{◌≡◌, IfOk};
+ghost use Rattle.modinfo_fields.specs.Fields.{values_of_key};
+ghost use Rattle.module_facts.specs.Facts.{is_free, is_free_license};
+
+use km_names::{Name, Names, Texts};
+use modinfo_fields::FieldList;
+use std::alloc::{AllocError, Global};
+
+/// Whether a module of this license may use what is GPL-only. The kernel's include/linux/license.h.
+#[tactic(auto, unfolding(crate::specs::Facts::is_free_license))]
+fn is_free_license(license: &[u8]) -> bool
+    ensures { result ≡ is_free_license license.now }
+{
+    license == b"GPL".as_slice()
+        || license == b"GPL v2".as_slice()
+        || license == b"GPL and additional rights".as_slice()
+        || license == b"Dual BSD/GPL".as_slice()
+        || license == b"Dual MIT/GPL".as_slice()
+        || license == b"Dual MPL/GPL".as_slice()
+}
+
+/// Whether the first of these licenses is free; without one none is.
+#[tactic(auto, unfolding(crate::specs::Facts::is_free))]
+pub(crate) fn is_free(licenses: &Texts) -> bool
+    ensures { result ≡ is_free licenses.now }
+{
+    match licenses.get(0) {
+        Some(license) => is_free_license(license.as_bytes()),
+        None => false,
+    }
+}
+
+/// The values of a key, as names.
+pub(crate) fn names_of(alloc: Global, fields: &FieldList, key: &[u8]) -> Result<Names, AllocError>
+    ensures { IfOk result (λ names. names ≡ values_of_key key.now fields.now) }
+{
+    let values = fields.values_of(alloc, key)?;
+    let mut names = Names::new(alloc);
+    for value in values.as_slice() {
+        names.push(Name::from_slice(alloc, value.as_bytes())?)?;
+    }
+    Ok(names)
+}
