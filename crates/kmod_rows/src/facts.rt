@@ -154,7 +154,7 @@ fn assert_need(rt: &impl Abort, need: &Need, name: &[u8], weak: bool, crc: Optio
 }
 
 /// The facts of the object at the path.
-fn facts_at(
+pub(crate) fn facts_at(
     rt: &impl Abort,
     alloc: Global,
     path: &[u8],
@@ -219,7 +219,12 @@ fn a_need_has_its_place(rt: HostRuntime) -> Result<(), Fail> {
 }
 
 /// The fault of the object at the path.
-fn fault_at(rt: &impl Abort, alloc: Global, path: &[u8], bytes: Blob) -> Result<ModuleFault, Fail> {
+pub(crate) fn fault_at(
+    rt: &impl Abort,
+    alloc: Global,
+    path: &[u8],
+    bytes: Blob,
+) -> Result<ModuleFault, Fail> {
     let path = PathText::from_slice(alloc, path)?;
     assert!(rt; bytes.len() <= 67_108_864);
     match read_module(alloc, &path, bytes) {

@@ -5,6 +5,8 @@
 #[cfg(test)]
 mod facts;
 #[cfg(test)]
+mod facts_more;
+#[cfg(test)]
 mod modinfo;
 #[cfg(test)]
 mod object;
