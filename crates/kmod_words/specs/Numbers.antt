@@ -30,8 +30,8 @@ region_of text =
     option_and_then (λ base. option_and_then (region_from base) (prefixed_hexadecimal (after_first (λ b. b == 58) text)))
     (prefixed_hexadecimal (before_first (λ b. b == 58) text))
 
--- The region that is asked for, or else the one where the kernel places modules on x86-64 (Documentation/arch/x86/x86_64/mm.rst), less its
--- last pages.
+-- The region that is asked for, or else the one of the kernel on x86-64: MODULES_VADDR up to MODULES_END of
+-- arch/x86/include/asm/pgtable_64_types.h.
 abbrev pub region_or_usual : Option (List ℕ) → Option Region
 region_or_usual None = Some (record { base = 0xffffffffc0000000; size = 0x3f000000 })
 region_or_usual (Some text) = region_of text
