@@ -77,30 +77,34 @@ fn relocation_count(sections: &Sections) -> Result<usize, AllocError>
     Ok((TABLE_LIMIT - left) / RELA_SIZE)
 }
 
-/// Adds the places of the section `index`, where it holds relocations of a section that is kept.
+/// Adds the places of the section `index`, where it holds relocations of a section that is kept, and answers the
+/// order of all places by that of the places before. Almost all time of a read goes to its loop, so it stays a
+/// function of its own.
+#[inline(never)]
 fn read_section_places(
     sections: &Sections,
     symbols: &[Symbol],
     index: u32,
     places: &mut Vec<RelaPlace>,
-    order: &mut Order,
-) -> Result<(), ObjectFault>
+    before: Order,
+) -> Result<Order, ObjectFault>
     requires small { length sections.now.file ≤ file_limit }
     requires read { IsRead sections.now.file sections.now.list }
-    requires order { IsOrderOf order.old places.old.items }
+    requires order { IsOrderOf before places.old.items }
     requires fit { TablesFit sections.now.file }
     requires index { index < length sections.now.list }
     requires symbols { symbols.now ≡ symbols_of sections.now.file }
     ensures places { OnOk result
         (places.new.items ≡ places.old.items ++ section_places sections.now.file index) }
-    ensures order { OnOk result (IsOrderOf order.new places.new.items) }
+    ensures order { IfOk result (λ order. IsOrderOf order places.new.items) }
     ensures passed { OnOk result (rela_test sections.now.file index ≡ None) }
     ensures fault { IfErr result (λ e. (e ≡ ObjectFault.Memory)
         ⊎ (rela_test sections.now.file index ≡ Some e)) }
 {
     if !is_applied(sections, index) {
-        return Ok(());
+        return Ok(before);
     }
+    let mut order = before;
     let number = sections.section(index).info;
     let target = sections.section(number);
     let table = sections.section_bytes(index);
@@ -110,7 +114,7 @@ fn read_section_places(
         order.meet(&place, width);
         places.push(place)?;
     }
-    Ok(())
+    Ok(order)
 }
 
 /// Reads the places of a file, and says whether they stand in order.
@@ -134,7 +138,7 @@ pub(crate) fn read_places(
     let mut places = Vec::with_capacity(alloc, relocation_count(sections)?)?;
     let mut order = Order::new();
     for index in 0..sections.section_count() {
-        read_section_places(sections, symbols, index, &mut places, &mut order)?;
+        order = read_section_places(sections, symbols, index, &mut places, order)?;
     }
     Ok((List::from_vec(places), order))
 }

@@ -6,6 +6,7 @@ use Rattle.elf_object.specs.Object.{FileObject, file_object, object_fault}
 use Rattle.elf_object.specs.Shape.{fault_if}
 use Rattle.module_facts.specs.declared.facts.Facts.{Facts}
 use Rattle.module_facts.specs.declared.fault.ModuleFault.TheVariants.{BadVersions}
+use Rattle.module_facts.specs.Exports.{exports_of}
 use Rattle.module_facts.specs.Facts.{object_facts}
 use Rattle.module_facts.specs.Module.{IsModule}
 use Rattle.module_facts.specs.Faults.{fact_fault, facts_tests, has_bad_versions, has_good_names, module_tests, space_test, twice_test, undefined_test}
@@ -29,6 +30,10 @@ fact_fault-none path b plain object facts = rw (plain, object, facts) refl
 pub object_facts-path : (path : List ℕ) (o : FileObject) → (object_facts path o).path ≡ path
 unfolding object_facts
 object_facts-path path o = refl
+
+pub object_facts-exports : (path : List ℕ) (o : FileObject) → (object_facts path o).exports ≡ exports_of o
+unfolding object_facts
+object_facts-exports path o = refl
 
 -- what was read is a module
 pub IsModule-read : (path b : List ℕ) (o : FileObject) (f : Facts) → o ≡ file_object b → f ≡ object_facts path o → fact_fault path b ≡ None → IsModule o f

@@ -1,5 +1,5 @@
 -- The symbols that state names.
-use Rattle.std.proofs.Common.{◌≡◌, ℕ, ◌<◌, List, length, Some, None, sym, arith}
+use Rattle.std.proofs.Common.{◌≡◌, ℕ, ◌<◌, Bor, List, length, Option, Some, None, is_some, option_copied, false, true≢false, sym, arith}
 use Rattle.std.proofs.lemmas.List.{length-map}
 use Rattle.std.proofs.lemmas.List.Quantifiers.{position-Some}
 use Rattle.name_table.specs.NameTable.{states}
@@ -12,3 +12,8 @@ pub first_symbol-within : (role : Role) (o : FileObject) (name : List ℕ) (i : 
 first_symbol-within role o name i is =
     let within : i < length (stated_names role o) = (position-Some (states name) (stated_names role o) i None (sym is)).0 in
     omega (arith, within, length-map o.symbols (stated_name role))
+
+-- what a symbol doesn't state
+pub states-nothing : (found : Option (Bor (List ℕ))) (name : Option (List ℕ)) → option_copied found ≡ name → is_some found ≡ false → None ≡ name
+states-nothing None name is none = is
+states-nothing (Some x) name is none = absurd (true≢false none)

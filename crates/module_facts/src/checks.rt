@@ -5,7 +5,7 @@ ghost use Rattle.std.specs.List.{list_all, list_any};
 ghost use Rattle.km_names.specs.Ascii.{is_graphic};
 ghost use Rattle.km_names.specs.First.{first};
 ghost use Rattle.module_facts.specs.Times.{HasSeen};
-ghost use Rattle.module_facts.specs.SymbolTables.{HasTables};
+ghost use Rattle.module_facts.specs.SymbolTables.{AreTablesFor, HasTables};
 ghost use Rattle.module_facts.specs.Faults.{facts_tests, has_bad_space, has_bad_version, has_bad_versions, has_good_names, is_twice, is_undefined, space_test, twice_test, undefined_test};
 
 use crate::exports::{given_space, given_version};
@@ -98,28 +98,26 @@ fn is_undefined(object: &Object, tables: &SymbolTables, export: &Export) -> bool
 /// The first export that no symbol defines.
 fn first_undefined<'a>(
     object: &Object,
-    tables: &SymbolTables,
+    tables: Option<&SymbolTables>,
     exports: &'a [Export],
 ) -> Option<&'a Export>
-    requires { HasTables tables.now object.now }
+    requires { AreTablesFor exports.now object.now (option_copied tables) }
     ensures { option_copied result ≡ find (is_undefined object.now) exports.now }
 {
-    for export in exports {
-        if is_undefined(object, tables, export) {
-            return Some(export);
-        }
-    }
-    None
+    let tables = tables?;
+    exports
+        .iter()
+        .find(|export| is_undefined(object, tables, *export))
 }
 
 /// Tests that each export is defined.
 fn check_defined(
     alloc: Global,
     object: &Object,
-    tables: &SymbolTables,
+    tables: Option<&SymbolTables>,
     exports: &[Export],
 ) -> Result<(), ModuleFault>
-    requires { HasTables tables.now object.now }
+    requires { AreTablesFor exports.now object.now (option_copied tables) }
     ensures passed { OnOk result (undefined_test object.now exports.now ≡ None) }
     ensures fault { IfErr result (λ e. (e ≡ ModuleFault.Memory) ⊎ (undefined_test object.now exports.now ≡ Some e)) }
 {
@@ -144,22 +142,26 @@ fn has_bad_version(object: &Object, tables: &SymbolTables, export: &Export) -> b
 }
 
 /// Whether one of the exports has such a version.
-fn has_bad_export_version(object: &Object, tables: &SymbolTables, exports: &[Export]) -> bool
-    requires { HasTables tables.now object.now }
+fn has_bad_export_version(
+    object: &Object,
+    tables: Option<&SymbolTables>,
+    exports: &[Export],
+) -> bool
+    requires { AreTablesFor exports.now object.now (option_copied tables) }
     ensures { result ≡ list_any (has_bad_version object.now) exports.now }
 {
-    for export in exports {
-        if has_bad_version(object, tables, export) {
-            return true;
-        }
-    }
-    false
+    let Some(tables) = tables else {
+        return false;
+    };
+    exports
+        .iter()
+        .any(|export| has_bad_version(object, tables, export))
 }
 
 /// Whether the versions of the needs or of the exports can't be as they are.
 #[tactic(auto, unfolding(crate::specs::Faults::has_bad_versions))]
-fn has_bad_versions(object: &Object, tables: &SymbolTables, exports: &[Export]) -> bool
-    requires { HasTables tables.now object.now }
+fn has_bad_versions(object: &Object, tables: Option<&SymbolTables>, exports: &[Export]) -> bool
+    requires { AreTablesFor exports.now object.now (option_copied tables) }
     ensures { result ≡ has_bad_versions object.now exports.now }
 {
     is_bad_list(object) || has_bad_export_version(object, tables, exports)
@@ -180,28 +182,26 @@ fn has_bad_space(object: &Object, tables: &SymbolTables, export: &Export) -> boo
 /// The first export of which that is so.
 fn first_bad_space<'a>(
     object: &Object,
-    tables: &SymbolTables,
+    tables: Option<&SymbolTables>,
     exports: &'a [Export],
 ) -> Option<&'a Export>
-    requires { HasTables tables.now object.now }
+    requires { AreTablesFor exports.now object.now (option_copied tables) }
     ensures { option_copied result ≡ find (has_bad_space object.now) exports.now }
 {
-    for export in exports {
-        if has_bad_space(object, tables, export) {
-            return Some(export);
-        }
-    }
-    None
+    let tables = tables?;
+    exports
+        .iter()
+        .find(|export| has_bad_space(object, tables, *export))
 }
 
 /// Tests that each symbol for a namespace gives one.
 fn check_spaces(
     alloc: Global,
     object: &Object,
-    tables: &SymbolTables,
+    tables: Option<&SymbolTables>,
     exports: &[Export],
 ) -> Result<(), ModuleFault>
-    requires { HasTables tables.now object.now }
+    requires { AreTablesFor exports.now object.now (option_copied tables) }
     ensures passed { OnOk result (space_test object.now exports.now ≡ None) }
     ensures fault { IfErr result (λ e. (e ≡ ModuleFault.Memory) ⊎ (space_test object.now exports.now ≡ Some e)) }
 {
@@ -218,10 +218,10 @@ fn check_spaces(
 pub(crate) fn check_facts(
     alloc: Global,
     object: &Object,
-    tables: &SymbolTables,
+    tables: Option<&SymbolTables>,
     facts: &Facts,
 ) -> Result<(), ModuleFault>
-    requires { HasTables tables.now object.now }
+    requires { AreTablesFor facts.now.exports object.now (option_copied tables) }
     ensures passed { OnOk result (first (facts_tests object.now facts.now) ≡ None) }
     ensures fault { IfErr result
         (λ e. (e ≡ ModuleFault.Memory) ⊎ (first (facts_tests object.now facts.now) ≡ Some e)) }

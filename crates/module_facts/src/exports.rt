@@ -4,7 +4,7 @@ ghost use Rattle.std.specs.Prelude.{◌≡◌, ◌≤◌, [], false, length, IfO
 ghost use Rattle.std.specs.Option.{option_map_or};
 ghost use Rattle.module_facts.specs.Roles.{symbol_of};
 ghost use Rattle.module_facts.specs.Exports.{export_of, exports_of, given_space, given_version, is_gpl_entry};
-ghost use Rattle.module_facts.specs.SymbolTables.{HasTables};
+ghost use Rattle.module_facts.specs.SymbolTables.{AreTablesFor, HasTables};
 
 use crate::contents::section_contents;
 use crate::role::{Role, stated_name};
@@ -117,7 +117,7 @@ fn read_export(
 /// file can ask for any number of them: where they would have more bytes together than a file may have, memory is
 /// wanting.
 #[tactic(auto, unfolding(crate::specs::Exports::exports_of))]
-pub(crate) fn read_exports(
+fn read_exports(
     alloc: Global,
     object: &Object,
     tables: &SymbolTables,
@@ -135,4 +135,19 @@ pub(crate) fn read_exports(
         }
     }
     Ok(exports)
+}
+
+/// The exports, by the tables of the object; without tables there are none.
+pub(crate) fn exports_by(
+    alloc: Global,
+    object: &Object,
+    tables: Option<&SymbolTables>,
+) -> Result<Exports, AllocError>
+    requires { AreTablesFor (exports_of object.now) object.now (option_copied tables) }
+    ensures { IfOk result (λ exports. exports ≡ exports_of object.now) }
+{
+    match tables {
+        Some(tables) => read_exports(alloc, object, tables),
+        None => Ok(Exports::new(alloc)),
+    }
 }

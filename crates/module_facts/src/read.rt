@@ -1,48 +1,49 @@
 // A module from the bytes of its file.
 
-ghost use Rattle.std.specs.Prelude.{◌≡◌, ◌≤◌, ◌⊎◌, length, None, Some, IfOk, IfErr, OnOk};
+ghost use Rattle.std.specs.Prelude.{◌≡◌, ◌≤◌, ◌⊎◌, length, None, Some, IfOk, IfErr, OnOk, option_copied};
 ghost use Rattle.km_names.specs.First.{first};
 ghost use Rattle.km_names.specs.Limit.{file_limit};
 ghost use Rattle.module_facts.specs.Module.{IsSound};
 ghost use Rattle.elf_object.specs.Object.{file_object};
-ghost use Rattle.module_facts.specs.SymbolTables.{HasTables};
+ghost use Rattle.module_facts.specs.SymbolTables.{AreTablesFor};
+ghost use Rattle.module_facts.specs.Exports.{exports_of};
 ghost use Rattle.module_facts.specs.Facts.{facts_of, object_facts, texts_of};
 ghost use Rattle.module_facts.specs.Faults.{fact_fault, facts_tests};
 
 use crate::checks::check_facts;
 use crate::contents::modinfo_bytes;
-use crate::exports::read_exports;
+use crate::exports::exports_by;
 use crate::needs::read_needs;
-use crate::tables::SymbolTables;
+use crate::tables::{SymbolTables, tables_of};
 use crate::texts::{is_free, names_of};
 use crate::{Facts, Module, ModuleFault};
 use elf_object::Object;
 use km_names::{Blob, PathText, is_compressed, module_name};
-use modinfo_fields::fields;
+use modinfo_fields::field_values;
 use std::alloc::{AllocError, Global};
 
-/// The facts of the module at a path, by its object and the tables of that.
+/// The facts of the module at a path, by its object and the tables of that, where it exports something.
 #[tactic(auto, unfolding(crate::specs::Facts::object_facts, crate::specs::Facts::texts_of))]
 fn read_facts(
     alloc: Global,
     path: &PathText,
     object: &Object,
-    tables: &SymbolTables,
+    tables: Option<&SymbolTables>,
 ) -> Result<Facts, AllocError>
-    requires { HasTables tables.now object.now }
+    requires { AreTablesFor (exports_of object.now) object.now (option_copied tables) }
     ensures { IfOk result (λ facts. facts ≡ object_facts path.now object.now) }
 {
-    let texts = fields(alloc, modinfo_bytes(object))?;
-    let licenses = texts.values_of(alloc, b"license")?;
+    let texts = modinfo_bytes(object);
+    let licenses = field_values(alloc, texts, b"license")?;
     Ok(Facts {
         path: PathText::from_slice(alloc, path.as_bytes())?,
         name: module_name(alloc, path)?,
-        exports: read_exports(alloc, object, tables)?,
+        exports: exports_by(alloc, object, tables)?,
         needs: read_needs(alloc, object)?,
-        aliases: texts.values_of(alloc, b"alias")?,
-        softdeps: texts.values_of(alloc, b"softdep")?,
+        aliases: field_values(alloc, texts, b"alias")?,
+        softdeps: field_values(alloc, texts, b"softdep")?,
         free: is_free(&licenses),
-        imports: names_of(alloc, &texts, b"import_ns")?,
+        imports: names_of(alloc, texts, b"import_ns")?,
     })
 }
 
@@ -53,9 +54,9 @@ fn checked_facts(alloc: Global, path: &PathText, object: &Object) -> Result<Fact
     ensures fault { IfErr result
         (λ e. (e ≡ ModuleFault.Memory) ⊎ (first (facts_tests object.now (object_facts path.now object.now)) ≡ Some e)) }
 {
-    let tables = SymbolTables::new(alloc, object)?;
-    let facts = read_facts(alloc, path, object, &tables)?;
-    check_facts(alloc, object, &tables, &facts)?;
+    let tables = tables_of(alloc, object)?;
+    let facts = read_facts(alloc, path, object, tables.as_ref())?;
+    check_facts(alloc, object, tables.as_ref(), &facts)?;
     Ok(facts)
 }
 

@@ -1,10 +1,11 @@
 // The tables of the names that an object's symbols state.
 
-ghost use Rattle.std.specs.Prelude.{◌≡◌, IfOk, option_copied};
+ghost use Rattle.std.specs.Prelude.{◌≡◌, [], IfOk, IsTrue, option_copied};
 ghost use Rattle.name_table.specs.NameTable.{IsTableOf};
 ghost use Rattle.elf_object.specs.Object.{FileObject};
 ghost use Rattle.module_facts.specs.Roles.{first_symbol, stated_names, symbol_of};
-ghost use Rattle.module_facts.specs.SymbolTables.{HasTables};
+ghost use Rattle.module_facts.specs.Exports.{exports_of};
+ghost use Rattle.module_facts.specs.SymbolTables.{AreTablesFor, HasTables};
 
 use crate::role::{Role, stated_name};
 use elf_object::{Object, Symbol};
@@ -55,6 +56,31 @@ impl<'a> SymbolTables<'a> {
             Role::Definition => self.definitions.place(name),
         }
     }
+}
+
+/// Whether no symbol states an export.
+fn exports_nothing(object: &Object) -> bool
+    ensures { IsTrue result → exports_of object.now ≡ [] }
+{
+    for i in 0..object.symbol_count() {
+        if stated_name(Role::Export, object.symbol(i)).is_some() {
+            return false;
+        }
+    }
+    true
+}
+
+/// The tables of an object that exports something. Most modules export nothing, and need none.
+pub(crate) fn tables_of<'a>(
+    alloc: Global,
+    object: &'a Object,
+) -> Result<Option<SymbolTables<'a>>, AllocError>
+    ensures { IfOk result (AreTablesFor (exports_of object.now) object.now) }
+{
+    if exports_nothing(object) {
+        return Ok(None);
+    }
+    Ok(Some(SymbolTables::new(alloc, object)?))
 }
 
 /// The first symbol that states a name in a role.

@@ -1,11 +1,11 @@
 // What the texts of the section `.modinfo` state.
 
 ghost use Rattle.std.specs.Prelude.{◌≡◌, IfOk};
-ghost use Rattle.modinfo_fields.specs.Fields.{values_of_key};
+ghost use Rattle.modinfo_fields.specs.Fields.{fields_of, values_of_key};
 ghost use Rattle.module_facts.specs.Facts.{is_free, is_free_license};
 
 use km_names::{Name, Names, Texts};
-use modinfo_fields::FieldList;
+use modinfo_fields::field_values;
 use std::alloc::{AllocError, Global};
 
 /// Whether a module of this license may use what is GPL-only. The kernel's include/linux/license.h.
@@ -32,11 +32,11 @@ pub(crate) fn is_free(licenses: &Texts) -> bool
     }
 }
 
-/// The values of a key, as names.
-pub(crate) fn names_of(alloc: Global, fields: &FieldList, key: &[u8]) -> Result<Names, AllocError>
-    ensures { IfOk result (λ names. names ≡ values_of_key key.now fields.now) }
+/// The values of a key in the bytes of the section, as names.
+pub(crate) fn names_of(alloc: Global, bytes: &[u8], key: &[u8]) -> Result<Names, AllocError>
+    ensures { IfOk result (λ names. names ≡ values_of_key key.now (fields_of bytes.now)) }
 {
-    let values = fields.values_of(alloc, key)?;
+    let values = field_values(alloc, bytes, key)?;
     let mut names = Names::new(alloc);
     for value in values.as_slice() {
         names.push(Name::from_slice(alloc, value.as_bytes())?)?;

@@ -6,13 +6,13 @@ use Rattle.elf_object.proofs.TestLemmas.{each-failed, each-passed}
 use Rattle.elf_object.proofs.PlaceLemmas.{places-more}
 use Rattle.elf_object.proofs.places.read_places.Goals as goal
 
-pub returns-in_err-read_section_places-clause-fault :
-    goal.returns-in_err-read_section_places-clause-fault
-returns-in_err-read_section_places-clause-fault c =
+pub returns-in_err-order-clause-fault :
+    goal.returns-in_err-order-clause-fault
+returns-in_err-order-clause-fault c =
     let b = c.args.sections.now.file in
-    let p = err_from_is_err_and c.from_residual-in_err-read_section_places.result c.from_residual-in_err-read_section_places.ensures.1 in
+    let p = err_from_is_err_and c.from_residual-in_err-order.result c.from_residual-in_err-order.ensures.1 in
     rw (p.1, p.2)
-    (elim c.in_err-read_section_places.ensures.fault [
+    (elim c.in_err-order.ensures.fault [
       | inl memory ↦ inl memory
       | inr failed ↦ inr (each-failed (section_count b) (rela_test b) c.loop-index.index _ (omega arith) c.loop-index.invariant.tests failed)
     ])
@@ -21,10 +21,10 @@ pub loop-index-preserved : goal.loop-index-preserved
 loop-index-preserved c =
     let b = c.args.sections.now.file in
     record {
-      tests = below_more _ _ c.loop-index.invariant.tests c.in_ok-read_section_places.ensures.passed;
-      in_order = c.in_ok-read_section_places.ensures.order;
+      tests = below_more _ _ c.loop-index.invariant.tests c.in_ok-order.ensures.passed;
+      in_order = c.in_ok-order.ensures.order;
       places_are =
-          c.in_ok-read_section_places.ensures.places
+          c.in_ok-order.ensures.places
           ∙ rw c.loop-index.invariant.places_are (sym (places-more b c.loop-index.index));
     }
 

@@ -1,7 +1,9 @@
 use Rattle.std.proofs.Common.{ap, sym, ◌∙◌, inl, inr}
 use Rattle.std.proofs.lemmas.Result.{err_from_is_err_and}
 use Rattle.km_names.specs.First.{first}
+use Rattle.module_facts.specs.declared.facts.Facts.{Facts}
 use Rattle.module_facts.specs.Faults.{facts_tests}
+use Rattle.module_facts.proofs.FaultLemmas.{object_facts-exports}
 use Rattle.module_facts.proofs.read.checked_facts.Goals as goal
 
 pub returns-in_err-check_facts-clause-fault : goal.returns-in_err-check_facts-clause-fault
@@ -12,3 +14,9 @@ returns-in_err-check_facts-clause-fault c =
       | inl memory ↦ inl memory
       | inr failed ↦ inr (ap (λ f. first (facts_tests c.args.object.now f)) (sym c.in_ok-facts.ensures) ∙ failed)
     ])
+
+pub check_facts-requires : goal.check_facts-requires
+check_facts-requires c =
+    let tables = rw (← c.as_ref-2.ensures.value) at c.in_ok-tables.ensures in
+    let exports = ap (λ (f : Facts). f.exports) c.in_ok-facts.ensures ∙ object_facts-exports c.args.path.now c.args.object.now in
+    rw exports tables
