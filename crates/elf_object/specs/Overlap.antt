@@ -15,17 +15,19 @@ is_between low high a = nat_le low a && nat_lt a high
 abbrev pub count_at : {X : Type 0} → (X → ℕ) → (X → ℕ) → ℕ → List X → ℕ
 count_at start finish a xs = count_by (λ x. is_between (start x) (finish x) a) xs
 
--- The number of a span's first byte, and the end of its bytes.
+-- The number of a span's first byte.
 abbrev pub span_start : Span → ℕ
 span_start s = s.target * 2 ^ 32 + s.offset
 
+-- The number after that of its last byte.
 abbrev pub span_end : Span → ℕ
 span_end s = span_start s + s.width
 
--- The number of a place's first byte, and the end of its bytes.
+-- The number of a place's first byte.
 abbrev pub place_start : RelaPlace → ℕ
 place_start p = p.target * 2 ^ 32 + p.offset
 
+-- The number after that of its last byte.
 abbrev pub place_end : RelaPlace → ℕ
 place_end p = place_start p + place_width p
 

@@ -20,14 +20,15 @@ fault_if failed fault = if failed then Some fault else None
 abbrev pub each : {F : Type 0} → ℕ → (ℕ → Option F) → List (Option F)
 each n test = map test (range_with_len 0 n)
 
--- Where the section header table begins, how many sections it has, and which of them has their names.
--- gABI 4, "ELF Header", e_shoff, e_shnum and e_shstrndx.
+-- Where the section header table begins. gABI 4, "ELF Header", e_shoff.
 abbrev pub table_place : List ℕ → ℕ
 table_place b = le b 40 8
 
+-- How many sections the file has. gABI 4, "ELF Header", e_shnum.
 abbrev pub section_count : List ℕ → ℕ
 section_count b = le b 60 2
 
+-- Which section has the names of the sections. gABI 4, "ELF Header", e_shstrndx.
 abbrev pub name_table : List ℕ → ℕ
 name_table b = le b 62 2
 
@@ -130,6 +131,7 @@ name_table_test b = fault_if (not ((section_header b (name_table b)).kind == SHT
 unfoldable pub name_test_in : List ℕ → ℕ → ℕ → Option SectionFault
 name_test_in names kind at = fault_if (not (kind == SHT_NULL) && is_none (string_at names at)) (BadString at)
 
+-- The test that the section i, if it is one, has its name in the table of names.
 abbrev pub name_test : List ℕ → ℕ → Option SectionFault
 name_test b i = name_test_in (contents b (name_table b)) (section_header b i).kind (section_header b i).name
 

@@ -104,10 +104,11 @@ entries table = length table / 24
 unfoldable pub symbols_in : List ℕ → List ℕ → List Symbol
 symbols_in table names = map (symbol_in table names) (range_with_len 0 (entries table))
 
--- The bytes of the symbol table of a file, and those of its string table; none where there is no symbol table.
+-- The bytes of the symbol table of a file; none where there is no symbol table.
 unfoldable pub symbol_bytes : List ℕ → List ℕ
 symbol_bytes b = option_map_or (contents b) (symbol_table b) []
 
+-- The bytes of the string table that has the names of a file's symbols; none where there is no symbol table.
 unfoldable pub symbol_names : List ℕ → List ℕ
 symbol_names b = option_map_or (λ t. contents b (section_of b t).link) (symbol_table b) []
 

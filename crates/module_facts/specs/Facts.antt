@@ -21,6 +21,7 @@ free_licenses =
     codes "GPL" ∷ codes "GPL v2" ∷ codes "GPL and additional rights" ∷ codes "Dual BSD/GPL" ∷ codes "Dual MIT/GPL"
     ∷ codes "Dual MPL/GPL" ∷ []
 
+-- The license is one of these.
 unfoldable pub is_free_license : List ℕ → Bool
 is_free_license license = list_any (bytes_eq license) free_licenses
 

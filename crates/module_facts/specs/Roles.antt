@@ -36,9 +36,10 @@ stated_name Definition = defined_name
 abbrev pub stated_names : Role → FileObject → List (Option (List ℕ))
 stated_names role o = map (stated_name role) o.symbols
 
--- The number of the first symbol that states this name in a role, and that symbol.
+-- The number of the first symbol that states this name in a role.
 abbrev pub first_symbol : Role → FileObject → List ℕ → Option ℕ
 first_symbol role o name = first_place (stated_names role o) name
 
+-- That symbol.
 unfoldable pub symbol_of : Role → FileObject → List ℕ → Option Symbol
 symbol_of role o name = option_and_then (slice_get o.symbols) (first_symbol role o name)

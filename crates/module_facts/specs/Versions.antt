@@ -55,6 +55,7 @@ entry bytes k = option_map (λ name. (name, le bytes (64 * k) 8)) (entry_name by
 abbrev pub entry_numbers : List ℕ → List ℕ
 entry_numbers bytes = range_with_len 0 (length bytes / 64)
 
+-- The entries whose names end, each with its number, in order.
 unfoldable pub entry_list : List ℕ → List (List ℕ × ℕ)
 entry_list bytes = filter_map (entry bytes) (entry_numbers bytes)
 

@@ -21,6 +21,7 @@ pub(crate) enum Role {
 
 /// The name that a symbol states in a role.
 #[tactic(auto, unfolding(crate::specs::Roles::stated_name))]
+#[inline]
 pub(crate) fn stated_name(role: Role, symbol: &Symbol) -> Option<&[u8]>
     ensures { option_copied result ≡ stated_name role symbol.now }
 {

@@ -177,7 +177,7 @@ pub(crate) fn version_table<'a>(
     requires { length list.now < 2 ^ 32 - 1 }
     ensures { IfOk result (λ t. IsTableOf t (map (λ v. Some v.name.now) list.now)) }
 {
-    let mut table = NameTable::new(alloc);
+    let mut table = NameTable::with_capacity(alloc, list.len())?;
     for version in list {
         table.push(Some(version.name))?;
     }

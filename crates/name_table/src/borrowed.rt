@@ -1,9 +1,10 @@
-ghost use Rattle.std.specs.Prelude.{◌≡◌, ◌<◌, ◌+◌, ◌-◌, ◌^◌, ℕ, List, [], ◌∷◌, ◌++◌, Option, Some, None, OnOk, OnErr, option_copied, if◌then◌else◌};
+ghost use Rattle.std.specs.Prelude.{◌≡◌, ◌<◌, ◌+◌, ◌-◌, ◌^◌, ℕ, List, [], ◌∷◌, ◌++◌, Option, Some, None, OnOk, OnErr, IfOk, option_copied, if◌then◌else◌};
 ghost use Rattle.std.specs.Option.{option_or};
 ghost use Rattle.std.specs.Str.{bytes_eq};
 ghost use Rattle.indexmap.specs.IndexMap.{get_by, IsUnchanged};
 ghost use Rattle.name_table.specs.NameTable.{IsTableOf, place_of};
 
+use crate::key::Key;
 use indexmap::IndexMap;
 use std::alloc::{AllocError, Global};
 use std::marker::Model;
@@ -12,7 +13,7 @@ use std::marker::Model;
 /// names with their places, and the count of items.
 #[derive(Drop)]
 pub struct NameTable<'a> {
-    places: IndexMap<&'a [u8], u32>,
+    places: IndexMap<Key<'a>, u32>,
     count: u32,
 }
 
@@ -22,21 +23,22 @@ impl<'a> Model for NameTable<'a> {
 
     ghost Value = { Table };
 
-    ghost view = { λ t. record { entries = map (λ e. (e.0.now, e.1)) t.places.entries; count = t.count } };
+    ghost view = { λ t. record { entries = map (λ e. (e.0.bytes.now, e.1)) t.places.entries; count = t.count } };
 }
 
 // Puts a name in with its place, unless it is there.
 fn keep_first<'a>(
-    places: &mut IndexMap<&'a [u8], u32>,
+    places: &mut IndexMap<Key<'a>, u32>,
     name: &'a [u8],
     place: u32,
 ) -> Result<(), AllocError>
-    ensures ok { OnOk result ((other : List ℕ) → get_by (λ k. bytes_eq other k.now) places.new
-        ≡ option_or (get_by (λ k. bytes_eq other k.now) places.old) (if bytes_eq name.now other then Some place else None)) }
+    ensures ok { OnOk result ((other : List ℕ) → get_by (λ k. bytes_eq other k.bytes.now) places.new
+        ≡ option_or (get_by (λ k. bytes_eq other k.bytes.now) places.old) (if bytes_eq name.now other then Some place else None)) }
     ensures err { OnErr result (IsUnchanged places.old places.new) }
 {
-    if places.get(name).is_none() {
-        places.insert(name, place)?;
+    let key = Key::new(name);
+    if places.get(&key).is_none() {
+        places.insert(key, place)?;
     }
     Ok(())
 }
@@ -51,6 +53,17 @@ impl<'a> NameTable<'a> {
             places: IndexMap::new(alloc),
             count: 0,
         }
+    }
+
+    /// The table of no item, with room for so many names.
+    pub fn with_capacity(alloc: Global, names: usize) -> Result<Self, AllocError>
+        ensures empty { IfOk result (λ table. IsTableOf table []) }
+        ensures count { IfOk result (λ table. table.count ≡ 0) }
+    {
+        Ok(NameTable {
+            places: IndexMap::with_capacity(alloc, names)?,
+            count: 0,
+        })
     }
 
     /// Adds an item that states this name, or none. After a refusal the table is as before.
@@ -72,6 +85,6 @@ impl<'a> NameTable<'a> {
     pub fn place(&self, name: &[u8]) -> Option<u32>
         ensures { result ≡ place_of self.now name.now }
     {
-        self.places.get(name).copied()
+        self.places.get(&Key::new(name)).copied()
     }
 }

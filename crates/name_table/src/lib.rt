@@ -7,6 +7,7 @@
 #![tactic(auto)]
 
 mod borrowed;
+mod key;
 mod owned;
 #[cfg(test)]
 mod tests;
