@@ -47,6 +47,8 @@ fn owned(alloc: Global) -> Result<OwnedNameTable, AllocError> {
 #[test]
 fn names_stand_where_they_are_first_stated(rt: HostRuntime) -> Result<(), Fail> {
     let alloc = rt.alloc();
+    let roomy = NameTable::with_capacity(alloc, 4)?;
+    assert!(rt; roomy.place(b"printk").is_none());
     let borrowed = borrowed(alloc)?;
     let owned = owned(alloc)?;
     for (name, place) in PLACES {
