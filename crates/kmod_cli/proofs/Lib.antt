@@ -1,2 +1,4 @@
 pub mod Named
-pub mod ModinfoSteps
+pub mod FileSteps
+pub mod SourceSteps
+pub mod CommandSteps
