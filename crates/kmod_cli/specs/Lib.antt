@@ -3,3 +3,4 @@ pub mod IndexFile
 pub mod KernelModules
 pub mod Modinfo
 pub mod Program
+pub mod PlainKeys

@@ -5,7 +5,7 @@ ghost use Rattle.km_course.specs.Follows.{Answers, Follows};
 ghost use Rattle.kmod_cli.specs.Modinfo.{modinfo_course, path_asked, reads_source, shows, shows_asked, shows_each, shows_word};
 
 use crate::kernel_modules::{KernelModules, modules_folder, path_of_name, read_modules};
-use crate::module_file::{module_fields, read_sections};
+use crate::module_file::{fields_to_show, read_sections};
 use km_course::{End, Stop, say_any};
 use km_names::{Name, PathText, Word};
 use km_outside::{Out, Reads};
@@ -137,7 +137,7 @@ fn show_module<F: Reads, O: Out>(
     // The read takes the path, and the text shows it.
     let named = PathText::from_slice(alloc, path.as_bytes())?;
     let sections = read_sections(alloc, path, files)?;
-    let fields = module_fields(alloc, &sections)?;
+    let fields = fields_to_show(alloc, &sections, options)?;
     let text = show(alloc, &named, &fields, options)?;
     say_any(out, text.as_bytes())
 }

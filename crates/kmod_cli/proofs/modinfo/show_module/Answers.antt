@@ -35,5 +35,5 @@ returns g c = λ err.
     (subst (λ bytes. Follows (λ (x : ⊤). x) (says_any bytes) (world (g.F.Reads.seen c.read_sections.new.files) (g.O.Out.seen c.args.out.now) err) (world (g.F.Reads.seen c.read_sections.new.files) (g.O.Out.seen c.say_any.new.out) err) c.say_any.result)
     (c.as_bytes-2.ensures ∙ c.in_ok-text.ensures
     ∙ ap (λ path. shown path c.in_ok-fields.fields c.args.options.now) (c.in_ok-named.ensures ∙ c.as_bytes.ensures)
-    ∙ ap (λ fields. shown c.args.path fields c.args.options.now) c.in_ok-fields.ensures)
+    ∙ c.in_ok-fields.ensures c.args.path)
     (c.say_any.ensures (g.F.Reads.seen c.read_sections.new.files) err))
