@@ -1,5 +1,6 @@
 //! The program `kmod`: hands the words of the command line, the files of the machine and the standard
-//! streams to `kmod_cli::run`, and exits with its status.
+//! streams to `kmod_cli::run`, and exits with its status. Called by the name of a command, by a link to it, it
+//! is that command.
 #![tactic(auto)]
 
 use km_course::{End, Stop, conclude};
@@ -22,14 +23,31 @@ fn main(rt: HostRuntime) -> ExitCode {
     ExitCode::from(status)
 }
 
-/// The words after the program's name. Words that aren't text aren't understood.
+/// The words after the program's name, and before them that name where it is a command's. Words that aren't
+/// text aren't understood.
 fn command_words(rt: &HostRuntime) -> Result<List<Word>, Stop> {
     let alloc = rt.alloc();
     let mut words = List::new(alloc);
-    for word in env::args(rt).map_err(stop_of)?.skip(1) {
-        words.push(Word::from_text(alloc, word.as_str())?)?;
+    let mut arguments = env::args(rt).map_err(stop_of)?;
+    if let Some(program) = arguments.next() {
+        if let Some(command) = command_called(program.as_str()) {
+            words.push(Word::from_text(alloc, command)?)?;
+        }
+    }
+    for argument in arguments {
+        words.push(Word::from_text(alloc, argument.as_str())?)?;
     }
     Ok(words)
+}
+
+/// The command by whose name the program at the path is called.
+fn command_called(program: &str) -> Option<&'static str> {
+    match program.rsplit('/').next() {
+        Some("depmod") => Some("depmod"),
+        Some("modprobe") => Some("modprobe"),
+        Some("modinfo") => Some("modinfo"),
+        _ => None,
+    }
 }
 
 /// How an error of reading the words stops the program.

@@ -1,2 +1,5 @@
 pub mod Named
-pub mod ModinfoSteps
+pub mod FileSteps
+pub mod SourceSteps
+pub mod CommandSteps
+pub mod FieldSteps

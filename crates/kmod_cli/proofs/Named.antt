@@ -7,7 +7,7 @@ use Rattle.std.proofs.lemmas.Option.{slice_get_cases}
 use Rattle.std.proofs.lemmas.List.Folds.{find_at}
 use Rattle.elf_object.specs.declared.section.Section.{Section}
 use Rattle.elf_object.specs.Sections.{bytes_of}
-use Rattle.kmod_cli.specs.Modinfo.{bytes_if_any}
+use Rattle.kmod_cli.specs.ModuleFile.{bytes_if_any}
 
 from_some : (b : Bool) (n i : ℕ) → Some i ≡ cond b (Some n) None → (b ≡ true) × (n ≡ i)
 from_some true n i e = (refl, cc)

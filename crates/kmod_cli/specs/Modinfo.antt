@@ -1,50 +1,62 @@
 -- The course of `modinfo`. modinfo(8).
-use Rattle.std.specs.Prelude.{ℕ, List, [], ◌∷◌, ◌++◌, codes, Option, Some, None, ⊤}
-use Rattle.std.specs.List.{find, flat_map}
-use Rattle.std.specs.Str.{bytes_eq}
-use Rattle.km_names.specs.Path.{is_compressed}
-use Rattle.elf_object.specs.declared.fault.SectionFault.{SectionFault}
-use Rattle.elf_object.specs.declared.section.Section.{Section}
-use Rattle.elf_object.specs.FaultText.{section_fault_text}
-use Rattle.elf_object.specs.Shape.{shape_fault}
-use Rattle.elf_object.specs.Sections.{FileSections, file_sections, bytes_of}
-use Rattle.modinfo_fields.specs.Fields.{fields_of, values_of_key}
-use Rattle.km_course.specs.Course.{Outcome, Stage, ◌>>=◌, given, ends, when◌then◌else◌, reads, says_any}
-use Rattle.km_course.specs.Course.Outcome.{value, end}
-use Rattle.km_course.specs.declared.end.End.TheVariants.{Refused}
-use Rattle.km_course.specs.declared.refusal.Refusal.TheVariants.{BadModule, Compressed}
-use Rattle.kmod_cli.specs.declared.words.FieldRequest.{FieldRequest}
+use Rattle.std.specs.Prelude.{ℕ, List, Option, Some, None, ⊤}
+use Rattle.km_names.specs.Path.{underscored}
+use Rattle.kmod_words.specs.declared.modinfo.ModinfoWords.{ModinfoWords}
+use Rattle.kmod_words.specs.Modinfo.{modinfo_request}
+use Rattle.modinfo_tool.specs.declared.text.ShowOptions.{ShowOptions}
+use Rattle.modinfo_tool.specs.Show.{shown}
+use Rattle.km_course.specs.Course.{Outcome, Stage, ◌>>=◌, given, gives, ends, each_from, says_any}
+use Rattle.km_course.specs.Course.Outcome.{value}
+use Rattle.km_course.specs.declared.end.End.TheVariants.{NotUnderstood}
+use Rattle.kmod_cli.specs.declared.modinfo.Source.{Source}
+use Rattle.kmod_cli.specs.declared.modinfo.Source.TheVariants.{Paths, Names}
+use Rattle.kmod_cli.specs.ModuleFile.{module_fields, reads_sections}
+use Rattle.kmod_cli.specs.KernelModules.{modules_folder, path_outcome, reads_modules}
 
--- what a file with this first failing test comes to: its sections, or the refusal of the module
-unfoldable pub sections_outcome : List ℕ → List ℕ → Option SectionFault → Outcome FileSections
-sections_outcome path bytes None = value (file_sections bytes)
-sections_outcome path bytes (Some fault) = end (Refused (BadModule path (section_fault_text fault)))
+-- What the words stand for: the names of modules of the kernel of this version below the root, where there is a
+-- version. Its index is read once, before the first word. Else they are paths.
+abbrev pub reads_source : Option (List ℕ) → List ℕ → Stage Source
+reads_source None root = gives Paths
+reads_source (Some version) root = do
+  modules ← reads_modules (modules_folder root version)
+  gives (Names modules)
 
--- The sections of the module at the path. A compressed one is refused unread.
-abbrev pub reads_sections : List ℕ → Stage FileSections
-reads_sections path =
-    when is_compressed path then ends (Refused (Compressed path)) else (do
-      bytes ← reads path
-      given (sections_outcome path bytes (shape_fault bytes)))
+-- The path of the module of a word. In a name `-` is read as `_`.
+abbrev pub path_asked : Source → List ℕ → Outcome (List ℕ)
+path_asked Paths word = value word
+path_asked (Names modules) word = path_outcome modules (underscored word)
 
--- the bytes of the first section of this name, or none where there is no such section
-abbrev pub bytes_if_any : List ℕ → Option Section → List ℕ
-bytes_if_any file None = []
-bytes_if_any file (Some section) = bytes_of file section
+-- The module at the path is read, and its text is one writing.
+abbrev pub shows : List ℕ → ShowOptions → Stage ⊤
+shows path options = do
+  sections ← reads_sections path
+  says_any (shown path (module_fields sections) options)
 
-unfoldable pub bytes_named : List ℕ → FileSections → List ℕ
-bytes_named name sections = bytes_if_any sections.file (find (λ s. bytes_eq s.name name) sections.list)
+-- The module of a word, which is looked up at its turn.
+abbrev pub shows_word : Source → ShowOptions → List ℕ → Stage ⊤
+shows_word source options word = do
+  path ← given (path_asked source word)
+  shows path options
 
--- The texts, each with a line end.
-abbrev pub text_lines : List (List ℕ) → List ℕ
-text_lines texts = flat_map (λ text. text ++ 10 ∷ []) texts
+-- The modules of the words, one after the other.
+abbrev pub shows_each : Source → ShowOptions → List (List ℕ) → Stage ⊤
+shows_each source options words = each_from (λ _ word. shows_word source options word) tt words
 
--- the values of the key among the module's fields, a line each
-abbrev pub value_lines : List ℕ → FileSections → List ℕ
-value_lines key sections = text_lines (values_of_key key (fields_of (bytes_named (codes ".modinfo") sections)))
+-- how modules are to be shown
+abbrev pub options_asked : ModinfoWords → ShowOptions
+options_asked asked = record { field = asked.field; zero = asked.zero }
 
--- The course of `modinfo -F KEY PATH`: the module is read, and the values of the key are one writing.
-abbrev pub field_course : FieldRequest → Stage ⊤
-field_course request = do
-  sections ← reads_sections request.path
-  says_any (value_lines request.key sections)
+-- The course of a request.
+abbrev pub shows_asked : ModinfoWords → Stage ⊤
+shows_asked asked = do
+  source ← reads_source asked.version asked.basedir
+  shows_each source (options_asked asked) asked.words
+
+-- the course of what the words ask for
+abbrev pub modinfo_asked_for : Option ModinfoWords → Stage ⊤
+modinfo_asked_for None = ends NotUnderstood
+modinfo_asked_for (Some asked) = shows_asked asked
+
+-- The course of `modinfo` with these words after it.
+abbrev pub modinfo_course : List (List ℕ) → Stage ⊤
+modinfo_course words = modinfo_asked_for (modinfo_request words)

@@ -1,16 +1,22 @@
--- The course of the words of a command line.
-use Rattle.std.specs.Prelude.{ℕ, List, Option, Some, None, ⊤}
+-- The course of the words of a command line: the first names a command, whose course the others decide.
+use Rattle.std.specs.Prelude.{ℕ, List, [], ◌∷◌, codes, Option, Some, None, if◌then◌else◌, ⊤}
+use Rattle.std.specs.Str.{bytes_eq}
 use Rattle.km_course.specs.Course.{Stage, ends}
 use Rattle.km_course.specs.declared.end.End.TheVariants.{NotUnderstood}
-use Rattle.kmod_cli.specs.declared.words.FieldRequest.{FieldRequest}
-use Rattle.kmod_cli.specs.Words.{request}
-use Rattle.kmod_cli.specs.Modinfo.{field_course}
+use Rattle.kmod_cli.specs.declared.command.Command.{Command}
+use Rattle.kmod_cli.specs.declared.command.Command.TheVariants.{Modinfo}
+use Rattle.kmod_cli.specs.Modinfo.{modinfo_course}
 
--- the course of what the words ask for
-abbrev pub course_of : Option FieldRequest → Stage ⊤
-course_of None = ends NotUnderstood
-course_of (Some request) = field_course request
+-- The command of this name, if there is one.
+unfoldable pub command_named : List ℕ → Option Command
+command_named word = if bytes_eq word (codes "modinfo") then Some Modinfo else None
+
+-- The course of a command with these words after its name.
+abbrev pub course_named : Option Command → List (List ℕ) → Stage ⊤
+course_named None words = ends NotUnderstood
+course_named (Some Modinfo) words = modinfo_course words
 
 -- The course of the words.
 abbrev pub course : List (List ℕ) → Stage ⊤
-course words = course_of (request words)
+course [] = ends NotUnderstood
+course (name ∷ words) = course_named (command_named name) words

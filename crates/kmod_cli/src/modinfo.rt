@@ -1,90 +1,143 @@
-ghost use Rattle.std.specs.Prelude.{◌≡◌, IfOk, codes};
+ghost use Rattle.std.specs.Prelude.{⊤};
 ghost use Rattle.km_outside.specs.OutSeen.{OutSeen};
 ghost use Rattle.km_course.specs.World.{world};
 ghost use Rattle.km_course.specs.Follows.{Answers, Follows};
-ghost use Rattle.elf_object.specs.Shape.{shape_fault};
-ghost use Rattle.kmod_cli.specs.Modinfo.{bytes_named, field_course, reads_sections, sections_outcome, text_lines, value_lines};
+ghost use Rattle.kmod_cli.specs.Modinfo.{modinfo_course, path_asked, reads_source, shows, shows_asked, shows_each, shows_word};
 
-use crate::words::FieldRequest;
-use elf_object::{SectionFault, Sections};
-use km_course::{Refusal, Stop, read_needed, say_any};
-use km_names::{Blob, PathText, Texts, is_compressed};
-use km_outside::{Files, Out, Reads};
-use modinfo_fields::field_values;
-use std::alloc::{AllocError, Global};
+use crate::kernel_modules::{KernelModules, modules_folder, path_of_name, read_modules};
+use crate::module_file::{fields_to_show, read_sections};
+use km_course::{End, Stop, say_any};
+use km_names::{Name, PathText, Word};
+use km_outside::{Out, Reads};
+use kmod_words::{ModinfoWords, read_modinfo};
+use modinfo_tool::{ShowOptions, show};
+use std::alloc::Global;
 
-/// Prints the values of the key among the module's fields, a line each.
-pub(crate) fn print_field<F: Files, O: Out>(
+/// What the words stand for that name the modules to show.
+#[derive(Drop)]
+pub(crate) enum Source {
+    /// Each is the path of a module.
+    Paths,
+    /// Each is the name of one of a kernel's modules.
+    Names(KernelModules),
+}
+
+/// Does what the words after `modinfo` ask for. modinfo(8).
+pub(crate) fn modinfo<F: Reads, O: Out>(
     alloc: Global,
-    request: FieldRequest,
+    words: &[Word],
     files: &mut F,
     out: &mut O,
 ) -> Result<(), Stop>
-    ensures { (err : OutSeen) → Follows (λ x. x) (field_course request)
+    ensures { (err : OutSeen) → Follows (λ x. x) (modinfo_course words.now)
         (world (F.seen files.old) (O.seen out.old) err) (world (F.seen files.new) (O.seen out.new) err) result }
 {
-    let FieldRequest { key, path } = request;
-    let sections = read_sections(alloc, files, path)?;
-    let text = field_text(alloc, &sections, key.as_bytes())?;
-    say_any(out, text.as_bytes())
+    match read_modinfo(alloc, words)? {
+        Some(asked) => show_asked(alloc, asked, files, out),
+        None => Err(Stop::from(End::NotUnderstood)),
+    }
 }
 
-/// The sections of the module at the path. A compressed one is refused unread.
-fn read_sections<F: Reads>(alloc: Global, files: &mut F, path: PathText) -> Result<Sections, Stop>
-    ensures { (out err : OutSeen) → Follows (λ x. x) (reads_sections path)
+/// Shows the modules that are asked for, one after the other.
+fn show_asked<F: Reads, O: Out>(
+    alloc: Global,
+    asked: ModinfoWords,
+    files: &mut F,
+    out: &mut O,
+) -> Result<(), Stop>
+    ensures { (err : OutSeen) → Follows (λ x. x) (shows_asked asked)
+        (world (F.seen files.old) (O.seen out.old) err) (world (F.seen files.new) (O.seen out.new) err) result }
+{
+    let ModinfoWords {
+        field,
+        zero,
+        version,
+        basedir,
+        words,
+    } = asked;
+    let source = read_source(alloc, version, &basedir, files)?;
+    let options = ShowOptions { field, zero };
+    show_each(alloc, &source, &options, words.as_slice(), files, out)
+}
+
+/// What the words stand for: the names of a kernel's modules where there is a version, else paths.
+fn read_source<F: Reads>(
+    alloc: Global,
+    version: Option<Name>,
+    root: &PathText,
+    files: &mut F,
+) -> Result<Source, Stop>
+    ensures { (out err : OutSeen) → Follows (λ x. x) (reads_source version root.now)
         (world (F.seen files.old) out err) (world (F.seen files.new) out err) result }
 {
-    if is_compressed(&path) {
-        return Err(Stop::from(Refusal::Compressed { path }));
+    match version {
+        None => Ok(Source::Paths),
+        Some(version) => {
+            let folder = modules_folder(alloc, root, &version)?;
+            Ok(Source::Names(read_modules(alloc, folder, files)?))
+        }
     }
-    // A failed read and a bad module both name the path in their line.
+}
+
+/// Shows the module of each word, one after the other.
+fn show_each<F: Reads, O: Out>(
+    alloc: Global,
+    source: &Source,
+    options: &ShowOptions,
+    words: &[Name],
+    files: &mut F,
+    out: &mut O,
+) -> Result<(), Stop>
+    ensures { (err : OutSeen) → Follows (λ x. x) (shows_each source.now options.now words.now)
+        (world (F.seen files.old) (O.seen out.old) err) (world (F.seen files.new) (O.seen out.new) err) result }
+{
+    for word in words {
+        show_word(alloc, source, options, word, files, out)?;
+    }
+    Ok(())
+}
+
+/// Shows the module of a word.
+fn show_word<F: Reads, O: Out>(
+    alloc: Global,
+    source: &Source,
+    options: &ShowOptions,
+    word: &Name,
+    files: &mut F,
+    out: &mut O,
+) -> Result<(), Stop>
+    ensures { (err : OutSeen) → Follows (λ x. x) (shows_word source.now options.now word.now)
+        (world (F.seen files.old) (O.seen out.old) err) (world (F.seen files.new) (O.seen out.new) err) result }
+{
+    let path = path_asked(alloc, source, word)?;
+    show_module(alloc, path, options, files, out)
+}
+
+/// The path of the module of a word.
+fn path_asked(alloc: Global, source: &Source, word: &Name) -> Result<PathText, Stop>
+    ensures { Answers (λ x. x) (path_asked source.now word.now) result }
+{
+    match source {
+        Source::Paths => Ok(PathText::from_slice(alloc, word.as_bytes())?),
+        Source::Names(modules) => path_of_name(alloc, modules, word.as_bytes()),
+    }
+}
+
+/// Shows the module at the path.
+fn show_module<F: Reads, O: Out>(
+    alloc: Global,
+    path: PathText,
+    options: &ShowOptions,
+    files: &mut F,
+    out: &mut O,
+) -> Result<(), Stop>
+    ensures { (err : OutSeen) → Follows (λ x. x) (shows path options.now)
+        (world (F.seen files.old) (O.seen out.old) err) (world (F.seen files.new) (O.seen out.new) err) result }
+{
+    // The read takes the path, and the text shows it.
     let named = PathText::from_slice(alloc, path.as_bytes())?;
-    let bytes = read_needed(alloc, files, path)?;
-    check_sections(alloc, bytes, named)
-}
-
-/// The sections of a module's bytes, or the refusal of the module at the path.
-fn check_sections(alloc: Global, bytes: Blob, path: PathText) -> Result<Sections, Stop>
-    ensures { Answers (λ x. x) (sections_outcome path bytes (shape_fault bytes)) result }
-{
-    match Sections::read(alloc, bytes) {
-        Ok(sections) => Ok(sections),
-        Err(fault) => match fault {
-            SectionFault::Memory => Err(Stop::Memory),
-            _ => {
-                let text = fault.text(alloc)?;
-                Err(Stop::from(Refusal::BadModule { path, text }))
-            }
-        },
-    }
-}
-
-/// The values of the key among the module's fields, each with a line end.
-fn field_text(alloc: Global, sections: &Sections, key: &[u8]) -> Result<Blob, AllocError>
-    ensures { IfOk result (λ text. text ≡ value_lines key.now sections.now) }
-{
-    let values = field_values(alloc, module_info(sections), key)?;
-    lines_text(alloc, &values)
-}
-
-/// The bytes of the module's `.modinfo` section; none where there is no such section.
-fn module_info(sections: &Sections) -> &[u8]
-    ensures { result.now ≡ bytes_named (codes ".modinfo") sections.now }
-{
-    match sections.section_named(b".modinfo") {
-        Some(index) => sections.section_bytes(index),
-        None => &[],
-    }
-}
-
-/// The texts, each with a line end.
-fn lines_text(alloc: Global, texts: &Texts) -> Result<Blob, AllocError>
-    ensures { IfOk result (λ text. text ≡ text_lines texts.now) }
-{
-    let mut lines = Blob::new(alloc);
-    for text in texts.as_slice() {
-        lines.extend(text.as_bytes())?;
-        lines.push(b'\n')?;
-    }
-    Ok(lines)
+    let sections = read_sections(alloc, path, files)?;
+    let fields = fields_to_show(alloc, &sections, options)?;
+    let text = show(alloc, &named, &fields, options)?;
+    say_any(out, text.as_bytes())
 }

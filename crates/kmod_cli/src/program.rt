@@ -2,10 +2,10 @@ ghost use Rattle.km_outside.specs.OutSeen.{OutSeen};
 ghost use Rattle.km_course.specs.World.{world};
 ghost use Rattle.km_course.specs.Follows.{Follows};
 ghost use Rattle.km_course.specs.Carries.{Carries};
-ghost use Rattle.kmod_cli.specs.Program.{course};
+ghost use Rattle.kmod_cli.specs.Program.{course, course_named};
 
-use crate::modinfo::print_field;
-use crate::request::read_request;
+use crate::command::{Command, command_named};
+use crate::modinfo::modinfo;
 use km_course::{End, Stop, conclude};
 use km_names::Word;
 use km_outside::{Files, Out};
@@ -29,7 +29,7 @@ pub fn run<F: Files, O: Out, E: Out>(
     conclude(alloc, outcome, err)
 }
 
-/// Does what the words ask for, up to the first refusal.
+/// Does what the words ask for, up to the first refusal. The first word names the command.
 fn perform<F: Files, O: Out>(
     alloc: Global,
     words: &[Word],
@@ -39,8 +39,25 @@ fn perform<F: Files, O: Out>(
     ensures { (err : OutSeen) → Follows (λ x. x) (course words.now)
         (world (F.seen files.old) (O.seen out.old) err) (world (F.seen files.new) (O.seen out.new) err) result }
 {
-    match read_request(alloc, words)? {
-        Some(request) => print_field(alloc, request, files, out),
+    match words {
+        [] => Err(Stop::from(End::NotUnderstood)),
+        [name, rest @ ..] => command(alloc, command_named(name.as_bytes()), rest, files, out),
+    }
+}
+
+/// Does what the words after a command's name ask for.
+fn command<F: Files, O: Out>(
+    alloc: Global,
+    named: Option<Command>,
+    words: &[Word],
+    files: &mut F,
+    out: &mut O,
+) -> Result<(), Stop>
+    ensures { (err : OutSeen) → Follows (λ x. x) (course_named named words.now)
+        (world (F.seen files.old) (O.seen out.old) err) (world (F.seen files.new) (O.seen out.new) err) result }
+{
+    match named {
+        Some(Command::Modinfo) => modinfo(alloc, words, files, out),
         None => Err(Stop::from(End::NotUnderstood)),
     }
 }

@@ -9,6 +9,8 @@ mod facts_more;
 #[cfg(test)]
 mod modinfo;
 #[cfg(test)]
+mod modinfo_names;
+#[cfg(test)]
 mod object;
 #[cfg(test)]
 mod row;

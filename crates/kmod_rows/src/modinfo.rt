@@ -1,58 +1,179 @@
 use crate::object::LICENSE_OBJECT;
-use crate::row::{Objects, Want};
+use crate::row::{Objects, Row, USAGE};
+use crate::sheet_row::{SheetRow, object_of};
+use km_names::Blob;
+use std::alloc::{AllocError, Global};
+use std::process::Abort;
 use std::test::Fail;
 
-const USAGE: &str = "kmod: usage: kmod depmod|modprobe|modinfo|trial WORDS\n";
+/// A module with two parameters, one of them without a text.
+const PARAMETERS: SheetRow = SheetRow {
+    texts: &[
+        b"license=GPL",
+        b"parm=depth:how deep",
+        b"parmtype=depth:int",
+        b"parmtype=raw:bool",
+        b"alias=fs-x",
+    ],
+    versions: &[],
+    exports: &[],
+    needs: &[],
+    places: &[],
+};
+
+/// A module with empty texts and one that is a key alone.
+const LONE_KEY: SheetRow = SheetRow {
+    texts: &[b"license=GPL", b"", b"", b"lone", b"author=A"],
+    versions: &[],
+    exports: &[],
+    needs: &[],
+    places: &[],
+};
+
+/// What is shown of modules by their paths.
+const BY_PATH: [Row; 25] = [
+    (&["modinfo", "-F", "license", "/m/a.ko"], 0, "GPL\n", ""),
+    (
+        &["modinfo", "/m/a.ko"],
+        0,
+        "filename:       /m/a.ko\nlicense:        GPL\n",
+        "",
+    ),
+    (&["modinfo", "-F", "author", "/m/a.ko"], 0, "", ""),
+    (&["modinfo", "-F", "licens", "/m/a.ko"], 0, "", ""),
+    (
+        &["modinfo", "/m/lone.ko"],
+        0,
+        "filename:       /m/lone.ko\nlicense:        GPL\nlone:           \nauthor:         A\n",
+        "",
+    ),
+    (
+        &["modinfo", "/m/p.ko"],
+        0,
+        "filename:       /m/p.ko\nlicense:        GPL\nalias:          fs-x\nparm:           depth:how deep (int)\nparm:           raw:bool\n",
+        "",
+    ),
+    (
+        &["modinfo", "-p", "-0", "/m/p.ko"],
+        0,
+        "depth:how deep (int)\0raw:bool\0",
+        "",
+    ),
+    (
+        &["modinfo", "-F", "parm", "/m/p.ko"],
+        0,
+        "depth:how deep (int)\nraw:bool\n",
+        "",
+    ),
+    (&["modinfo", "-Flicense", "/m/a.ko"], 0, "GPL\n", ""),
+    (&["modinfo", "/m/a.ko", "--field=license"], 0, "GPL\n", ""),
+    (&["modinfo", "-F=license", "/m/a.ko"], 0, "GPL\n", ""),
+    (
+        &["modinfo", "--", "/m/a.ko"],
+        0,
+        "filename:       /m/a.ko\nlicense:        GPL\n",
+        "",
+    ),
+    (&["modinfo", "-n", "/m/a.ko"], 0, "/m/a.ko\n", ""),
+    (
+        &["modinfo", "-F", "filename", "/m/a.ko"],
+        0,
+        "/m/a.ko\n",
+        "",
+    ),
+    (
+        &["modinfo", "-0l", "/m/a.ko", "/m/p.ko"],
+        0,
+        "GPL\0GPL\0",
+        "",
+    ),
+    (&["modinfo", "-F", "-", "/m/a.ko"], 0, "", ""),
+    (&["modinfo", "-a", "/m/lone.ko", "/m/a.ko"], 0, "A\n", ""),
+    (&["modinfo", "--description", "/m/a.ko"], 0, "", ""),
+    (
+        &["modinfo", "-F", "license", "/m/none.ko"],
+        1,
+        "",
+        "kmod: no file /m/none.ko\n",
+    ),
+    (
+        &["modinfo", "-F", "license", "/m/cut.ko"],
+        1,
+        "",
+        "kmod: /m/cut.ko: truncated at 96 need 192\n",
+    ),
+    (
+        &["modinfo", "/m/a.ko.xz"],
+        1,
+        "",
+        "kmod: /m/a.ko.xz: compressed\n",
+    ),
+    (
+        &["modinfo", "-l", "/m/a.ko", "/m/none.ko", "/m/p.ko"],
+        1,
+        "GPL\n",
+        "kmod: no file /m/none.ko\n",
+    ),
+    (
+        &["modinfo", "-l", "/m/a.ko", "/m/a.ko.zst"],
+        1,
+        "GPL\n",
+        "kmod: /m/a.ko.zst: compressed\n",
+    ),
+    (&["modinfo", "-"], 1, "", "kmod: no file -\n"),
+    (&["modinfo", "--", "-F"], 1, "", "kmod: no file -F\n"),
+];
+
+/// Words that aren't understood.
+const NOT_UNDERSTOOD: [&[&str]; 24] = [
+    &[],
+    &[""],
+    &["modprobe"],
+    &["modinf", "/m/a.ko"],
+    &["modinfo"],
+    &["modinfo", ""],
+    &["modinfo", "-l", "-l", "/m/a.ko"],
+    &["modinfo", "-ll", "/m/a.ko"],
+    &["modinfo", "-l", "-p", "/m/a.ko"],
+    &["modinfo", "-n", "--field=license", "/m/a.ko"],
+    &["modinfo", "-0", "--null", "/m/a.ko"],
+    &["modinfo", "-F", "-x", "/m/a.ko"],
+    &["modinfo", "-F", "", "/m/a.ko"],
+    &["modinfo", "--field=", "/m/a.ko"],
+    &["modinfo", "-F", "license"],
+    &["modinfo", "-b", "/r", "/m/a.ko"],
+    &["modinfo", "-k", "6/1", "a"],
+    &["modinfo", "-k", "/", "a"],
+    &["modinfo", "-k", "-6", "a"],
+    &["modinfo", "-k", "6.1.0", "-b", "", "a"],
+    &["modinfo", "-k", "6.1.0", "-k", "6.2.0", "a"],
+    &["modinfo", "-x", "/m/a.ko"],
+    &["modinfo", "--lic", "/m/a.ko"],
+    &["modinfo", "--help"],
+];
+
+/// Puts the modules at paths.
+fn put_modules(rt: &impl Abort, alloc: Global, objects: &mut Objects) -> Result<(), AllocError> {
+    objects.put(alloc, "/m/a.ko", &LICENSE_OBJECT)?;
+    objects.put(alloc, "/m/cut.ko", &LICENSE_OBJECT[..287])?;
+    let parameters: Blob = object_of(rt, alloc, &PARAMETERS)?;
+    objects.put(alloc, "/m/p.ko", parameters.as_bytes())?;
+    let lone: Blob = object_of(rt, alloc, &LONE_KEY)?;
+    objects.put(alloc, "/m/lone.ko", lone.as_bytes())
+}
 
 #[test]
-fn a_field_is_printed_and_refusals_have_their_lines(rt: HostRuntime) -> Result<(), Fail> {
+fn modules_are_shown_by_their_paths(rt: HostRuntime) -> Result<(), Fail> {
     let alloc = rt.alloc();
-    let rows: [(&[&str], u8, &'static str, &'static str); 14] = [
-        (&["modinfo", "-F", "license", "/m/a.ko"], 0, "GPL\n", ""),
-        (&["modinfo", "-F", "author", "/m/a.ko"], 0, "", ""),
-        (&["modinfo", "-F", "licens", "/m/a.ko"], 0, "", ""),
-        (
-            &["modinfo", "-F", "license", "/m/none.ko"],
-            1,
-            "",
-            "kmod: no file /m/none.ko\n",
-        ),
-        (
-            &["modinfo", "-F", "license", "/m/cut.ko"],
-            1,
-            "",
-            "kmod: /m/cut.ko: truncated at 96 need 192\n",
-        ),
-        (
-            &["modinfo", "-F", "license", "/m/a.ko.xz"],
-            1,
-            "",
-            "kmod: /m/a.ko.xz: compressed\n",
-        ),
-        (
-            &["modinfo", "-F", "license", "-"],
-            1,
-            "",
-            "kmod: no file -\n",
-        ),
-        (&["modinfo", "/m/a.ko"], 2, "", USAGE),
-        (&["modinfo", "-F", "filename", "/m/a.ko"], 2, "", USAGE),
-        (&["modinfo", "-F", "parm", "/m/a.ko"], 2, "", USAGE),
-        (&["modinfo", "-F", "", "/m/a.ko"], 2, "", USAGE),
-        (&["modinfo", "-F", "license", "-x"], 2, "", USAGE),
-        (
-            &["modinfo", "-F", "license", "/m/a.ko", "/m/a.ko"],
-            2,
-            "",
-            USAGE,
-        ),
-        (&[], 2, "", USAGE),
-    ];
-    for (words, status, out, err) in rows {
+    for row in BY_PATH {
+        let mut objects = Objects::new(alloc)?;
+        put_modules(&rt, alloc, &mut objects)?;
+        objects.expect_row(&rt, alloc, row)?;
+    }
+    for words in NOT_UNDERSTOOD {
         let mut objects = Objects::new(alloc)?;
         objects.put(alloc, "/m/a.ko", &LICENSE_OBJECT)?;
-        objects.put(alloc, "/m/cut.ko", &LICENSE_OBJECT[..287])?;
-        objects.expect(&rt, alloc, words, &Want { status, out, err })?;
+        objects.expect_row(&rt, alloc, (words, 2, "", USAGE))?;
     }
     Ok(())
 }
@@ -60,38 +181,30 @@ fn a_field_is_printed_and_refusals_have_their_lines(rt: HostRuntime) -> Result<(
 #[test]
 fn failing_calls_have_status_3(rt: HostRuntime) -> Result<(), Fail> {
     let alloc = rt.alloc();
+
+    let mut objects = Objects::new(alloc)?;
+    objects.put(alloc, "/m/a.ko", &LICENSE_OBJECT)?;
+    objects.fail_read(0)?;
     let words = ["modinfo", "-F", "license", "/m/a.ko"];
-    let absent = ["modinfo", "-F", "license", "/m/none.ko"];
+    let err = "kmod: file fault /m/a.ko\n";
+    objects.expect_row(&rt, alloc, (&words, 3, "", err))?;
+
+    // The first module is printed before the second is read.
+    let mut objects = Objects::new(alloc)?;
+    objects.put(alloc, "/m/a.ko", &LICENSE_OBJECT)?;
+    objects.fail_read(1)?;
+    let twice = ["modinfo", "-l", "/m/a.ko", "/m/a.ko"];
+    objects.expect_row(&rt, alloc, (&twice, 3, "GPL\n", err))?;
 
     let mut objects = Objects::new(alloc)?;
     objects.put(alloc, "/m/a.ko", &LICENSE_OBJECT)?;
-    objects.fail_first_read()?;
-    let want = Want {
-        status: 3,
-        out: "",
-        err: "kmod: file fault /m/a.ko\n",
-    };
-    objects.expect(&rt, alloc, &words, &want)?;
-
-    let mut objects = Objects::new(alloc)?;
-    objects.put(alloc, "/m/a.ko", &LICENSE_OBJECT)?;
-    objects.out.fail_write(0)?;
-    let want = Want {
-        status: 3,
-        out: "",
-        err: "kmod: output fault\n",
-    };
-    objects.expect(&rt, alloc, &words, &want)?;
+    objects.out.fail_write(1)?;
+    objects.expect_row(&rt, alloc, (&twice, 3, "GPL\n", "kmod: output fault\n"))?;
 
     // The line of a refusal can't be written, so there is none.
     let mut objects = Objects::new(alloc)?;
     objects.err.fail_write(0)?;
-    let want = Want {
-        status: 3,
-        out: "",
-        err: "",
-    };
-    objects.expect(&rt, alloc, &absent, &want)?;
+    objects.expect_row(&rt, alloc, (&words, 3, "", ""))?;
     Ok(())
 }
 
@@ -101,11 +214,7 @@ fn a_file_past_the_limit_is_too_large(rt: HostRuntime) -> Result<(), Fail> {
     let mut objects = Objects::new(alloc)?;
     let bytes = vec![in alloc; 0u8; 67_108_865]?;
     objects.put(alloc, "/m/a.ko", bytes.as_slice())?;
-    let want = Want {
-        status: 1,
-        out: "",
-        err: "kmod: /m/a.ko: too large\n",
-    };
-    objects.expect(&rt, alloc, &["modinfo", "-F", "license", "/m/a.ko"], &want)?;
+    let words = ["modinfo", "-F", "license", "/m/a.ko"];
+    objects.expect_row(&rt, alloc, (&words, 1, "", "kmod: /m/a.ko: too large\n"))?;
     Ok(())
 }

@@ -33,41 +33,42 @@ impl Objects {
             .put(&PathText::from_slice(alloc, path.as_bytes())?, bytes)
     }
 
-    /// Makes the first read fail.
-    pub(crate) fn fail_first_read(&mut self) -> Result<(), AllocError> {
-        self.files.fail_call(CallKind::Read, 0)
+    /// Makes the read of this number fail, counted from 0.
+    pub(crate) fn fail_read(&mut self, number: u8) -> Result<(), AllocError> {
+        self.files.fail_call(CallKind::Read, u64::from(number))
     }
 
-    /// Runs the words, and compares the status and what was written.
-    pub(crate) fn expect(
+    /// Runs the words of a row, and compares the status and what was written.
+    pub(crate) fn expect_row(
         &mut self,
         rt: &impl Abort,
         alloc: Global,
-        words: &[&str],
-        want: &Want,
+        row: RowOf<'_>,
     ) -> Result<(), AllocError> {
+        let (words, status, out, err) = row;
         let mut list = List::new(alloc);
         for word in words {
             list.push(Word::from_text(alloc, word)?)?;
         }
-        let status = run(
+        let got = run(
             alloc,
             list.as_slice(),
             &mut self.files,
             &mut self.out,
             &mut self.err,
         );
-        assert_eq!(rt; status, want.status);
-        assert_eq!(rt; self.out.bytes(), want.out.as_bytes());
-        assert_eq!(rt; self.err.bytes(), want.err.as_bytes());
+        assert_eq!(rt; got, status);
+        assert_eq!(rt; self.out.bytes(), out.as_bytes());
+        assert_eq!(rt; self.err.bytes(), err.as_bytes());
         Ok(())
     }
 }
 
-/// What a command is to answer.
-#[derive(Clone, Copy)]
-pub(crate) struct Want {
-    pub(crate) status: u8,
-    pub(crate) out: &'static str,
-    pub(crate) err: &'static str,
-}
+/// Words, the status that they are to answer, and what they are to write to the output and to err.
+pub(crate) type RowOf<'a> = (&'a [&'a str], u8, &'a str, &'a str);
+
+/// A row that is written out.
+pub(crate) type Row = RowOf<'static>;
+
+/// The line of words that aren't understood.
+pub(crate) const USAGE: &str = "kmod: usage: kmod depmod|modprobe|modinfo|trial WORDS\n";

@@ -1,4 +1,5 @@
 pub mod Chosen
+pub mod DependencyLine
 pub mod Listing
 pub mod Order
 pub mod Places

@@ -1,10 +1,12 @@
 //! The tree of a kernel's modules: of all files that name a module, the one that the search list puts
-//! first, in the order of the kernel's build. depmod.d(5), "search"; modules.order.
+//! first, in the order of the kernel's build; and what a dependency line says of the module's own path.
+//! depmod.d(5), "search"; modules.order; modules.dep(5).
 //!
 //! It stands on `km_names` for names, lines and configuration files.
 #![tactic(auto)]
 
 mod chosen;
+mod dependency_line;
 mod listing;
 mod places;
 mod search;
@@ -12,5 +14,6 @@ mod search;
 mod tests;
 mod tree;
 
+pub use dependency_line::line_path;
 pub use search::{Search, SearchLine, parse_search};
 pub use tree::{Tree, TreeFault, choose};

@@ -1,7 +1,7 @@
 ghost use Rattle.std.specs.Prelude.{◌≤◌, length, All, IfOk};
 ghost use Rattle.km_names.specs.Limit.{file_limit};
 
-use crate::{TreeFault, choose, parse_search};
+use crate::{TreeFault, choose, line_path, parse_search};
 use km_names::{Blob, ConfFault, ConfFile, ConfFiles, Name, Names, PathText, Paths};
 use std::alloc::{AllocError, Global};
 use std::process::Abort;
@@ -159,6 +159,35 @@ fn search_lists(rt: HostRuntime) -> Result<(), Fail> {
             Err(ConfFault::Memory) => assert!(rt; false, "no memory"),
             Ok(_search) => assert!(rt; false, "a bad line that was understood"),
         }
+    }
+    Ok(())
+}
+
+// What stands before the `:` of a dependency line, and texts that are no such lines.
+#[test]
+fn dependency_lines(rt: HostRuntime) -> Result<(), Fail> {
+    let rows = [
+        (b"kernel/a.ko:".as_slice(), Some(b"kernel/a.ko".as_slice())),
+        (
+            b"kernel/b.ko.xz: kernel/a.ko kernel/c.ko.gz",
+            Some(b"kernel/b.ko.xz".as_slice()),
+        ),
+        (b".ko:", Some(b".ko".as_slice())),
+        (b"", None),
+        (b":", None),
+        (b"kernel/a.ko", None),
+        (b"kernel/a:", None),
+        (b"kernel/a b.ko:", None),
+        (b"kernel/a.ko: ", None),
+        (b"kernel/a.ko:kernel/b.ko", None),
+        (b"kernel/a.ko:  kernel/b.ko", None),
+        (b"kernel/a.ko: kernel/b.ko ", None),
+        (b"kernel/a.ko: kernel/b", None),
+        (b"kernel/a.ko: kernel/b.ko:", None),
+        (b"kernel/a.ko: kernel/b.ko\n", None),
+    ];
+    for (line, want) in rows {
+        assert_eq!(rt; line_path(line), want);
     }
     Ok(())
 }

@@ -1,12 +1,13 @@
 ghost use Rattle.std.specs.Prelude.{◌≡◌, ◌⊎◌, filter, IfOk, IfErr, option_copied};
 ghost use Rattle.std.specs.List.{list_any};
 ghost use Rattle.mod_tree.specs.Tree.{tree_of, is_module_path as has_module_path, is_bad_byte as is_bad, lesser as lesser_of, bad_path as bad_path_of};
+ghost use Rattle.km_names.specs.Path.{is_compressed};
 ghost use Rattle.mod_tree.specs.Shown.{shown};
 
 use crate::Search;
 use crate::chosen::chosen_paths;
 use crate::listing::tree_in_order;
-use km_names::{PathText, Paths, is_compressed};
+use km_names::{PathText, Paths};
 use std::alloc::{AllocError, AllocFailed, Global};
 use std::cmp::Ordering;
 
@@ -83,17 +84,24 @@ fn module_paths(alloc: Global, paths: &Paths) -> Result<Vec<&PathText>, AllocErr
 {
     let mut modules = Vec::new(alloc);
     for path in paths.as_slice() {
-        if is_module_path(path) {
+        if is_module_path(path.as_bytes()) {
             modules.push(path)?;
         }
     }
     Ok(modules)
 }
 
-fn is_module_path(path: &PathText) -> bool
+/// Whether a path is that of a module: it ends in `.ko`, or as compressed modules do.
+pub(crate) fn is_module_path(path: &[u8]) -> bool
     ensures { result ≡ has_module_path path.now }
 {
-    path.as_bytes().ends_with(b".ko") || is_compressed(path)
+    path.ends_with(b".ko") || has_compressed_end(path)
+}
+
+fn has_compressed_end(path: &[u8]) -> bool
+    ensures { result ≡ is_compressed path.now }
+{
+    path.ends_with(b".ko.gz") || path.ends_with(b".ko.xz") || path.ends_with(b".ko.zst")
 }
 
 /// The least path by bytes that has a byte which can't stand there.

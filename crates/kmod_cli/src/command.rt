@@ -1,0 +1,20 @@
+ghost use Rattle.std.specs.Prelude.{◌≡◌};
+ghost use Rattle.kmod_cli.specs.Program.{command_named};
+
+/// A command of the program. Each has a course, which the words after its name decide.
+#[derive(Clone, Copy)]
+pub(crate) enum Command {
+    /// Shows what modules say of themselves. modinfo(8).
+    Modinfo,
+}
+
+/// The command of this name.
+#[tactic(auto, unfolding(crate::specs::Program::command_named))]
+pub(crate) fn command_named(word: &[u8]) -> Option<Command>
+    ensures { result ≡ command_named word.now }
+{
+    if word == b"modinfo".as_slice() {
+        return Some(Command::Modinfo);
+    }
+    None
+}
