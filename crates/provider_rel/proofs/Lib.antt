@@ -1,0 +1,6 @@
+pub mod LineSteps
+pub mod NameSteps
+pub mod FieldSteps
+pub mod ExportSteps
+pub mod SymbolSteps
+pub mod ItemSteps
