@@ -86,9 +86,13 @@ bound_of names needs = map (λ (n : StatedNeed). place_of names n.name) needs
 abbrev pub item_under : List Item → Option ℕ → Option Item
 item_under is at = option_and_then (slice_get is) at
 
+-- The place of the module that owns the item at a place, if one does.
+abbrev pub owner_under : List Item → Option ℕ → Option ℕ
+owner_under is at = option_and_then (λ (i : Item). i.place) (item_under is at)
+
 -- The places of the modules among what needs are bound to.
 abbrev pub used_places : List Item → List (Option ℕ) → List ℕ
-used_places is bound = filter_map (λ at. option_and_then (λ (i : Item). i.place) (item_under is at)) bound
+used_places is bound = filter_map (owner_under is) bound
 
 -- The answer at a place of the owners of all items.
 abbrev pub answer_at : Bool → List Provider → Option ℕ → Provider

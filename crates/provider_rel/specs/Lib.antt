@@ -6,3 +6,7 @@ pub mod Faces
 pub mod Tree
 pub mod Relation
 pub mod Items
+pub mod Bindings
+pub mod Kinds
+pub mod Sharing
+pub mod Seen

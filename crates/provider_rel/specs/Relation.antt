@@ -1,15 +1,13 @@
 -- The relation of a tree over a kernel: who provides a name, what a module depends on, and what keeps a tree from having
 -- a relation. modules.dep(5), depmod(8).
-use Rattle.std.specs.Prelude.{◌≡◌, ℕ, Bool, false, nat_lt, List, [], ◌∷◌, length, map, min, slice_get, Option, Some, None, option_map, if◌then◌else◌}
+use Rattle.std.specs.Prelude.{ℕ, false, nat_lt, List, [], ◌∷◌, length, map, min, slice_get, Option, Some, None, option_map, if◌then◌else◌}
 use Rattle.std.specs.List.{position_or_len, sum_by}
 use Rattle.std.specs.Option.{option_map_or}
 use Rattle.std.specs.Str.{bytes_eq}
 use Rattle.km_names.specs.First.{first}
-use Rattle.km_names.specs.declared.conf.TreeIndex.{TreeIndex}
 use Rattle.symbol_binding.specs.Symbols.{Module, Kernel}
 use Rattle.symbol_binding.specs.Provider.{Owner, ByKernel, ByModule, Provided, provider, uses}
-use Rattle.symbol_binding.specs.Unmet.{unmet, doubles}
-use Rattle.symbol_binding.specs.declared.unbound.Unbound.{Unbound}
+use Rattle.symbol_binding.specs.Unmet.{doubles}
 use Rattle.relation_order.specs.Sets.{Relation as Goes, has, below}
 use Rattle.relation_order.specs.Cycle.{cycle}
 use Rattle.relation_order.specs.Closures.{closures}
@@ -69,15 +67,3 @@ relation_fault tree kernel =
     ∷ deps_fault (sum_by length (dependencies tree kernel))
     ∷ doubles_fault (length (doubles kernel tree))
     ∷ [])
-
--- What is seen of a relation: who provides each name, the dependencies of each module, and the obstacle lines.
-pub record RelationSeen : Type 0 where
-  pub provider : List ℕ → Provider
-  pub closures : List (List TreeIndex)
-  pub obstacles : List Unbound
-
--- The relation of a tree over a kernel.
-pub record IsRelation (tree : List Module) (kernel : Kernel) (r : RelationSeen) : Type 0 where
-  pub provider : (x : List ℕ) → r.provider x ≡ provider_of tree kernel x
-  pub closures : map (map (λ (i : TreeIndex). i.0)) r.closures ≡ dependencies tree kernel
-  pub obstacles : r.obstacles ≡ unmet tree kernel

@@ -8,6 +8,8 @@
 //! they are first exported.
 #![tactic(auto)]
 
+mod bindings;
+mod doubles;
 mod exports;
 mod fault;
 mod items;
@@ -15,14 +17,17 @@ mod kernel;
 mod lines;
 mod map;
 mod provider;
+mod relation;
 mod symvers;
+mod unmet;
 
 pub use fault::{KernelFault, RelationFault};
 pub use kernel::{Kernel, KernelExport, KernelExports};
 use km_names::List;
 use module_facts::Facts;
 pub use provider::Provider;
-pub use symbol_binding::agree;
+pub use relation::{Order, Relation};
+pub use symbol_binding::{Obstacles, Unbound, agree};
 
 /// The facts of the modules of a tree, in its order.
 pub type TreeFacts = List<Facts>;
