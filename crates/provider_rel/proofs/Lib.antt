@@ -1,0 +1,12 @@
+pub mod LineSteps
+pub mod NameSteps
+pub mod FieldSteps
+pub mod ExportSteps
+pub mod SymbolSteps
+pub mod ItemSteps
+pub mod BindingSteps
+pub mod RowSteps
+pub mod ProviderLaw
+pub mod UseLaw
+pub mod DoubleLaw
+pub mod MakeSteps

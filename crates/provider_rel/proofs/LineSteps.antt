@@ -1,0 +1,96 @@
+-- The lines of a table, one after the other.
+use Rattle.std.proofs.Common.{◌≡◌, ℕ, ◌+◌, Bool, true, false, ◌&&◌, not, List, [], ◌∷◌, ◌++◌, length, eqb, cond, Option, Some, None, option_map, refl, sym, ap, ◌∙◌, append_assoc, length-append, ◌<◌, ◌≤◌, arith}
+use Rattle.std.proofs.lemmas.Iterator.Adapters.{position_from-zero}
+use Rattle.std.specs.List.{cons_option, position, position_from, filter_map}
+use Rattle.std.specs.Option.{is_none}
+use Rattle.km_names.specs.Lines.{lines_of}
+use Rattle.provider_rel.specs.declared.fault.KernelFault.{KernelFault}
+use Rattle.provider_rel.specs.declared.fault.KernelFault.TheVariants.{BadKernelLine}
+use Rattle.provider_rel.specs.TableLines.{is_refused, first_refused, table_fault, stated}
+
+-- the fault of lines, of which the first has a number
+pub fault_at : {X : Type 0} → (List ℕ → Option X) → ℕ → List (List ℕ) → Option KernelFault
+fault_at read number lines = option_map (λ n. BadKernelLine n) (position_from (is_refused read) number lines)
+
+counted : (p : List ℕ → Bool) (k : ℕ) (xs : List (List ℕ)) → position_from p (k + 1) xs ≡ option_map (λ i. i + 1) (position_from p k xs)
+counted p k [] = refl
+counted p k (x ∷ xs) =
+    elim (p x) as (λ b. cond b (Some (k + 1)) (position_from p (k + 1 + 1) xs) ≡ option_map (λ i. i + 1) (cond b (Some k) (position_from p (k + 1) xs))) [
+      | true ↦ refl
+      | false ↦ counted p (k + 1) xs
+    ]
+
+numbered : (o : Option ℕ) → option_map (λ i. BadKernelLine (i + 1)) o ≡ option_map (λ n. BadKernelLine n) (option_map (λ i. i + 1) o)
+numbered None = refl
+numbered (Some i) = refl
+
+-- the fault of a table is that of its lines from 1
+pub fault-begins : {X : Type 0} (read : List ℕ → Option X) (bytes : List ℕ) → fault_at read 1 (lines_of bytes) ≡ table_fault read bytes
+unfolding table_fault fault_at
+fault-begins read bytes =
+    let lines = lines_of bytes in
+    ap (option_map (λ n. BadKernelLine n)) (counted (is_refused read) 0 lines)
+    ∙ sym (numbered (position_from (is_refused read) 0 lines))
+    ∙ ap (option_map (λ i. BadKernelLine (i + 1))) (sym (position_from-zero (is_refused read) lines))
+
+-- no line, no fault
+pub fault-none : {X : Type 0} (read : List ℕ → Option X) (number : ℕ) → fault_at read number [] ≡ None
+unfolding fault_at
+fault-none read number = refl
+
+-- a line that isn't refused
+pub fault-passed : {X : Type 0} (read : List ℕ → Option X) (number : ℕ) (line : List ℕ) (lines : List (List ℕ)) → is_refused read line ≡ false → fault_at read number (line ∷ lines) ≡ fault_at read (number + 1) lines
+unfolding fault_at
+fault-passed read number line lines passed =
+    ap (λ b. option_map (λ n. BadKernelLine n) (cond b (Some number) (position_from (is_refused read) (number + 1) lines))) passed
+
+-- a line that is
+pub fault-refused : {X : Type 0} (read : List ℕ → Option X) (number : ℕ) (line : List ℕ) (lines : List (List ℕ)) → is_refused read line ≡ true → fault_at read number (line ∷ lines) ≡ Some (BadKernelLine number)
+unfolding fault_at
+fault-refused read number line lines refused =
+    ap (λ b. option_map (λ n. BadKernelLine n) (cond b (Some number) (position_from (is_refused read) (number + 1) lines))) refused
+
+closed : (b : Bool) → (b && false) ≡ false
+closed true = refl
+closed false = refl
+
+-- a line that is read isn't refused
+pub read-passed : {X : Type 0} (read : List ℕ → Option X) (line : List ℕ) (x : X) → Some x ≡ read line → is_refused read line ≡ false
+read-passed read line x is =
+    ap (λ o. not (eqb (length line) 0) && is_none o) (sym is) ∙ closed (not (eqb (length line) 0))
+
+-- nor is an empty one
+pub empty-passed : {X : Type 0} (read : List ℕ → Option X) (line : List ℕ) → (eqb (length line) 0) ≡ true → is_refused read line ≡ false
+empty-passed read line empty = ap (λ b. not b && is_none (read line)) empty
+
+-- any other is refused where it isn't read
+pub unread-refused : {X : Type 0} (read : List ℕ → Option X) (line : List ℕ) → None ≡ read line → (eqb (length line) 0) ≡ false → is_refused read line ≡ true
+unread-refused read line is some = ap (λ b. not b && is_none (read line)) some ∙ ap is_none (sym is)
+
+-- what a table states, from its lines on
+pub stated-begins : {X : Type 0} (read : List ℕ → Option X) (bytes : List ℕ) → filter_map read (lines_of bytes) ≡ stated read bytes
+unfolding stated
+stated-begins read bytes = refl
+
+-- a line that states something
+pub stated-more : {X : Type 0} (read : List ℕ → Option X) (done : List X) (line : List ℕ) (lines : List (List ℕ)) (x : X) → Some x ≡ read line → (done ++ x ∷ []) ++ filter_map read lines ≡ done ++ filter_map read (line ∷ lines)
+stated-more read done line lines x is =
+    append_assoc done (x ∷ []) (filter_map read lines)
+    ∙ ap (λ o. done ++ cons_option o (filter_map read lines)) is
+
+-- a line that states nothing
+pub stated-same : {X : Type 0} (read : List ℕ → Option X) (line : List ℕ) (lines : List (List ℕ)) → None ≡ read line → filter_map read lines ≡ filter_map read (line ∷ lines)
+stated-same read line lines is = ap (λ o. cons_option o (filter_map read lines)) is
+
+-- an empty text has no line
+pub no-lines : (bytes : List ℕ) → length bytes ≡ 0 → lines_of bytes ≡ []
+unfolding lines_of
+no-lines [] is = refl
+no-lines (b ∷ bs) is = absurd (omega arith)
+
+-- a line takes a byte at the least, and states one thing at the most
+pub room-more : {X : Type 0} (items items' : List X) (x : X) (next rest n : ℕ) → items' ≡ items ++ x ∷ [] → next < rest → length items + rest ≤ n → length items' + next ≤ n
+room-more items items' x next rest n is shorter room = omega (arith, ap length is, length-append items (x ∷ []))
+
+pub room-same : {X : Type 0} (items items' : List X) (next rest n : ℕ) → items' ≡ items → next < rest → length items + rest ≤ n → length items' + next ≤ n
+room-same items items' next rest n is shorter room = omega (arith, ap length is)

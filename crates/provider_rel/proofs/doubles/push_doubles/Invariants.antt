@@ -1,0 +1,10 @@
+use Rattle.std.proofs.Common.{◌≡◌, ◌++◌, [], take}
+use Rattle.provider_rel.specs.Items.{item_doubles}
+use Rattle.provider_rel.specs.Sharing.{AreEarlier}
+use Rattle.provider_rel.proofs.doubles.push_doubles.Given as goal
+
+abbrev pub invariant-loop-k : goal.invariant-loop-k
+invariant-loop-k l = record {
+  earlier : AreEarlier l.items l.names l.k l.rows.items;
+  lines : l.lines ≡ l.initial.lines ++ item_doubles [] (take l.k l.items);
+}

@@ -1,0 +1,72 @@
+use Rattle.std.proofs.Common.{◌≡◌, ◌∷◌, ◌++◌, true, false, eqb, Some, None, length, refl, sym, ap, inr, ◌∙◌, arith, append-nil}
+use Rattle.std.proofs.lemmas.Grind.{common_steps}
+use Rattle.std.specs.List.{filter_map}
+use Rattle.km_names.specs.Lines.{lines_of}
+use Rattle.provider_rel.proofs.LineSteps.{fault_at, fault-begins, fault-none, fault-passed, fault-refused, read-passed, empty-passed, unread-refused, stated-begins, stated-more, stated-same, no-lines, room-more, room-same}
+use Rattle.provider_rel.proofs.lines.read_lines.Goals as goal
+use Rattle.provider_rel.proofs.lines.read_lines.Goals.{in-Some+in_ok-push-in-Some, in-None+else-not-is_empty}
+
+pub loop-rest-init : goal.loop-rest-init
+loop-rest-init g c =
+    let read = g.L.TableLine.read in
+    let bytes = c.args.bytes.now in
+    record {
+      lines = ap (λ xs. xs ++ filter_map read (lines_of bytes)) c.new-lines.ensures.items ∙ stated-begins read bytes;
+      fault = fault-begins read bytes;
+      room = omega (arith, ap length c.new-lines.ensures.items);
+      number = omega arith;
+    }
+
+pub returns-then-not-is_empty-clause-err : goal.returns-then-not-is_empty-clause-err
+returns-then-not-is_empty-clause-err g c =
+    let read = g.L.TableLine.read in
+    let line = c.first_line.result.0.now in
+    let some : eqb (length line) 0 ≡ false = grind arith in
+    inr (sym c.loop-rest.invariant.fault
+    ∙ ap (fault_at read c.loop-rest.number) c.first_line.ensures.lines
+    ∙ fault-refused read c.loop-rest.number line (lines_of c.first_line.result.1.now) (unread-refused read line c.in-None.ensures some))
+
+pub loop-rest-preserved : goal.loop-rest-preserved
+loop-rest-preserved g c =
+    let read = g.L.TableLine.read in
+    let line = c.first_line.result.0.now in
+    let next = lines_of c.first_line.result.1.now in
+    let split = c.first_line.ensures.lines in
+    let before = c.loop-rest.lines.items in
+    elim c.match-parse.branch [
+      | in-Some+in_ok-push-in-Some w ↦ record {
+        lines = ap (λ xs. xs ++ filter_map read next) (rw w.lines-is w.in_ok-push-in-Some.ensures.items)
+            ∙ stated-more read before line next w.in-Some.read w.in-Some.ensures
+            ∙ ap (λ ls. before ++ filter_map read ls) (sym split)
+            ∙ c.loop-rest.invariant.lines;
+        fault = sym (fault-passed read c.loop-rest.number line next (read-passed read line w.in-Some.read w.in-Some.ensures))
+            ∙ ap (fault_at read c.loop-rest.number) (sym split)
+            ∙ c.loop-rest.invariant.fault;
+        room = room-more before c.match-parse.lines.items w.in-Some.read (length c.first_line.result.1.now) (length c.loop-rest.rest.now) (length c.args.bytes.now) (rw w.lines-is w.in_ok-push-in-Some.ensures.items) c.first_line.ensures.shorter c.loop-rest.invariant.room;
+        number = omega (arith, c.first_line.ensures.shorter, c.loop-rest.invariant.number);
+      }
+      | in-None+else-not-is_empty w ↦ record {
+        lines = ap (λ xs. xs ++ filter_map read next) (rw w.lines-is refl)
+            ∙ ap (λ ls. before ++ ls) (stated-same read line next w.in-None.ensures)
+            ∙ ap (λ ls. before ++ filter_map read ls) (sym split)
+            ∙ c.loop-rest.invariant.lines;
+        fault = sym (fault-passed read c.loop-rest.number line next (empty-passed read line (grind arith)))
+            ∙ ap (fault_at read c.loop-rest.number) (sym split)
+            ∙ c.loop-rest.invariant.fault;
+        room = room-same before c.match-parse.lines.items (length c.first_line.result.1.now) (length c.loop-rest.rest.now) (length c.args.bytes.now) (rw w.lines-is refl) c.first_line.ensures.shorter c.loop-rest.invariant.room;
+        number = omega (arith, c.first_line.ensures.shorter, c.loop-rest.invariant.number);
+      }
+    ]
+
+pub returns-clause-ok : goal.returns-clause-ok
+returns-clause-ok g c =
+    let read = g.L.TableLine.read in
+    let lines = c.loop-rest.lines.items in
+    let over : length c.loop-rest.rest.now ≡ 0 = grind arith in
+    sym (append-nil lines) ∙ ap (λ ls. lines ++ filter_map read ls) (sym (no-lines c.loop-rest.rest.now over)) ∙ c.loop-rest.invariant.lines
+
+pub returns-clause-passed : goal.returns-clause-passed
+returns-clause-passed g c =
+    let read = g.L.TableLine.read in
+    let over : length c.loop-rest.rest.now ≡ 0 = grind arith in
+    sym c.loop-rest.invariant.fault ∙ ap (fault_at read c.loop-rest.number) (no-lines c.loop-rest.rest.now over) ∙ fault-none read c.loop-rest.number

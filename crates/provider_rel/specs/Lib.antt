@@ -1,0 +1,12 @@
+pub mod TableLines
+pub mod MapLines
+pub mod SymversLines
+pub mod KernelTable
+pub mod Faces
+pub mod Tree
+pub mod Relation
+pub mod Items
+pub mod Bindings
+pub mod Kinds
+pub mod Sharing
+pub mod Seen

@@ -1,0 +1,36 @@
+-- The lines of a Module.symvers: fields between tabs, of which the first five are the version, the symbol, who exports
+-- it, how, and in which namespace. The kernel's Documentation/kbuild/modules.rst, "Symbols From the Kernel".
+use Rattle.std.specs.Prelude.{ℕ, ◌==◌, ◌&&◌, Bool, List, [], nat_eq, drop, codes, slice_get, Option, None, unwrap_or, option_map, if◌then◌else◌}
+use Rattle.std.specs.List.{slice_split, starts_with}
+use Rattle.std.specs.Str.{bytes_eq}
+use Rattle.km_names.specs.Ascii.{is_graphic, hexadecimal}
+
+-- What a line states of an export: its version, its name, who exports it, whether it is for GPL-compatible modules
+-- alone, and its namespace, empty for none.
+pub record SymversExport : Type 0 where
+  pub crc : ℕ
+  pub name : List ℕ
+  pub owner : List ℕ
+  pub gpl : Bool
+  pub space : List ℕ
+
+-- The field at a place, from 0; empty where there are fewer.
+abbrev pub field : List ℕ → ℕ → List ℕ
+field text k = unwrap_or (slice_get (slice_split (λ b. b == 9) text) k) []
+
+-- The version that a field states: `0x` and 1 to 16 hexadecimal digits.
+unfoldable pub version : List ℕ → Option ℕ
+version text = if starts_with nat_eq text (codes "0x") then hexadecimal (drop 2 text) else None
+
+-- What a line states, if it is understood: its first three fields are a version and two words of visible characters.
+unfoldable pub symvers_line : List ℕ → Option SymversExport
+symvers_line text =
+    if is_graphic (field text 1) && is_graphic (field text 2)
+    then option_map (λ crc. record {
+      crc = crc;
+      name = field text 1;
+      owner = field text 2;
+      gpl = bytes_eq (field text 3) (codes "EXPORT_SYMBOL_GPL");
+      space = field text 4;
+    }) (version (field text 0))
+    else None

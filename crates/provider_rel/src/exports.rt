@@ -1,0 +1,150 @@
+// Exports of a kernel, of each name the first.
+ghost use Rattle.std.specs.Prelude.{◌≡◌, ◌+◌, ◌-◌, ◌<◌, ◌≤◌, ◌^◌, length, OnOk, IfOk, map, option_copied, option_map};
+ghost use Rattle.std.specs.List.{filter_map};
+ghost use Rattle.km_names.specs.Limit.{file_limit};
+ghost use Rattle.provider_rel.specs.KernelTable.{IsTable, AreFirst, first_of_each, with_export, with_its_address, with_addresses, exported_name as name_of_entry, export_of_entry, stated_export, export_of_symbol, export_of_line};
+
+use crate::map::{MapLine, Symbols};
+use crate::symvers::SymversLine;
+use crate::{KernelExport, KernelExports};
+use km_names::Name;
+use name_table::NameTable;
+use std::alloc::{AllocError, Global};
+
+/// Adds an export of this name, unless there is one.
+fn add_first<'a>(
+    names: &mut NameTable<'a>,
+    list: &mut KernelExports,
+    name: &'a [u8],
+    export: KernelExport,
+) -> Result<(), AllocError>
+    requires name { name.now ≡ export.name }
+    requires few { names.old.count < 2 ^ 32 - 1 }
+    ensures list { OnOk result (AreFirst names.old list.old → list.new ≡ with_export list.old export) }
+    ensures first { OnOk result (AreFirst names.old list.old → AreFirst names.new list.new) }
+    ensures count { OnOk result (names.new.count ≤ names.old.count + 1) }
+{
+    if names.place(name).is_none() {
+        names.push(Some(name))?;
+        list.push(export)?;
+    }
+    Ok(())
+}
+
+/// What follows `__ksymtab_` in a name that begins so.
+fn exported_name(name: &[u8]) -> Option<&[u8]>
+    ensures { option_copied result ≡ name_of_entry name.now }
+{
+    if name.starts_with(b"__ksymtab_") {
+        Some(&name[10..])
+    } else {
+        None
+    }
+}
+
+/// The export of an entry of this name.
+fn entry_export(alloc: Global, name: &[u8]) -> Result<KernelExport, AllocError>
+    ensures { IfOk result (λ export. export ≡ export_of_entry name.now) }
+{
+    Ok(KernelExport {
+        name: Name::from_slice(alloc, name)?,
+        crc: None,
+        address: None,
+        gpl: false,
+        space: Name::new(alloc),
+    })
+}
+
+/// The exports that symbols of a map state, of each name the first.
+pub(crate) fn exports_of_symbols(
+    alloc: Global,
+    symbols: &[MapLine],
+) -> Result<KernelExports, AllocError>
+    requires { length symbols.now ≤ file_limit }
+    ensures list { IfOk result (λ list. list ≡ first_of_each (filter_map export_of_symbol symbols.now)) }
+    ensures table { IfOk result (λ list. IsTable list) }
+{
+    let mut names = NameTable::new(alloc);
+    let mut list = KernelExports::new(alloc);
+    for symbol in symbols {
+        if let Some(name) = exported_name(symbol.name()) {
+            add_first(&mut names, &mut list, name, entry_export(alloc, name)?)?;
+        }
+    }
+    Ok(list)
+}
+
+/// The export of a line.
+fn line_export(alloc: Global, line: &SymversLine) -> Result<KernelExport, AllocError>
+    ensures { IfOk result (λ export. export ≡ stated_export line.now) }
+{
+    Ok(KernelExport {
+        name: Name::from_slice(alloc, line.name())?,
+        crc: Some(line.crc()),
+        address: None,
+        gpl: line.gpl(),
+        space: Name::from_slice(alloc, line.space())?,
+    })
+}
+
+/// The exports of the kernel that lines of a Module.symvers state, of each name the first.
+pub(crate) fn exports_of_lines(
+    alloc: Global,
+    lines: &[SymversLine],
+) -> Result<KernelExports, AllocError>
+    requires { length lines.now ≤ file_limit }
+    ensures list { IfOk result (λ list. list ≡ first_of_each (filter_map export_of_line lines.now)) }
+    ensures table { IfOk result (λ list. IsTable list) }
+{
+    let mut names = NameTable::new(alloc);
+    let mut list = KernelExports::new(alloc);
+    for line in lines {
+        if line.is_of_kernel() {
+            add_first(
+                &mut names,
+                &mut list,
+                line.name(),
+                line_export(alloc, line)?,
+            )?;
+        }
+    }
+    Ok(list)
+}
+
+/// An export with the address that symbols state, or its own where they state none.
+fn with_address(
+    alloc: Global,
+    export: &KernelExport,
+    symbols: &Symbols,
+) -> Result<KernelExport, AllocError>
+    ensures { IfOk result (λ copy. copy ≡ with_its_address symbols.now export.now) }
+{
+    let address = match symbols.address(export.name.as_bytes()) {
+        Some(address) => Some(address),
+        None => export.address,
+    };
+    Ok(KernelExport {
+        name: Name::from_slice(alloc, export.name.as_bytes())?,
+        crc: export.crc,
+        address,
+        gpl: export.gpl,
+        space: Name::from_slice(alloc, export.space.as_bytes())?,
+    })
+}
+
+/// Exports with the addresses that symbols state.
+pub(crate) fn with_all_addresses(
+    alloc: Global,
+    exports: &KernelExports,
+    symbols: &Symbols,
+) -> Result<KernelExports, AllocError>
+    requires { IsTable exports.now }
+    ensures list { IfOk result (λ list. list ≡ with_addresses symbols.now exports.now) }
+    ensures table { IfOk result (λ list. IsTable list) }
+{
+    let mut list = KernelExports::new(alloc);
+    for export in exports.as_slice() {
+        list.push(with_address(alloc, export, symbols)?)?;
+    }
+    Ok(list)
+}

@@ -1,0 +1,67 @@
+ghost use Rattle.std.specs.Prelude.{◌≡◌};
+
+use km_names::Names;
+use std::alloc::{AllocError, AllocFailed};
+
+/// Why a table of a kernel isn't read.
+#[derive(Debug, Drop)]
+pub enum KernelFault {
+    /// The first line that is neither empty nor understood, from 1.
+    BadKernelLine { line: u32 },
+    /// Memory ran out.
+    Memory,
+}
+
+impl From<AllocError> for KernelFault {
+    ghost use Rattle.provider_rel.specs.declared.fault.KernelFault.TheVariants.{Memory};
+
+    ghost from_gives = { λ _ fault. fault ≡ Memory };
+
+    fn from(_error: AllocError) -> KernelFault {
+        KernelFault::Memory
+    }
+}
+
+impl<T: Drop> From<AllocFailed<T>> for KernelFault {
+    ghost use Rattle.provider_rel.specs.declared.fault.KernelFault.TheVariants.{Memory};
+
+    ghost from_gives = { λ _ fault. fault ≡ Memory };
+
+    fn from(_failed: AllocFailed<T>) -> KernelFault {
+        KernelFault::Memory
+    }
+}
+
+/// Why a tree has no relation. The limits are this project's own.
+#[derive(Debug, Drop)]
+pub enum RelationFault {
+    /// Modules of which each uses the next, and the last the first, from the first module of the tree that lies on such
+    /// a way.
+    Cycle { names: Names },
+    /// How many dependencies all modules have together, more than 2,000,000.
+    TooManyDeps { count: u64 },
+    /// How many double lines there are, more than 100,000; the greatest number of 64 bits where there are more.
+    TooManyDoubles { count: u64 },
+    /// Memory ran out.
+    Memory,
+}
+
+impl From<AllocError> for RelationFault {
+    ghost use Rattle.provider_rel.specs.declared.fault.RelationFault.TheVariants.{Memory};
+
+    ghost from_gives = { λ _ fault. fault ≡ Memory };
+
+    fn from(_error: AllocError) -> RelationFault {
+        RelationFault::Memory
+    }
+}
+
+impl<T: Drop> From<AllocFailed<T>> for RelationFault {
+    ghost use Rattle.provider_rel.specs.declared.fault.RelationFault.TheVariants.{Memory};
+
+    ghost from_gives = { λ _ fault. fault ≡ Memory };
+
+    fn from(_failed: AllocFailed<T>) -> RelationFault {
+        RelationFault::Memory
+    }
+}

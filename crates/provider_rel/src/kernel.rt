@@ -1,0 +1,120 @@
+// What a kernel exports.
+ghost use Rattle.std.specs.Prelude.{◌≡◌, ◌≤◌, ◌⊎◌, [], true, false, length, IfOk, IfErr, Ok, Err, OnOk, OnErr};
+ghost use Rattle.km_names.specs.Limit.{file_limit};
+ghost use Rattle.provider_rel.specs.KernelTable.{IsTable, exports_of_map, exports_of_symvers, exports_with_addresses};
+
+use crate::KernelFault;
+use crate::exports::{exports_of_lines, exports_of_symbols, with_all_addresses};
+use crate::lines::read_lines;
+use crate::map::Symbols;
+use crate::symvers::SymversLine;
+use km_names::{List, Name};
+use std::alloc::Global;
+
+/// A symbol that a kernel exports. The kernel's EXPORT_SYMBOL, include/linux/export.h.
+#[derive(Debug, Drop)]
+pub struct KernelExport {
+    /// Its name.
+    pub name: Name,
+    /// Its version, where one is stated.
+    pub crc: Option<u64>,
+    /// Where it lies in the kernel's memory, where a map states that.
+    pub address: Option<u64>,
+    /// Whether it is for GPL-compatible modules alone. EXPORT_SYMBOL_GPL.
+    pub gpl: bool,
+    /// Its namespace, empty for none. EXPORT_SYMBOL_NS.
+    pub space: Name,
+}
+
+/// The exports of a kernel, in the order of the lines that state them.
+pub type KernelExports = List<KernelExport>;
+
+/// What a kernel exports, each name once.
+#[derive(Drop)]
+pub struct Kernel {
+    /// Whether its exports are known. A kernel of which nothing is known counts as exporting all that no module does.
+    pub known: bool,
+    /// Its exports.
+    pub exports: KernelExports,
+    alloc: Global,
+    ghost table: { IsTable exports },
+}
+
+impl Kernel {
+    /// A kernel of which nothing is known. It takes no memory.
+    pub fn unknown(alloc: Global) -> Kernel
+        ensures known { result.known ≡ false }
+        ensures exports { result.exports ≡ [] }
+    {
+        Kernel {
+            known: false,
+            exports: KernelExports::new(alloc),
+            alloc,
+        }
+    }
+
+    /// The kernel of a System.map: it exports the names of which the map has the entries `__ksymtab_N`, at their
+    /// addresses there, without versions. An empty line states nothing. nm(1); the kernel's include/linux/export.h.
+    ///
+    /// # Errors
+    ///
+    /// `BadKernelLine` exactly at the first line that isn't understood, or `Memory`.
+    #[tactic(auto, unfolding(crate::specs::KernelTable::exports_of_map))]
+    pub fn from_map(alloc: Global, bytes: &[u8]) -> Result<Kernel, KernelFault>
+        requires { length bytes.now ≤ file_limit }
+        ensures known { IfOk result (λ kernel. kernel.known ≡ true) }
+        ensures exports { IfOk result (λ kernel. exports_of_map bytes.now ≡ Ok kernel.exports) }
+        ensures err { IfErr result (λ fault. (fault ≡ KernelFault.Memory) ⊎ (exports_of_map bytes.now ≡ Err fault)) }
+    {
+        let symbols = Symbols::read(alloc, bytes)?;
+        let plain = exports_of_symbols(alloc, symbols.lines())?;
+        let exports = with_all_addresses(alloc, &plain, &symbols)?;
+        Ok(Kernel {
+            known: true,
+            exports,
+            alloc,
+        })
+    }
+
+    /// The kernel of a Module.symvers: it exports what lines with `vmlinux` in their third field state, with versions,
+    /// and without addresses. An empty line states nothing. The kernel's Documentation/kbuild/modules.rst.
+    ///
+    /// # Errors
+    ///
+    /// `BadKernelLine` exactly at the first line that isn't understood, or `Memory`.
+    #[tactic(auto, unfolding(crate::specs::KernelTable::exports_of_symvers))]
+    pub fn from_symvers(alloc: Global, bytes: &[u8]) -> Result<Kernel, KernelFault>
+        requires { length bytes.now ≤ file_limit }
+        ensures known { IfOk result (λ kernel. kernel.known ≡ true) }
+        ensures exports { IfOk result (λ kernel. exports_of_symvers bytes.now ≡ Ok kernel.exports) }
+        ensures err { IfErr result (λ fault. (fault ≡ KernelFault.Memory) ⊎ (exports_of_symvers bytes.now ≡ Err fault)) }
+    {
+        let lines: Vec<SymversLine> = read_lines(alloc, bytes)?;
+        let exports = exports_of_lines(alloc, &lines)?;
+        Ok(Kernel {
+            known: true,
+            exports,
+            alloc,
+        })
+    }
+
+    /// Gives the exports the addresses that a System.map states; where it has none for a name, an address stays as it
+    /// was. After a refusal all are as before. nm(1).
+    ///
+    /// # Errors
+    ///
+    /// `BadKernelLine` exactly at the first line that isn't understood, or `Memory`.
+    #[tactic(auto, unfolding(crate::specs::KernelTable::exports_with_addresses))]
+    pub fn add_addresses(&mut self, bytes: &[u8]) -> Result<(), KernelFault>
+        requires { length bytes.now ≤ file_limit }
+        ensures known { self.new.known ≡ self.old.known }
+        ensures exports { OnOk result (exports_with_addresses bytes.now self.old.exports ≡ Ok self.new.exports) }
+        ensures kept { OnErr result (self.new ≡ self.old) }
+        ensures err { IfErr result (λ fault. (fault ≡ KernelFault.Memory)
+            ⊎ (exports_with_addresses bytes.now self.old.exports ≡ Err fault)) }
+    {
+        let symbols = Symbols::read(self.alloc, bytes)?;
+        self.exports = with_all_addresses(self.alloc, &self.exports, &symbols)?;
+        Ok(())
+    }
+}

@@ -1,0 +1,33 @@
+//! Who provides a symbol, what depends on what, and every obstacle, over the facts of a whole tree and the exports of a
+//! kernel.
+//!
+//! A kernel's exports come from the tables that its build writes, System.map and Module.symvers. The relation of a tree
+//! has for each name who provides it, for each module what it depends on, in an order in which each stands after what it
+//! depends on, and the lines of modules.unmet. What these are is defined in `symbol_binding` and `relation_order`; the
+//! facts of modules are those of `module_facts`. Exported names stand in one table of `name_table`, in the order in which
+//! they are first exported.
+#![tactic(auto)]
+
+mod bindings;
+mod doubles;
+mod exports;
+mod fault;
+mod items;
+mod kernel;
+mod lines;
+mod map;
+mod provider;
+mod relation;
+mod symvers;
+mod unmet;
+
+pub use fault::{KernelFault, RelationFault};
+pub use kernel::{Kernel, KernelExport, KernelExports};
+use km_names::List;
+use module_facts::Facts;
+pub use provider::Provider;
+pub use relation::{Order, Relation};
+pub use symbol_binding::{Obstacles, Unbound, agree};
+
+/// The facts of the modules of a tree, in its order.
+pub type TreeFacts = List<Facts>;

@@ -1,0 +1,245 @@
+// The relation of a tree.
+ghost use Rattle.std.specs.Prelude.{◌≡◌, ◌<◌, ◌≤◌, ◌⊎◌, ◌^◌, ℕ, [], ◌∷◌, Some, None, length, map, slice_get, All, IfOk, IfErr, OnOk};
+ghost use Rattle.std.specs.List.{sum_by};
+ghost use Rattle.km_names.specs.First.{first};
+ghost use Rattle.name_table.specs.NameTable.{IsTableOf};
+ghost use Rattle.symbol_binding.specs.Unmet.{unmet};
+ghost use Rattle.relation_order.specs.Sets.{below};
+ghost use Rattle.relation_order.specs.Cycle.{cycle};
+ghost use Rattle.provider_rel.specs.Faces.{modules_of, kernel_of};
+ghost use Rattle.provider_rel.specs.Tree.{IsTree};
+ghost use Rattle.provider_rel.specs.Relation.{uses_at, name_at, cycle_fault, deps_fault, doubles_fault, dependencies, relation_fault};
+ghost use Rattle.provider_rel.specs.Seen.{provider_by, places_of, closures_by, obstacles_by, IsRelation};
+ghost use Rattle.provider_rel.specs.Items.{item_answer, item_name, item_doubles, answer_at};
+ghost use Rattle.provider_rel.specs.Bindings.{AreBindings};
+
+use crate::bindings::{Bindings, all_used};
+use crate::doubles::{count_doubles, push_doubles};
+use crate::items::ExportItem;
+use crate::unmet::{Kind, push_all_lines};
+use crate::{Kernel, Provider, RelationFault, TreeFacts};
+use km_names::{List, Name, Names, TreeIndex};
+use name_table::OwnedNameTable;
+use relation_order::{Closures, OrderOrCycle, all_members, order_or_cycle};
+use std::alloc::{AllocError, Global};
+use symbol_binding::Obstacles;
+
+/// Modules of a tree, by their places.
+pub type Order = List<TreeIndex>;
+
+/// The relation of a tree over a kernel: who provides a name, what each module depends on, and the lines of
+/// modules.unmet. modules.dep(5).
+#[derive(Drop)]
+pub struct Relation {
+    known: bool,
+    names: OwnedNameTable,
+    owners: Vec<Provider>,
+    closures: Vec<Order>,
+    unmet: Obstacles,
+}
+
+/// The owner of an export as an answer.
+fn owner(item: &ExportItem) -> Provider
+    ensures { result ≡ item_answer item.now }
+{
+    match item.place() {
+        Some(place) => Provider::Module(TreeIndex(place)),
+        None => Provider::Kernel,
+    }
+}
+
+/// The owners of exports.
+fn owners(alloc: Global, items: &[ExportItem]) -> Result<Vec<Provider>, AllocError>
+    ensures { IfOk result (λ owners. owners.items ≡ map item_answer items.now) }
+{
+    items.iter().map(|item| owner(item)).collect(alloc)
+}
+
+/// The names of the modules at some places.
+fn names_at(alloc: Global, tree: &TreeFacts, places: &[usize]) -> Result<Names, AllocError>
+    ensures { IfOk result (λ names. names ≡ map (name_at (modules_of tree.now)) places.now) }
+{
+    let mut names = Names::new(alloc);
+    for place in places {
+        names.push(match tree.get(*place) {
+            Some(facts) => Name::from_slice(alloc, facts.name.as_bytes())?,
+            None => Name::new(alloc),
+        })?;
+    }
+    Ok(names)
+}
+
+/// What each module depends on, unless walks lead back.
+fn reach(
+    alloc: Global,
+    tree: &TreeFacts,
+    bindings: &Bindings,
+    kernel: &Kernel,
+) -> Result<Closures, RelationFault>
+    requires tree { IsTree tree.now }
+    requires bindings { AreBindings tree.now kernel.now bindings.now }
+    ensures ok { IfOk result (λ all. all ≡ dependencies (modules_of tree.now) (kernel_of kernel.now)) }
+    ensures passed { OnOk result (cycle (uses_at (modules_of tree.now) (kernel_of kernel.now)) (below (length tree.now)) ≡ []) }
+    ensures err { IfErr result (λ fault. (fault ≡ RelationFault.Memory)
+        ⊎ (cycle_fault (modules_of tree.now) (cycle (uses_at (modules_of tree.now) (kernel_of kernel.now)) (below (length tree.now))) ≡ Some fault)) }
+{
+    let lists = all_used(alloc, &bindings.items, &bindings.bound)?;
+    let members = all_members(alloc, lists.len())?;
+    match order_or_cycle(alloc, &lists, &members)? {
+        OrderOrCycle::Order(order) => Ok(Closures::new(alloc, &lists, order)?),
+        OrderOrCycle::Cycle(cycle) => Err(RelationFault::Cycle {
+            names: names_at(alloc, tree, &cycle)?,
+        }),
+    }
+}
+
+/// The most dependencies that all modules may have together.
+const MOST_DEPS: u64 = 2_000_000;
+
+/// The most double lines that there may be.
+const MOST_DOUBLES: u64 = 100_000;
+
+/// Tests how many dependencies and double lines there are.
+fn check_counts(
+    alloc: Global,
+    closures: &Closures,
+    bindings: &Bindings,
+) -> Result<(), RelationFault>
+    requires closures { length closures.now < 2 ^ 32 }
+    requires names { IsTableOf bindings.now.names (map item_name bindings.now.items.items) }
+    requires few { length bindings.now.items.items < 2 ^ 32 }
+    ensures passed { OnOk result (first (deps_fault (sum_by length closures.now) ∷ doubles_fault (length (item_doubles [] bindings.now.items.items)) ∷ []) ≡ None) }
+    ensures err { IfErr result (λ fault. (fault ≡ RelationFault.Memory)
+        ⊎ (first (deps_fault (sum_by length closures.now) ∷ doubles_fault (length (item_doubles [] bindings.now.items.items)) ∷ []) ≡ Some fault)) }
+{
+    let deps = closures.count();
+    if deps > MOST_DEPS {
+        return Err(RelationFault::TooManyDeps { count: deps });
+    }
+    let doubles = count_doubles(alloc, &bindings.names, &bindings.items)?;
+    if doubles > MOST_DOUBLES {
+        return Err(RelationFault::TooManyDoubles { count: doubles });
+    }
+    Ok(())
+}
+
+/// Places as a list of them.
+fn order_of(alloc: Global, places: &[usize]) -> Result<Order, AllocError>
+    requires { All (λ i. i < 2 ^ 32) places.now }
+    ensures { IfOk result (λ order. map (λ i. i.0) order ≡ places.now) }
+{
+    let mut order = Order::new(alloc);
+    for place in places {
+        order.push(TreeIndex(*place as u32))?;
+    }
+    Ok(order)
+}
+
+/// The dependencies of each module as lists of places.
+fn orders_of(alloc: Global, closures: &Closures, count: usize) -> Result<Vec<Order>, AllocError>
+    requires long { length closures.now ≡ count }
+    requires small { All (λ xs. All (λ i. i < 2 ^ 32) xs) closures.now }
+    ensures { IfOk result (λ orders. map (map (λ i. i.0)) orders.items ≡ closures.now) }
+{
+    let mut orders = Vec::new(alloc);
+    for x in 0..count {
+        orders.push(order_of(alloc, &closures.closure(alloc, x)?)?)?;
+    }
+    Ok(orders)
+}
+
+/// All lines of modules.unmet, in order.
+fn obstacles_of(
+    alloc: Global,
+    tree: &TreeFacts,
+    bindings: &Bindings,
+    kernel: &Kernel,
+) -> Result<Obstacles, AllocError>
+    requires tree { IsTree tree.now }
+    requires bindings { AreBindings tree.now kernel.now bindings.now }
+    ensures { IfOk result (λ lines. lines ≡ unmet (modules_of tree.now) (kernel_of kernel.now)) }
+{
+    let mut lines = Obstacles::new(alloc);
+    push_all_lines(alloc, &mut lines, Kind::Missing, tree, bindings)?;
+    push_all_lines(alloc, &mut lines, Kind::Gpl, tree, bindings)?;
+    push_all_lines(alloc, &mut lines, Kind::Version, tree, bindings)?;
+    push_all_lines(alloc, &mut lines, Kind::Namespace, tree, bindings)?;
+    push_doubles(alloc, &mut lines, &bindings.names, &bindings.items)?;
+    Ok(lines)
+}
+
+impl Relation {
+    /// The relation of the modules of a tree, in its order, over a kernel. modules.dep(5), depmod(8).
+    ///
+    /// # Errors
+    ///
+    /// `Cycle` exactly where walks of uses lead back; then `TooManyDeps` exactly where all modules together have more
+    /// than 2,000,000 dependencies; then `TooManyDoubles` exactly where there are more than 100,000 double lines; or
+    /// `Memory`.
+    pub fn make(
+        alloc: Global,
+        tree: &TreeFacts,
+        kernel: &Kernel,
+    ) -> Result<Relation, RelationFault>
+        requires { IsTree tree.now }
+        ensures ok { IfOk result (λ relation. IsRelation (modules_of tree.now) (kernel_of kernel.now) relation) }
+        ensures passed { OnOk result (relation_fault (modules_of tree.now) (kernel_of kernel.now) ≡ None) }
+        ensures err { IfErr result (λ fault. (fault ≡ RelationFault.Memory)
+            ⊎ (relation_fault (modules_of tree.now) (kernel_of kernel.now) ≡ Some fault)) }
+    {
+        let bindings = Bindings::new(alloc, tree, kernel)?;
+        let closures = reach(alloc, tree, &bindings, kernel)?;
+        check_counts(alloc, &closures, &bindings)?;
+        let unmet = obstacles_of(alloc, tree, &bindings, kernel)?;
+        let closures = orders_of(alloc, &closures, tree.len())?;
+        Ok(Relation {
+            known: bindings.known,
+            owners: owners(alloc, &bindings.items)?,
+            names: bindings.names,
+            closures,
+            unmet,
+        })
+    }
+
+    /// Who provides a name. It takes no memory.
+    #[tactic(auto, unfolding(crate::specs::Seen::provider_by))]
+    pub fn provider(&self, name: &[u8]) -> Provider
+        ensures { result ≡ provider_by self.now name.now }
+    {
+        owner_at(self.known, &self.owners, self.names.place(name))
+    }
+
+    /// The modules on which the module at a place depends, each after those that it depends on itself; of those that
+    /// may come next the first in the tree. It takes no memory.
+    #[tactic(auto, unfolding(crate::specs::Seen::closures_by))]
+    pub fn closure(&self, m: TreeIndex) -> &Order
+        requires { m.0 < length (closures_by self.now) }
+        ensures { slice_get (closures_by self.now) m.0 ≡ Some (places_of result.now) }
+    {
+        &self.closures[m.0 as usize]
+    }
+
+    /// What stands in the way of loading modules of the tree: the lines of modules.unmet. It takes no memory.
+    #[tactic(auto, unfolding(crate::specs::Seen::obstacles_by))]
+    pub fn obstacles(&self) -> &Obstacles
+        ensures { result.now ≡ obstacles_by self.now }
+    {
+        &self.unmet
+    }
+}
+
+/// Who provides what stands at a place of the owners, or what nobody exports.
+fn owner_at(known: bool, owners: &[Provider], place: Option<u32>) -> Provider
+    ensures { result ≡ answer_at known owners.now place }
+{
+    if let Some(place) = place {
+        if let Some(owner) = owners.get(place as usize) {
+            return *owner;
+        }
+    }
+    if known {
+        Provider::Nobody
+    } else {
+        Provider::Kernel
+    }
+}
