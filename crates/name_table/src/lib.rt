@@ -8,8 +8,10 @@
 
 mod borrowed;
 mod owned;
+mod set;
 #[cfg(test)]
 mod tests;
 
 pub use borrowed::NameTable;
 pub use owned::OwnedNameTable;
+pub use set::NameSet;
