@@ -137,7 +137,7 @@ fn kept(
 fn drops(use_blacklist: bool, list: u8) -> bool
     ensures { result ≡ (use_blacklist || list == 5) }
 {
-    use_blacklist || list == 5
+    list == 5 || use_blacklist
 }
 
 /// The names without repeats, the first of equal ones kept.
@@ -152,11 +152,7 @@ fn distinct(alloc: Global, names: &Names) -> Result<NameSet<'_>, AllocError>
 }
 
 /// The names of a set but those of another.
-fn names_but(
-    alloc: Global,
-    names: &NameSet<'_>,
-    dropped: &NameSet<'_>,
-) -> Result<Names, AllocError>
+fn names_but(alloc: Global, names: &NameSet<'_>, dropped: &NameSet<'_>) -> Result<Names, AllocError>
     ensures { IfOk result (λ left. left ≡ filter (λ name. not (is_among dropped.now name)) names.now) }
 {
     let mut left = Names::new(alloc);

@@ -27,9 +27,10 @@ fn alias_of<'a>(rule: &'a Rule, name: &[u8]) -> Option<&'a [u8]>
     ensures { option_map (λ found. found.now) result ≡ alias_name name.now rule.now }
 {
     match rule {
-        Rule::Alias { pattern, name: found } if matches(pattern.as_bytes(), name) => {
-            Some(found.as_bytes())
-        }
+        Rule::Alias {
+            pattern,
+            name: found,
+        } if matches(pattern.as_bytes(), name) => { Some(found.as_bytes()) }
         _ => None,
     }
 }
