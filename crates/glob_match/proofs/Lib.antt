@@ -1,3 +1,4 @@
+pub mod DecisionLemmas
 pub mod Items
 pub mod Rules
 pub mod Tries

@@ -1,4 +1,5 @@
-ghost use Rattle.std.specs.Prelude.{◌↔◌, IsTrue};
+ghost use Rattle.std.specs.Prelude.{◌≡◌, ◌↔◌, IsTrue};
+ghost use Rattle.glob_match.specs.Decision.{is_match};
 ghost use Rattle.glob_match.specs.Pattern.{Matches};
 
 use crate::meeting::{Meeting, meet};
@@ -9,6 +10,14 @@ use crate::meeting::{Meeting, meet};
 /// the text that is special: `*` is any run of bytes, `?` any one byte, `[..]` one byte of a set, or with
 /// `[!..]` one byte out of it; any other byte is itself.
 pub fn matches(pattern: &[u8], text: &[u8]) -> bool
+    ensures related { IsTrue result ↔ Matches pattern.now text.now }
+    ensures test { result ≡ is_match pattern.now text.now }
+{
+    search(pattern, text)
+}
+
+/// Whether the text matches, by going back to the last `*` where a byte doesn't fit.
+fn search(pattern: &[u8], text: &[u8]) -> bool
     ensures { IsTrue result ↔ Matches pattern.now text.now }
 {
     let mut rest = pattern;

@@ -8,3 +8,5 @@ pub mod FrontLemmas
 pub mod MatchLemmas
 pub mod SortLemmas
 pub mod SelectLemmas
+pub mod PriorityLemmas
+pub mod ContentsLemmas

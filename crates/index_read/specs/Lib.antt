@@ -3,3 +3,4 @@ pub mod Keys
 pub mod Walks
 pub mod Fronts
 pub mod Rounds
+pub mod Contents

@@ -1,4 +1,5 @@
 ghost use Rattle.std.specs.Prelude.{◌≡◌, ◌+◌, ◌≤◌, [], length, Some, None, IfOk, OnOk, IfErr, IfNone, IfSome, slice_get, ℕ};
+ghost use Rattle.std.specs.FinMap.{entries};
 ghost use Rattle.index_format.specs.Map.{KeyValues, values_of};
 ghost use Rattle.index_format.specs.Node.{root};
 ghost use Rattle.index_format.specs.Walk.{at, visits};
@@ -8,6 +9,7 @@ ghost use Rattle.index_nodes.specs.Faults.{IsFirstFault};
 ghost use Rattle.index_nodes.specs.Places.{IsPlaceOf, value_at, values_left};
 ghost use Rattle.index_format.specs.Nodes.{node_count};
 ghost use Rattle.index_format.specs.Listing.{IsListing};
+ghost use Rattle.index_read.specs.Contents.{contents, values_matching, wild_values};
 ghost use Rattle.index_read.specs.Values.{shown, shown_pairs, IsWild, IsMatching};
 
 use crate::front::{agreed_length, is_wanted, may_match};
@@ -33,6 +35,7 @@ impl Index {
         ensures bytes { IfOk result (λ index. index.nodes ≡ bytes) }
         ensures accepted { OnOk result (index_fault bytes ≡ None) }
         ensures fault { IfErr result (IsFirstFault (index_fault bytes)) }
+        ensures held { IfOk result (λ index. Holds index.nodes (contents index.nodes)) }
     {
         let nodes = Nodes::adopt(alloc, bytes)?;
         Ok(Index { nodes })
@@ -44,6 +47,7 @@ impl Index {
         ensures none { IfNone result (at self.now.nodes (root self.now.nodes) key.now ≡ []) }
         ensures first { IfSome result (λ place. slice_get (at self.now.nodes (root self.now.nodes) key.now) 0 ≡ Some (value_at self.now.nodes place)) }
         ensures place { IfSome result (IsPlaceOf self.now.nodes) }
+        ensures held { Holds self.now.nodes (contents self.now.nodes) }
         ensures cost { steps.new ≡ steps.old + visits self.now.nodes key.now }
         ensures few { steps.new ≤ steps.old + (length key.now + 1) }
     {
@@ -69,6 +73,7 @@ impl Index {
     ) -> Result<Values, AllocError>
         ensures values { IfOk result (λ found. shown found ≡ at self.now.nodes (root self.now.nodes) key.now) }
         ensures map { (m : KeyValues) → Holds self.now.nodes m → IfOk result (λ found. shown found ≡ values_of m key.now) }
+        ensures held { Holds self.now.nodes (contents self.now.nodes) }
         ensures cost { steps.new ≡ steps.old + visits self.now.nodes key.now }
         ensures few { steps.new ≤ steps.old + (length key.now + 1) }
     {
@@ -106,6 +111,7 @@ impl Index {
     ) -> Result<Values, AllocError>
         ensures wild { IfOk result (λ found. IsWild (at self.now.nodes (root self.now.nodes)) text.now (shown found)) }
         ensures map { (m : KeyValues) → Holds self.now.nodes m → IfOk result (λ found. IsWild (values_of m) text.now (shown found)) }
+        ensures exact { IfOk result (λ found. shown found ≡ wild_values (contents self.now.nodes) text.now) }
         ensures cost { steps.new ≤ steps.old + node_count self.now.nodes }
     {
         let mut found = self.matching(alloc, text, steps)?;
@@ -121,6 +127,7 @@ impl Index {
         steps: &mut Steps<L>,
     ) -> Result<Vec<Value>, AllocError>
         ensures matching { IfOk result (λ found. IsMatching (at self.now.nodes (root self.now.nodes)) text.now (shown found.items)) }
+        ensures exact { IfOk result (λ found. shown found.items ≡ values_matching (entries (contents self.now.nodes)) text.now) }
         ensures cost { steps.new ≤ steps.old + node_count self.now.nodes }
     {
         let mut found = Vec::new(alloc);

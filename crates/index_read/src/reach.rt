@@ -1,6 +1,7 @@
-ghost use Rattle.std.specs.Prelude.{◌≡◌, ◌+◌, [], ◌∷◌, length, drop, nat_eq, true, false, IfSome, MatchOption, option_map};
+ghost use Rattle.std.specs.Prelude.{◌≡◌, ◌+◌, [], ◌∷◌, length, drop, nat_eq, true, false, None, IfSome, MatchOption, option_map};
 ghost use Rattle.std.specs.List.{starts_with};
 ghost use Rattle.index_format.specs.Node.{root};
+ghost use Rattle.index_format.specs.Check.{index_fault};
 ghost use Rattle.index_format.specs.Walk.{walk, visits};
 ghost use Rattle.index_nodes.specs.Fields.{link_of, IsNodeOf};
 
@@ -35,6 +36,7 @@ pub(crate) fn reach<L: Ledger>(nodes: &Nodes, key: &[u8], steps: &mut Steps<L>) 
     ensures reached { option_map link_of result ≡ (walk nodes.now (root nodes.now) key.now).reached }
     ensures node { IfSome result (IsNodeOf nodes.now) }
     ensures cost { steps.new ≡ steps.old + visits nodes.now key.now }
+    ensures accepted { index_fault nodes.now ≡ None }
 {
     let mut rest = key;
     let mut at = nodes.root();

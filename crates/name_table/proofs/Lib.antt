@@ -1,2 +1,3 @@
 pub mod TableSteps
 pub mod PieceLemmas
+pub mod SeenSteps

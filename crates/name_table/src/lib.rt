@@ -9,8 +9,10 @@
 mod borrowed;
 mod key;
 mod owned;
+mod set;
 #[cfg(test)]
 mod tests;
 
 pub use borrowed::NameTable;
 pub use owned::OwnedNameTable;
+pub use set::NameSet;

@@ -11,7 +11,7 @@ returns-then-is_some-clause-wanted c =
     let text = c.args.text.now in
     let n = c.args.agreed in
     λ yes.
-    (matches_rest key text n c.requires.agrees).0 (subst (λ k. Matches k (drop n text)) (take_rest key n) (subst (Matches (take (length key - n) (drop n key))) (take_rest text n) (c.matches.ensures.0 yes)))
+    (matches_rest key text n c.requires.agrees).0 (subst (λ k. Matches k (drop n text)) (take_rest key n) (subst (Matches (take (length key - n) (drop n key))) (take_rest text n) (c.matches.ensures.related.0 yes)))
 
 pub returns-then-is_some-clause-unwanted : goal.returns-then-is_some-clause-unwanted
 returns-then-is_some-clause-unwanted c =
@@ -19,4 +19,4 @@ returns-then-is_some-clause-unwanted c =
     let text = c.args.text.now in
     let n = c.args.agreed in
     λ no_match.
-    inl (λ m. false≢true (sym no_match ∙ c.matches.ensures.1 (subst (λ k. Matches k (take (length text - n) (drop n text))) (sym (take_rest key n)) (subst (Matches (drop n key)) (sym (take_rest text n)) ((matches_rest key text n c.requires.agrees).1 m)))))
+    inl (λ m. false≢true (sym no_match ∙ c.matches.ensures.related.1 (subst (λ k. Matches k (take (length text - n) (drop n text))) (sym (take_rest key n)) (subst (Matches (drop n key)) (sym (take_rest text n)) ((matches_rest key text n c.requires.agrees).1 m)))))

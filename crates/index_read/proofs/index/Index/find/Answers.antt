@@ -4,6 +4,7 @@ use Rattle.index_format.specs.Walk.{values_at, at}
 use Rattle.index_nodes.specs.Fields.{link_of}
 use Rattle.index_read.specs.Values.{shown}
 use Rattle.index_read.proofs.ReachLemmas.{visits-few}
+use Rattle.index_read.proofs.ContentsLemmas.{held}
 use Rattle.index_read.proofs.index.Index.find.Goals as goal
 
 pub returns-in_default-clause-values : goal.returns-in_default-clause-values
@@ -44,3 +45,12 @@ returns-clause-map g c =
 
 pub returns-clause-few : goal.returns-clause-few
 returns-clause-few g c = omega (arith, c.reach.ensures.cost, visits-few c.args.self.now.nodes c.args.key.now)
+
+pub returns-in_default-clause-held : goal.returns-in_default-clause-held
+returns-in_default-clause-held g c = held c.args.self.now.nodes c.reach.ensures.accepted
+
+pub returns-in_err-push_values-clause-held : goal.returns-in_err-push_values-clause-held
+returns-in_err-push_values-clause-held g c = held c.args.self.now.nodes c.reach.ensures.accepted
+
+pub returns-clause-held : goal.returns-clause-held
+returns-clause-held g c = held c.args.self.now.nodes c.reach.ensures.accepted

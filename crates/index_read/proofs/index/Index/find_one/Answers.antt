@@ -3,6 +3,7 @@ use Rattle.std.specs.Prelude.{IfNone, IfSome}
 use Rattle.index_format.specs.Walk.{values_at, at}
 use Rattle.index_nodes.specs.Places.{value_at}
 use Rattle.index_read.proofs.ReachLemmas.{visits-few}
+use Rattle.index_read.proofs.ContentsLemmas.{held}
 use Rattle.index_read.proofs.index.Index.find_one.Goals as goal
 
 pub returns-in_err-node-clause-none : goal.returns-in_err-node-clause-none
@@ -25,3 +26,9 @@ returns-clause-first g c =
 
 pub returns-clause-few : goal.returns-clause-few
 returns-clause-few g c = omega (arith, c.reach.ensures.cost, visits-few c.args.self.now.nodes c.args.key.now)
+
+pub returns-in_err-node-clause-held : goal.returns-in_err-node-clause-held
+returns-in_err-node-clause-held g c = held c.args.self.now.nodes c.reach.ensures.accepted
+
+pub returns-clause-held : goal.returns-clause-held
+returns-clause-held g c = held c.args.self.now.nodes c.reach.ensures.accepted

@@ -11,6 +11,7 @@ use Rattle.index_read.specs.Walks.{left, GoesOn}
 use Rattle.index_read.specs.Values.{shown}
 use Rattle.index_read.proofs.CountLemmas.{count_all, root_counted}
 use Rattle.index_read.proofs.FrontLemmas.{agrees_on}
+use Rattle.index_read.proofs.ContentsLemmas.{all_matching}
 use Rattle.index_read.proofs.ListingLemmas.{none, selection}
 use Rattle.index_read.proofs.MatchLemmas.{Onward, on_match, on_other, on_leaving, left_fewer}
 use Rattle.index_read.proofs.RoundLemmas.{still_to_do, still_going, owed_few}
@@ -101,3 +102,10 @@ loop-next-preserved g c =
       agrees = keeps b text walk new o agreed on (subst (λ k. Agrees k text agreed) (sym same) agrees);
       cost = omega (arith, w.cost, c.in_ok-next.ensures.cost, few, fewer);
     }
+
+pub returns-clause-exact : goal.returns-clause-exact
+returns-clause-exact g c =
+    let found = shown c.loop-next.found.items in
+    let w = subst (λ o. Matching c.args.self.now.nodes c.args.text.now c.loop-next.walk o found c.loop-next.agreed c.args.steps.now c.loop-next.steps) c.in_default.is c.loop-next.invariant in
+    let f = w.onward [] none in
+    sym (append-nil found) ∙ f.found_is ∙ all_matching c.args.self.now.nodes c.args.text.now f.pairs f.chosen

@@ -1,8 +1,10 @@
-use Rattle.std.proofs.Common.{sym, subst, rules}
+use Rattle.std.proofs.Common.{sym, ap, ◌∙◌, subst, rules}
 use Rattle.std.proofs.lemmas.Fn.{always_returns_same}
 use Rattle.index_format.specs.Map.{values_of}
 use Rattle.index_format.specs.Node.{root}
 use Rattle.index_format.specs.Walk.{at}
+use Rattle.index_read.specs.Contents.{wild_values, by_priority as by_rising_priority}
+use Rattle.index_read.proofs.PriorityLemmas.{by_priority-is}
 use Rattle.index_read.specs.Values.{shown, IsWild}
 use Rattle.index_read.proofs.SelectLemmas.{matching_same}
 use Rattle.index_read.proofs.SortLemmas.{by_priority}
@@ -30,3 +32,15 @@ returns-clause-map g c =
           (c.in_ok-sort_by_key.ensures.sorted (λ v. v.priority) (always_returns_same _ _ _ (λ a r q k. search rules)))
           (c.in_ok-sort_by_key.ensures.stable (λ v. v.priority) (always_returns_same _ _ _ (λ a r q k. search rules)));
     })
+
+pub returns-clause-exact : goal.returns-clause-exact
+unfolding wild_values
+returns-clause-exact g c =
+    let found = c.in_ok-found.found.items in
+    let ordered = c.sort_by_key.new.self.items in
+    ap shown c.from_vec.ensures
+    ∙ by_priority-is (shown found) (shown ordered)
+    (by_priority found ordered
+    (c.in_ok-sort_by_key.ensures.sorted (λ v. v.priority) (always_returns_same _ _ _ (λ a r q k. search rules)))
+    (c.in_ok-sort_by_key.ensures.stable (λ v. v.priority) (always_returns_same _ _ _ (λ a r q k. search rules))))
+    ∙ ap by_rising_priority c.in_ok-found.ensures.exact

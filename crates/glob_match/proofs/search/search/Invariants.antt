@@ -1,6 +1,6 @@
 use Rattle.std.proofs.Common.{◌+◌, ◌*◌, length}
 use Rattle.glob_match.proofs.Tries.{Tries, ends_left}
-use Rattle.glob_match.proofs.search.matches.Given as goal
+use Rattle.glob_match.proofs.search.search.Given as goal
 
 abbrev pub invariant-loop-after : goal.invariant-loop-after
 invariant-loop-after l = Tries l.pattern l.text l.rest l.left l.retry

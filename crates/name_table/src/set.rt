@@ -1,0 +1,66 @@
+ghost use Rattle.std.specs.Prelude.{◌≡◌, ◌++◌, ◌∷◌, ◌||◌, ℕ, List, [], length, OnOk, OnErr, slice_get, option_map};
+ghost use Rattle.std.specs.Str.{bytes_eq};
+ghost use Rattle.name_table.specs.FirstSeen.{first_seen, is_among, with_name};
+
+use indexmap::IndexSet;
+use std::alloc::{AllocError, Global};
+use std::marker::Model;
+
+/// Names without repeats, in the order in which they were first put in. The names stand elsewhere. Contracts see the
+/// list of names.
+#[derive(Drop)]
+pub struct NameSet<'a> {
+    names: IndexSet<&'a [u8]>,
+}
+
+impl<'a> Model for NameSet<'a> {
+    ghost use Rattle.std.specs.Prelude.{ℕ, List, map};
+
+    ghost Value = { List (List ℕ) };
+
+    ghost view = { λ s. map (λ name. name.now) s.names.keys };
+}
+
+impl<'a> NameSet<'a> {
+    /// The set of no name. It takes no memory.
+    pub fn new(alloc: Global) -> Self
+        ensures { result ≡ [] }
+    {
+        NameSet {
+            names: IndexSet::new(alloc),
+        }
+    }
+
+    /// Puts a name in, behind the others, unless it is there. After a refusal the set is as before.
+    pub fn insert(&mut self, name: &'a [u8]) -> Result<(), AllocError>
+        ensures ok { OnOk result (self.new ≡ with_name self.old name.now) }
+        ensures seen { OnOk result ((names : List (List ℕ)) → self.old ≡ first_seen names →
+            self.new ≡ first_seen (names ++ name.now ∷ [])) }
+        ensures among { OnOk result ((other : List ℕ) → is_among self.new other ≡ (is_among self.old other || bytes_eq other name.now)) }
+        ensures err { OnErr result (self.new ≡ self.old) }
+    {
+        self.names.insert(name)?;
+        Ok(())
+    }
+
+    /// Whether the name is there.
+    pub fn contains(&self, name: &[u8]) -> bool
+        ensures { result ≡ is_among self.now name.now }
+    {
+        self.names.contains(name)
+    }
+
+    /// The name at a place, from 0.
+    pub fn get(&self, place: usize) -> Option<&'a [u8]>
+        ensures { option_map (λ name. name.now) result ≡ slice_get self.now place }
+    {
+        self.names.get_index(place).copied()
+    }
+
+    /// How many names there are.
+    pub fn len(&self) -> usize
+        ensures { result ≡ length self.now }
+    {
+        self.names.len()
+    }
+}
