@@ -1,0 +1,4 @@
+pub mod Offsets
+pub mod Plain
+pub mod Symbols
+pub mod Laid
