@@ -1,0 +1,4 @@
+pub mod Aligning
+pub mod EndLemmas
+pub mod OffsetLemmas
+pub mod NextLemmas

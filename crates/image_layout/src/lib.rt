@@ -10,3 +10,7 @@
 #![tactic(auto)]
 
 mod class;
+mod ends;
+mod layout;
+
+pub use layout::{Layout, image_size};
