@@ -12,5 +12,8 @@
 mod class;
 mod ends;
 mod layout;
+mod plain;
+mod symbols;
 
 pub use layout::{Layout, image_size};
+pub use symbols::addresses;
