@@ -5,3 +5,4 @@ pub mod NextLemmas
 pub mod SymbolLemmas
 pub mod PlainLemmas
 pub mod PieceLemmas
+pub mod LaidLemmas

@@ -22,3 +22,6 @@ wrapped_twice a b c = omega arith
 pub address-is : (o : FileObject) (base : ℕ) (given : List ℕ) (k : ℕ) (s : Symbol) → slice_get o.symbols k ≡ Some s → address o base given k ≡ symbol_address o.sections base (slice_index given k) s
 unfolding address
 address-is o base given k s is = rw is refl
+
+pub wrapped_place : (a b : ℕ) → (a + b % 2 ^ 64) % 2 ^ 64 ≡ (a + b) % 2 ^ 64
+wrapped_place a b = omega arith

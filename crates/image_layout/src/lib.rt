@@ -11,9 +11,13 @@
 
 mod class;
 mod ends;
+mod fault;
+mod laid;
 mod layout;
 mod plain;
 mod symbols;
 
+pub use fault::LayFault;
+pub use laid::image_at;
 pub use layout::{Layout, image_size};
 pub use symbols::addresses;
