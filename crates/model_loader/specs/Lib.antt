@@ -5,3 +5,4 @@ pub mod Machine
 pub mod Gap
 pub mod Step
 pub mod Sound
+pub mod Standing

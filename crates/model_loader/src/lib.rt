@@ -15,6 +15,7 @@
 mod entry;
 mod fault;
 mod region;
+mod standing;
 
 pub use entry::LoadedModule;
 pub use fault::{LoadFault, MachineFault};
