@@ -16,14 +16,18 @@ abbrev pub meets_entry : ℕ → ℕ → Entry → Bool
 meets_entry at n e = meets at n e.loaded.base (length e.image)
 
 -- So many bytes from a place on lie in the region and meet no entry's image.
-abbrev pub is_gap : Machine → ℕ → ℕ → Bool
-is_gap machine n at =
-    nat_le (at + n) (machine.region.base + machine.region.size) && not (list_any (meets_entry at n) machine.entries)
+abbrev pub is_gap : Region → List Entry → ℕ → ℕ → Bool
+is_gap region entries n at =
+    nat_le (at + n) (region.base + region.size) && not (list_any (meets_entry at n) entries)
 
 -- The pages of a region.
 abbrev pub pages : Region → List ℕ
 pages region = map (λ k. region.base + PAGE * k) (range_with_len 0 (region.size / PAGE))
 
--- The lowest page of the region from which so many bytes are free.
-unfoldable pub gap : Machine → ℕ → Option ℕ
-gap machine n = find (is_gap machine n) (pages machine.region)
+-- The lowest page of a region from which so many bytes are free, among these entries.
+unfoldable pub gap_among : Region → List Entry → ℕ → Option ℕ
+gap_among region entries n = find (is_gap region entries n) (pages region)
+
+-- The same in a machine.
+abbrev pub gap : Machine → ℕ → Option ℕ
+gap machine n = gap_among machine.region machine.entries n

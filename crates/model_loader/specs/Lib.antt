@@ -6,3 +6,5 @@ pub mod Gap
 pub mod Step
 pub mod Sound
 pub mod Standing
+pub mod Runs
+pub mod NeedTests

@@ -14,6 +14,8 @@
 
 mod entry;
 mod fault;
+mod gap;
+mod needs;
 mod region;
 mod standing;
 

@@ -9,8 +9,8 @@ use elf_format::PAGE;
 /// kernel's arch/x86/include/asm/pgtable_64_types.h.
 #[derive(Clone, Copy, Debug)]
 pub struct Region {
-    base: u64,
-    size: u64,
+    pub(crate) base: u64,
+    pub(crate) size: u64,
     ghost pages: { IsRegion base size },
 }
 

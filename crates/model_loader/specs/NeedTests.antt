@@ -1,0 +1,31 @@
+-- The tests of needs, as the code names them. No public contract cites it.
+use Rattle.std.specs.Prelude.{ℕ, Bool, List, option_map}
+use Rattle.module_facts.specs.declared.facts.Need.{Need as FactsNeed}
+use Rattle.module_facts.specs.declared.facts.Facts.{Facts}
+use Rattle.model_loader.specs.declared.standing.ExportTable.{ExportTable}
+use Rattle.model_loader.specs.Machine.{facts_face, facts_need}
+use Rattle.model_loader.specs.Standing.{standing_export, standing_of}
+use Rattle.symbol_binding.specs.Needs.{NeedTest, is_missing, is_hidden, is_other_version, is_barred}
+use Rattle.model_loader.specs.declared.needs.Check.{Check}
+use Rattle.model_loader.specs.declared.needs.Check.TheVariants.{Missing, Hidden, OtherVersion, Barred}
+use Rattle.model_loader.specs.declared.fault.LoadFault.{LoadFault}
+use Rattle.model_loader.specs.declared.fault.LoadFault.TheVariants.{MissingSymbol, GplOnly, VersionDiffers, NotImported}
+
+-- The test of a need.
+abbrev pub test_of : Check → NeedTest
+test_of Missing = is_missing
+test_of Hidden = is_hidden
+test_of OtherVersion = is_other_version
+test_of Barred = is_barred
+
+-- What a load is refused for where a need fails the test.
+abbrev pub fault_of : Check → List ℕ → LoadFault
+fault_of Missing = MissingSymbol
+fault_of Hidden = GplOnly
+fault_of OtherVersion = VersionDiffers
+fault_of Barred = NotImported
+
+-- Whether a need of a module fails a test, by a table.
+abbrev pub need_fails : Check → ExportTable → Facts → FactsNeed → Bool
+need_fails check table f n =
+    test_of check (option_map (standing_export n.name) (standing_of table n.name)) (facts_face f) (facts_need n)
