@@ -1,3 +1,4 @@
 pub mod RegionLemmas
 pub mod TableLemmas
 pub mod GapLemmas
+pub mod StandingLemmas
