@@ -2,3 +2,4 @@ pub mod RegionLemmas
 pub mod TableLemmas
 pub mod GapLemmas
 pub mod StandingLemmas
+pub mod GivenLemmas

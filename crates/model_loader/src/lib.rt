@@ -15,6 +15,8 @@
 mod entry;
 mod fault;
 mod gap;
+mod given;
+mod names;
 mod needs;
 mod region;
 mod standing;
