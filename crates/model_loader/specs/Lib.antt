@@ -8,3 +8,4 @@ pub mod Sound
 pub mod Standing
 pub mod Runs
 pub mod NeedTests
+pub mod Parts

@@ -38,3 +38,10 @@ standing_in x named = option_map (λ n. n.standing) (find (λ n. bytes_eq n.name
 -- The table has what is to be kept.
 pub record Keeps (t : ExportTable) (machine : Machine) : Type 0 where
   pub at : (x : List ℕ) → standing_of t x ≡ standing_under machine x
+
+-- A name with what is kept of it, as a pair.
+abbrev pub named_pair : Named → List ℕ × Standing
+named_pair n = (n.name.items, n.standing)
+
+abbrev pub export_pair : List ℕ → PlacedExport → List ℕ × Standing
+export_pair owner e = (e.name, standing owner e)

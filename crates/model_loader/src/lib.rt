@@ -17,6 +17,7 @@ mod fault;
 mod gap;
 mod given;
 mod names;
+mod parts;
 mod needs;
 mod region;
 mod standing;
