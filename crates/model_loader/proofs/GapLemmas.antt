@@ -18,7 +18,7 @@ use Rattle.model_loader.specs.Regions.{IsRegion}
 use Rattle.model_loader.specs.Gap.{meets, meets_entry, is_gap, pages, gap_among}
 use Rattle.model_loader.specs.Runs.{IsLowest, IsPaged, run_of, meets_run, meets_any}
 
-any-map : {X Y : Type 0} (p : Y → Bool) (f : X → Y) (xs : List X) → list_any p (map f xs) ≡ list_any (λ x. p (f x)) xs
+pub any-map : {X Y : Type 0} (p : Y → Bool) (f : X → Y) (xs : List X) → list_any p (map f xs) ≡ list_any (λ x. p (f x)) xs
 any-map p f [] = refl
 any-map p f (x ∷ xs) = ap (λ b. p (f x) || b) (any-map p f xs)
 

@@ -9,3 +9,4 @@ pub mod Standing
 pub mod Runs
 pub mod NeedTests
 pub mod Parts
+pub mod Kept

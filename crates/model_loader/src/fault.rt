@@ -4,6 +4,7 @@ ghost use Rattle.std.specs.Prelude.{◌≡◌, ◌++◌, codes, IfOk};
 ghost use Rattle.std.specs.Fmt.{decimal};
 
 use bstr::BStr;
+use image_layout::LayFault;
 use km_names::{Blob, Name};
 use std::alloc::{AllocError, AllocFailed, Global};
 use thiserror::Error;
@@ -88,6 +89,22 @@ impl<T: Drop> From<AllocFailed<T>> for LoadFault {
 
     fn from(_refusal: AllocFailed<T>) -> LoadFault {
         LoadFault::Memory
+    }
+}
+
+impl From<LayFault> for LoadFault {
+    ghost use Rattle.model_loader.specs.FaultText.{load_fault_from};
+
+    ghost from_gives = { λ lay fault. fault ≡ load_fault_from lay };
+
+    fn from(fault: LayFault) -> LoadFault {
+        match fault {
+            LayFault::Overflow(overflow) => LoadFault::Overflow {
+                section: overflow.section,
+                entry: overflow.entry,
+            },
+            LayFault::Memory => LoadFault::Memory,
+        }
     }
 }
 

@@ -18,6 +18,7 @@ mod gap;
 mod given;
 mod names;
 mod parts;
+mod prepare;
 mod needs;
 mod region;
 mod standing;

@@ -4,11 +4,15 @@ ghost use Rattle.std.specs.Prelude.{◌≡◌, ◌⊎◌, None, Some, OnOk, IfEr
 ghost use Rattle.std.specs.List.{list_any};
 ghost use Rattle.std.specs.Str.{bytes_eq};
 ghost use Rattle.km_names.specs.First.{first};
+ghost use Rattle.model_loader.specs.Machine.{Machine};
 ghost use Rattle.model_loader.specs.NeedTests.{taken_by};
+ghost use Rattle.model_loader.specs.Standing.{Keeps};
+ghost use Rattle.model_loader.specs.Step.{name_tests};
 ghost use Rattle.model_loader.specs.declared.fault.LoadFault.TheVariants.{ExportTaken};
 
 use crate::LoadFault;
 use crate::entry::Entry;
+use crate::needs::Check;
 use crate::standing::{ExportTable, Standing};
 use km_names::Name;
 use module_facts::{Export, Facts};
@@ -41,5 +45,23 @@ pub(crate) fn check_exports(alloc: Global, table: &ExportTable, facts: &Facts) -
             return Err(taken(alloc, export, standing)?);
         }
     }
+    Ok(())
+}
+
+/// Tests the names of a module, over the machine that has these entries and whose exported names are in a table.
+pub(crate) fn check_names(alloc: Global, entries: &[Entry], table: &ExportTable, facts: &Facts) -> Result<(), LoadFault>
+    ensures passed { OnOk result ((machine : Machine) → machine.entries ≡ entries.now → Keeps table.now machine
+        → first (name_tests machine facts.now) ≡ None) }
+    ensures fault { IfErr result (λ e. (machine : Machine) → machine.entries ≡ entries.now → Keeps table.now machine
+        → (e ≡ LoadFault.Memory) ⊎ (first (name_tests machine facts.now) ≡ Some e)) }
+{
+    if is_loaded(entries, facts.name.as_bytes()) {
+        return Err(LoadFault::AlreadyLoaded);
+    }
+    Check::Missing.check(alloc, table, facts)?;
+    Check::Hidden.check(alloc, table, facts)?;
+    Check::OtherVersion.check(alloc, table, facts)?;
+    Check::Barred.check(alloc, table, facts)?;
+    check_exports(alloc, table, facts)?;
     Ok(())
 }
