@@ -5,3 +5,5 @@ pub mod StandingLemmas
 pub mod GivenLemmas
 pub mod EntryLemmas
 pub mod NameLemmas
+pub mod StepLemmas
+pub mod KeptLemmas

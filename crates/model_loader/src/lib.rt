@@ -16,6 +16,7 @@ mod entry;
 mod fault;
 mod gap;
 mod given;
+mod machine;
 mod names;
 mod parts;
 mod prepare;
@@ -25,4 +26,5 @@ mod standing;
 
 pub use entry::LoadedModule;
 pub use fault::{LoadFault, MachineFault};
+pub use machine::{LoadedAt, Machine};
 pub use region::Region;
