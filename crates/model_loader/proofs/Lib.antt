@@ -7,3 +7,4 @@ pub mod EntryLemmas
 pub mod NameLemmas
 pub mod StepLemmas
 pub mod KeptLemmas
+pub mod KernelLemmas
