@@ -1,4 +1,6 @@
 pub mod Symbols
+pub mod KernelTable
+pub mod KernelFace
 pub mod Needs
 pub mod Provider
 pub mod Unmet

@@ -170,7 +170,7 @@ patched_by_none image = fill_by_all (byte_at image []) image (length image) 0 re
 pub so_far_none : (image : List ℕ) (patches : List Patch) → IsSoFar image image patches 0
 so_far_none image patches = record { image_is = patched_by_none image; all_fit = refl; none_wide = refl }
 
-length_by : (image : List ℕ) (patches : List Patch) → length (patched image patches) ≡ length image
+pub length_by : (image : List ℕ) (patches : List Patch) → length (patched image patches) ≡ length image
 unfolding patched
 length_by image patches = length-map-range_with_len (byte_at image patches) 0 (length image)
 

@@ -1,8 +1,9 @@
-ghost use Rattle.std.specs.Prelude.{◌≡◌, All, AllPairs, length, is_ok, take_while};
+ghost use Rattle.std.specs.Prelude.{◌≡◌, ◌++◌, ◌∷◌, [], ℕ, List, OnOk, OnErr, All, AllPairs, length, is_ok, take_while};
 ghost use Rattle.std.specs.Option.{option_map};
 ghost use Rattle.std.specs.Result.{result_err};
 ghost use Rattle.raw_image.specs.Bytes.{with_bytes};
 ghost use Rattle.elf_format.specs.Relocation.{IsKnown};
+ghost use Rattle.x86_relocate.specs.declared.patch.Patch.{Patch};
 ghost use Rattle.x86_relocate.specs.Patched.{IsApart, IsWithin, bytes_of, fits, first_too_wide, overflow_of, patched, word_of};
 
 use crate::{TooWide, Written, value};
@@ -42,11 +43,12 @@ pub struct Overflow {
 
 /// Puts the word of one patch into the image, nothing where it is too wide.
 #[tactic(auto, using(crate::proofs::Applied::with_no_bytes))]
-fn put(image: &mut Image, patch: &Patch) -> Result<(), TooWide>
+fn put_word(image: &mut Image, patch: &Patch) -> Result<(), TooWide>
     requires known { IsKnown patch.now.kind }
     requires within { IsWithin (length image.old) patch.now }
     ensures outcome { is_ok result ≡ fits patch.now }
     ensures image { image.new ≡ with_bytes image.old patch.now.at (bytes_of (word_of patch.now)) }
+    ensures unchanged { OnErr result (image.new ≡ image.old) }
     ensures len { length image.new ≡ length image.old }
 {
     match value(patch.kind, patch.s, patch.a, patch.p)? {
@@ -54,6 +56,27 @@ fn put(image: &mut Image, patch: &Patch) -> Result<(), TooWide>
         Written::Four(word) => image.put_u32(patch.at, word),
         Written::Eight(word) => image.put_u64(patch.at, word),
     }
+    Ok(())
+}
+
+/// Puts the word of one patch into the image, with no memory. What stood there isn't looked at. Where patches are put in
+/// one by one, and none shares a byte with an earlier one, the image is the one with the words of all.
+///
+/// # Errors
+///
+/// [`TooWide`] exactly where the word doesn't fit its field. Then the image is as before.
+pub fn put(image: &mut Image, patch: &Patch) -> Result<(), TooWide>
+    requires known { IsKnown patch.now.kind }
+    requires within { IsWithin (length image.old) patch.now }
+    ensures outcome { is_ok result ≡ fits patch.now }
+    ensures image { image.new ≡ with_bytes image.old patch.now.at (bytes_of (word_of patch.now)) }
+    ensures more { OnOk result ((start : List ℕ) (done : List Patch)
+        → All (λ one. IsApart one patch.now) done → image.old ≡ patched start done
+        → image.new ≡ patched start (done ++ patch.now ∷ [])) }
+    ensures unchanged { OnErr result (image.new ≡ image.old) }
+    ensures len { length image.new ≡ length image.old }
+{
+    put_word(image, patch)?;
     Ok(())
 }
 

@@ -1,0 +1,5 @@
+pub mod Offsets
+pub mod Ends
+pub mod Plain
+pub mod Symbols
+pub mod Laid

@@ -1,0 +1,48 @@
+// Where sections end that are placed one after the other.
+
+ghost use Rattle.std.specs.Prelude.{◌≡◌, ◌+◌, ◌%◌, ◌<◌, ◌≤◌, ◌^◌, true, length, if◌then◌else◌};
+ghost use Rattle.elf_object.specs.Places.{is_alignment};
+ghost use Rattle.image_layout.specs.Offsets.{aligned as the_aligned, end_of, is_in as stands_in, of_class};
+
+use crate::class::{Class, is_in};
+use elf_object::{Object, Section};
+
+/// The least multiple of an alignment that isn't below a place. An alignment of 0 counts as 1.
+#[tactic(auto, unfolding(crate::specs::Offsets::aligned), using(crate::proofs::Aligning::aligned_above, crate::proofs::Aligning::aligned_near, crate::proofs::Aligning::aligned_page))]
+pub(crate) fn aligned(place: u128, align: u64) -> u128
+    requires { place < 2 ^ 120 }
+    ensures aligned { result ≡ the_aligned place align }
+    ensures above { place ≤ result }
+    ensures near { align ≤ 4096 → result ≤ place + 4096 }
+    ensures page { align ≡ 4096 → result % 4096 ≡ 0 }
+{
+    let align = u128::from(if align < 1 { 1 } else { align });
+    align * ((place + (align - 1)) / align)
+}
+
+/// Where the sections of a class end with this one, where the earlier ones end at a place.
+#[tactic(auto, using(crate::proofs::Aligning::alignment_small))]
+fn end_with(class: Class, section: &Section, end: u128) -> u128
+    requires end { end < 2 ^ 110 }
+    requires aligned { section.now.kept ≡ true → is_alignment section.now.align ≡ true }
+    ensures end { result ≡ (if stands_in class section.now then the_aligned end section.now.align + section.now.size else end) }
+    ensures near { result ≤ end + 2 ^ 65 }
+{
+    if !is_in(class, section) {
+        return end;
+    }
+    aligned(end, section.align) + u128::from(section.size)
+}
+
+/// Where the sections of a class end that begins at a place.
+pub(crate) fn end_of_class(object: &Object, class: Class, start: u128) -> u128
+    requires { start < 2 ^ 100 }
+    ensures end { result ≡ end_of start (of_class class object.now.sections) }
+    ensures near { result ≤ start + 2 ^ 90 }
+{
+    let mut end = start;
+    for i in 0..object.section_count() {
+        end = end_with(class, object.section(i), end);
+    }
+    end
+}

@@ -1,0 +1,10 @@
+pub mod RegionLemmas
+pub mod TableLemmas
+pub mod GapLemmas
+pub mod StandingLemmas
+pub mod GivenLemmas
+pub mod EntryLemmas
+pub mod NameLemmas
+pub mod StepLemmas
+pub mod KeptLemmas
+pub mod KernelLemmas

@@ -1,0 +1,12 @@
+pub mod Regions
+pub mod Spans
+pub mod FaultText
+pub mod Machine
+pub mod Gap
+pub mod Step
+pub mod Sound
+pub mod Standing
+pub mod Runs
+pub mod NeedTests
+pub mod Parts
+pub mod Kept

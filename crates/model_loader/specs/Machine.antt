@@ -1,0 +1,81 @@
+-- A machine: the symbols of a kernel with their addresses, a region for modules, and the modules that were loaded, oldest
+-- first. The kernel's struct module, include/linux/module.h, and find_symbol, kernel/module/main.c.
+use Rattle.std.specs.Prelude.{ℕ, List, [], ◌∷◌, ◌++◌, map, find, Option, Some, None, option_map, unwrap_or}
+use Rattle.std.specs.Str.{bytes_eq}
+use Rattle.km_names.specs.First.{first}
+use Rattle.module_facts.specs.declared.facts.Export.{Export as FactsExport}
+use Rattle.module_facts.specs.declared.facts.Need.{Need as FactsNeed}
+use Rattle.module_facts.specs.declared.facts.Facts.{Facts}
+use Rattle.symbol_binding.specs.Symbols.{Export, Need, Face, Kernel}
+use Rattle.symbol_binding.specs.declared.kernel.Kernel.{Kernel as KernelTable}
+use Rattle.symbol_binding.specs.declared.kernel.KernelExport.{KernelExport}
+use Rattle.symbol_binding.specs.KernelTable.{kernel_export}
+use Rattle.symbol_binding.specs.KernelFace.{kernel_face}
+use Rattle.model_loader.specs.declared.entry.PlacedExport.{PlacedExport}
+use Rattle.model_loader.specs.declared.entry.BoundNeed.{BoundNeed}
+use Rattle.model_loader.specs.declared.entry.Entry.{Entry}
+use Rattle.model_loader.specs.declared.region.Region.{Region}
+
+-- A machine. Each export of its kernel has an address.
+pub record Machine : Type 0 where
+  pub kernel : KernelTable
+  pub region : Region
+  pub entries : List Entry
+
+-- The machine of a kernel, into which nothing is loaded.
+abbrev pub new_machine : KernelTable → Region → Machine
+new_machine kernel region = record { kernel = kernel; region = region; entries = [] }
+
+-- What those see of an export, of a need, and of the module of an entry who bind symbols.
+abbrev pub export_face : PlacedExport → Export
+export_face e = record { name = e.name; crc = e.crc; gpl = e.gpl; space = e.space }
+
+abbrev pub need_face : BoundNeed → Need
+need_face n = record { name = n.name; weak = n.weak; crc = n.crc }
+
+abbrev pub entry_face : Entry → Face
+entry_face e = record {
+  name = e.loaded.name;
+  exports = map export_face e.exports;
+  needs = map need_face e.needs;
+  free = e.free;
+  imports = e.imports;
+}
+
+abbrev pub faces : Machine → List Face
+faces machine = map entry_face machine.entries
+
+abbrev pub machine_kernel : Machine → Kernel
+machine_kernel machine = kernel_face machine.kernel
+
+-- The same of a module that isn't loaded, by its facts.
+abbrev pub facts_export : FactsExport → Export
+facts_export e = record { name = e.name; crc = e.crc; gpl = e.gpl; space = e.space }
+
+abbrev pub facts_need : FactsNeed → Need
+facts_need n = record { name = n.name; weak = n.weak; crc = n.crc }
+
+abbrev pub facts_face : Facts → Face
+facts_face f = record {
+  name = f.name;
+  exports = map facts_export f.exports;
+  needs = map facts_need f.needs;
+  free = f.free;
+  imports = f.imports;
+}
+
+-- An export of the kernel at its address.
+abbrev pub kernel_placed : KernelExport → PlacedExport
+kernel_placed e = record { name = e.name; crc = e.crc; gpl = e.gpl; space = e.space; address = unwrap_or e.address 0 }
+
+-- The export of this name.
+abbrev pub export_named : List ℕ → List PlacedExport → Option PlacedExport
+export_named x exports = find (λ e. bytes_eq e.name x) exports
+
+-- What stands under a name: the kernel's export, else that of the module that was loaded first.
+unfoldable pub placed_under : Machine → List ℕ → Option PlacedExport
+placed_under machine x =
+    first (
+    export_named x (map kernel_placed machine.kernel.exports)
+    ∷ first (map (λ e. export_named x e.exports) machine.entries)
+    ∷ [])

@@ -1,0 +1,39 @@
+-- The parts of an entry and of a machine, as the code makes them. No public contract cites it.
+use Rattle.std.specs.Prelude.{◌≡◌, ℕ, ◌+◌, ◌<◌, List, length, map, slice_index, Option, None, find, is_none, option_map, All}
+use Rattle.module_facts.specs.declared.facts.Export.{Export as FactsExport}
+use Rattle.module_facts.specs.declared.module.Module.{Module}
+use Rattle.symbol_binding.specs.declared.kernel.KernelExport.{KernelExport}
+use Rattle.model_loader.specs.declared.entry.PlacedExport.{PlacedExport}
+use Rattle.model_loader.specs.declared.entry.Entry.{Entry}
+use Rattle.model_loader.specs.declared.region.Region.{Region}
+use Rattle.model_loader.specs.declared.standing.ExportTable.{ExportTable}
+use Rattle.model_loader.specs.declared.fault.MachineFault.{MachineFault}
+use Rattle.model_loader.specs.declared.fault.MachineFault.TheVariants.{KernelWithoutAddress}
+use Rattle.model_loader.specs.Machine.{Machine}
+use Rattle.model_loader.specs.Standing.{Keeps}
+use Rattle.model_loader.specs.Step.{bound_need}
+
+-- An export of a module, by the addresses of the module's symbols.
+abbrev pub placed_by : List ℕ → FactsExport → PlacedExport
+placed_by addresses e = record { name = e.name; crc = e.crc; gpl = e.gpl; space = e.space; address = slice_index addresses e.symbol }
+
+-- The entry of a module at a base, by its image and the addresses of its symbols.
+abbrev pub entry_by : Module → ℕ → List ℕ → List ℕ → Entry
+entry_by m base image addresses = record {
+  loaded = record { name = m.facts.name; base = base; size = length image };
+  image = image;
+  free = m.facts.free;
+  imports = m.facts.imports;
+  exports = map (placed_by addresses) m.facts.exports;
+  needs = map bound_need m.facts.needs;
+}
+
+-- A machine has these parts.
+pub record HasParts (machine : Machine) (region : Region) (entries : List Entry) (t : ExportTable) : Type 0 where
+  pub region_is : machine.region ≡ region
+  pub entries_are : machine.entries ≡ entries
+  pub keeps : Keeps t machine
+
+-- Why a kernel makes no machine: its first export without an address.
+abbrev pub kernel_fault : List KernelExport → Option MachineFault
+kernel_fault exports = option_map (λ e. KernelWithoutAddress e.name) (find (λ e. is_none e.address) exports)

@@ -1,0 +1,47 @@
+-- What a machine keeps of each exported name, so that a name is looked up in one step. No public contract cites it.
+use Rattle.std.specs.Prelude.{◌≡◌, ℕ, List, [], ◌∷◌, map, find, Option, option_map}
+use Rattle.std.specs.HashMap.{get_by, spare}
+use Rattle.std.specs.Str.{bytes_eq}
+use Rattle.km_names.specs.First.{first}
+use Rattle.symbol_binding.specs.Symbols.{Export}
+use Rattle.symbol_binding.specs.Unmet.{vmlinux}
+use Rattle.model_loader.specs.declared.entry.PlacedExport.{PlacedExport}
+use Rattle.model_loader.specs.declared.standing.Standing.{Standing}
+use Rattle.model_loader.specs.declared.standing.Named.{Named}
+use Rattle.model_loader.specs.declared.standing.ExportTable.{ExportTable}
+use Rattle.model_loader.specs.Machine.{Machine, export_named, kernel_placed}
+
+-- What is kept of an export of an owner.
+abbrev pub standing : List ℕ → PlacedExport → Standing
+standing owner e = record { crc = e.crc; gpl = e.gpl; space = e.space; address = e.address; owner = owner }
+
+-- What is kept of a name: of the kernel's export, else of that of the module that was loaded first.
+unfoldable pub standing_under : Machine → List ℕ → Option Standing
+standing_under machine x =
+    first (
+    option_map (standing vmlinux) (export_named x (map kernel_placed machine.kernel.exports))
+    ∷ first (map (λ e. option_map (standing e.loaded.name) (export_named x e.exports)) machine.entries)
+    ∷ [])
+
+-- The export of this name of which that is kept.
+abbrev pub standing_export : List ℕ → Standing → Export
+standing_export x s = record { name = x; crc = s.crc; gpl = s.gpl; space = s.space }
+
+-- What a table has for a name.
+abbrev pub standing_of : ExportTable → List ℕ → Option Standing
+standing_of t x = get_by (λ k. bytes_eq x k.items) t.standings
+
+-- What a list has for a name.
+abbrev pub standing_in : List ℕ → List Named → Option Standing
+standing_in x named = option_map (λ n. n.standing) (find (λ n. bytes_eq n.name.items x) named)
+
+-- The table has what is to be kept.
+pub record Keeps (t : ExportTable) (machine : Machine) : Type 0 where
+  pub at : (x : List ℕ) → standing_of t x ≡ standing_under machine x
+
+-- A name with what is kept of it, as a pair.
+abbrev pub named_pair : Named → List ℕ × Standing
+named_pair n = (n.name.items, n.standing)
+
+abbrev pub export_pair : List ℕ → PlacedExport → List ℕ × Standing
+export_pair owner e = (e.name, standing owner e)

@@ -1,0 +1,138 @@
+-- A load: why a machine refuses a module, and the machine after it took one. The kernel's load_module and
+-- resolve_symbol, kernel/module/main.c.
+use Rattle.std.specs.Prelude.{ℕ, ◌+◌, ◌/◌, ◌-◌, ◌^◌, ◌==◌, nat_lt, Bool, List, [], ◌∷◌, ◌++◌, map, find, length, Option, Some, None, is_none, option_map, unwrap_or, option_and_then, Result, Ok, Err, if◌then◌else◌}
+use Rattle.std.specs.List.{range_with_len}
+use Rattle.std.specs.Option.{option_map_or}
+use Rattle.elf_format.specs.declared.section.TheConstants.{PAGE}
+use Rattle.km_names.specs.First.{first}
+use Rattle.elf_object.specs.Object.{FileObject}
+use Rattle.module_facts.specs.declared.facts.Export.{Export as FactsExport}
+use Rattle.module_facts.specs.declared.facts.Need.{Need as FactsNeed}
+use Rattle.module_facts.specs.declared.facts.Facts.{Facts}
+use Rattle.module_facts.specs.declared.module.Module.{Module}
+use Rattle.symbol_binding.specs.Symbols.{Export, Need, Face, Kernel}
+use Rattle.symbol_binding.specs.Provider.{Owner, ByKernel, ByModule}
+use Rattle.symbol_binding.specs.Needs.{NeedTest, is_seen, is_missing, is_hidden, is_other_version, is_barred}
+use Rattle.symbol_binding.specs.Table.{is_named, first_need, taken}
+use Rattle.symbol_binding.specs.Unmet.{vmlinux}
+use Rattle.x86_relocate.specs.declared.patch.Overflow.{Overflow as TooWide}
+use Rattle.image_layout.specs.Offsets.{image_size}
+use Rattle.image_layout.specs.Symbols.{address, addresses}
+use Rattle.image_layout.specs.Laid.{laid, overflow}
+use Rattle.model_loader.specs.declared.fault.LoadFault.{LoadFault}
+use Rattle.model_loader.specs.declared.fault.LoadFault.TheVariants.{AlreadyLoaded, MissingSymbol, GplOnly, VersionDiffers, NotImported, ExportTaken, RegionFull, Overflow}
+use Rattle.model_loader.specs.declared.entry.PlacedExport.{PlacedExport}
+use Rattle.model_loader.specs.declared.entry.BoundNeed.{BoundNeed}
+use Rattle.model_loader.specs.declared.entry.Entry.{Entry}
+use Rattle.model_loader.specs.Machine.{Machine, faces, machine_kernel, facts_face, placed_under}
+use Rattle.model_loader.specs.Gap.{gap}
+
+-- A test that fails with this fault where the condition holds.
+abbrev pub fault_if : Bool → LoadFault → Option LoadFault
+fault_if failed fault = if failed then Some fault else None
+
+-- The address that a need stands for: that of the export under its name, where one stands there that the module sees;
+-- else 0.
+abbrev pub need_address : Machine → Facts → FactsNeed → ℕ
+need_address machine f n =
+    option_map_or (λ e. if is_seen f.free e.gpl then e.address else 0) (placed_under machine n.name) 0
+
+-- What the symbol k stands for where it is defined elsewhere: the address of the need that it states. Symbol 0 and
+-- `_GLOBAL_OFFSET_TABLE_` state none, and stand for 0.
+abbrev pub given_address : Machine → Facts → ℕ → ℕ
+given_address machine f k = option_map_or (need_address machine f) (find (λ n. n.symbol == k) f.needs) 0
+
+-- The same of all symbols of a module.
+unfoldable pub given_addresses : Machine → Module → List ℕ
+given_addresses machine m = map (given_address machine m.facts) (range_with_len 0 (length m.object.symbols))
+
+-- The addresses of all symbols of a module whose image is at a base.
+abbrev pub symbol_addresses : Machine → Module → ℕ → List ℕ
+symbol_addresses machine m base = addresses m.object base (given_addresses machine m)
+
+-- How many bytes the image of a module has.
+abbrev pub module_size : Module → ℕ
+module_size m = image_size m.object.sections
+
+-- A number of pages as a refusal names it: 2^64 - 1 stands for any greater one.
+abbrev pub named_pages : ℕ → ℕ
+named_pages n = if nat_lt n (2 ^ 64) then n else 2 ^ 64 - 1
+
+-- The owner of an export in a refusal.
+abbrev pub owner_name : Owner Face → List ℕ
+owner_name ByKernel = vmlinux
+owner_name (ByModule m) = m.name
+
+-- The test that the test of a need finds none of a module.
+abbrev pub need_test : Machine → Facts → NeedTest → (List ℕ → LoadFault) → Option LoadFault
+need_test machine f test fault =
+    option_map fault (first_need (machine_kernel machine) (faces machine) (facts_face f) test)
+
+-- The test that nothing stands under the name of an export.
+abbrev pub taken_test : Machine → Export → Option LoadFault
+taken_test machine e =
+    option_map (λ t. ExportTaken t.0 (owner_name t.1.owner)) (taken (machine_kernel machine) (faces machine) e)
+
+-- The tests of the names of a module, in order.
+abbrev pub name_tests : Machine → Facts → List (Option LoadFault)
+name_tests machine f =
+    fault_if (is_named (faces machine) f.name) AlreadyLoaded
+    ∷ need_test machine f is_missing MissingSymbol
+    ∷ need_test machine f is_hidden GplOnly
+    ∷ need_test machine f is_other_version VersionDiffers
+    ∷ need_test machine f is_barred NotImported
+    ∷ first (map (taken_test machine) (facts_face f).exports)
+    ∷ []
+
+-- The first word of a module at a base that doesn't fit.
+abbrev pub overflow_fault : Machine → Module → ℕ → Option LoadFault
+overflow_fault machine m base =
+    option_map (λ (o : TooWide). Overflow o.section o.entry) (overflow m.object base (symbol_addresses machine m base))
+
+-- The tests of the place of a module, in order: a gap of the region has room, and all words fit there.
+abbrev pub place_tests : Machine → Module → List (Option LoadFault)
+place_tests machine m =
+    fault_if (is_none (gap machine (module_size m))) (RegionFull (named_pages (module_size m / PAGE)))
+    ∷ option_and_then (overflow_fault machine m) (gap machine (module_size m))
+    ∷ []
+
+-- Why a machine refuses a module: the first of eight tests that fails.
+unfoldable pub refusal : Machine → Module → Option LoadFault
+refusal machine m = first (name_tests machine m.facts ++ place_tests machine m)
+
+-- An export of a module at the address of its symbol.
+abbrev pub placed_export : Machine → Module → ℕ → FactsExport → PlacedExport
+placed_export machine m base e = record {
+  name = e.name;
+  crc = e.crc;
+  gpl = e.gpl;
+  space = e.space;
+  address = address m.object base (given_addresses machine m) e.symbol;
+}
+
+abbrev pub bound_need : FactsNeed → BoundNeed
+bound_need n = record { name = n.name; weak = n.weak; crc = n.crc }
+
+-- The entry of a module at a base, over a machine.
+unfoldable pub entry_at : Machine → Module → ℕ → Entry
+entry_at machine m base = record {
+  loaded = record { name = m.facts.name; base = base; size = module_size m };
+  image = laid m.object base (symbol_addresses machine m base);
+  free = m.facts.free;
+  imports = m.facts.imports;
+  exports = map (placed_export machine m base) m.facts.exports;
+  needs = map bound_need m.facts.needs;
+}
+
+-- The machine with one more entry at its end.
+abbrev pub with_entry : Machine → Entry → Machine
+with_entry machine e = record machine { entries = machine.entries ++ e ∷ [] }
+
+-- The base of a module that isn't refused.
+abbrev pub module_base : Machine → Module → ℕ
+module_base machine m = unwrap_or (gap machine (module_size m)) 0
+
+-- A step: the refusal, or the machine with the entry of the module in the lowest gap.
+unfoldable pub step : Machine → Module → Result Machine LoadFault
+step machine m =
+    option_map_or Err (refusal machine m) (Ok (with_entry machine (entry_at machine m (module_base machine m))))

@@ -1,0 +1,44 @@
+// The modules in a machine.
+
+use km_names::{List, Name, Names};
+use raw_image::Image;
+
+/// A module that was loaded: its name, where its image begins, and how many bytes that has.
+#[derive(Debug, Drop)]
+pub struct LoadedModule {
+    /// The name of the module.
+    pub name: Name,
+    /// The address of the first byte of its image.
+    pub base: u64,
+    /// How many bytes the image has.
+    pub size: u64,
+}
+
+/// An export of a loaded module, at its address.
+#[derive(Debug, Drop)]
+pub(crate) struct PlacedExport {
+    pub(crate) name: Name,
+    pub(crate) crc: Option<u64>,
+    pub(crate) gpl: bool,
+    pub(crate) space: Name,
+    pub(crate) address: u64,
+}
+
+/// A need of a loaded module.
+#[derive(Debug, Drop)]
+pub(crate) struct BoundNeed {
+    pub(crate) name: Name,
+    pub(crate) weak: bool,
+    pub(crate) crc: Option<u64>,
+}
+
+/// What stands in a machine for a module.
+#[derive(Drop)]
+pub(crate) struct Entry {
+    pub(crate) loaded: LoadedModule,
+    pub(crate) image: Image,
+    pub(crate) free: bool,
+    pub(crate) imports: Names,
+    pub(crate) exports: List<PlacedExport>,
+    pub(crate) needs: List<BoundNeed>,
+}

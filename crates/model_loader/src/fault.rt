@@ -1,0 +1,164 @@
+// Why a machine isn't made, and why it doesn't take a module.
+
+ghost use Rattle.std.specs.Prelude.{◌≡◌, ◌++◌, codes, IfOk};
+ghost use Rattle.std.specs.Fmt.{decimal};
+
+use bstr::BStr;
+use image_layout::LayFault;
+use km_names::{Blob, Name};
+use std::alloc::{AllocError, AllocFailed, Global};
+use thiserror::Error;
+
+/// Why a machine isn't made.
+#[derive(Debug, Drop, Error)]
+pub enum MachineFault {
+    /// The kernel's export `name` has no address.
+    #[error("kernel without address {}", BStr::new(.name.as_bytes()))]
+    KernelWithoutAddress { name: Name },
+    /// Memory ran out.
+    #[error("out of memory")]
+    Memory,
+}
+
+/// Why a machine doesn't take a module.
+#[derive(Debug, Drop, Error)]
+pub enum LoadFault {
+    /// A module of this name is loaded.
+    #[error("already loaded")]
+    AlreadyLoaded,
+    /// Nobody exports the strong need `name`.
+    #[error("missing symbol {}", BStr::new(.name.as_bytes()))]
+    MissingSymbol { name: Name },
+    /// The strong need `name` is exported for GPL-compatible modules alone, and the module isn't one.
+    #[error("{} is GPL-only", BStr::new(.name.as_bytes()))]
+    GplOnly { name: Name },
+    /// The need `name` is exported in another version.
+    #[error("version of {} differs", BStr::new(.name.as_bytes()))]
+    VersionDiffers { name: Name },
+    /// The need `name` is exported in a namespace that the module doesn't import.
+    #[error("namespace of {} not imported", BStr::new(.name.as_bytes()))]
+    NotImported { name: Name },
+    /// The module exports `name`, as the kernel (`vmlinux`) or a loaded module, the `owner`, does.
+    #[error("{} is taken by {}", BStr::new(.name.as_bytes()), BStr::new(.owner.as_bytes()))]
+    ExportTaken { name: Name, owner: Name },
+    /// No gap of the region has so many pages; 2^64 - 1 stands for any greater number.
+    #[error("region full, {pages} pages")]
+    RegionFull { pages: u64 },
+    /// The word of the relocation `entry` of the section `section` doesn't fit.
+    #[error("overflow at section {section} entry {entry}")]
+    Overflow { section: u32, entry: u32 },
+    /// Memory ran out.
+    #[error("out of memory")]
+    Memory,
+}
+
+impl From<AllocError> for MachineFault {
+    ghost use Rattle.model_loader.specs.declared.fault.MachineFault.TheVariants.{Memory};
+
+    ghost from_gives = { λ _ fault. fault ≡ Memory };
+
+    fn from(_refusal: AllocError) -> MachineFault {
+        MachineFault::Memory
+    }
+}
+
+impl<T: Drop> From<AllocFailed<T>> for MachineFault {
+    ghost use Rattle.model_loader.specs.declared.fault.MachineFault.TheVariants.{Memory};
+
+    ghost from_gives = { λ _ fault. fault ≡ Memory };
+
+    fn from(_refusal: AllocFailed<T>) -> MachineFault {
+        MachineFault::Memory
+    }
+}
+
+impl From<AllocError> for LoadFault {
+    ghost use Rattle.model_loader.specs.declared.fault.LoadFault.TheVariants.{Memory};
+
+    ghost from_gives = { λ _ fault. fault ≡ Memory };
+
+    fn from(_refusal: AllocError) -> LoadFault {
+        LoadFault::Memory
+    }
+}
+
+impl<T: Drop> From<AllocFailed<T>> for LoadFault {
+    ghost use Rattle.model_loader.specs.declared.fault.LoadFault.TheVariants.{Memory};
+
+    ghost from_gives = { λ _ fault. fault ≡ Memory };
+
+    fn from(_refusal: AllocFailed<T>) -> LoadFault {
+        LoadFault::Memory
+    }
+}
+
+impl From<LayFault> for LoadFault {
+    ghost use Rattle.model_loader.specs.FaultText.{load_fault_from};
+
+    ghost from_gives = { λ lay fault. fault ≡ load_fault_from lay };
+
+    fn from(fault: LayFault) -> LoadFault {
+        match fault {
+            LayFault::Overflow(overflow) => LoadFault::Overflow {
+                section: overflow.section,
+                entry: overflow.entry,
+            },
+            LayFault::Memory => LoadFault::Memory,
+        }
+    }
+}
+
+/// Three pieces of text, one after the other.
+fn joined(alloc: Global, before: &[u8], middle: &[u8], after: &[u8]) -> Result<Blob, AllocError>
+    ensures { IfOk result (λ text. text ≡ before.now ++ middle.now ++ after.now) }
+{
+    let mut text = Blob::from_slice(alloc, before)?;
+    text.extend(middle)?;
+    text.extend(after)?;
+    Ok(text)
+}
+
+/// The text of a load that found no room.
+fn full_text(alloc: Global, pages: u64) -> Result<Blob, AllocError>
+    ensures { IfOk result (λ text. text ≡ codes "region full, " ++ (decimal pages ++ codes " pages")) }
+{
+    let text = format!(in alloc; "region full, {pages} pages")?;
+    Ok(Blob::from_vec(text.into_bytes()))
+}
+
+/// The text of a word that doesn't fit.
+fn overflow_text(alloc: Global, section: u32, entry: u32) -> Result<Blob, AllocError>
+    ensures { IfOk result (λ text. text ≡ codes "overflow at section " ++ (decimal section ++ (codes " entry " ++ decimal entry))) }
+{
+    let text = format!(in alloc; "overflow at section {section} entry {entry}")?;
+    Ok(Blob::from_vec(text.into_bytes()))
+}
+
+impl LoadFault {
+    ghost use Rattle.model_loader.specs.FaultText.{load_fault_text};
+
+    /// The text of the fault, as it stands in a line on standard error behind the name of the module.
+    pub fn text(&self, alloc: Global) -> Result<Blob, AllocError>
+        ensures { IfOk result (λ text. text ≡ load_fault_text self.now) }
+    {
+        match self {
+            LoadFault::AlreadyLoaded => Blob::from_slice(alloc, b"already loaded"),
+            LoadFault::MissingSymbol { name } => {
+                joined(alloc, b"missing symbol ", name.as_bytes(), b"")
+            }
+            LoadFault::GplOnly { name } => joined(alloc, b"", name.as_bytes(), b" is GPL-only"),
+            LoadFault::VersionDiffers { name } => {
+                joined(alloc, b"version of ", name.as_bytes(), b" differs")
+            }
+            LoadFault::NotImported { name } => {
+                joined(alloc, b"namespace of ", name.as_bytes(), b" not imported")
+            }
+            LoadFault::ExportTaken { name, owner } => {
+                joined(alloc, name.as_bytes(), b" is taken by ", owner.as_bytes())
+            }
+            LoadFault::RegionFull { pages } => full_text(alloc, *pages),
+            LoadFault::Overflow { section, entry } => overflow_text(alloc, *section, *entry),
+            LoadFault::Memory => Blob::from_slice(alloc, b"out of memory"),
+        }
+    }
+}

@@ -1,0 +1,95 @@
+// The tests of a module's needs.
+
+ghost use Rattle.std.specs.Prelude.{◌≡◌, ◌⊎◌, ℕ, None, Some, OnOk, IfErr, find, option_map, option_copied};
+ghost use Rattle.symbol_binding.specs.Symbols.{Face};
+ghost use Rattle.model_loader.specs.Machine.{Machine, facts_face, facts_need};
+ghost use Rattle.model_loader.specs.NeedTests.{fault_of, need_fails, test_of};
+ghost use Rattle.model_loader.specs.Standing.{Keeps, standing_export, standing_of};
+ghost use Rattle.model_loader.specs.Step.{need_test};
+
+use crate::LoadFault;
+use crate::standing::{ExportTable, Standing};
+use km_names::Name;
+use module_facts::{Facts, Need};
+use std::alloc::Global;
+use symbol_binding::{agree, may_use, sees};
+
+/// What can be wrong with a need, in the order in which a load looks for it.
+#[derive(Clone, Copy, Debug)]
+pub(crate) enum Check {
+    /// It is strong, and nobody exports it.
+    Missing,
+    /// It is strong, and the module doesn't see the export.
+    Hidden,
+    /// The module sees the export, which has another version.
+    OtherVersion,
+    /// The module sees the export, and may not use it.
+    Barred,
+}
+
+/// Whether a need of a module that is exported fails a test.
+fn fails_found(check: Check, found: &Standing, facts: &Facts, need: &Need) -> bool
+    ensures { result ≡ test_of check (Some (standing_export need.now.name found.now)) (facts_face facts.now) (facts_need need.now) }
+{
+    let seen = sees(facts.free, found.gpl);
+    match check {
+        Check::Missing => false,
+        Check::Hidden => !need.weak && !seen,
+        Check::OtherVersion => seen && !agree(need.crc, found.crc),
+        Check::Barred => seen && !may_use(&facts.imports, found.space.as_bytes()),
+    }
+}
+
+/// Whether a need of a module fails a test, by what is exported under its name.
+fn fails(check: Check, found: Option<&Standing>, facts: &Facts, need: &Need) -> bool
+    ensures { result ≡ test_of check (option_map (standing_export need.now.name) (option_copied found.entry)) (facts_face facts.now) (facts_need need.now) }
+{
+    match (found, check) {
+        (Some(found), _) => fails_found(check, found, facts, need),
+        (None, Check::Missing) => !need.weak,
+        (None, _) => false,
+    }
+}
+
+/// The first need of a module that fails a test.
+fn first_failing<'a>(check: Check, table: &ExportTable, facts: &'a Facts) -> Option<&'a Need>
+    ensures { option_copied result ≡ find (need_fails check table.now facts.now) facts.now.needs }
+{
+    for need in facts.needs.as_slice() {
+        let found = table.get(need.name.as_bytes());
+        if fails(check, found, facts, need) {
+            return Some(need);
+        }
+    }
+    None
+}
+
+impl Check {
+    /// What a load is refused for where this need fails the test.
+    fn fault(self, name: Name) -> LoadFault
+        ensures { result ≡ fault_of self name }
+    {
+        match self {
+            Check::Missing => LoadFault::MissingSymbol { name },
+            Check::Hidden => LoadFault::GplOnly { name },
+            Check::OtherVersion => LoadFault::VersionDiffers { name },
+            Check::Barred => LoadFault::NotImported { name },
+        }
+    }
+
+    /// Tests that no need of a module fails, over the machine whose exported names are in a table.
+    pub(crate) fn check(self, alloc: Global, table: &ExportTable, facts: &Facts) -> Result<(), LoadFault>
+        ensures passed { OnOk result ((machine : Machine) → Keeps table.now machine
+            → need_test machine facts.now (test_of self) (fault_of self) ≡ None) }
+        ensures fault { IfErr result (λ e. (machine : Machine) → Keeps table.now machine
+            → (e ≡ LoadFault.Memory) ⊎ (need_test machine facts.now (test_of self) (fault_of self) ≡ Some e)) }
+    {
+        match first_failing(self, table, facts) {
+            None => Ok(()),
+            Some(need) => {
+                let name = Name::from_slice(alloc, need.name.as_bytes())?;
+                Err(self.fault(name))
+            }
+        }
+    }
+}

@@ -1,0 +1,106 @@
+// The parts of the entry of a module.
+
+ghost use Rattle.std.specs.Prelude.{◌≡◌, ◌<◌, All, IfOk, length, map};
+ghost use Rattle.module_facts.specs.declared.facts.Export.{Export};
+ghost use Rattle.model_loader.specs.Parts.{placed_by};
+ghost use Rattle.model_loader.specs.Standing.{export_pair, named_pair};
+ghost use Rattle.model_loader.specs.Step.{bound_need as bound};
+
+use crate::entry::{BoundNeed, PlacedExport};
+use crate::standing::{Named, Standing};
+use km_names::{List, Name, Names};
+use module_facts::{Export, Exports, Need, Needs};
+use std::alloc::{AllocError, Global};
+use std::collections::VecDeque;
+
+/// A copy of a name.
+fn copied(alloc: Global, name: &Name) -> Result<Name, AllocError>
+    ensures { IfOk result (λ copy. copy ≡ name.now) }
+{
+    Name::from_slice(alloc, name.as_bytes())
+}
+
+/// A copy of names.
+pub(crate) fn copied_names(alloc: Global, names: &Names) -> Result<Names, AllocError>
+    ensures { IfOk result (λ copy. copy ≡ names.now) }
+{
+    let mut copy = Names::new(alloc);
+    for name in names.as_slice() {
+        copy.push(copied(alloc, name)?)?;
+    }
+    Ok(copy)
+}
+
+/// An export of a module, by the addresses of the module's symbols.
+fn placed_export(alloc: Global, export: &Export, addresses: &[u64]) -> Result<PlacedExport, AllocError>
+    requires { export.now.symbol < length addresses.now }
+    ensures { IfOk result (λ e. e ≡ placed_by addresses.now export.now) }
+{
+    Ok(PlacedExport {
+        name: copied(alloc, &export.name)?,
+        crc: export.crc,
+        gpl: export.gpl,
+        space: copied(alloc, &export.space)?,
+        address: addresses[export.symbol as usize],
+    })
+}
+
+/// The exports of a module, by the addresses of its symbols.
+pub(crate) fn placed_exports(alloc: Global, exports: &Exports, addresses: &[u64]) -> Result<List<PlacedExport>, AllocError>
+    requires { All (λ (e : Export). e.symbol < length addresses.now) exports.now }
+    ensures { IfOk result (λ l. l ≡ map (placed_by addresses.now) exports.now) }
+{
+    let mut placed = List::new(alloc);
+    for export in exports.as_slice() {
+        placed.push(placed_export(alloc, export, addresses)?)?;
+    }
+    Ok(placed)
+}
+
+/// A need of a module.
+fn bound_need(alloc: Global, need: &Need) -> Result<BoundNeed, AllocError>
+    ensures { IfOk result (λ n. n ≡ bound need.now) }
+{
+    Ok(BoundNeed {
+        name: copied(alloc, &need.name)?,
+        weak: need.weak,
+        crc: need.crc,
+    })
+}
+
+/// The needs of a module.
+pub(crate) fn bound_needs(alloc: Global, needs: &Needs) -> Result<List<BoundNeed>, AllocError>
+    ensures { IfOk result (λ l. l ≡ map bound needs.now) }
+{
+    let mut copy = List::new(alloc);
+    for need in needs.as_slice() {
+        copy.push(bound_need(alloc, need)?)?;
+    }
+    Ok(copy)
+}
+
+/// What is to be kept of an export of an owner.
+fn named_export(alloc: Global, owner: &[u8], export: &PlacedExport) -> Result<Named, AllocError>
+    ensures { IfOk result (λ n. named_pair n ≡ export_pair owner.now export.now) }
+{
+    let standing = Standing {
+        crc: export.crc,
+        gpl: export.gpl,
+        space: copied(alloc, &export.space)?,
+        address: export.address,
+        owner: Name::from_slice(alloc, owner)?,
+    };
+    let name = Vec::from_slice(alloc, export.name.as_bytes())?;
+    Ok(Named { name, standing })
+}
+
+/// What is to be kept of the exports of an owner.
+pub(crate) fn named_exports(alloc: Global, owner: &[u8], exports: &List<PlacedExport>) -> Result<VecDeque<Named>, AllocError>
+    ensures { IfOk result (λ named. map named_pair named.items ≡ map (export_pair owner.now) exports.now) }
+{
+    let mut named = VecDeque::new(alloc);
+    for export in exports.as_slice() {
+        named.push_back(named_export(alloc, owner, export)?)?;
+    }
+    Ok(named)
+}

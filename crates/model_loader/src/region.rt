@@ -1,0 +1,34 @@
+// The addresses for modules.
+
+ghost use Rattle.std.specs.Prelude.{◌≡◌, Some, None, if◌then◌else◌};
+ghost use Rattle.model_loader.specs.Regions.{IsRegion, is_region};
+
+use elf_format::PAGE;
+
+/// The addresses that a machine has for modules: whole pages, and at least one. MODULES_VADDR and MODULES_LEN of the
+/// kernel's arch/x86/include/asm/pgtable_64_types.h.
+#[derive(Clone, Copy, Debug)]
+pub struct Region {
+    pub(crate) base: u64,
+    pub(crate) size: u64,
+    ghost pages: { IsRegion base size },
+}
+
+impl Region {
+    ghost use Rattle.std.specs.Option.{option_map};
+    ghost use Rattle.model_loader.specs.Spans.{Span, span_of};
+
+    /// The region of `size` bytes from `base` on; `None` exactly where one of them isn't a number of whole pages of 4096
+    /// bytes, where there are no bytes, or where the bytes pass the last address of 64 bits.
+    #[tactic(auto, using(crate::proofs::RegionLemmas::region_by))]
+    pub fn new(base: u64, size: u64) -> Option<Region>
+        ensures { option_map span_of result ≡ (if is_region base size then Some (record { base = base; size = size }) else None) }
+    {
+        let fits = u128::from(base) + u128::from(size) <= 1 << 64;
+        if base % PAGE == 0 && size % PAGE == 0 && size != 0 && fits {
+            Some(Region { base, size })
+        } else {
+            None
+        }
+    }
+}

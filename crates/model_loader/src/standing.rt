@@ -1,0 +1,85 @@
+// The table of exported names.
+
+ghost use Rattle.std.specs.Prelude.{◌≡◌, ◌≤◌, ◌<◌, ◌+◌, ℕ, List, None, Some, OnOk, option_copied, length, if◌then◌else◌};
+ghost use Rattle.std.specs.HashMap.{spare};
+ghost use Rattle.std.specs.Option.{option_or};
+ghost use Rattle.std.specs.Str.{bytes_eq};
+ghost use Rattle.model_loader.specs.Standing.{standing_in, standing_of};
+
+use indexmap::IndexMap;
+use km_names::Name;
+use std::alloc::{AllocError, Global};
+use std::collections::VecDeque;
+
+/// What is kept of an exported name: what those ask for who need it, and who exports it.
+#[derive(Debug, Drop)]
+pub(crate) struct Standing {
+    pub(crate) crc: Option<u64>,
+    pub(crate) gpl: bool,
+    pub(crate) space: Name,
+    pub(crate) address: u64,
+    pub(crate) owner: Name,
+}
+
+/// A name with what is kept of it.
+#[derive(Drop)]
+pub(crate) struct Named {
+    pub(crate) name: Vec<u8>,
+    pub(crate) standing: Standing,
+}
+
+/// For each exported name what is kept of it.
+#[derive(Drop)]
+pub(crate) struct ExportTable {
+    standings: IndexMap<Vec<u8>, Standing>,
+}
+
+impl ExportTable {
+    /// The table of no name.
+    pub(crate) fn new(alloc: Global) -> Self
+        ensures { (x : List ℕ) → standing_of result x ≡ None }
+    {
+        ExportTable {
+            standings: IndexMap::new(alloc),
+        }
+    }
+
+    /// What is kept of a name.
+    pub(crate) fn get(&self, name: &[u8]) -> Option<&Standing>
+        ensures { option_copied result ≡ standing_of self.now name.now }
+    {
+        self.standings.get(name)
+    }
+
+    /// Makes room for `count` names more. No name is changed.
+    pub(crate) fn reserve(&mut self, count: usize) -> Result<(), AllocError>
+        ensures same { (x : List ℕ) → standing_of self.new x ≡ standing_of self.old x }
+        ensures room { OnOk result (count ≤ spare self.new.standings) }
+    {
+        self.standings.reserve(count)
+    }
+
+    /// Puts a name in, for which there is room, unless it is there. It takes no memory.
+    pub(crate) fn enter(&mut self, named: Named)
+        requires { 0 < spare self.old.standings }
+        ensures at { (x : List ℕ) → standing_of self.new x
+            ≡ option_or (standing_of self.old x) (if bytes_eq named.name.items x then Some named.standing else None) }
+        ensures room { spare self.old.standings ≤ spare self.new.standings + 1 }
+    {
+        let Named { name, standing } = named;
+        if self.standings.get(name.as_slice()).is_none() {
+            let _ = self.standings.insert(name, standing);
+        }
+    }
+
+    /// Puts names in, for which there is room, each unless it is there. It takes no memory.
+    pub(crate) fn enter_all(&mut self, named: VecDeque<Named>)
+        requires { length named.items ≤ spare self.old.standings }
+        ensures { (x : List ℕ) → standing_of self.new x ≡ option_or (standing_of self.old x) (standing_in x named.items) }
+    {
+        let mut rest = named;
+        while let Some(next) = rest.pop_front() {
+            self.enter(next);
+        }
+    }
+}
