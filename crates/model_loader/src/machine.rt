@@ -156,6 +156,7 @@ impl Machine {
         ensures at { IfOk result (λ at. at ≡ record { base = module_base self.old «module».now; size = module_size «module».now }) }
         ensures fault { IfErr result (λ e. (e ≡ LoadFault.Memory) ⊎ (step self.old «module».now ≡ Err e)) }
         ensures unchanged { OnErr result (self.new ≡ self.old) }
+        ensures sound { OnOk result ((modules : List Module) → IsSound self.old modules → IsSound self.new (modules ++ «module».now ∷ [])) }
     {
         let prepared = self.ready(module)?;
         self.entries.reserve(1)?;
