@@ -128,7 +128,10 @@ fn two_modules_load(rt: HostRuntime) -> Result<(), Fail> {
     let b = module_at(&rt, alloc, b"kernel/b.ko", &NEEDS_FA)?;
     let mut large = machine(&rt, alloc, 0x3000)?;
     let missing = large.load(&b).expect_err(&rt, "a missing symbol");
-    assert_eq!(rt; missing.text(alloc)?.as_bytes(), b"missing symbol fa".as_slice());
+    assert_eq!(rt;
+        missing.text(alloc)?.as_bytes(),
+        b"missing symbol fa".as_slice()
+    );
     let at = large.load(&a)?;
     assert_eq!(rt; (at.base, at.size), (BASE, 8192));
     let again = large.load(&a).expect_err(&rt, "already loaded");
@@ -150,11 +153,17 @@ fn no_room_and_no_fit(rt: HostRuntime) -> Result<(), Fail> {
     let wide = module_at(&rt, alloc, b"kernel/o.ko", &OVERFLOWS)?;
     let mut small = machine(&rt, alloc, 0x2000)?;
     let overflow = small.load(&wide).expect_err(&rt, "an overflow");
-    assert_eq!(rt; overflow.text(alloc)?.as_bytes(), b"overflow at section 5 entry 0".as_slice());
+    assert_eq!(rt;
+        overflow.text(alloc)?.as_bytes(),
+        b"overflow at section 5 entry 0".as_slice()
+    );
     assert_eq!(rt; small.module_count(), 0);
     small.load(&a)?;
     let full = small.load(&b).expect_err(&rt, "a full region");
-    assert_eq!(rt; full.text(alloc)?.as_bytes(), b"region full, 1 pages".as_slice());
+    assert_eq!(rt;
+        full.text(alloc)?.as_bytes(),
+        b"region full, 1 pages".as_slice()
+    );
     assert_eq!(rt; small.module_count(), 1);
     Ok(())
 }

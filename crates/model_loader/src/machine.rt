@@ -58,7 +58,11 @@ pub struct LoadedAt {
 }
 
 /// What is to be kept of an export of the kernel at an address.
-fn named_kernel_export(alloc: Global, export: &KernelExport, address: u64) -> Result<Named, AllocError>
+fn named_kernel_export(
+    alloc: Global,
+    export: &KernelExport,
+    address: u64,
+) -> Result<Named, AllocError>
     requires { export.now.address ≡ Some address }
     ensures { IfOk result (λ n. named_pair n ≡ export_pair vmlinux (kernel_placed export.now)) }
 {
