@@ -1,30 +1,25 @@
 -- The words of relocations stand in the image, and apart; they are put in one by one.
-use Rattle.std.proofs.Common.{◌≡◌, ◌≤◌, ◌<◌, ◌+◌, ◌-◌, ◌%◌, ◌^◌, ◌∙◌, ◌⊎◌, inl, inr, ℕ, suc, Bool, true, false, List, [], ◌∷◌, ◌++◌, Option, Some, None, refl, sym, ap, subst, arith, length, take, drop, cond, map, get_or}
-use Rattle.std.specs.Prelude.{find, All, AllPairs, IfSome, not, option_map}
+use Rattle.std.proofs.Common.{◌≡◌, ◌≤◌, ◌<◌, ◌+◌, ◌-◌, ◌%◌, ◌^◌, ◌∙◌, inl, inr, ℕ, suc, true, false, List, [], ◌∷◌, ◌++◌, Option, Some, None, refl, sym, ap, subst, arith, length, take, drop, map, get_or}
+use Rattle.std.specs.Prelude.{All, IfSome}
 use Rattle.std.specs.List.{slice_get}
-use Rattle.std.specs.Option.{option_or}
 use Rattle.std.specs.Prelude.{Result, Ok, Err, is_ok, OnOk}
 use Rattle.std.proofs.lemmas.Bool.{cases_lt, false≢true}
-use Rattle.std.proofs.lemmas.Bool.Decides.{nat_tests}
-use Rattle.std.proofs.lemmas.Grind.{common_steps}
-use Rattle.std.proofs.lemmas.List.{take_all, take-append-drop, take_more, map-append, length-take, get_or-take, get_or_default, length-map, get_or-map}
+use Rattle.std.proofs.lemmas.List.{take-append-drop, map-append, length-take, get_or-take, length-map, get_or-map}
 use Rattle.std.proofs.lemmas.List.Folds.{find-append}
 use Rattle.std.proofs.lemmas.List.FromFn.{fill_by_all, length-map-range_with_len}
-use Rattle.std.proofs.lemmas.Option.{get_or_from_slice_get, slice_get-get_or, slice_get_within}
+use Rattle.std.proofs.lemmas.Option.{get_or_from_slice_get, slice_get_within}
 use Rattle.std.proofs.Math.Seq.{drop-cons}
-use Rattle.elf_format.specs.Relocation.{IsKnown, known_width}
+use Rattle.elf_format.specs.Relocation.{known_width}
 use Rattle.elf_object.specs.declared.section.Section.{Section}
 use Rattle.elf_object.specs.declared.place.RelaPlace.{RelaPlace}
-use Rattle.elf_object.specs.Places.{place_width}
-use Rattle.elf_object.specs.Object.{FileObject, IsPlaceIn, IsLoadable, AreApart, Changes}
+use Rattle.elf_object.specs.Object.{FileObject, IsPlaceIn, IsLoadable, AreApart}
 use Rattle.x86_relocate.specs.declared.patch.Patch.{Patch}
-use Rattle.x86_relocate.specs.declared.patch.Overflow.{Overflow}
-use Rattle.x86_relocate.specs.Patched.{Covers, IsWithin, IsApart, fits, first_too_wide, overflow_of, patched, byte_at}
+use Rattle.x86_relocate.specs.Patched.{Covers, IsWithin, IsApart, fits, first_too_wide, patched, byte_at}
 use Rattle.image_layout.specs.Offsets.{offset, image_size}
-use Rattle.image_layout.specs.Laid.{patch_of, patches, overflow}
+use Rattle.image_layout.specs.Laid.{patch_of}
 use Rattle.image_layout.proofs.EndLemmas.{take-item}
 use Rattle.image_layout.proofs.PieceLemmas.{item-at}
-use Rattle.image_layout.proofs.OffsetLemmas.{Apart, apart, lies_in}
+use Rattle.image_layout.proofs.OffsetLemmas.{apart, lies_in}
 
 if_some : {X : Type 0} (o : Option X) (x : X) (P : X → Type 0) → o ≡ Some x → IfSome o P → P x
 if_some o x P is h = subst (λ r. IfSome r P) is h

@@ -1,16 +1,16 @@
 -- One section more is placed.
-use Rattle.std.proofs.Common.{◌≡◌, ◌≤◌, ◌<◌, ◌+◌, ◌^◌, ◌∙◌, inl, inr, ℕ, Bool, true, false, List, [], ◌∷◌, ◌++◌, Some, refl, sym, ap, arith, length, take, cond, subst}
-use Rattle.std.specs.Prelude.{filter, ◌&&◌}
+use Rattle.std.proofs.Common.{◌≡◌, ◌<◌, ◌+◌, ◌^◌, ◌∙◌, inl, inr, ℕ, true, false, List, Some, sym, ap, arith, take, cond}
+use Rattle.std.specs.Prelude.{◌&&◌}
 use Rattle.std.specs.List.{slice_get}
 use Rattle.std.proofs.lemmas.Bool.{cases_Bool}
 use Rattle.elf_object.specs.declared.section.Section.{Section}
 use Rattle.image_layout.specs.declared.class.Class.{Class}
 use Rattle.image_layout.specs.declared.class.Class.TheVariants.{Code, Fixed, Variable}
 use Rattle.image_layout.specs.declared.layout.Ends.{Ends}
-use Rattle.image_layout.specs.Offsets.{aligned, class_of, class_start, class_end, end_of, image_size, is_class, is_in, of_class, offset}
+use Rattle.image_layout.specs.Offsets.{aligned, class_of, class_start, end_of, image_size, is_class, is_in, of_class, offset}
 use Rattle.image_layout.specs.Ends.{AreEnds, AreNear, end_in}
 use Rattle.image_layout.proofs.EndLemmas.{end-with, end-part}
-use Rattle.image_layout.proofs.OffsetLemmas.{in_order, class_end_within, offset_kept, offset_unkept, lies_in}
+use Rattle.image_layout.proofs.OffsetLemmas.{class_end_within, offset_kept, offset_unkept, lies_in}
 
 end_is : (xs before : List Section) (ends : Ends) → AreEnds xs before ends → (class : Class) → end_in ends class ≡ end_of (class_start xs class) (of_class class before)
 end_is xs before ends are Code = are.code

@@ -1,15 +1,11 @@
 -- Where sections lie: within the image, and apart.
-use Rattle.std.proofs.Common.{◌≡◌, ◌≤◌, ◌<◌, ◌+◌, ◌^◌, ◌∙◌, ◌⊎◌, inl, inr, ℕ, Bool, true, false, List, [], ◌∷◌, ◌++◌, Some, refl, sym, ap, arith, length, take, cond, subst}
-use Rattle.std.specs.Prelude.{filter}
+use Rattle.std.proofs.Common.{◌≡◌, ◌≤◌, ◌<◌, ◌+◌, ◌∙◌, ◌⊎◌, inl, inr, ℕ, true, false, List, Some, refl, sym, ap, arith, take, subst}
 use Rattle.std.specs.List.{slice_get}
 use Rattle.std.proofs.lemmas.List.{take-take}
-use Rattle.std.proofs.lemmas.Option.{slice_get_within}
 use Rattle.elf_object.specs.declared.section.Section.{Section}
 use Rattle.image_layout.specs.declared.class.Class.{Class}
 use Rattle.image_layout.specs.declared.class.Class.TheVariants.{Code, Fixed, Variable}
-use Rattle.image_layout.specs.declared.layout.Ends.{Ends}
 use Rattle.image_layout.specs.Offsets.{aligned, class_of, class_start, class_end, end_of, fixed_start, variable_start, image_size, is_class, is_in, of_class, offset, offset_after}
-use Rattle.image_layout.specs.Ends.{AreEnds, AreNear, end_in}
 use Rattle.image_layout.proofs.Aligning.{aligned_above, greater_right}
 use Rattle.image_layout.proofs.EndLemmas.{end-with, end-part, end_of-above}
 

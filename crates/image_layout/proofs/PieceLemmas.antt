@@ -1,5 +1,5 @@
 -- The pieces of the sections of an object stand in the image, and apart.
-use Rattle.std.proofs.Common.{◌≡◌, ◌≤◌, ◌<◌, ◌+◌, ◌-◌, ◌^◌, ◌∙◌, ◌⊎◌, inl, inr, ℕ, Bool, true, false, List, [], ◌∷◌, ◌++◌, Some, None, refl, sym, ap, arith, length, take, drop, cond, map, get_or}
+use Rattle.std.proofs.Common.{◌≡◌, ◌≤◌, ◌<◌, ◌+◌, ◌∙◌, inl, inr, ℕ, true, false, List, Some, None, sym, ap, arith, length, map, get_or}
 use Rattle.std.specs.Prelude.{find}
 use Rattle.std.specs.List.{range_with_len, slice_get}
 use Rattle.std.proofs.lemmas.Bool.{cases_Bool}
@@ -9,11 +9,10 @@ use Rattle.std.proofs.lemmas.Option.{slice_get-get_or, slice_get_within, slice_g
 use Rattle.raw_image.specs.Bytes.{with_bytes}
 use Rattle.elf_object.specs.declared.section.Section.{Section}
 use Rattle.elf_object.specs.Object.{FileObject}
-use Rattle.elf_object.specs.Sections.{bytes_of}
 use Rattle.elf_object.specs.Shape.{content, has_content}
 use Rattle.image_layout.specs.Offsets.{offset, image_size}
-use Rattle.image_layout.specs.Plain.{Piece, piece, has_place, filled}
-use Rattle.image_layout.proofs.OffsetLemmas.{Apart, apart, lies_in, offset_unkept}
+use Rattle.image_layout.specs.Plain.{piece, has_place, filled}
+use Rattle.image_layout.proofs.OffsetLemmas.{apart, lies_in, offset_unkept}
 use Rattle.image_layout.proofs.PlainLemmas.{piece_kept, piece_unkept, piece_at, has_place-low, has_place-high, filled-more, find-none}
 
 length-content : (file : List ℕ) (kind offset size : ℕ) → length (content file kind offset size) ≤ size

@@ -47,10 +47,7 @@ pub fn image_size(object: &Object) -> u128
     ensures near { result < 2 ^ 100 }
 {
     let starts = class_starts(object);
-    let end = aligned(
-        end_of_class(object, Class::Variable, starts.variable),
-        PAGE,
-    );
+    let end = aligned(end_of_class(object, Class::Variable, starts.variable), PAGE);
     if u128::from(PAGE) < end {
         end
     } else {

@@ -50,13 +50,7 @@ pub fn addresses(
     let count = object.symbol_count();
     let mut addresses = Vec::with_capacity(alloc, count as usize)?;
     for i in 0..count {
-        addresses.push(symbol_address(
-            object,
-            layout,
-            base,
-            given[i as usize],
-            object.symbol(i),
-        ))?;
+        addresses.push(symbol_address(object, layout, base, given[i as usize], object.symbol(i)))?;
     }
     Ok(addresses)
 }

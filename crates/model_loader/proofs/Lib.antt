@@ -8,3 +8,4 @@ pub mod NameLemmas
 pub mod StepLemmas
 pub mod KeptLemmas
 pub mod KernelLemmas
+pub mod SoundLemmas

@@ -5,7 +5,6 @@ ghost use Rattle.std.specs.List.Sorted.{IsNonDecreasingBy, IsPermutation};
 ghost use Rattle.model_loader.specs.Gap.{gap_among};
 ghost use Rattle.model_loader.specs.Runs.{IsLowest, IsPaged, run_of};
 ghost use Rattle.model_loader.specs.declared.gap.Run.{Run};
-
 ghost use Rattle.model_loader.specs.declared.entry.Entry.{Entry};
 
 use crate::Region;

@@ -18,9 +18,9 @@ mod gap;
 mod given;
 mod machine;
 mod names;
+mod needs;
 mod parts;
 mod prepare;
-mod needs;
 mod region;
 mod standing;
 

@@ -58,7 +58,11 @@ pub struct LoadedAt {
 }
 
 /// What is to be kept of an export of the kernel at an address.
-fn named_kernel_export(alloc: Global, export: &KernelExport, address: u64) -> Result<Named, AllocError>
+fn named_kernel_export(
+    alloc: Global,
+    export: &KernelExport,
+    address: u64,
+) -> Result<Named, AllocError>
     requires { export.now.address ≡ Some address }
     ensures { IfOk result (λ n. named_pair n ≡ export_pair vmlinux (kernel_placed export.now)) }
 {
@@ -156,6 +160,7 @@ impl Machine {
         ensures at { IfOk result (λ at. at ≡ record { base = module_base self.old «module».now; size = module_size «module».now }) }
         ensures fault { IfErr result (λ e. (e ≡ LoadFault.Memory) ⊎ (step self.old «module».now ≡ Err e)) }
         ensures unchanged { OnErr result (self.new ≡ self.old) }
+        ensures sound { OnOk result ((modules : List Module) → IsSound self.old modules → IsSound self.new (modules ++ «module».now ∷ [])) }
     {
         let prepared = self.ready(module)?;
         self.entries.reserve(1)?;

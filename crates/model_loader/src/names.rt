@@ -22,7 +22,9 @@ use std::alloc::{AllocError, Global};
 pub(crate) fn is_loaded(entries: &[Entry], name: &[u8]) -> bool
     ensures { result ≡ list_any (λ e. bytes_eq e.loaded.name name.now) entries.now }
 {
-    entries.iter().any(|entry| entry.loaded.name.as_bytes() == name)
+    entries
+        .iter()
+        .any(|entry| entry.loaded.name.as_bytes() == name)
 }
 
 /// The refusal for an export under whose name something stands.
@@ -36,7 +38,11 @@ fn taken(alloc: Global, export: &Export, standing: &Standing) -> Result<LoadFaul
 }
 
 /// Tests that nothing stands under the names of a module's exports.
-pub(crate) fn check_exports(alloc: Global, table: &ExportTable, facts: &Facts) -> Result<(), LoadFault>
+pub(crate) fn check_exports(
+    alloc: Global,
+    table: &ExportTable,
+    facts: &Facts,
+) -> Result<(), LoadFault>
     ensures passed { OnOk result (first (map (taken_by table.now) facts.now.exports) ≡ None) }
     ensures fault { IfErr result (λ e. (e ≡ LoadFault.Memory) ⊎ (first (map (taken_by table.now) facts.now.exports) ≡ Some e)) }
 {
@@ -49,7 +55,12 @@ pub(crate) fn check_exports(alloc: Global, table: &ExportTable, facts: &Facts) -
 }
 
 /// Tests the names of a module, over the machine that has these entries and whose exported names are in a table.
-pub(crate) fn check_names(alloc: Global, entries: &[Entry], table: &ExportTable, facts: &Facts) -> Result<(), LoadFault>
+pub(crate) fn check_names(
+    alloc: Global,
+    entries: &[Entry],
+    table: &ExportTable,
+    facts: &Facts,
+) -> Result<(), LoadFault>
     ensures passed { OnOk result ((machine : Machine) → machine.entries ≡ entries.now → Keeps table.now machine
         → first (name_tests machine facts.now) ≡ None) }
     ensures fault { IfErr result (λ e. (machine : Machine) → machine.entries ≡ entries.now → Keeps table.now machine

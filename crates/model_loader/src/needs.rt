@@ -78,7 +78,12 @@ impl Check {
     }
 
     /// Tests that no need of a module fails, over the machine whose exported names are in a table.
-    pub(crate) fn check(self, alloc: Global, table: &ExportTable, facts: &Facts) -> Result<(), LoadFault>
+    pub(crate) fn check(
+        self,
+        alloc: Global,
+        table: &ExportTable,
+        facts: &Facts,
+    ) -> Result<(), LoadFault>
         ensures passed { OnOk result ((machine : Machine) → Keeps table.now machine
             → need_test machine facts.now (test_of self) (fault_of self) ≡ None) }
         ensures fault { IfErr result (λ e. (machine : Machine) → Keeps table.now machine

@@ -32,7 +32,11 @@ pub(crate) fn copied_names(alloc: Global, names: &Names) -> Result<Names, AllocE
 }
 
 /// An export of a module, by the addresses of the module's symbols.
-fn placed_export(alloc: Global, export: &Export, addresses: &[u64]) -> Result<PlacedExport, AllocError>
+fn placed_export(
+    alloc: Global,
+    export: &Export,
+    addresses: &[u64],
+) -> Result<PlacedExport, AllocError>
     requires { export.now.symbol < length addresses.now }
     ensures { IfOk result (λ e. e ≡ placed_by addresses.now export.now) }
 {
@@ -46,7 +50,11 @@ fn placed_export(alloc: Global, export: &Export, addresses: &[u64]) -> Result<Pl
 }
 
 /// The exports of a module, by the addresses of its symbols.
-pub(crate) fn placed_exports(alloc: Global, exports: &Exports, addresses: &[u64]) -> Result<List<PlacedExport>, AllocError>
+pub(crate) fn placed_exports(
+    alloc: Global,
+    exports: &Exports,
+    addresses: &[u64],
+) -> Result<List<PlacedExport>, AllocError>
     requires { All (λ (e : Export). e.symbol < length addresses.now) exports.now }
     ensures { IfOk result (λ l. l ≡ map (placed_by addresses.now) exports.now) }
 {
@@ -95,7 +103,11 @@ fn named_export(alloc: Global, owner: &[u8], export: &PlacedExport) -> Result<Na
 }
 
 /// What is to be kept of the exports of an owner.
-pub(crate) fn named_exports(alloc: Global, owner: &[u8], exports: &List<PlacedExport>) -> Result<VecDeque<Named>, AllocError>
+pub(crate) fn named_exports(
+    alloc: Global,
+    owner: &[u8],
+    exports: &List<PlacedExport>,
+) -> Result<VecDeque<Named>, AllocError>
     ensures { IfOk result (λ named. map named_pair named.items ≡ map (export_pair owner.now) exports.now) }
 {
     let mut named = VecDeque::new(alloc);

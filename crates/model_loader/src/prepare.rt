@@ -34,7 +34,13 @@ pub(crate) struct Prepared {
 }
 
 /// The entry of a module at a base, by its image and the addresses of its symbols.
-fn entry_with(alloc: Global, module: &Module, base: u64, image: Image, addresses: &[u64]) -> Result<Entry, AllocError>
+fn entry_with(
+    alloc: Global,
+    module: &Module,
+    base: u64,
+    image: Image,
+    addresses: &[u64],
+) -> Result<Entry, AllocError>
     requires { length addresses.now ≡ length «module».now.object.symbols }
     ensures { IfOk result (λ e. e ≡ entry_by «module».now base image addresses.now) }
 {
@@ -55,7 +61,12 @@ fn entry_with(alloc: Global, module: &Module, base: u64, image: Image, addresses
 }
 
 /// The entry of a module at a base, over the machine whose exported names are in a table.
-fn entry_of(alloc: Global, table: &ExportTable, module: &Module, base: u64) -> Result<Entry, LoadFault>
+fn entry_of(
+    alloc: Global,
+    table: &ExportTable,
+    module: &Module,
+    base: u64,
+) -> Result<Entry, LoadFault>
     requires { module_size «module».now < 2 ^ 63 }
     ensures entry { IfOk result (λ e. (machine : Machine) → Keeps table.now machine → e ≡ entry_at machine «module».now base) }
     ensures fits { OnOk result ((machine : Machine) → Keeps table.now machine → overflow_fault machine «module».now base ≡ None) }
@@ -87,7 +98,13 @@ fn named_pages(size: u128) -> u64
 
 /// The entry of a module in the lowest gap of a region, over the machine that has these entries and whose exported names
 /// are in a table.
-pub(crate) fn prepare(alloc: Global, region: &Region, entries: &[Entry], table: &ExportTable, module: &Module) -> Result<Prepared, LoadFault>
+pub(crate) fn prepare(
+    alloc: Global,
+    region: &Region,
+    entries: &[Entry],
+    table: &ExportTable,
+    module: &Module,
+) -> Result<Prepared, LoadFault>
     requires { All (λ (e : Entry). IsPaged (run_of e)) entries.now }
     ensures entry { IfOk result (λ p. (machine : Machine) → HasParts machine region.now entries.now table.now
         → p.entry ≡ entry_at machine «module».now (module_base machine «module».now)) }

@@ -1,6 +1,6 @@
 -- An image with words put at places: each patch's bytes hold its word, the lowest byte first, and every other
 -- byte is as before. System V ABI, x86-64 supplement, "Relocation".
-use Rattle.std.specs.Prelude.{ℕ, ◌+◌, ◌-◌, ◌≤◌, ◌<◌, ◌&&◌, Bool, not, nat_le, nat_lt, if◌then◌else◌, List, [], length, map, slice_index, find, Option, Result, Ok, Err, is_ok}
+use Rattle.std.specs.Prelude.{ℕ, ◌+◌, ◌-◌, ◌≤◌, ◌<◌, ◌&&◌, Bool, not, nat_le, nat_lt, List, [], length, map, slice_index, find, Option, Result, Ok, Err, is_ok}
 use Rattle.std.specs.Int.{to_le_bytes, w32, w64}
 use Rattle.std.specs.List.{range_with_len}
 use Rattle.std.specs.Option.{option_map_or}

@@ -1,4 +1,4 @@
-use Rattle.std.proofs.Common.{rules, ◌≡◌, ◌∙◌, ◌+◌, ◌<◌, ◌≤◌, ap, sym, cond, arith, refl, length, take, take_all}
+use Rattle.std.proofs.Common.{◌≡◌, ◌∙◌, ◌+◌, ap, sym, cond, arith, refl, take, take_all}
 use Rattle.image_layout.specs.Offsets.{aligned, is_in, end_of, of_class}
 use Rattle.image_layout.proofs.EndLemmas.{end-with}
 use Rattle.image_layout.proofs.ends.end_of_class.Goals as goal

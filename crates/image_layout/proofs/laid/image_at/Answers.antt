@@ -1,4 +1,4 @@
-use Rattle.std.proofs.Common.{◌≡◌, ◌∙◌, ap, length}
+use Rattle.std.proofs.Common.{◌∙◌, ap, length}
 use Rattle.image_layout.specs.Offsets.{image_size}
 use Rattle.image_layout.specs.Plain.{pieces}
 use Rattle.image_layout.specs.Laid.{patches}

@@ -1,9 +1,9 @@
-use Rattle.std.proofs.Common.{◌≡◌, ◌∙◌, ◌≤◌, Some, true, false, ◌++◌, ◌∷◌, [], ap, sym, arith, map, take, take_all, length, refl, subst}
+use Rattle.std.proofs.Common.{◌≡◌, ◌∙◌, Some, true, false, ◌++◌, ◌∷◌, [], ap, sym, arith, map, take, take_all, length, refl, subst}
 use Rattle.std.specs.Prelude.{option_map, All, is_ok}
 use Rattle.elf_format.specs.Relocation.{IsKnown}
 use Rattle.x86_relocate.specs.Patched.{IsApart, IsWithin, fits, first_too_wide, overflow_of, patched}
 use Rattle.image_layout.specs.Offsets.{image_size}
-use Rattle.image_layout.specs.Laid.{patch_of, overflow, patches}
+use Rattle.image_layout.specs.Laid.{patch_of, overflow}
 use Rattle.image_layout.proofs.LaidLemmas.{earlier-apart, place-within, patch_kind, map-more, wide-more, wide-here, patched-none, length-patched, on_ok}
 use Rattle.image_layout.proofs.laid.relocate.Goals as goal
 

@@ -1,4 +1,3 @@
-use Rattle.std.proofs.Common.{◌≡◌}
 use Rattle.image_layout.proofs.NextLemmas.{next-kept, next-unkept}
 use Rattle.image_layout.proofs.layout.next_offset.Goals as goal
 

@@ -1,7 +1,7 @@
-use Rattle.std.proofs.Common.{◌≡◌, ◌≤◌, ◌<◌, ◌+◌, ◌∙◌, [], length, ap, sym, arith, map}
+use Rattle.std.proofs.Common.{◌≡◌, ◌≤◌, ◌<◌, ◌∙◌, [], length, ap, sym, arith, map}
 use Rattle.std.specs.List.{range_with_len}
-use Rattle.image_layout.specs.Offsets.{offset, image_size}
-use Rattle.image_layout.specs.Plain.{filled, piece, plain_image}
+use Rattle.image_layout.specs.Offsets.{image_size}
+use Rattle.image_layout.specs.Plain.{filled, piece}
 use Rattle.image_layout.proofs.PlainLemmas.{filled-zeros, length-filled, piece_at}
 use Rattle.image_layout.proofs.PieceLemmas.{plain-more-at, piece-within-at}
 use Rattle.image_layout.proofs.SymbolLemmas.{offset_at, length_layout}

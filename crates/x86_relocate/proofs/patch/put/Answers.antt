@@ -1,6 +1,6 @@
-use Rattle.std.proofs.Common.{◌≡◌, ◌∙◌, sym, ap, length, true, List, ℕ, subst}
+use Rattle.std.proofs.Common.{◌≡◌, ◌∙◌, sym, ap, length, true, subst}
 use Rattle.raw_image.specs.Bytes.{with_bytes}
-use Rattle.x86_relocate.specs.Patched.{IsWithin, bytes_of, fits, patched, word_of}
+use Rattle.x86_relocate.specs.Patched.{IsWithin, bytes_of, fits, word_of}
 use Rattle.x86_relocate.proofs.Applied.{one_more, length_by}
 use Rattle.x86_relocate.proofs.patch.put.Goals as goal
 

@@ -6,8 +6,10 @@ use Rattle.model_loader.specs.declared.entry.Entry.{Entry}
 use Rattle.model_loader.specs.Standing.{standing_in}
 use Rattle.model_loader.specs.Step.{entry_at, module_base, refusal, with_entry}
 use Rattle.model_loader.specs.Kept.{IsKept}
+use Rattle.model_loader.specs.Sound.{IsSound}
 use Rattle.model_loader.proofs.StepLemmas.{step-fault, step-passed, refusal-split}
 use Rattle.model_loader.proofs.KeptLemmas.{kept-next}
+use Rattle.model_loader.proofs.SoundLemmas.{sound-next}
 use Rattle.model_loader.proofs.machine.Machine.load.Goals as goal
 
 pub returns-in_err-prepared-clause-fault : goal.returns-in_err-prepared-clause-fault
@@ -41,3 +43,13 @@ returns-clause-step c =
 pub returns-clause-at : goal.returns-clause-at
 unfolding entry_at
 returns-clause-at c = ap (λ (e : Entry). record { base = e.loaded.base; size = e.loaded.size }) c.in_ok-prepared.ensures.entry
+
+pub returns-clause-sound : goal.returns-clause-sound
+returns-clause-sound c = λ modules sound.
+    let m = c.args.module.now in
+    let inside = c.self.inside in
+    let entry = c.in_ok-prepared.prepared.entry in
+    let machine = c.args.self.now in
+    let entries : c.enter.new.entries.items ≡ inside.entries.items ++ entry ∷ [] = c.enter.ensures.entries ∙ ap (λ es. es ++ entry ∷ []) c.reserve.ensures.items in
+    let is = ap (λ (es : List Entry). record { kernel = inside.kernel; region = inside.region; entries = es }) entries ∙ ap (λ (n : Machine). with_entry n entry) c.self.view_is ∙ ap (with_entry machine) c.in_ok-prepared.ensures.entry in
+    subst (λ (n : Machine). IsSound n (modules ++ m ∷ [])) (sym is) (sound-next machine modules m c.in_ok-prepared.ensures.passed sound)
