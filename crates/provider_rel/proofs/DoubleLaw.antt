@@ -66,7 +66,7 @@ one-owner at path x second (e ∷ es) apart = go (bytes_eq e.name x) refl (one-o
     go : (b : Bool) → bytes_eq e.name x ≡ b
         → lines_with x second (with_owner at path es) ≡ map (λ p. Double x p second) (cond (is_some (find (λ (o : Export). bytes_eq o.name x) es)) (path ∷ []) [])
         → map (λ (b : Item). Double x b.path second) (cond (bytes_eq e.name x) (record { place = at; path = path; export = e } ∷ filter (is_named x) (with_owner at path es)) (filter (is_named x) (with_owner at path es)))
-          ≡ map (λ p. Double x p second) (cond (is_some (cond (bytes_eq e.name x) (Some e) (find (λ (o : Export). bytes_eq o.name x) es))) (path ∷ []) [])
+        ≡ map (λ p. Double x p second) (cond (is_some (cond (bytes_eq e.name x) (Some e) (find (λ (o : Export). bytes_eq o.name x) es))) (path ∷ []) [])
     go true is ih =
         let none : has_name es x ≡ false = ap (has_name es) (sym (bytes-same e.name x is)) ∙ apart.0 in
         ap (λ b. map (λ (b : Item). Double x b.path second) (cond b (record { place = at; path = path; export = e } ∷ filter (is_named x) (with_owner at path es)) (filter (is_named x) (with_owner at path es)))) is
@@ -181,13 +181,13 @@ own at path b l same ds [] none apart = refl
 own at path b l same ds (e ∷ es) none apart =
     let i : Item = record { place = at; path = path; export = e } in
     ap (λ m. m ++ item_doubles ((b ++ with_owner at path ds) ++ i ∷ []) (with_owner at path es))
-      (lines-append e.name path b (with_owner at path ds)
-        ∙ ap (λ m. lines_with e.name path b ++ map (λ (o : Item). Double e.name o.path path) m) (none-named at path e.name ds none.0)
-        ∙ append-nil (lines_with e.name path b)
-        ∙ same e)
+    (lines-append e.name path b (with_owner at path ds)
+    ∙ ap (λ m. lines_with e.name path b ++ map (λ (o : Item). Double e.name o.path path) m) (none-named at path e.name ds none.0)
+    ∙ append-nil (lines_with e.name path b)
+    ∙ same e)
     ∙ ap (λ m. l e ++ m)
-      (ap (λ m. item_doubles m (with_owner at path es)) (append_assoc b (with_owner at path ds) (i ∷ []) ∙ ap (λ m. b ++ m) (sym (map-append (λ (o : Export). record { place = at; path = path; export = o }) ds (e ∷ []))))
-        ∙ own at path b l same (ds ++ e ∷ []) es (none-in-more ds e es none.1 apart.0) apart.1)
+    (ap (λ m. item_doubles m (with_owner at path es)) (append_assoc b (with_owner at path ds) (i ∷ []) ∙ ap (λ m. b ++ m) (sym (map-append (λ (o : Export). record { place = at; path = path; export = o }) ds (e ∷ []))))
+    ∙ own at path b l same (ds ++ e ∷ []) es (none-in-more ds e es none.1 apart.0) apart.1)
 
 none-of : Export → List Unbound
 none-of e = []
@@ -211,15 +211,15 @@ module _ (tree : List Module) (kernel : Kernel) (kernel_apart : Apart kernel.exp
       ap (item_doubles (before tree kernel kernel_apart earlier)) (item-map tree m m.face.exports)
       ∙ ap (λ b. item_doubles b (with_owner (Some (place tree m)) m.path m.face.exports)) (sym (append-nil (before tree kernel kernel_apart earlier)))
       ∙ own (Some (place tree m)) m.path (before tree kernel kernel_apart earlier) (λ e. map (λ p. Double e.name p m.path) (exporters kernel earlier e.name))
-        (λ e. before-lines tree kernel kernel_apart e.name m.path earlier earlier_apart) [] m.face.exports (none-in-none m.face.exports) apart
+      (λ e. before-lines tree kernel kernel_apart e.name m.path earlier earlier_apart) [] m.face.exports (none-in-none m.face.exports) apart
 
   before-more : (earlier : List Module) (m : Module) → before tree kernel kernel_apart earlier ++ map (item_of tree) (by_module m) ≡ before tree kernel kernel_apart (earlier ++ m ∷ [])
   unfolding before
   before-more earlier m =
       append_assoc (map (item_of tree) (map by_kernel kernel.exports)) (map (item_of tree) (flat_map by_module earlier)) (map (item_of tree) (by_module m))
       ∙ ap (λ l. map (item_of tree) (map by_kernel kernel.exports) ++ l)
-        (sym (map-append (item_of tree) (flat_map by_module earlier) (by_module m))
-          ∙ ap (map (item_of tree)) (ap (λ l. flat_map by_module earlier ++ l) (sym (append-nil (by_module m))) ∙ sym (flat_map-append by_module earlier (m ∷ []))))
+      (sym (map-append (item_of tree) (flat_map by_module earlier) (by_module m))
+      ∙ ap (map (item_of tree)) (ap (λ l. flat_map by_module earlier ++ l) (sym (append-nil (by_module m))) ∙ sym (flat_map-append by_module earlier (m ∷ []))))
 
   apart-more : (earlier : List Module) (m : Module) → ModulesApart earlier → Apart m.face.exports → ModulesApart (earlier ++ m ∷ [])
   unfolding ModulesApart
@@ -234,8 +234,8 @@ module _ (tree : List Module) (kernel : Kernel) (kernel_apart : Apart kernel.exp
       ∙ doubles-append (before tree kernel kernel_apart earlier) (map (item_of tree) (by_module m)) (map (item_of tree) (flat_map by_module ms))
       ∙ ap (λ l. l ++ item_doubles (before tree kernel kernel_apart earlier ++ map (item_of tree) (by_module m)) (map (item_of tree) (flat_map by_module ms))) (of-module earlier earlier_apart m apart.0)
       ∙ ap (λ l. doubles_of kernel earlier m ++ l)
-        (ap (λ b. item_doubles b (map (item_of tree) (flat_map by_module ms))) (before-more earlier m)
-          ∙ after (earlier ++ m ∷ []) ms (apart-more earlier m earlier_apart apart.0) apart.1)
+      (ap (λ b. item_doubles b (map (item_of tree) (flat_map by_module ms))) (before-more earlier m)
+      ∙ after (earlier ++ m ∷ []) ms (apart-more earlier m earlier_apart apart.0) apart.1)
 
   -- the double lines of all items are those of the tree
   pub double-law : ModulesApart tree → item_doubles [] (items tree kernel) ≡ doubles kernel tree
@@ -255,10 +255,12 @@ any-map p q (x ∷ xs) = ap (λ b. p (q x) || b) (any-map p q xs)
 pub apart-map : {X : Type 0} (q : X → Export) (xs : List X) → AllPairs (λ (a b : X). (q a).name ≡ (q b).name → ⊥) xs → Apart (map q xs)
 unfolding Apart has_name
 apart-map q [] pairs = tt
-apart-map q (x ∷ xs) pairs = (false_from_ne_true _ (λ some.
-    let w = Any-from_list_any (λ y. bytes_eq (q y).name (q x).name) xs (sym (any-map (λ (e : Export). bytes_eq e.name (q x).name) q xs) ∙ some) in
-    pairs 0 (suc w.0) w.1 (omega arith) (omega (arith, w.2)) (ap (λ y. (q x).name) w.3 ∙ sym (bytes-same (q w.1).name (q x).name w.4) ∙ ap (λ y. (q y).name) (sym w.3))),
-    apart-map q xs (λ i j d before within. pairs (suc i) (suc j) d (omega arith) (omega arith)))
+apart-map q (x ∷ xs) pairs = (
+  false_from_ne_true _ (λ some.
+      let w = Any-from_list_any (λ y. bytes_eq (q y).name (q x).name) xs (sym (any-map (λ (e : Export). bytes_eq e.name (q x).name) q xs) ∙ some) in
+      pairs 0 (suc w.0) w.1 (omega arith) (omega (arith, w.2)) (ap (λ y. (q x).name) w.3 ∙ sym (bytes-same (q w.1).name (q x).name w.4) ∙ ap (λ y. (q y).name) (sym w.3))),
+  apart-map q xs (λ i j d before within. pairs (suc i) (suc j) d (omega arith) (omega arith)),
+)
 
 -- the modules of a tree
 pub modules-apart : (ts : List Facts) → All IsTreeModule ts → ModulesApart (modules_of ts)

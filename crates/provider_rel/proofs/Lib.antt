@@ -10,3 +10,4 @@ pub mod ProviderLaw
 pub mod UseLaw
 pub mod DoubleLaw
 pub mod MakeSteps
+pub mod TreeSteps

@@ -78,7 +78,7 @@ unfolding relation_fault
 fault-cycle tree kernel fault is =
     let T = modules_of tree in
     ap (λ o. first (o ∷ deps_fault (sum_by length (dependencies T kernel)) ∷ doubles_fault (length (doubles kernel T)) ∷ []))
-      (ap (λ n. cycle_fault T (cycle (uses_at T kernel) (below n))) (length-map tree module_of) ∙ is)
+    (ap (λ n. cycle_fault T (cycle (uses_at T kernel) (below n))) (length-map tree module_of) ∙ is)
 
 pub fault-counts : (tree : List Facts) (kernel : SeenKernel) (all : List (List ℕ)) (is : List Item) (o : Option RelationFault) → cycle (uses_at (modules_of tree) kernel) (below (length tree)) ≡ []
     → all ≡ dependencies (modules_of tree) kernel → is ≡ items (modules_of tree) kernel → Apart kernel.exports → ModulesApart (modules_of tree)
@@ -87,7 +87,7 @@ unfolding relation_fault
 fault-counts tree kernel all is o none all_is same kernel_apart apart counted =
     let T = modules_of tree in
     ap (λ ns. first (cycle_fault T ns ∷ deps_fault (sum_by length (dependencies T kernel)) ∷ doubles_fault (length (doubles kernel T)) ∷ []))
-      (ap (λ n. cycle (uses_at T kernel) (below n)) (length-map tree module_of) ∙ none)
+    (ap (λ n. cycle (uses_at T kernel) (below n)) (length-map tree module_of) ∙ none)
     ∙ ap (λ a. first (deps_fault (sum_by length a) ∷ doubles_fault (length (doubles kernel T)) ∷ [])) (sym all_is)
     ∙ ap (λ d. first (deps_fault (sum_by length all) ∷ doubles_fault (length d) ∷ [])) (sym (double-law T kernel kernel_apart apart) ∙ ap (item_doubles []) (sym same))
     ∙ counted
@@ -101,9 +101,9 @@ closure-small : (r : Goes) (n x : ℕ) → n ≤ 10000 → All (λ i. i < 2 ^ 32
 closure-small r n x few =
     All-weaker (λ i. i < n) (λ i. i < 2 ^ 32) (λ i low. omega arith) (closure r (below n) x)
     (all-within n (closure r (below n) x) (λ y there.
-      let reaches = least-members r (reached r (below n) x) y there in
-      let member : has (below n) y ≡ true = (kept (has (reached r (below n) x)) (below n) y (ap (λ l. has l y) (sym (reached-members r (below n) x)) ∙ reaches)).1 in
-      omega (arith, (range-has 0 n y member).1)))
+    let reaches = least-members r (reached r (below n) x) y there in
+    let member : has (below n) y ≡ true = (kept (has (reached r (below n) x)) (below n) y (ap (λ l. has l y) (sym (reached-members r (below n) x)) ∙ reaches)).1 in
+    omega (arith, (range-has 0 n y member).1)))
 
 pub deps-small : (tree : List Module) (kernel : SeenKernel) → length tree ≤ 10000 → All (λ xs. All (λ i. i < 2 ^ 32) xs) (dependencies tree kernel)
 unfolding dependencies
@@ -129,7 +129,7 @@ all-lines tree kernel names is known l0 l1 l2 l3 l4 l5 same table known_is kerne
     ∙ ap (λ l. (((lines (test_of Missing) (line_of Missing) T kernel ++ lines (test_of Gpl) (line_of Gpl) T kernel) ++ l) ++ flat_map (lines_by Namespace known is names) tree) ++ item_doubles [] is) (of Version)
     ∙ ap (λ l. (((lines (test_of Missing) (line_of Missing) T kernel ++ lines (test_of Gpl) (line_of Gpl) T kernel) ++ lines (test_of Version) (line_of Version) T kernel) ++ l) ++ item_doubles [] is) (of Namespace)
     ∙ ap (λ l. (((lines (test_of Missing) (line_of Missing) T kernel ++ lines (test_of Gpl) (line_of Gpl) T kernel) ++ lines (test_of Version) (line_of Version) T kernel) ++ lines (test_of Namespace) (line_of Namespace) T kernel) ++ l)
-      (ap (item_doubles []) same ∙ double-law T kernel kernel_apart apart)
+    (ap (item_doubles []) same ∙ double-law T kernel kernel_apart apart)
 
 pub right : {A X Y : Type 0} → (X → Y) → A ⊎ X → A ⊎ Y
 right f (inl a) = inl a

@@ -59,8 +59,8 @@ any-at p (x ∷ xs) (suc k) d l e = ap (λ b. p x || b) (any-at p xs k d (omega 
 pub first-there : (names : Table) (is : List Item) (k : ℕ) (i : Item) (x : List ℕ) → IsTableOf names (map item_name is) → k < length is → i ≡ get_or is k i → x ≡ i.export.name → None ≡ place_of names x → ⊥
 first-there names is k i x table within at same none =
     false≢true (ap is_some none
-      ∙ table-any item_name (is_named x) x (λ j. refl) names is table
-      ∙ any-at (is_named x) is k i within (ap (is_named x) (sym at) ∙ ap (λ n. bytes_eq n x) (sym same) ∙ bytes-refl x))
+    ∙ table-any item_name (is_named x) x (λ j. refl) names is table
+    ∙ any-at (is_named x) is k i within (ap (is_named x) (sym at) ∙ ap (λ n. bytes_eq n x) (sym same) ∙ bytes-refl x))
 
 -- numbers below one more
 range-push : (a n : ℕ) → range_with_len a (suc n) ≡ range_with_len a n ++ (a + n) ∷ []

@@ -65,10 +65,10 @@ module _ (tree : List Facts) (kernel : SeenKernel) (names : Table) (table : IsTa
   used-needs [] = refl
   used-needs (n ∷ ns) =
       ap (λ o. cons_option o (used_places (items (modules_of tree) kernel) (bound_of names ns)))
-        (ap (option_and_then (λ (i : Item). i.place)) (under n.name) ∙ sym (owner-is (modules_of tree) kernel n.name))
+      (ap (option_and_then (λ (i : Item). i.place)) (under n.name) ∙ sym (owner-is (modules_of tree) kernel n.name))
       ∙ ap (cons_option (option_map (place (modules_of tree)) (option_and_then (λ (p : Provided Module). owning_module p.owner) (provider (modules_of tree) kernel n.name)))) (used-needs ns)
       ∙ cons-map (place (modules_of tree)) (option_and_then (λ (p : Provided Module). owning_module p.owner) (provider (modules_of tree) kernel n.name))
-        (filter_map (λ (m : Need). option_and_then (λ (p : Provided Module). owning_module p.owner) (provider (modules_of tree) kernel m.name)) (map need_of_facts ns))
+      (filter_map (λ (m : Need). option_and_then (λ (p : Provided Module). owning_module p.owner) (provider (modules_of tree) kernel m.name)) (map need_of_facts ns))
 
   -- the places of those that a module uses
   pub row : Facts → List ℕ
@@ -108,9 +108,9 @@ module _ (tree : List Facts) (kernel : SeenKernel) (names : Table) (table : IsTa
   lines-are kind =
       flat-same (lines_by kind kernel.known (items (modules_of tree) kernel) names) (lines_of (test_of kind) (line_of kind) (modules_of tree) kernel) module_of
       (λ f. flat-filter (λ (n : StatedNeed). line_if kind kernel.known f n (item_under (items (modules_of tree) kernel) (place_of names n.name))) need_of_facts
-        (λ (n : Need). test_of kind (export_under (provider (modules_of tree) kernel n.name)) (face_of f) n)
-        (λ (n : Need). line_of kind f.path n.name (provider_path (provider (modules_of tree) kernel n.name)))
-        (line-is kind f) f.needs) tree
+      (λ (n : Need). test_of kind (export_under (provider (modules_of tree) kernel n.name)) (face_of f) n)
+      (λ (n : Need). line_of kind f.path n.name (provider_path (provider (modules_of tree) kernel n.name)))
+      (line-is kind f) f.needs) tree
 
 -- a place is one of the tree
 IsPlaceIn : ℕ → Option ℕ → Type 0
@@ -161,8 +161,8 @@ in-modules T n [] low = tt
 in-modules T n (m ∷ ms) low =
     subst (AllIn n) (sym (map-append (item_of T) (by_module m) (flat_map by_module ms)))
     (in-append n (map (item_of T) (by_module m)) (map (item_of T) (flat_map by_module ms))
-      (in-module T n m (low 0 m (omega arith)) m.face.exports)
-      (in-modules T n ms (λ i d within. low (suc i) d (omega arith))))
+    (in-module T n m (low 0 m (omega arith)) m.face.exports)
+    (in-modules T n ms (λ i d within. low (suc i) d (omega arith))))
 
 in-items : (tree : List Facts) → IsTree tree → (kernel : SeenKernel) → AllIn (length tree) (items (modules_of tree) kernel)
 unfolding items all_provided
@@ -170,8 +170,8 @@ in-items tree is_tree kernel =
     let T = modules_of tree in
     subst (AllIn (length tree)) (sym (map-append (item_of T) (map by_kernel kernel.exports) (flat_map by_module T)))
     (in-append (length tree) (map (item_of T) (map by_kernel kernel.exports)) (map (item_of T) (flat_map by_module T))
-      (in-kernel T (length tree) kernel.exports)
-      (in-modules T (length tree) T (inside tree is_tree)))
+    (in-kernel T (length tree) kernel.exports)
+    (in-modules T (length tree) T (inside tree is_tree)))
 
 in-slice : (n : ℕ) (is : List Item) → AllIn n is → (k : ℕ) → IsPlaceIn n (option_and_then (λ (i : Item). i.place) (slice_get is k))
 unfolding AllIn IsPlaceIn
@@ -220,12 +220,12 @@ lists-are tree kernel names is bound lists is_tree same table bound_is lists_are
     let T = modules_of tree in
     let table' = subst (λ l. IsTableOf names (map item_name l)) same table in
     let now : map (λ (u : Vec ℕ). u.items) lists ≡ map (λ (b : Vec (Option ℕ)). used_places (items T kernel) b.items) bound =
-        lists_are ∙ ap (λ l. map (λ (b : Vec (Option ℕ)). used_places l b.items) bound) same in
+    lists_are ∙ ap (λ l. map (λ (b : Vec (Option ℕ)). used_places l b.items) bound) same in
     let rows = rows-are tree kernel names table' lists bound bound_is now in
     let long : length lists ≡ length tree = sym (length-map lists (λ (u : Vec ℕ). u.items)) ∙ ap length rows ∙ length-map tree (row tree kernel names table') in
     record {
       goes_is = goes-is tree kernel names table' lists rows;
       long = long;
       inside = each-inside (length lists) lists (subst (λ n. EachIn n (map (λ (u : Vec ℕ). u.items) lists)) (sym long)
-        (subst (EachIn (length tree)) (sym now) (each-used (length tree) (items T kernel) (in-items tree is_tree kernel) bound)));
+          (subst (EachIn (length tree)) (sym now) (each-used (length tree) (items T kernel) (in-items tree is_tree kernel) bound)));
     }

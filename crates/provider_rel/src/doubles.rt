@@ -12,12 +12,7 @@ use std::alloc::{AllocError, Global};
 use symbol_binding::{Obstacles, Unbound};
 
 /// The place of the first export that has the name of the one at `k`.
-fn first_at(
-    names: &OwnedNameTable,
-    items: &[ExportItem],
-    k: usize,
-    item: &ExportItem,
-) -> usize
+fn first_at(names: &OwnedNameTable, items: &[ExportItem], k: usize, item: &ExportItem) -> usize
     requires names { IsTableOf names.now (map item_name items.now) }
     requires place { k < length items.now }
     requires item { item.now ≡ slice_index_or items.now k item.now }
@@ -74,11 +69,7 @@ pub(crate) fn count_doubles(
 }
 
 /// The double line of an export with one before it.
-fn double(
-    alloc: Global,
-    before: &ExportItem,
-    item: &ExportItem,
-) -> Result<Unbound, AllocError>
+fn double(alloc: Global, before: &ExportItem, item: &ExportItem) -> Result<Unbound, AllocError>
     ensures { IfOk result (λ line. line ≡ Double item.now.export.name before.now.path item.now.path) }
 {
     Ok(Unbound::Double {

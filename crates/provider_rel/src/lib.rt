@@ -19,6 +19,8 @@ mod map;
 mod provider;
 mod relation;
 mod symvers;
+#[cfg(test)]
+mod tests;
 mod unmet;
 
 pub use fault::{KernelFault, RelationFault};

@@ -176,11 +176,7 @@ impl Relation {
     /// `Cycle` exactly where walks of uses lead back; then `TooManyDeps` exactly where all modules together have more
     /// than 2,000,000 dependencies; then `TooManyDoubles` exactly where there are more than 100,000 double lines; or
     /// `Memory`.
-    pub fn make(
-        alloc: Global,
-        tree: &TreeFacts,
-        kernel: &Kernel,
-    ) -> Result<Relation, RelationFault>
+    pub fn make(alloc: Global, tree: &TreeFacts, kernel: &Kernel) -> Result<Relation, RelationFault>
         requires { IsTree tree.now }
         ensures ok { IfOk result (λ relation. IsRelation (modules_of tree.now) (kernel_of kernel.now) relation) }
         ensures passed { OnOk result (relation_fault (modules_of tree.now) (kernel_of kernel.now) ≡ None) }

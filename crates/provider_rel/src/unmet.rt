@@ -142,7 +142,14 @@ pub(crate) fn push_all_lines(
 {
     let modules = tree.as_slice();
     for i in 0..modules.len() {
-        push_lines(alloc, lines, kind, &modules[i], bindings, &bindings.bound[i])?;
+        push_lines(
+            alloc,
+            lines,
+            kind,
+            &modules[i],
+            bindings,
+            &bindings.bound[i],
+        )?;
     }
     Ok(())
 }

@@ -32,10 +32,10 @@ loop-k-preserved c =
     let short = row-short names is c.requires.names k p rows inside earlier in
     let line = λ (j : ℕ). Double i.export.name (get_or is j i).path i.path in
     let many : c.len.result ≡ length (doubles_with (take k is) i) =
-        omega (arith, c.len.ensures, c.index.result.now.ok.0, ap length row, length-map (row_at rows p) line, ap length (row-doubles names is c.requires.names k p i rows within inside at earlier)) in
+    omega (arith, c.len.ensures, c.index.result.now.ok.0, ap length row, length-map (row_at rows p) line, ap length (row-doubles names is c.requires.names k p i rows within inside at earlier)) in
     record {
       earlier = rows-more names is c.requires.names k p i rows c.add_at.new.rows.items within c.index-items-k.is at earlier
-        c.in_ok-add_at.ensures.long c.in_ok-add_at.ensures.here c.in_ok-add_at.ensures.others;
+          c.in_ok-add_at.ensures.long c.in_ok-add_at.ensures.here c.in_ok-add_at.ensures.others;
       count = omega (arith, c.loop-k.invariant.count, many, ap length (doubles-more is k i within c.index-items-k.is), length-append (item_doubles [] (take k is)) (doubles_with (take k is) i));
       bound = omega (arith, c.loop-k.invariant.bound, short, ap length row, c.len.ensures, within, c.requires.few);
     }

@@ -32,11 +32,11 @@ loop-k-preserved c =
     let line = λ (j : ℕ). Double i.export.name (get_or is j i).path i.path in
     record {
       earlier = rows-more names is c.requires.names k p i rows c.add_at.new.rows.items within c.index-items-k.is at earlier
-        c.in_ok-add_at.ensures.long c.in_ok-add_at.ensures.here c.in_ok-add_at.ensures.others;
+          c.in_ok-add_at.ensures.long c.in_ok-add_at.ensures.here c.in_ok-add_at.ensures.others;
       lines = c.in_ok-push_row.ensures
-        ∙ ap (λ js. c.loop-k.lines ++ map line js) (c.deref.ensures.value ∙ sym row)
-        ∙ ap (λ l. c.loop-k.lines ++ l) (row-doubles names is c.requires.names k p i rows within inside at earlier)
-        ∙ ap (λ l. l ++ doubles_with (take k is) i) c.loop-k.invariant.lines
-        ∙ append_assoc c.args.lines.now (item_doubles [] (take k is)) (doubles_with (take k is) i)
-        ∙ ap (λ l. c.args.lines.now ++ l) (sym (doubles-more is k i within c.index-items-k.is));
+          ∙ ap (λ js. c.loop-k.lines ++ map line js) (c.deref.ensures.value ∙ sym row)
+          ∙ ap (λ l. c.loop-k.lines ++ l) (row-doubles names is c.requires.names k p i rows within inside at earlier)
+          ∙ ap (λ l. l ++ doubles_with (take k is) i) c.loop-k.invariant.lines
+          ∙ append_assoc c.args.lines.now (item_doubles [] (take k is)) (doubles_with (take k is) i)
+          ∙ ap (λ l. c.args.lines.now ++ l) (sym (doubles-more is k i within c.index-items-k.is));
     }

@@ -67,9 +67,9 @@ returns-clause-err c =
     let count : c.len.result ≡ length c.args.tree.now = omega (arith, c.len.ensures, c.in_ok-lists.lists.ok.0, facts.long) in
     let answer = subst (IsAnswer (goes c.deref-3.result.now) (marked c.deref-4.result.now)) c.in-Cycle.is c.in_ok-order.ensures in
     inr (ap (cycle_fault T)
-      (ap (λ r. cycle r (below (length c.args.tree.now))) (sym facts.goes_is)
-        ∙ ap (λ xs. cycle (goes xs) (below (length c.args.tree.now))) (sym c.deref-3.ensures.value)
-        ∙ ap (cycle (goes c.deref-3.result.now)) (sym (ap marked c.deref-4.ensures.value ∙ c.in_ok-members.ensures.members ∙ ap below count))
-        ∙ sym answer.0)
-      ∙ fault-of-cycle T (goes c.deref-3.result.now) c.in-Cycle.cycle.items c.in_ok-names_at-in-Cycle.field-0 answer.1
-        (c.in_ok-names_at-in-Cycle.ensures ∙ ap (map (name_at T)) c.deref-in-Cycle.ensures.value))
+    (ap (λ r. cycle r (below (length c.args.tree.now))) (sym facts.goes_is)
+    ∙ ap (λ xs. cycle (goes xs) (below (length c.args.tree.now))) (sym c.deref-3.ensures.value)
+    ∙ ap (cycle (goes c.deref-3.result.now)) (sym (ap marked c.deref-4.ensures.value ∙ c.in_ok-members.ensures.members ∙ ap below count))
+    ∙ sym answer.0)
+    ∙ fault-of-cycle T (goes c.deref-3.result.now) c.in-Cycle.cycle.items c.in_ok-names_at-in-Cycle.field-0 answer.1
+    (c.in_ok-names_at-in-Cycle.ensures ∙ ap (map (name_at T)) c.deref-in-Cycle.ensures.value))

@@ -25,7 +25,7 @@ returns-in_err-check_counts-clause-err c =
     let b = c.in_ok-bindings.bindings in
     let p = err_from_is_err_and c.from_residual-in_err-check_counts.result c.from_residual-in_err-check_counts.ensures.1 in
     rw (p.1, p.2) (right (fault-counts tree (kernel_of k) c.in_ok-closures.closures b.items.items (Some c.in_err-check_counts.field-0.0) c.in_ok-closures.ensures.passed c.in_ok-closures.ensures.ok c.in_ok-bindings.ensures.ok.items_are
-      (apart-map seen_export k.exports k.table.distinct) (modules-apart tree c.requires.modules)) c.in_err-check_counts.ensures.err)
+    (apart-map seen_export k.exports k.table.distinct) (modules-apart tree c.requires.modules)) c.in_err-check_counts.ensures.err)
 
 pub orders_of-requires-clause-long : goal.orders_of-requires-clause-long
 orders_of-requires-clause-long c =
