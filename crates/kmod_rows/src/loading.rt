@@ -1,11 +1,11 @@
 use crate::sheet_row::{ExportRow, NeedRow, PlaceRow, SheetRow, object_of};
-use km_names::{List, Name, PathText, le_u64_at};
+use km_names::{PathText, le_u64_at};
 use model_loader::{LoadFault, Machine, Region};
 use module_facts::{Module, ModuleFault, read_module};
-use std::alloc::{AllocError, Global};
+use provider_rel::Kernel;
+use std::alloc::Global;
 use std::process::Abort;
 use std::test::Fail;
-use symbol_binding::{Kernel, KernelExport};
 
 /// A module that exports `fa` and needs `printk` of the kernel.
 const GIVES_FA: SheetRow = SheetRow {
@@ -78,20 +78,11 @@ const OVERFLOWS: SheetRow = SheetRow {
 const BASE: u64 = 0xffff_ffff_c000_0000;
 
 /// A kernel that exports `printk`.
-fn kernel(alloc: Global) -> Result<Kernel, AllocError> {
-    let printk = KernelExport {
-        name: Name::from_slice(alloc, b"printk")?,
-        crc: Some(0x1111_1111),
-        address: Some(0xffff_ffff_8100_0000),
-        gpl: false,
-        space: Name::new(alloc),
-    };
-    let mut exports = List::new(alloc);
-    exports.push(printk)?;
-    Ok(Kernel {
-        known: true,
-        exports,
-    })
+fn kernel(alloc: Global) -> Result<Kernel, Fail> {
+    let symvers = b"0x11111111\tprintk\tvmlinux\tEXPORT_SYMBOL\n".as_slice();
+    let mut kernel = Kernel::from_symvers(alloc, symvers)?;
+    kernel.add_addresses(b"ffffffff81000000 T printk\n".as_slice())?;
+    Ok(kernel)
 }
 
 /// The module of a sheet at a path.

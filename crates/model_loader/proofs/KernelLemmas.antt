@@ -7,7 +7,7 @@ use Rattle.std.proofs.lemmas.List.{take_more, take-append-drop}
 use Rattle.std.proofs.lemmas.List.Folds.{find-append}
 use Rattle.std.proofs.Math.Seq.{drop-cons}
 use Rattle.km_names.specs.First.{first}
-use Rattle.symbol_binding.specs.declared.kernel.KernelExport.{KernelExport}
+use Rattle.provider_rel.specs.declared.kernel.KernelExport.{KernelExport}
 use Rattle.symbol_binding.specs.Unmet.{vmlinux}
 use Rattle.model_loader.specs.declared.fault.MachineFault.{MachineFault}
 use Rattle.model_loader.specs.declared.fault.MachineFault.TheVariants.{KernelWithoutAddress}

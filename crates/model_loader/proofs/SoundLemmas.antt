@@ -20,7 +20,7 @@ use Rattle.module_facts.specs.declared.facts.Need.{Need as FactsNeed}
 use Rattle.module_facts.specs.declared.facts.Export.{Export as FactsExport}
 use Rattle.module_facts.specs.declared.module.Module.{Module}
 use Rattle.symbol_binding.specs.Symbols.{Export, Need, Face}
-use Rattle.symbol_binding.specs.declared.kernel.KernelExport.{KernelExport}
+use Rattle.provider_rel.specs.declared.kernel.KernelExport.{KernelExport}
 use Rattle.symbol_binding.specs.Provider.{Provided, export_under}
 use Rattle.symbol_binding.specs.Needs.{NeedTest, sees, may_use, agree, is_missing, is_hidden, is_other_version, is_barred}
 use Rattle.symbol_binding.specs.Table.{table, first_need, is_named}

@@ -9,8 +9,8 @@ use Rattle.km_names.specs.First.{first}
 use Rattle.module_facts.specs.declared.facts.Facts.{Facts}
 use Rattle.module_facts.specs.declared.facts.Need.{Need as FactsNeed}
 use Rattle.symbol_binding.specs.Symbols.{Export, Need, Face}
-use Rattle.symbol_binding.specs.declared.kernel.KernelExport.{KernelExport}
-use Rattle.symbol_binding.specs.KernelTable.{kernel_export}
+use Rattle.provider_rel.specs.declared.kernel.KernelExport.{KernelExport}
+use Rattle.provider_rel.specs.KernelTable.{seen_export}
 use Rattle.symbol_binding.specs.Provider.{Owner, ByKernel, ByModule, Provided, export_under, given, of_one, face_exports}
 use Rattle.symbol_binding.specs.Needs.{NeedTest, is_seen}
 use Rattle.symbol_binding.specs.Table.{table, first_need}
@@ -102,9 +102,9 @@ module _ (x : List ℕ) (owner : Owner Face) (exports : List PlacedExport) where
       owners None = refl
       owners (Some e) = refl
 
-kernel-faces : (es : List KernelExport) → map kernel_export es ≡ map export_face (map kernel_placed es)
+kernel-faces : (es : List KernelExport) → map seen_export es ≡ map export_face (map kernel_placed es)
 kernel-faces [] = refl
-kernel-faces (e ∷ es) = ap (λ rest. kernel_export e ∷ rest) (kernel-faces es)
+kernel-faces (e ∷ es) = ap (λ rest. seen_export e ∷ rest) (kernel-faces es)
 
 -- What an address depends on.
 abbrev pub of_placed : PlacedExport → Bool × ℕ
@@ -120,7 +120,7 @@ module _ (machine : Machine) (x : List ℕ) where
   pub under-export : export_under here ≡ option_map (standing_export x) (standing_under machine x)
   unfolding standing_under
   under-export =
-      let kernel : option_map (λ (p : Provided Face). p.export) (given {M = Face} ByKernel (map kernel_export machine.kernel.exports) x) ≡ option_map (standing_export x) (option_map (standing vmlinux) (export_named x (map kernel_placed machine.kernel.exports))) =
+      let kernel : option_map (λ (p : Provided Face). p.export) (given {M = Face} ByKernel (map seen_export machine.kernel.exports) x) ≡ option_map (standing_export x) (option_map (standing vmlinux) (export_named x (map kernel_placed machine.kernel.exports))) =
       ap (λ es. option_map (λ (p : Provided Face). p.export) (given ByKernel es x)) (kernel-faces machine.kernel.exports) ∙ given-export x ByKernel (map kernel_placed machine.kernel.exports) vmlinux in
       first-two (λ (p : Provided Face). p.export) (standing_export x) _ _ _ _ kernel
       (first-same (λ (p : Provided Face). p.export) (standing_export x) entry_face (of_one face_exports x) (λ (e : Entry). option_map (standing e.loaded.name) (export_named x e.exports))
@@ -129,7 +129,7 @@ module _ (machine : Machine) (x : List ℕ) where
   pub under-owner : option_map (λ (p : Provided Face). owner_name p.owner) here ≡ option_map (λ (s : Standing). s.owner) (standing_under machine x)
   unfolding standing_under
   under-owner =
-      let kernel : option_map (λ (p : Provided Face). owner_name p.owner) (given {M = Face} ByKernel (map kernel_export machine.kernel.exports) x) ≡ option_map (λ (s : Standing). s.owner) (option_map (standing vmlinux) (export_named x (map kernel_placed machine.kernel.exports))) =
+      let kernel : option_map (λ (p : Provided Face). owner_name p.owner) (given {M = Face} ByKernel (map seen_export machine.kernel.exports) x) ≡ option_map (λ (s : Standing). s.owner) (option_map (standing vmlinux) (export_named x (map kernel_placed machine.kernel.exports))) =
       ap (λ es. option_map (λ (p : Provided Face). owner_name p.owner) (given ByKernel es x)) (kernel-faces machine.kernel.exports) ∙ given-owner x ByKernel (map kernel_placed machine.kernel.exports) in
       first-two (λ (p : Provided Face). owner_name p.owner) (λ (s : Standing). s.owner) _ _ _ _ kernel
       (first-same (λ (p : Provided Face). owner_name p.owner) (λ (s : Standing). s.owner) entry_face (of_one face_exports x) (λ (e : Entry). option_map (standing e.loaded.name) (export_named x e.exports))

@@ -7,10 +7,12 @@ use Rattle.module_facts.specs.declared.facts.Export.{Export as FactsExport}
 use Rattle.module_facts.specs.declared.facts.Need.{Need as FactsNeed}
 use Rattle.module_facts.specs.declared.facts.Facts.{Facts}
 use Rattle.symbol_binding.specs.Symbols.{Export, Need, Face, Kernel}
-use Rattle.symbol_binding.specs.declared.kernel.Kernel.{Kernel as KernelTable}
-use Rattle.symbol_binding.specs.declared.kernel.KernelExport.{KernelExport}
-use Rattle.symbol_binding.specs.KernelTable.{kernel_export}
-use Rattle.symbol_binding.specs.KernelFace.{kernel_face}
+use Rattle.provider_rel.specs.declared.kernel.Kernel.{Kernel as KernelTable}
+use Rattle.provider_rel.specs.declared.kernel.KernelExport.{KernelExport}
+use Rattle.provider_rel.specs.KernelTable.{seen_export}
+use Rattle.provider_rel.specs.Faces.{kernel_of}
+-- the same of a module that isn't loaded, by its facts
+pub use Rattle.provider_rel.specs.Faces.{export_of_facts as facts_export, need_of_facts as facts_need, face_of as facts_face}
 use Rattle.model_loader.specs.declared.entry.PlacedExport.{PlacedExport}
 use Rattle.model_loader.specs.declared.entry.BoundNeed.{BoundNeed}
 use Rattle.model_loader.specs.declared.entry.Entry.{Entry}
@@ -46,23 +48,7 @@ abbrev pub faces : Machine → List Face
 faces machine = map entry_face machine.entries
 
 abbrev pub machine_kernel : Machine → Kernel
-machine_kernel machine = kernel_face machine.kernel
-
--- The same of a module that isn't loaded, by its facts.
-abbrev pub facts_export : FactsExport → Export
-facts_export e = record { name = e.name; crc = e.crc; gpl = e.gpl; space = e.space }
-
-abbrev pub facts_need : FactsNeed → Need
-facts_need n = record { name = n.name; weak = n.weak; crc = n.crc }
-
-abbrev pub facts_face : Facts → Face
-facts_face f = record {
-  name = f.name;
-  exports = map facts_export f.exports;
-  needs = map facts_need f.needs;
-  free = f.free;
-  imports = f.imports;
-}
+machine_kernel machine = kernel_of machine.kernel
 
 -- An export of the kernel at its address.
 abbrev pub kernel_placed : KernelExport → PlacedExport

@@ -2,7 +2,7 @@
 use Rattle.std.specs.Prelude.{◌≡◌, ℕ, ◌+◌, ◌<◌, List, length, map, slice_index, Option, None, find, is_none, option_map, All}
 use Rattle.module_facts.specs.declared.facts.Export.{Export as FactsExport}
 use Rattle.module_facts.specs.declared.module.Module.{Module}
-use Rattle.symbol_binding.specs.declared.kernel.KernelExport.{KernelExport}
+use Rattle.provider_rel.specs.declared.kernel.KernelExport.{KernelExport}
 use Rattle.model_loader.specs.declared.entry.PlacedExport.{PlacedExport}
 use Rattle.model_loader.specs.declared.entry.Entry.{Entry}
 use Rattle.model_loader.specs.declared.region.Region.{Region}

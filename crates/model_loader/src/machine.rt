@@ -6,7 +6,7 @@ ghost use Rattle.std.specs.Option.{option_or};
 ghost use Rattle.std.specs.Str.{bytes_eq};
 ghost use Rattle.km_names.specs.First.{first};
 ghost use Rattle.symbol_binding.specs.Unmet.{vmlinux};
-ghost use Rattle.symbol_binding.specs.declared.kernel.Kernel.{Kernel};
+ghost use Rattle.provider_rel.specs.declared.kernel.Kernel.{Kernel};
 ghost use Rattle.module_facts.specs.declared.module.Module.{Module};
 ghost use Rattle.model_loader.specs.Machine.{export_named, kernel_placed, new_machine};
 ghost use Rattle.model_loader.specs.Parts.{kernel_fault};
@@ -24,7 +24,7 @@ use km_names::Name;
 use module_facts::Module;
 use std::alloc::{AllocError, Global};
 use std::marker::Model;
-use symbol_binding::{Kernel, KernelExport};
+use provider_rel::{Kernel, KernelExport};
 
 /// A machine into which modules are loaded: a kernel's table with an address for each export, a region for modules, and
 /// the modules that were loaded, oldest first. Contracts see these three.

@@ -6,7 +6,7 @@ use Rattle.std.specs.Option.{is_none}
 use Rattle.km_names.specs.Lines.{lines_of}
 use Rattle.provider_rel.specs.declared.fault.KernelFault.{KernelFault}
 use Rattle.provider_rel.specs.declared.fault.KernelFault.TheVariants.{BadKernelLine}
-use Rattle.provider_rel.specs.TableLines.{is_refused, first_refused, table_fault, stated}
+use Rattle.provider_rel.specs.TableLines.{is_blank, is_refused, first_refused, table_fault, stated}
 
 -- the fault of lines, of which the first has a number
 pub fault_at : {X : Type 0} → (List ℕ → Option X) → ℕ → List (List ℕ) → Option KernelFault
@@ -57,14 +57,14 @@ closed false = refl
 -- a line that is read isn't refused
 pub read-passed : {X : Type 0} (read : List ℕ → Option X) (line : List ℕ) (x : X) → Some x ≡ read line → is_refused read line ≡ false
 read-passed read line x is =
-    ap (λ o. not (eqb (length line) 0) && is_none o) (sym is) ∙ closed (not (eqb (length line) 0))
+    ap (λ o. not (is_blank line) && is_none o) (sym is) ∙ closed (not (is_blank line))
 
--- nor is an empty one
-pub empty-passed : {X : Type 0} (read : List ℕ → Option X) (line : List ℕ) → (eqb (length line) 0) ≡ true → is_refused read line ≡ false
-empty-passed read line empty = ap (λ b. not b && is_none (read line)) empty
+-- nor is a blank one
+pub blank-passed : {X : Type 0} (read : List ℕ → Option X) (line : List ℕ) → is_blank line ≡ true → is_refused read line ≡ false
+blank-passed read line blank = ap (λ b. not b && is_none (read line)) blank
 
 -- any other is refused where it isn't read
-pub unread-refused : {X : Type 0} (read : List ℕ → Option X) (line : List ℕ) → None ≡ read line → (eqb (length line) 0) ≡ false → is_refused read line ≡ true
+pub unread-refused : {X : Type 0} (read : List ℕ → Option X) (line : List ℕ) → None ≡ read line → is_blank line ≡ false → is_refused read line ≡ true
 unread-refused read line is some = ap (λ b. not b && is_none (read line)) some ∙ ap is_none (sym is)
 
 -- what a table states, from its lines on

@@ -1,13 +1,18 @@
--- The text tables that a kernel's build writes, a line at a time: each states something, is empty, or isn't understood.
-use Rattle.std.specs.Prelude.{ℕ, ◌+◌, ◌==◌, ◌&&◌, not, Bool, List, length, Option, is_none, option_map}
-use Rattle.std.specs.List.{position, filter_map}
+-- The text tables that a kernel's build writes, a line at a time: each states something, is blank, or isn't understood.
+use Rattle.std.specs.Prelude.{ℕ, ◌+◌, ◌&&◌, not, Bool, List, Option, is_none, option_map}
+use Rattle.std.specs.List.{list_all, position, filter_map}
 use Rattle.km_names.specs.Lines.{lines_of}
+use Rattle.km_names.specs.Space.{is_space}
 use Rattle.provider_rel.specs.declared.fault.KernelFault.{KernelFault}
 use Rattle.provider_rel.specs.declared.fault.KernelFault.TheVariants.{BadKernelLine}
 
--- A line is refused: it isn't empty, and isn't read as one that states something.
+-- A line is blank: it has nothing but white space.
+abbrev pub is_blank : List ℕ → Bool
+is_blank line = list_all is_space line
+
+-- A line is refused: it isn't blank, and isn't read as one that states something.
 abbrev pub is_refused : {X : Type 0} → (List ℕ → Option X) → List ℕ → Bool
-is_refused read line = not (length line == 0) && is_none (read line)
+is_refused read line = not (is_blank line) && is_none (read line)
 
 -- The first line that is refused, by its number from 1.
 abbrev pub first_refused : {X : Type 0} → (List ℕ → Option X) → List (List ℕ) → Option KernelFault

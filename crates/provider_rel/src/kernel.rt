@@ -54,7 +54,7 @@ impl Kernel {
     }
 
     /// The kernel of a System.map: it exports the names of which the map has the entries `__ksymtab_N`, at their
-    /// addresses there, without versions. An empty line states nothing. nm(1); the kernel's include/linux/export.h.
+    /// addresses there, without versions. A blank line states nothing. nm(1); the kernel's include/linux/export.h.
     ///
     /// # Errors
     ///
@@ -77,7 +77,7 @@ impl Kernel {
     }
 
     /// The kernel of a Module.symvers: it exports what lines with `vmlinux` in their third field state, with versions,
-    /// and without addresses. An empty line states nothing. The kernel's Documentation/kbuild/modules.rst.
+    /// and without addresses. A blank line states nothing. The kernel's Documentation/kbuild/modules.rst.
     ///
     /// # Errors
     ///

@@ -1,7 +1,8 @@
 // The lines of a table of a kernel.
 ghost use Rattle.std.specs.Prelude.{◌≡◌, ◌≤◌, ◌⊎◌, ℕ, List, Option, Some, None, length, IfOk, IfErr, OnOk};
 ghost use Rattle.km_names.specs.Limit.{file_limit};
-ghost use Rattle.provider_rel.specs.TableLines.{table_fault, stated};
+ghost use Rattle.km_names.specs.Space.{is_space as is_space_byte};
+ghost use Rattle.provider_rel.specs.TableLines.{is_blank as is_blank_line, table_fault, stated};
 
 use crate::KernelFault;
 use km_names::first_line;
@@ -9,7 +10,7 @@ use std::alloc::Global;
 
 /// What a line of a table states.
 pub(crate) trait TableLine<'a>: Drop + Sized {
-    /// What a line states, or none where it isn't understood. An empty line states nothing.
+    /// What a line states, or none where it isn't understood. A blank line states nothing.
     ghost read: { List ℕ → Option Self };
 
     /// Reads a line.
@@ -36,7 +37,7 @@ pub(crate) fn read_lines<'a, L: TableLine<'a>>(
         match L::parse(line) {
             Some(read) => lines.push(read)?,
             None => {
-                if !line.is_empty() {
+                if !is_blank(line) {
                     return Err(KernelFault::BadKernelLine { line: number });
                 }
             }
@@ -45,4 +46,17 @@ pub(crate) fn read_lines<'a, L: TableLine<'a>>(
         number += 1;
     }
     Ok(lines)
+}
+
+/// Whether a line has nothing but white space.
+fn is_blank(line: &[u8]) -> bool
+    ensures { result ≡ is_blank_line line.now }
+{
+    line.iter().all(|byte| is_space(*byte))
+}
+
+fn is_space(byte: u8) -> bool
+    ensures { result ≡ is_space_byte byte }
+{
+    byte == b' ' || byte == b'\t' || byte == b'\r'
 }

@@ -1,6 +1,4 @@
 pub mod Symbols
-pub mod KernelTable
-pub mod KernelFace
 pub mod Needs
 pub mod Provider
 pub mod Unmet

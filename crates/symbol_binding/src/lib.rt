@@ -6,14 +6,12 @@
 //! crate stands on `km_names` for names and paths.
 #![tactic(auto)]
 
-mod kernel;
 mod needs;
 #[cfg(test)]
 mod tests;
 mod unbound;
 mod worked;
 
-pub use kernel::{Kernel, KernelExport, KernelExports};
 pub use needs::{agree, may_use, sees};
 pub use unbound::{Obstacles, Unbound};
 pub use worked::lines_of_small_trees;

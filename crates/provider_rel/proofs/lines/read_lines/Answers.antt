@@ -2,9 +2,10 @@ use Rattle.std.proofs.Common.{◌≡◌, ◌∷◌, ◌++◌, true, false, eqb, 
 use Rattle.std.proofs.lemmas.Grind.{common_steps}
 use Rattle.std.specs.List.{filter_map}
 use Rattle.km_names.specs.Lines.{lines_of}
-use Rattle.provider_rel.proofs.LineSteps.{fault_at, fault-begins, fault-none, fault-passed, fault-refused, read-passed, empty-passed, unread-refused, stated-begins, stated-more, stated-same, no-lines, room-more, room-same}
+use Rattle.provider_rel.specs.TableLines.{is_blank}
+use Rattle.provider_rel.proofs.LineSteps.{fault_at, fault-begins, fault-none, fault-passed, fault-refused, read-passed, blank-passed, unread-refused, stated-begins, stated-more, stated-same, no-lines, room-more, room-same}
 use Rattle.provider_rel.proofs.lines.read_lines.Goals as goal
-use Rattle.provider_rel.proofs.lines.read_lines.Goals.{in-Some+in_ok-push-in-Some, in-None+else-not-is_empty}
+use Rattle.provider_rel.proofs.lines.read_lines.Goals.{in-Some+in_ok-push-in-Some, in-None+else-not-is_blank}
 
 pub loop-rest-init : goal.loop-rest-init
 loop-rest-init g c =
@@ -17,11 +18,11 @@ loop-rest-init g c =
       number = omega arith;
     }
 
-pub returns-then-not-is_empty-clause-err : goal.returns-then-not-is_empty-clause-err
-returns-then-not-is_empty-clause-err g c =
+pub returns-then-not-is_blank-clause-err : goal.returns-then-not-is_blank-clause-err
+returns-then-not-is_blank-clause-err g c =
     let read = g.L.TableLine.read in
     let line = c.first_line.result.0.now in
-    let some : eqb (length line) 0 ≡ false = grind arith in
+    let some : is_blank line ≡ false = sym c.is_blank.ensures ∙ c.if-not-is_blank.true in
     inr (sym c.loop-rest.invariant.fault
     ∙ ap (fault_at read c.loop-rest.number) c.first_line.ensures.lines
     ∙ fault-refused read c.loop-rest.number line (lines_of c.first_line.result.1.now) (unread-refused read line c.in-None.ensures some))
@@ -45,12 +46,12 @@ loop-rest-preserved g c =
         room = room-more before c.match-parse.lines.items w.in-Some.read (length c.first_line.result.1.now) (length c.loop-rest.rest.now) (length c.args.bytes.now) (rw w.lines-is w.in_ok-push-in-Some.ensures.items) c.first_line.ensures.shorter c.loop-rest.invariant.room;
         number = omega (arith, c.first_line.ensures.shorter, c.loop-rest.invariant.number);
       }
-      | in-None+else-not-is_empty w ↦ record {
+      | in-None+else-not-is_blank w ↦ record {
         lines = ap (λ xs. xs ++ filter_map read next) (rw w.lines-is refl)
             ∙ ap (λ ls. before ++ ls) (stated-same read line next w.in-None.ensures)
             ∙ ap (λ ls. before ++ filter_map read ls) (sym split)
             ∙ c.loop-rest.invariant.lines;
-        fault = sym (fault-passed read c.loop-rest.number line next (empty-passed read line (grind arith)))
+        fault = sym (fault-passed read c.loop-rest.number line next (blank-passed read line (sym w.is_blank.ensures ∙ w.if-not-is_blank.false)))
             ∙ ap (fault_at read c.loop-rest.number) (sym split)
             ∙ c.loop-rest.invariant.fault;
         room = room-same before c.match-parse.lines.items (length c.first_line.result.1.now) (length c.loop-rest.rest.now) (length c.args.bytes.now) (rw w.lines-is refl) c.first_line.ensures.shorter c.loop-rest.invariant.room;
