@@ -1,5 +1,5 @@
 -- The double lines of a tree, as those of its items.
-use Rattle.std.proofs.Common.{◌≡◌, ℕ, zero, suc, ◌+◌, ◌<◌, Bool, true, false, ◌||◌, List, [], ◌∷◌, ◌++◌, length, map, get_or, cond, Option, Some, None, is_some, option_map, find, AllPairs, All, refl, sym, ap, subst, ◌∙◌, append_assoc, append-nil, arith}
+use Rattle.std.proofs.Common.{◌≡◌, ℕ, suc, Bool, true, false, ◌||◌, List, [], ◌∷◌, ◌++◌, map, cond, Option, Some, None, is_some, option_map, find, AllPairs, All, refl, sym, ap, ◌∙◌, append_assoc, append-nil, arith}
 use Rattle.std.proofs.lemmas.Bool.{false≢true, false_from_ne_true}
 use Rattle.std.proofs.lemmas.Grind.{flat_map-append}
 use Rattle.std.proofs.lemmas.List.{map-append}
@@ -17,7 +17,7 @@ use Rattle.provider_rel.specs.Faces.{export_of_facts, modules_of}
 use Rattle.provider_rel.specs.Tree.{IsTreeModule}
 use Rattle.provider_rel.specs.Relation.{place}
 use Rattle.provider_rel.specs.Items.{Item, item_of, by_kernel, by_module, all_provided, items, is_named, doubles_with, item_doubles}
-use Rattle.provider_rel.proofs.NameSteps.{bytes-refl, bytes-same, bytes-turn}
+use Rattle.provider_rel.proofs.NameSteps.{bytes-same, bytes-turn}
 
 -- an export of this name is among these
 has_name : List Export → List ℕ → Bool

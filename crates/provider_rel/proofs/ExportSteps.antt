@@ -1,5 +1,5 @@
 -- Exports, of each name the first, one export more at a time.
-use Rattle.std.proofs.Common.{◌≡◌, ℕ, zero, suc, ◌+◌, ◌<◌, Bool, true, false, ◌||◌, not, List, [], ◌∷◌, ◌++◌, length, map, get_or, take, cond, Option, Some, None, is_some, AllPairs, refl, sym, ap, subst, ◌∙◌, append-nil, arith}
+use Rattle.std.proofs.Common.{◌≡◌, ℕ, zero, suc, ◌+◌, ◌<◌, Bool, true, false, ◌||◌, not, List, [], ◌∷◌, ◌++◌, length, map, get_or, take, cond, Option, Some, None, is_some, refl, sym, ap, subst, ◌∙◌, append-nil, arith}
 use Rattle.std.proofs.lemmas.Bool.{false≢true}
 use Rattle.std.proofs.lemmas.List.{map-append, take_more}
 use Rattle.std.proofs.lemmas.List.Elements.{filter-append, filter_map-append}
@@ -9,8 +9,8 @@ use Rattle.std.specs.Str.{bytes_eq}
 use Rattle.name_table.specs.NameTable.{Table, IsTableOf, place_of}
 use Rattle.provider_rel.specs.declared.kernel.KernelExport.{KernelExport}
 use Rattle.provider_rel.specs.MapLines.{MapSymbol}
-use Rattle.provider_rel.specs.KernelTable.{IsTable, AreFirst, first_of_each, with_export, with_its_address, with_addresses, export_name}
-use Rattle.provider_rel.proofs.NameSteps.{table-any, bytes-refl, bytes-same, bytes-turn, bytes-other}
+use Rattle.provider_rel.specs.KernelTable.{IsTable, AreFirst, first_of_each, with_export, with_addresses, export_name}
+use Rattle.provider_rel.proofs.NameSteps.{table-any, bytes-refl, bytes-same, bytes-turn}
 
 -- an export of this name is among these
 abbrev pub has_name : List KernelExport → List ℕ → Bool

@@ -11,3 +11,4 @@ pub mod UseLaw
 pub mod DoubleLaw
 pub mod MakeSteps
 pub mod TreeSteps
+pub mod Laws

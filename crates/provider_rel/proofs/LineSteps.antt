@@ -1,12 +1,12 @@
 -- The lines of a table, one after the other.
 use Rattle.std.proofs.Common.{◌≡◌, ℕ, ◌+◌, Bool, true, false, ◌&&◌, not, List, [], ◌∷◌, ◌++◌, length, eqb, cond, Option, Some, None, option_map, refl, sym, ap, ◌∙◌, append_assoc, length-append, ◌<◌, ◌≤◌, arith}
 use Rattle.std.proofs.lemmas.Iterator.Adapters.{position_from-zero}
-use Rattle.std.specs.List.{cons_option, position, position_from, filter_map}
+use Rattle.std.specs.List.{cons_option, position_from, filter_map}
 use Rattle.std.specs.Option.{is_none}
 use Rattle.km_names.specs.Lines.{lines_of}
 use Rattle.provider_rel.specs.declared.fault.KernelFault.{KernelFault}
 use Rattle.provider_rel.specs.declared.fault.KernelFault.TheVariants.{BadKernelLine}
-use Rattle.provider_rel.specs.TableLines.{is_blank, is_refused, first_refused, table_fault, stated}
+use Rattle.provider_rel.specs.TableLines.{is_blank, is_refused, table_fault, stated}
 
 -- the fault of lines, of which the first has a number
 pub fault_at : {X : Type 0} → (List ℕ → Option X) → ℕ → List (List ℕ) → Option KernelFault

@@ -1,5 +1,5 @@
 -- The relation of a tree from its parts.
-use Rattle.std.proofs.Common.{◌≡◌, ℕ, zero, suc, ◌+◌, ◌<◌, ◌≤◌, ◌^◌, ◌⊎◌, Bool, true, false, List, [], ◌∷◌, ◌++◌, length, map, take, get_or, cond, min, ltb, Option, Some, None, option_map, option_and_then, unwrap_or, find, All, AllPairs, refl, sym, ap, subst, ◌∙◌, inl, inr, arith}
+use Rattle.std.proofs.Common.{◌≡◌, ℕ, zero, suc, ◌<◌, ◌≤◌, ◌^◌, ◌⊎◌, Bool, true, List, [], ◌∷◌, ◌++◌, length, map, get_or, cond, Option, Some, None, option_map, option_and_then, unwrap_or, find, All, refl, sym, ap, subst, ◌∙◌, inl, inr, arith}
 use Rattle.std.specs.List.{flat_map, slice_get, sum_by}
 use Rattle.std.proofs.lemmas.List.{length-map}
 use Rattle.std.proofs.lemmas.List.Elements.{All-map, All-weaker}
@@ -8,7 +8,7 @@ use Rattle.std.specs.Option.{option_map_or}
 use Rattle.km_names.specs.First.{first}
 use Rattle.name_table.specs.NameTable.{Table, IsTableOf, place_of}
 use Rattle.module_facts.specs.declared.facts.Facts.{Facts}
-use Rattle.relation_order.specs.Sets.{Relation as Goes, has, goes, below}
+use Rattle.relation_order.specs.Sets.{Relation as Goes, has, below}
 use Rattle.relation_order.specs.Cycle.{cycle}
 use Rattle.relation_order.specs.Answer.{Closes}
 use Rattle.relation_order.specs.Reached.{reached}
@@ -26,7 +26,6 @@ use Rattle.provider_rel.specs.Kinds.{test_of, line_of, lines_by}
 use Rattle.provider_rel.proofs.UseLaw.{lines-are}
 use Rattle.provider_rel.proofs.DoubleLaw.{Apart, ModulesApart, double-law}
 use Rattle.symbol_binding.specs.Symbols.{Module, Kernel as SeenKernel}
-use Rattle.symbol_binding.specs.Provider.{provider}
 use Rattle.provider_rel.specs.declared.provider.Provider.{Provider}
 use Rattle.provider_rel.specs.declared.provider.Provider.TheVariants.{Nobody, Kernel as TheKernel}
 use Rattle.provider_rel.specs.declared.fault.RelationFault.{RelationFault}

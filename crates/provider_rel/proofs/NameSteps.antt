@@ -1,5 +1,5 @@
 -- What tables of names say of the lists that they were made of.
-use Rattle.std.proofs.Common.{◌≡◌, ℕ, suc, ◌+◌, ◌<◌, ◌≤◌, Bool, true, false, ◌||◌, not, List, [], ◌∷◌, ◌++◌, length, map, take, get_or, cond, ltb, eqb, Option, Some, None, is_some, option_map, option_and_then, find, refl, sym, ap, subst, ◌∙◌, arith}
+use Rattle.std.proofs.Common.{◌≡◌, ℕ, suc, ◌+◌, ◌<◌, ◌≤◌, Bool, true, false, ◌||◌, not, List, [], ◌∷◌, ◌++◌, length, map, take, get_or, cond, ltb, Option, Some, None, is_some, option_and_then, find, refl, sym, ap, ◌∙◌, arith}
 use Rattle.std.proofs.lemmas.Bool.Decides.{nat_tests}
 use Rattle.std.proofs.lemmas.List.{map-append, take_more}
 use Rattle.std.proofs.lemmas.List.Folds.{find_at}
@@ -9,7 +9,7 @@ use Rattle.std.proofs.lemmas.Cmp.{nat_list_eq_equiv}
 use Rattle.std.proofs.lemmas.Slice.Eq.{bytes_eq-Decides}
 use Rattle.std.specs.List.{position, position_from, position_or_len, prefix_len, slice_get, list_any}
 use Rattle.std.specs.Str.{bytes_eq}
-use Rattle.name_table.specs.NameTable.{Table, IsTableOf, states, first_place, place_of}
+use Rattle.name_table.specs.NameTable.{Table, IsTableOf, states, place_of}
 
 -- the front with an item more, in another form
 pub map-more : {X Y : Type 0} (f : X → Y) (xs : List X) (i : ℕ) (d : X) → i < length xs → map f (take (i + 1) xs) ≡ map f (take i xs) ++ f (get_or xs i d) ∷ []

@@ -1,14 +1,13 @@
 -- Who provides a name, as the first item of the name.
-use Rattle.std.proofs.Common.{◌≡◌, ℕ, Bool, true, false, List, [], ◌∷◌, ◌++◌, map, cond, Option, Some, None, option_map, option_and_then, find, refl, sym, ap, ◌∙◌}
+use Rattle.std.proofs.Common.{◌≡◌, ℕ, Bool, true, false, List, [], ◌∷◌, map, cond, Option, Some, None, option_map, option_and_then, find, refl, sym, ap, ◌∙◌}
 use Rattle.std.specs.List.{flat_map}
 use Rattle.std.specs.Option.{option_or, option_map_or}
 use Rattle.std.specs.Str.{bytes_eq}
 use Rattle.std.proofs.lemmas.List.Folds.{find-append}
 use Rattle.km_names.specs.First.{first}
 use Rattle.symbol_binding.specs.Symbols.{Export, Module, Kernel}
-use Rattle.symbol_binding.specs.Provider.{Owner, ByKernel, ByModule, Provided, given, of_kernel, of_one, of_first, of_unknown, module_exports, provider, export_under, owning_module}
+use Rattle.symbol_binding.specs.Provider.{Owner, ByKernel, ByModule, Provided, of_kernel, of_one, of_first, of_unknown, module_exports, provider, export_under, owning_module}
 use Rattle.symbol_binding.specs.Unmet.{owner_path, provider_path}
-use Rattle.provider_rel.specs.declared.provider.Provider.{Provider}
 use Rattle.provider_rel.specs.declared.provider.Provider.TheVariants.{Nobody, Kernel as TheKernel}
 use Rattle.provider_rel.specs.Relation.{place, answer, owner_answer}
 use Rattle.provider_rel.specs.Items.{Item, by_kernel, by_module, all_provided, item_of, items, is_named, seen_under, path_under, item_answer, place_of_owner}

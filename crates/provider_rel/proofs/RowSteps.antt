@@ -1,11 +1,11 @@
 -- Items that share a name, an item more at a time.
 use Rattle.std.proofs.Common.{◌≡◌, ◌≢◌, ℕ, zero, suc, ◌+◌, ◌<◌, ◌≤◌, Bool, true, false, ◌||◌, not, List, [], ◌∷◌, ◌++◌, length, map, take, set, get_or, cond, eqb, Option, Some, None, is_some, All, refl, sym, ap, ◌∙◌, append_assoc, append-nil, add-one, add-zero, arith}
 use Rattle.std.specs.Global.{Vec}
-use Rattle.std.specs.List.{filter, list_any, range_with_len, slice_get, position}
+use Rattle.std.specs.List.{filter, list_any, range_with_len, slice_get}
 use Rattle.std.specs.Option.{option_map_or}
 use Rattle.std.specs.Str.{bytes_eq}
 use Rattle.std.proofs.lemmas.Bool.{false≢true, eqb-true, eq-eqb, ne_eqb}
-use Rattle.std.proofs.lemmas.List.{take_more, map-append, length-map}
+use Rattle.std.proofs.lemmas.List.{take_more, map-append}
 use Rattle.std.proofs.lemmas.List.Elements.{filter-append, All-filter, All-from_get_or}
 use Rattle.std.proofs.lemmas.List.Filters.{length-filter_both}
 use Rattle.std.proofs.lemmas.List.FromFn.{length-range_with_len, get_or-range_with_len}
@@ -13,7 +13,6 @@ use Rattle.std.proofs.lemmas.List.Quantifiers.{position-Some}
 use Rattle.std.proofs.lemmas.Option.{slice_get-get_or}
 use Rattle.name_table.specs.NameTable.{Table, IsTableOf, states, place_of}
 use Rattle.relation_order.specs.Sets.{below}
-use Rattle.symbol_binding.specs.declared.unbound.Unbound.{Unbound}
 use Rattle.symbol_binding.specs.declared.unbound.Unbound.TheVariants.{Double}
 use Rattle.provider_rel.specs.Items.{Item, item_name, is_named, doubles_with, item_doubles}
 use Rattle.provider_rel.specs.Sharing.{stands_at, earlier_at, row_at, AreEarlier}

@@ -1,5 +1,5 @@
 -- Trees of few modules.
-use Rattle.std.proofs.Common.{◌≡◌, ℕ, ◌+◌, ◌<◌, ◌≤◌, List, [], ◌∷◌, ◌++◌, length, get_or, All, AllPairs, subst, sym, arith}
+use Rattle.std.proofs.Common.{◌≡◌, List, [], ◌∷◌, AllPairs, subst, sym, arith}
 use Rattle.std.proofs.lemmas.List.Elements.{All-nil, All-cons}
 use Rattle.module_facts.specs.declared.facts.Facts.{Facts}
 use Rattle.provider_rel.specs.Tree.{IsTree, IsTreeModule}

@@ -1,11 +1,11 @@
 -- What modules use, and the lines on their needs, by what their needs are bound to.
-use Rattle.std.proofs.Common.{◌≡◌, ℕ, zero, suc, ◌+◌, ◌<◌, ◌≤◌, Bool, true, false, List, [], ◌∷◌, ◌++◌, length, map, get_or, cond, Option, Some, None, option_map, option_and_then, find, All, refl, sym, ap, subst, ◌∙◌, arith}
+use Rattle.std.proofs.Common.{◌≡◌, ℕ, zero, suc, ◌<◌, Bool, true, false, List, [], ◌∷◌, ◌++◌, length, map, get_or, cond, Option, Some, None, option_map, option_and_then, find, All, refl, sym, ap, subst, ◌∙◌, arith}
 use Rattle.std.specs.Global.{Vec}
-use Rattle.std.specs.List.{cons_option, filter, filter_map, flat_map, slice_get, AllByRecursion}
+use Rattle.std.specs.List.{cons_option, filter, filter_map, flat_map, slice_get}
 use Rattle.std.specs.Option.{option_map_or}
 use Rattle.std.proofs.Math.Path.{fun_ext}
 use Rattle.std.proofs.lemmas.List.{get_or-map, length-map, map-append}
-use Rattle.std.proofs.lemmas.List.Elements.{All-nil, All-cons, All-from_get_or, All-from_recursion, recursion_from_All}
+use Rattle.std.proofs.lemmas.List.Elements.{All-nil, All-cons}
 use Rattle.name_table.specs.NameTable.{Table, IsTableOf, place_of}
 use Rattle.module_facts.specs.declared.facts.Need.{Need as StatedNeed}
 use Rattle.module_facts.specs.declared.facts.Facts.{Facts}
@@ -14,7 +14,6 @@ use Rattle.relation_order.specs.Search.{Inside}
 use Rattle.symbol_binding.specs.Symbols.{Export, Need, Module, Kernel as SeenKernel}
 use Rattle.symbol_binding.specs.Provider.{ByModule, Provided, provider, uses, owning_module, export_under}
 use Rattle.symbol_binding.specs.Unmet.{lines, lines_of, provider_path}
-use Rattle.symbol_binding.specs.declared.unbound.Unbound.{Unbound}
 use Rattle.provider_rel.specs.declared.unmet.Kind.{Kind}
 use Rattle.provider_rel.specs.Faces.{face_of, need_of_facts, module_of, modules_of}
 use Rattle.provider_rel.specs.Tree.{IsTree}

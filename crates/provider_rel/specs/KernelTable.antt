@@ -1,11 +1,11 @@
 -- What a kernel exports, by the tables that its build writes.
-use Rattle.std.specs.Prelude.{ℕ, ◌≡◌, not, Bool, false, List, [], ◌∷◌, ◌++◌, AllPairs, nat_eq, map, filter, drop, codes, Option, Some, None, option_map, Result, if◌then◌else◌}
+use Rattle.std.specs.Prelude.{ℕ, ◌≡◌, not, false, List, [], ◌∷◌, ◌++◌, AllPairs, nat_eq, map, filter, drop, codes, Option, Some, None, option_map, Result, if◌then◌else◌}
 use Rattle.std.specs.List.{filter_map, list_any, starts_with}
 use Rattle.std.specs.Option.{option_or}
 use Rattle.std.specs.Str.{bytes_eq}
 use Rattle.km_names.specs.Statements.{unless_fault}
 use Rattle.name_table.specs.NameTable.{Table, IsTableOf}
-use Rattle.symbol_binding.specs.Symbols.{Export, Kernel as SeenKernel}
+use Rattle.symbol_binding.specs.Symbols.{Export}
 use Rattle.provider_rel.specs.declared.kernel.KernelExport.{KernelExport}
 use Rattle.provider_rel.specs.declared.fault.KernelFault.{KernelFault}
 use Rattle.provider_rel.specs.TableLines.{table_fault, stated}

@@ -1,6 +1,6 @@
 -- The relation of a tree over a kernel: who provides a name, what a module depends on, and what keeps a tree from having
 -- a relation. modules.dep(5), depmod(8).
-use Rattle.std.specs.Prelude.{ℕ, false, nat_lt, List, [], ◌∷◌, length, map, min, slice_get, Option, Some, None, option_map, if◌then◌else◌}
+use Rattle.std.specs.Prelude.{ℕ, false, nat_lt, List, [], ◌∷◌, length, map, min, slice_get, Option, Some, None, if◌then◌else◌}
 use Rattle.std.specs.List.{position_or_len, sum_by}
 use Rattle.std.specs.Option.{option_map_or}
 use Rattle.std.specs.Str.{bytes_eq}

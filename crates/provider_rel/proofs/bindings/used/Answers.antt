@@ -1,4 +1,4 @@
-use Rattle.std.proofs.Common.{◌≡◌, ◌∷◌, [], ◌++◌, None, sym, ap, ◌∙◌}
+use Rattle.std.proofs.Common.{◌∷◌, [], ◌++◌, None, ap, ◌∙◌}
 use Rattle.provider_rel.proofs.BindingSteps.{used-more, used-same}
 use Rattle.provider_rel.proofs.bindings.used.Goals as goal
 use Rattle.provider_rel.proofs.bindings.used.Goals.{in-Some+in_ok-push, in_default}

@@ -1,7 +1,6 @@
-use Rattle.std.proofs.Common.{◌≡◌, ℕ, ◌<◌, [], ◌++◌, length, map, take, get_or, sym, ap, subst, ◌∙◌, append_assoc, All, List, arith}
+use Rattle.std.proofs.Common.{ℕ, ◌<◌, [], ◌++◌, length, map, take, get_or, sym, ap, subst, ◌∙◌, append_assoc, All, List, arith}
 use Rattle.symbol_binding.specs.declared.unbound.Unbound.TheVariants.{Double}
 use Rattle.provider_rel.specs.Items.{doubles_with, item_doubles}
-use Rattle.provider_rel.specs.Sharing.{row_at}
 use Rattle.provider_rel.proofs.RowSteps.{row-at, rows-more, row-doubles, row-inside, doubles-more}
 use Rattle.provider_rel.proofs.doubles.push_doubles.Goals as goal
 

@@ -1,4 +1,4 @@
-use Rattle.std.proofs.Common.{◌≡◌, ◌∷◌, [], ◌++◌, Some, map, sym, subst, arith, ◌∙◌}
+use Rattle.std.proofs.Common.{◌∷◌, [], ◌++◌, Some, map, sym, subst, arith, ◌∙◌}
 use Rattle.name_table.specs.NameTable.{IsTableOf}
 use Rattle.provider_rel.specs.KernelTable.{AreFirst, export_name}
 use Rattle.provider_rel.proofs.ExportSteps.{added, there, with-new, with-known, push-first}

@@ -1,7 +1,5 @@
-use Rattle.std.proofs.Common.{◌≡◌, ◌+◌, ◌≤◌, cond, Some, None, refl, sym, ap, subst, ◌∙◌, arith}
-use Rattle.std.proofs.lemmas.Grind.{common_steps}
-use Rattle.std.specs.Str.{bytes_eq}
-use Rattle.provider_rel.specs.KernelTable.{AreFirst, with_export, export_of_line, stated_export}
+use Rattle.std.proofs.Common.{cond, Some, None, sym, ap, ◌∙◌, arith}
+use Rattle.provider_rel.specs.KernelTable.{with_export, export_of_line, stated_export}
 use Rattle.provider_rel.proofs.ExportSteps.{exports-more, exports-same}
 use Rattle.provider_rel.proofs.exports.exports_of_lines.Goals as goal
 use Rattle.provider_rel.proofs.exports.exports_of_lines.Goals.{then-is_of_kernel+in_ok-line_export+in_ok-add_first, else-is_of_kernel}

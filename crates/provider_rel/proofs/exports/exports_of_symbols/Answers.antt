@@ -1,5 +1,5 @@
-use Rattle.std.proofs.Common.{◌≡◌, ◌+◌, ◌≤◌, cond, Some, None, option_map, refl, sym, ap, subst, ◌∙◌, arith}
-use Rattle.provider_rel.specs.KernelTable.{AreFirst, with_export, export_of_symbol, export_of_entry, exported_name}
+use Rattle.std.proofs.Common.{option_map, sym, ap, ◌∙◌, arith}
+use Rattle.provider_rel.specs.KernelTable.{with_export, export_of_symbol, export_of_entry, exported_name}
 use Rattle.provider_rel.proofs.ExportSteps.{exports-more, exports-same}
 use Rattle.provider_rel.proofs.exports.exports_of_symbols.Goals as goal
 use Rattle.provider_rel.proofs.exports.exports_of_symbols.Goals.{in-Some+in_ok-entry_export+in_ok-add_first, in_default}

@@ -1,4 +1,4 @@
-use Rattle.std.proofs.Common.{◌≡◌, ◌≤◌, length, sym, ap, subst, ◌∙◌, arith}
+use Rattle.std.proofs.Common.{length, sym, ap, subst, ◌∙◌, arith}
 use Rattle.std.proofs.lemmas.List.{take_all}
 use Rattle.provider_rel.specs.KernelTable.{IsTable, with_addresses}
 use Rattle.provider_rel.proofs.ExportSteps.{addresses-apart}

@@ -1,8 +1,7 @@
-use Rattle.std.proofs.Common.{◌≡◌, ◌<◌, ◌≤◌, ◌++◌, length, map, take, get_or, sym, ap, ◌∙◌, arith}
+use Rattle.std.proofs.Common.{◌<◌, ◌++◌, length, map, get_or, ap, ◌∙◌, arith}
 use Rattle.std.proofs.lemmas.List.{take_all}
-use Rattle.module_facts.specs.declared.facts.Facts.{Facts}
 use Rattle.provider_rel.specs.Items.{kernel_item}
-use Rattle.provider_rel.proofs.ItemSteps.{items_of_front, front-none, front-more, front-all}
+use Rattle.provider_rel.proofs.ItemSteps.{front-none, front-more, front-all}
 use Rattle.provider_rel.proofs.items.all_items.Goals as goal
 
 pub loop-i-init : goal.loop-i-init

@@ -1,4 +1,4 @@
-use Rattle.std.proofs.Common.{◌≡◌, ◌++◌, ◌∷◌, [], map, take, get_or, sym, ap, ◌∙◌}
+use Rattle.std.proofs.Common.{◌≡◌, ◌++◌, ◌∷◌, [], get_or, sym, ap, ◌∙◌}
 use Rattle.provider_rel.specs.Faces.{modules_of}
 use Rattle.provider_rel.specs.Relation.{name_at}
 use Rattle.provider_rel.proofs.NameSteps.{map-more}

@@ -1,4 +1,4 @@
-use Rattle.std.proofs.Common.{◌≡◌, List, map, take}
+use Rattle.std.proofs.Common.{◌≡◌, map, take}
 use Rattle.km_names.specs.declared.conf.TreeIndex.{TreeIndex}
 use Rattle.provider_rel.proofs.relation.orders_of.Given as goal
 

@@ -1,4 +1,4 @@
-use Rattle.std.proofs.Common.{◌≡◌, ℕ, List, [], length, map, sym, ap, subst, ◌∙◌, inr, arith}
+use Rattle.std.proofs.Common.{◌≡◌, ℕ, List, length, map, sym, ap, subst, ◌∙◌, inr, arith}
 use Rattle.std.specs.Global.{Vec}
 use Rattle.std.proofs.lemmas.List.{length-map}
 use Rattle.relation_order.specs.Sets.{goes, below, marked}
@@ -8,8 +8,7 @@ use Rattle.relation_order.specs.Search.{Inside}
 use Rattle.relation_order.specs.Answer.{IsAnswer}
 use Rattle.provider_rel.specs.Faces.{module_of, modules_of, kernel_of}
 use Rattle.provider_rel.specs.Relation.{uses_at, name_at, cycle_fault, dependencies}
-use Rattle.provider_rel.proofs.UseLaw.{AreLists, lists-are}
-use Rattle.provider_rel.proofs.DoubleLaw.{apart-map}
+use Rattle.provider_rel.proofs.UseLaw.{lists-are}
 use Rattle.provider_rel.proofs.MakeSteps.{fault-of-cycle}
 use Rattle.provider_rel.proofs.relation.reach.Goals as goal
 

@@ -1,5 +1,3 @@
-use Rattle.std.proofs.Common.{◌≡◌, ap, sym, subst, ◌∙◌}
-use Rattle.std.specs.List.{slice_get}
 use Rattle.provider_rel.proofs.SymbolSteps.{symbol-global, symbol-any}
 use Rattle.provider_rel.proofs.map.Symbols.symbol.Goals as goal
 
