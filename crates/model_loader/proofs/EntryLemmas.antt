@@ -1,5 +1,5 @@
 -- The entry that is made is the one of the step.
-use Rattle.std.proofs.Common.{◌≡◌, ◌≤◌, ◌<◌, ◌+◌, ◌==◌, ◌∙◌, ◌⊎◌, inl, inr, ℕ, zero, suc, Bool, true, false, List, [], ◌∷◌, Option, Some, None, refl, sym, ap, subst, arith, length, cond, map, slice_index, get_or}
+use Rattle.std.proofs.Common.{◌≡◌, ◌<◌, ◌==◌, ◌∙◌, ◌⊎◌, inl, inr, ℕ, suc, Bool, List, [], ◌∷◌, Option, Some, None, refl, sym, ap, arith, length, cond, map, slice_index}
 use Rattle.std.specs.Prelude.{find, option_map, All}
 use Rattle.std.specs.List.{range_with_len}
 use Rattle.std.specs.Option.{option_map_or}
@@ -15,16 +15,13 @@ use Rattle.image_layout.specs.Laid.{laid, overflow}
 use Rattle.image_layout.specs.declared.fault.LayFault.{LayFault}
 use Rattle.image_layout.specs.declared.fault.LayFault.TheVariants.{Overflow as LayTooWide, Memory as NoMemory}
 use Rattle.x86_relocate.specs.declared.patch.Overflow.{Overflow as TooWide}
-use Rattle.model_loader.specs.declared.fault.LoadFault.{LoadFault}
 use Rattle.model_loader.specs.declared.fault.LoadFault.TheVariants.{Overflow, Memory}
 use Rattle.model_loader.specs.FaultText.{load_fault_from}
 use Rattle.model_loader.specs.declared.entry.PlacedExport.{PlacedExport}
-use Rattle.model_loader.specs.declared.entry.Entry.{Entry}
-use Rattle.model_loader.specs.declared.standing.Standing.{Standing}
 use Rattle.model_loader.specs.declared.standing.ExportTable.{ExportTable}
 use Rattle.model_loader.specs.Machine.{Machine, placed_under}
 use Rattle.model_loader.specs.NeedTests.{given_by, kept_address}
-use Rattle.model_loader.specs.Standing.{Keeps, standing_of, standing_under}
+use Rattle.model_loader.specs.Standing.{Keeps, standing_of}
 use Rattle.model_loader.specs.Parts.{entry_by, placed_by}
 use Rattle.model_loader.specs.Step.{need_address, given_address, given_addresses, symbol_addresses, module_size, placed_export, entry_at, bound_need, overflow_fault}
 use Rattle.model_loader.proofs.StandingLemmas.{of_placed, of_standing, under-placed}

@@ -1,9 +1,8 @@
 -- Gaps between runs.
-use Rattle.std.proofs.Common.{◌≡◌, ◌≤◌, ◌<◌, ◌+◌, ◌-◌, ◌*◌, ◌/◌, ◌%◌, ◌^◌, ◌∙◌, ◌⊎◌, inl, inr, ℕ, zero, suc, Bool, true, false, List, [], ◌∷◌, ◌++◌, Option, Some, None, refl, sym, ap, subst, arith, length, take, drop, cond, map, nat_lt, slice_index_or, get_or}
-use Rattle.std.specs.Prelude.{◌&&◌, ◌||◌, not, nat_le, find, All}
-use Rattle.std.specs.List.{list_any, range_with_len}
+use Rattle.std.proofs.Common.{◌≡◌, ◌≤◌, ◌<◌, ◌+◌, ◌-◌, ◌*◌, ◌/◌, ◌%◌, ◌∙◌, inl, inr, ℕ, zero, suc, Bool, true, false, List, [], ◌∷◌, Some, None, refl, sym, ap, arith, length, take, drop, map, nat_lt, slice_index_or, get_or}
+use Rattle.std.specs.Prelude.{◌||◌, find, All}
+use Rattle.std.specs.List.{list_any}
 use Rattle.std.specs.List.Sorted.{IsNonDecreasingBy, IsPermutation}
-use Rattle.std.specs.Option.{option_or}
 use Rattle.std.proofs.lemmas.Bool.{cases_lt}
 use Rattle.std.proofs.lemmas.Bool.Decides.{nat_tests}
 use Rattle.std.proofs.lemmas.List.{take-append-drop, get_or-drop, get_or_default, length-drop}
@@ -15,7 +14,7 @@ use Rattle.model_loader.specs.declared.entry.Entry.{Entry}
 use Rattle.model_loader.specs.declared.region.Region.{Region}
 use Rattle.model_loader.specs.declared.gap.Run.{Run}
 use Rattle.model_loader.specs.Regions.{IsRegion}
-use Rattle.model_loader.specs.Gap.{meets, meets_entry, is_gap, pages, gap_among}
+use Rattle.model_loader.specs.Gap.{meets_entry, is_gap, pages, gap_among}
 use Rattle.model_loader.specs.Runs.{IsLowest, IsPaged, run_of, meets_run, meets_any}
 
 pub any-map : {X Y : Type 0} (p : Y → Bool) (f : X → Y) (xs : List X) → list_any p (map f xs) ≡ list_any (λ x. p (f x)) xs

@@ -1,8 +1,6 @@
 -- What symbols stand for, a need more at a time, from the last one.
-use Rattle.std.proofs.Common.{◌≡◌, ◌≢◌, ◌≤◌, ◌<◌, ◌+◌, ◌-◌, ◌==◌, ◌∙◌, ◌⊎◌, inl, inr, ℕ, suc, Bool, true, false, List, [], ◌∷◌, Option, Some, None, refl, sym, ap, subst, arith, length, drop, cond, map, slice_index, slice_set, get_or, add-one, get_or-set_same, get_or-set_other, length-set}
-use Rattle.std.specs.Prelude.{find}
+use Rattle.std.proofs.Common.{◌≡◌, ◌≢◌, ◌≤◌, ◌<◌, ◌+◌, ◌-◌, ◌==◌, ◌∙◌, inl, inr, ℕ, suc, false, List, [], ◌∷◌, refl, sym, ap, arith, length, drop, map, slice_index, slice_set, get_or, get_or-set_same, get_or-set_other, length-set}
 use Rattle.std.specs.List.{range_with_len}
-use Rattle.std.specs.Option.{option_map_or}
 use Rattle.std.proofs.lemmas.Bool.{cases_Bool, false≢true}
 use Rattle.std.proofs.lemmas.Bool.Decides.{Decides-eqb}
 use Rattle.std.proofs.lemmas.List.FromFn.{fill_by_all}

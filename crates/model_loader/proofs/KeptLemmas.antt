@@ -1,12 +1,11 @@
 -- A machine with an entry more keeps what it is to keep.
-use Rattle.std.proofs.Common.{◌≡◌, ◌≤◌, ◌<◌, ◌+◌, ◌*◌, ◌/◌, ◌%◌, ◌∙◌, ◌⊎◌, inl, inr, ℕ, zero, suc, Bool, true, false, List, [], ◌∷◌, ◌++◌, Option, Some, None, refl, sym, ap, subst, arith, length, map, get_or, cond, length-append}
-use Rattle.std.specs.Prelude.{find, option_map, All, unwrap_or, is_none, not, nat_le, ◌&&◌, option_and_then}
-use Rattle.model_loader.specs.declared.fault.LoadFault.{LoadFault}
+use Rattle.std.proofs.Common.{◌≡◌, ◌≤◌, ◌<◌, ◌+◌, ◌*◌, ◌/◌, ◌%◌, ◌∙◌, ◌⊎◌, inl, inr, ℕ, zero, suc, Bool, true, false, List, [], ◌∷◌, ◌++◌, Option, Some, None, refl, sym, ap, subst, arith, length, map, get_or}
+use Rattle.std.specs.Prelude.{find, option_map, All, unwrap_or, is_none, option_and_then}
 use Rattle.model_loader.specs.declared.fault.LoadFault.TheVariants.{RegionFull}
-use Rattle.std.specs.List.{list_any, range_with_len}
+use Rattle.std.specs.List.{list_any}
 use Rattle.std.specs.Option.{option_or}
 use Rattle.std.specs.Str.{bytes_eq}
-use Rattle.std.proofs.lemmas.Bool.{cases_Bool, cases_lt, false≢true}
+use Rattle.std.proofs.lemmas.Bool.{cases_Bool}
 use Rattle.std.proofs.lemmas.Bool.Decides.{nat_tests}
 use Rattle.std.proofs.lemmas.List.{map-append}
 use Rattle.std.proofs.lemmas.List.FromFn.{get_or-map-range_with_len, length-map-range_with_len}
@@ -28,8 +27,8 @@ use Rattle.model_loader.specs.Machine.{Machine, export_named, kernel_placed}
 use Rattle.model_loader.specs.Gap.{gap, gap_among, is_gap, meets_entry, pages}
 use Rattle.model_loader.specs.Kept.{IsKept}
 use Rattle.model_loader.specs.Sound.{IsPlaced}
-use Rattle.model_loader.specs.Standing.{Keeps, export_pair, named_pair, standing, standing_in, standing_of, standing_under}
-use Rattle.model_loader.specs.Step.{fault_if, named_pages, overflow_fault, entry_at, module_base, module_size, name_tests, place_tests, refusal, symbol_addresses, with_entry}
+use Rattle.model_loader.specs.Standing.{export_pair, named_pair, standing, standing_in, standing_of, standing_under}
+use Rattle.model_loader.specs.Step.{fault_if, named_pages, overflow_fault, entry_at, module_base, module_size, place_tests, symbol_addresses, with_entry}
 use Rattle.model_loader.proofs.StandingLemmas.{find-map}
 use Rattle.model_loader.proofs.StepLemmas.{first-append}
 

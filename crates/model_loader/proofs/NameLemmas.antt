@@ -1,5 +1,5 @@
 -- The tests of the names of a module, by a table.
-use Rattle.std.proofs.Common.{◌≡◌, ◌∙◌, ◌⊎◌, inl, inr, ℕ, Bool, true, false, List, [], ◌∷◌, Option, Some, None, refl, sym, ap, subst, map}
+use Rattle.std.proofs.Common.{◌≡◌, ◌∙◌, ◌⊎◌, inl, inr, ℕ, true, false, List, [], ◌∷◌, Option, Some, None, refl, sym, ap, map}
 use Rattle.std.specs.Prelude.{option_map}
 use Rattle.std.specs.List.{list_any}
 use Rattle.std.specs.Str.{bytes_eq}
@@ -16,7 +16,7 @@ use Rattle.model_loader.specs.declared.fault.LoadFault.{LoadFault}
 use Rattle.model_loader.specs.declared.fault.LoadFault.TheVariants.{AlreadyLoaded, ExportTaken, Memory}
 use Rattle.model_loader.specs.Machine.{Machine, entry_face, faces, facts_export, machine_kernel}
 use Rattle.model_loader.specs.NeedTests.{taken_by}
-use Rattle.model_loader.specs.Standing.{Keeps, standing_of, standing_under}
+use Rattle.model_loader.specs.Standing.{Keeps, standing_under}
 use Rattle.model_loader.specs.Step.{fault_if, owner_name, taken_test}
 use Rattle.model_loader.proofs.GapLemmas.{any-map}
 use Rattle.model_loader.proofs.StandingLemmas.{under-owner}

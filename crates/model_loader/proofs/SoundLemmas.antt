@@ -1,21 +1,17 @@
 -- A load keeps a machine sound.
-use Rattle.std.proofs.Common.{◌≡◌, ◌≤◌, ◌<◌, ◌+◌, ◌∙◌, ◌⊎◌, inl, inr, ℕ, zero, suc, Bool, true, false, List, [], ◌∷◌, ◌++◌, Option, Some, None, refl, sym, ap, subst, arith, length, map, get_or, cond, append_assoc, append-nil}
-use Rattle.std.specs.Prelude.{find, option_map, All, AllPairs, not, ◌&&◌, ◌||◌, is_none, nat_lt, flat_map}
-use Rattle.std.specs.Cmp.{IsEquivalence}
+use Rattle.std.proofs.Common.{◌≡◌, ◌≤◌, ◌<◌, ◌+◌, ◌∙◌, ◌⊎◌, inl, inr, ℕ, zero, suc, Bool, true, false, List, [], ◌∷◌, ◌++◌, Option, Some, None, refl, sym, ap, subst, arith, length, map, get_or, append_assoc, append-nil}
+use Rattle.std.specs.Prelude.{find, option_map, All, AllPairs, not, ◌&&◌, nat_lt, flat_map}
 use Rattle.std.specs.List.{IsDistinct, AllByRecursion, list_any}
-use Rattle.std.specs.Option.{option_map_or}
 use Rattle.std.specs.Str.{bytes_eq}
-use Rattle.std.proofs.lemmas.Bool.{cases_Bool, cases_lt, false≢true, or_parts}
+use Rattle.std.proofs.lemmas.Bool.{cases_Bool, false≢true, or_parts}
 use Rattle.std.proofs.lemmas.Bool.Decides.{nat_tests}
 use Rattle.std.proofs.lemmas.Cmp.{nat_list_eq_equiv}
 use Rattle.std.proofs.lemmas.List.{map-append}
 use Rattle.std.proofs.lemmas.List.Concat.{flat_map-append}
-use Rattle.std.proofs.lemmas.List.Elements.{All-map}
 use Rattle.std.proofs.lemmas.List.Folds.{list_any-append}
 use Rattle.std.proofs.lemmas.Map.Keys.{IsDistinct-push, IsDistinct-head, IsDistinct-tail}
 use Rattle.std.proofs.lemmas.Slice.Eq.{bytes_eq-Decides}
 use Rattle.km_names.specs.First.{first}
-use Rattle.module_facts.specs.declared.facts.Facts.{Facts}
 use Rattle.module_facts.specs.declared.facts.Need.{Need as FactsNeed}
 use Rattle.module_facts.specs.declared.facts.Export.{Export as FactsExport}
 use Rattle.module_facts.specs.declared.module.Module.{Module}
@@ -27,15 +23,14 @@ use Rattle.symbol_binding.specs.Table.{table, first_need, is_named}
 use Rattle.symbol_binding.specs.Unmet.{vmlinux}
 use Rattle.model_loader.specs.declared.entry.PlacedExport.{PlacedExport}
 use Rattle.model_loader.specs.declared.entry.Entry.{Entry}
-use Rattle.model_loader.specs.declared.standing.Standing.{Standing}
 use Rattle.model_loader.specs.declared.fault.LoadFault.{LoadFault}
 use Rattle.model_loader.specs.declared.fault.LoadFault.TheVariants.{AlreadyLoaded, MissingSymbol, GplOnly, VersionDiffers, NotImported, ExportTaken}
 use Rattle.model_loader.specs.Machine.{Machine, entry_face, export_named, facts_export, facts_face, facts_need, faces, kernel_placed, machine_kernel, need_face}
-use Rattle.model_loader.specs.Gap.{gap, meets_entry}
-use Rattle.model_loader.specs.Sound.{Agrees, AllBound, AreApart, AreBoundAfter, IsBound, IsEntryOf, IsPlaced, IsSound, entry_names, exported_names}
+use Rattle.model_loader.specs.Gap.{meets_entry}
+use Rattle.model_loader.specs.Sound.{Agrees, AreApart, AreBoundAfter, IsBound, IsEntryOf, IsSound, entry_names, exported_names}
 use Rattle.model_loader.specs.Standing.{standing, standing_export, standing_under}
-use Rattle.model_loader.specs.Step.{bound_need, entry_at, fault_if, module_base, module_size, name_tests, need_test, owner_name, place_tests, placed_export, refusal, symbol_addresses, taken_test, with_entry}
-use Rattle.model_loader.proofs.StandingLemmas.{find-map, under-export}
+use Rattle.model_loader.specs.Step.{bound_need, entry_at, fault_if, module_base, module_size, name_tests, need_test, owner_name, placed_export, refusal, symbol_addresses, taken_test, with_entry}
+use Rattle.model_loader.proofs.StandingLemmas.{under-export}
 use Rattle.model_loader.proofs.StepLemmas.{refusal-split}
 use Rattle.model_loader.proofs.KeptLemmas.{all-append, gap-at, length-laid, module-gap, placed-new, placed-next}
 

@@ -1,7 +1,6 @@
 -- What a table keeps is what stands under a name.
-use Rattle.std.proofs.Common.{◌≡◌, ◌∙◌, ◌⊎◌, inl, inr, ℕ, Bool, true, false, List, [], ◌∷◌, Option, Some, None, refl, sym, ap, cond, map}
+use Rattle.std.proofs.Common.{◌≡◌, ◌∙◌, inl, inr, ℕ, Bool, true, false, List, [], ◌∷◌, Option, Some, None, refl, sym, ap, cond, map}
 use Rattle.std.specs.Prelude.{find, option_map}
-use Rattle.std.specs.Option.{option_map_or}
 use Rattle.std.specs.Str.{bytes_eq}
 use Rattle.std.proofs.lemmas.Slice.Eq.{bytes_eq-Decides}
 use Rattle.std.proofs.lemmas.Bool.{cases_Bool}
@@ -12,19 +11,17 @@ use Rattle.symbol_binding.specs.Symbols.{Export, Need, Face}
 use Rattle.provider_rel.specs.declared.kernel.KernelExport.{KernelExport}
 use Rattle.provider_rel.specs.KernelTable.{seen_export}
 use Rattle.symbol_binding.specs.Provider.{Owner, ByKernel, ByModule, Provided, export_under, given, of_one, face_exports}
-use Rattle.symbol_binding.specs.Needs.{NeedTest, is_seen}
-use Rattle.symbol_binding.specs.Table.{table, first_need}
+use Rattle.symbol_binding.specs.Table.{table}
 use Rattle.symbol_binding.specs.Unmet.{vmlinux}
 use Rattle.model_loader.specs.declared.entry.PlacedExport.{PlacedExport}
 use Rattle.model_loader.specs.declared.entry.Entry.{Entry}
 use Rattle.model_loader.specs.declared.standing.Standing.{Standing}
 use Rattle.model_loader.specs.declared.standing.ExportTable.{ExportTable}
 use Rattle.model_loader.specs.declared.needs.Check.{Check}
-use Rattle.model_loader.specs.declared.fault.LoadFault.{LoadFault}
 use Rattle.model_loader.specs.Machine.{Machine, export_face, export_named, entry_face, faces, facts_face, facts_need, kernel_placed, machine_kernel, placed_under}
 use Rattle.model_loader.specs.NeedTests.{need_fails, test_of, fault_of}
-use Rattle.model_loader.specs.Standing.{Keeps, standing, standing_export, standing_of, standing_under}
-use Rattle.model_loader.specs.Step.{need_test, need_address, owner_name}
+use Rattle.model_loader.specs.Standing.{Keeps, standing, standing_export, standing_under}
+use Rattle.model_loader.specs.Step.{need_test, owner_name}
 
 -- The first item that passes a test, of a list made by a function.
 pub find-map : {X Y : Type 0} (p : Y → Bool) (f : X → Y) (xs : List X) → find p (map f xs) ≡ option_map f (find (λ x. p (f x)) xs)

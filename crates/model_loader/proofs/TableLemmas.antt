@@ -1,6 +1,6 @@
 -- Tables of names: what a name more changes.
 use Rattle.std.proofs.Common.{◌≡◌, ◌∙◌, ℕ, Bool, true, false, List, [], ◌∷◌, ◌++◌, Option, Some, None, refl, sym, ap, cond, Vec, Global, Bor}
-use Rattle.std.specs.Prelude.{find, option_map, option_copied, is_some, is_none, not, IsOk, OnOk, Result, Ok, Err}
+use Rattle.std.specs.Prelude.{find, option_map, option_copied, is_some, IsOk, OnOk, Result, Ok, Err}
 use Rattle.std.specs.Map.{lookup}
 use Rattle.std.specs.Option.{option_or}
 use Rattle.std.specs.Str.{bytes_eq}

@@ -1,15 +1,11 @@
 -- A machine: the symbols of a kernel with their addresses, a region for modules, and the modules that were loaded, oldest
 -- first. The kernel's struct module, include/linux/module.h, and find_symbol, kernel/module/main.c.
-use Rattle.std.specs.Prelude.{ℕ, List, [], ◌∷◌, ◌++◌, map, find, Option, Some, None, option_map, unwrap_or}
+use Rattle.std.specs.Prelude.{ℕ, List, [], ◌∷◌, map, find, Option, unwrap_or}
 use Rattle.std.specs.Str.{bytes_eq}
 use Rattle.km_names.specs.First.{first}
-use Rattle.module_facts.specs.declared.facts.Export.{Export as FactsExport}
-use Rattle.module_facts.specs.declared.facts.Need.{Need as FactsNeed}
-use Rattle.module_facts.specs.declared.facts.Facts.{Facts}
 use Rattle.symbol_binding.specs.Symbols.{Export, Need, Face, Kernel}
 use Rattle.provider_rel.specs.declared.kernel.Kernel.{Kernel as KernelTable}
 use Rattle.provider_rel.specs.declared.kernel.KernelExport.{KernelExport}
-use Rattle.provider_rel.specs.KernelTable.{seen_export}
 use Rattle.provider_rel.specs.Faces.{kernel_of}
 -- the same of a module that isn't loaded, by its facts
 pub use Rattle.provider_rel.specs.Faces.{export_of_facts as facts_export, need_of_facts as facts_need, face_of as facts_face}

@@ -1,5 +1,5 @@
 -- The parts of an entry and of a machine, as the code makes them. No public contract cites it.
-use Rattle.std.specs.Prelude.{◌≡◌, ℕ, ◌+◌, ◌<◌, List, length, map, slice_index, Option, None, find, is_none, option_map, All}
+use Rattle.std.specs.Prelude.{◌≡◌, ℕ, List, length, map, slice_index, Option, find, is_none, option_map}
 use Rattle.module_facts.specs.declared.facts.Export.{Export as FactsExport}
 use Rattle.module_facts.specs.declared.module.Module.{Module}
 use Rattle.provider_rel.specs.declared.kernel.KernelExport.{KernelExport}

@@ -1,5 +1,5 @@
 -- The images of a machine's entries, as the search for a gap sees them. No public contract cites it.
-use Rattle.std.specs.Prelude.{◌≡◌, ℕ, ◌+◌, ◌%◌, ◌≤◌, ◌<◌, true, false, Bool, List, map, length}
+use Rattle.std.specs.Prelude.{◌≡◌, ℕ, ◌%◌, ◌≤◌, ◌<◌, true, false, Bool, List, length}
 use Rattle.std.specs.List.{list_any}
 use Rattle.model_loader.specs.declared.entry.Entry.{Entry}
 use Rattle.model_loader.specs.declared.gap.Run.{Run}

@@ -4,7 +4,7 @@ use Rattle.std.specs.List.{IsDistinct}
 use Rattle.std.specs.Str.{bytes_eq}
 use Rattle.module_facts.specs.declared.module.Module.{Module}
 use Rattle.symbol_binding.specs.Symbols.{Export, Need, Face}
-use Rattle.symbol_binding.specs.Provider.{Provided, export_under}
+use Rattle.symbol_binding.specs.Provider.{export_under}
 use Rattle.symbol_binding.specs.Needs.{sees, may_use, agree}
 use Rattle.symbol_binding.specs.Table.{table}
 use Rattle.model_loader.specs.declared.entry.Entry.{Entry}

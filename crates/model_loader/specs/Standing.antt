@@ -1,6 +1,6 @@
 -- What a machine keeps of each exported name, so that a name is looked up in one step. No public contract cites it.
 use Rattle.std.specs.Prelude.{◌≡◌, ℕ, List, [], ◌∷◌, map, find, Option, option_map}
-use Rattle.std.specs.HashMap.{get_by, spare}
+use Rattle.std.specs.HashMap.{get_by}
 use Rattle.std.specs.Str.{bytes_eq}
 use Rattle.km_names.specs.First.{first}
 use Rattle.symbol_binding.specs.Symbols.{Export}

@@ -1,16 +1,15 @@
 -- A load: why a machine refuses a module, and the machine after it took one. The kernel's load_module and
 -- resolve_symbol, kernel/module/main.c.
-use Rattle.std.specs.Prelude.{ℕ, ◌+◌, ◌/◌, ◌-◌, ◌^◌, ◌==◌, nat_lt, Bool, List, [], ◌∷◌, ◌++◌, map, find, length, Option, Some, None, is_none, option_map, unwrap_or, option_and_then, Result, Ok, Err, if◌then◌else◌}
+use Rattle.std.specs.Prelude.{ℕ, ◌/◌, ◌-◌, ◌^◌, ◌==◌, nat_lt, Bool, List, [], ◌∷◌, ◌++◌, map, find, length, Option, Some, None, is_none, option_map, unwrap_or, option_and_then, Result, Ok, Err, if◌then◌else◌}
 use Rattle.std.specs.List.{range_with_len}
 use Rattle.std.specs.Option.{option_map_or}
 use Rattle.elf_format.specs.declared.section.TheConstants.{PAGE}
 use Rattle.km_names.specs.First.{first}
-use Rattle.elf_object.specs.Object.{FileObject}
 use Rattle.module_facts.specs.declared.facts.Export.{Export as FactsExport}
 use Rattle.module_facts.specs.declared.facts.Need.{Need as FactsNeed}
 use Rattle.module_facts.specs.declared.facts.Facts.{Facts}
 use Rattle.module_facts.specs.declared.module.Module.{Module}
-use Rattle.symbol_binding.specs.Symbols.{Export, Need, Face, Kernel}
+use Rattle.symbol_binding.specs.Symbols.{Export, Face}
 use Rattle.symbol_binding.specs.Provider.{Owner, ByKernel, ByModule}
 use Rattle.symbol_binding.specs.Needs.{NeedTest, is_seen, is_missing, is_hidden, is_other_version, is_barred}
 use Rattle.symbol_binding.specs.Table.{is_named, first_need, taken}

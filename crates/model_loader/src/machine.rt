@@ -22,9 +22,9 @@ use crate::standing::{ExportTable, Named, Standing};
 use crate::{LoadFault, MachineFault, Region};
 use km_names::Name;
 use module_facts::Module;
+use provider_rel::{Kernel, KernelExport};
 use std::alloc::{AllocError, Global};
 use std::marker::Model;
-use provider_rel::{Kernel, KernelExport};
 
 /// A machine into which modules are loaded: a kernel's table with an address for each export, a region for modules, and
 /// the modules that were loaded, oldest first. Contracts see these three.

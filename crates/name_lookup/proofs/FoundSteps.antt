@@ -1,18 +1,15 @@
 -- Lists of names and rules, an item more at a time.
-use Rattle.std.proofs.Common.{◌≡◌, ℕ, ◌+◌, ◌<◌, ◌==◌, ◌&&◌, ◌||◌, not, Bool, true, false, cond, List, [], ◌∷◌, ◌++◌, length, take, get_or, filter, filter_map, append_assoc, Option, Some, None, Bor, option_map, refl, sym, ap, ◌∙◌, append-nil, arith}
-use Rattle.std.specs.List.{cons_option, list_any, slice_get}
+use Rattle.std.proofs.Common.{◌≡◌, ℕ, ◌+◌, ◌<◌, ◌||◌, Bool, true, false, cond, List, [], ◌∷◌, ◌++◌, length, take, get_or, filter, filter_map, Option, Some, None, refl, sym, ap, ◌∙◌, append-nil, arith}
+use Rattle.std.specs.List.{cons_option, slice_get}
 use Rattle.std.specs.Option.{option_map_or}
-use Rattle.std.specs.Str.{bytes_eq}
 use Rattle.std.proofs.lemmas.List.{take_more}
 use Rattle.std.proofs.lemmas.List.Elements.{filter_more, filter_map-append}
 use Rattle.std.proofs.lemmas.List.Folds.{list_any-append}
 use Rattle.std.proofs.lemmas.Option.{get_or_from_slice_get, slice_get_within, slice_get-get_or}
 use Rattle.km_names.specs.AliasForm.{normal_alias}
 use Rattle.modprobe_conf.specs.declared.rule.Rule.{Rule}
-use Rattle.name_table.specs.FirstSeen.{first_seen, is_among}
 use Rattle.name_lookup.specs.Maps.{Maps}
-use Rattle.name_lookup.specs.declared.found.Found.{Found}
-use Rattle.name_lookup.specs.Found.{blacklisted_name, blacklists, is_blacklisted, is_dropped, found, found_normal}
+use Rattle.name_lookup.specs.Found.{blacklists, is_blacklisted, found, found_normal}
 
 -- The items that pass a test, with the next one looked at.
 module _ {X : Type 0} (test : X → Bool) (xs : List X) (i : ℕ) (x : X) (here : slice_get xs i ≡ Some x) where

@@ -1,4 +1,4 @@
-use Rattle.std.proofs.Common.{◌≡◌, ◌≤◌, ◌<◌, ℕ, slice_index_or}
+use Rattle.std.proofs.Common.{◌≤◌, ◌<◌, ℕ, slice_index_or}
 use Rattle.model_loader.specs.declared.gap.Run.{Run}
 use Rattle.model_loader.proofs.gap.are_sorted.Given as goal
 

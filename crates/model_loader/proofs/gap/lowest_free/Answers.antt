@@ -1,4 +1,4 @@
-use Rattle.std.proofs.Common.{◌≡◌, arith}
+use Rattle.std.proofs.Common.{arith}
 use Rattle.model_loader.specs.declared.gap.Run.{Run}
 use Rattle.model_loader.proofs.GapLemmas.{lowest-early}
 use Rattle.model_loader.proofs.gap.lowest_free.Goals as goal

@@ -1,4 +1,4 @@
-use Rattle.std.proofs.Common.{◌≡◌, ◌≤◌, ◌<◌, ◌+◌, ◌%◌, ◌^◌, ℕ, take, nat_lt}
+use Rattle.std.proofs.Common.{◌≡◌, ◌≤◌, ◌<◌, ◌%◌, ◌^◌, ℕ, take, nat_lt}
 use Rattle.model_loader.specs.Runs.{meets_any}
 use Rattle.model_loader.proofs.gap.lowest_free.Given as goal
 

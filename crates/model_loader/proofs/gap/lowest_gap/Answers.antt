@@ -1,6 +1,4 @@
-use Rattle.std.proofs.Common.{◌≡◌, ◌∙◌, arith, ap, sym, Some, subst}
-use Rattle.std.specs.Prelude.{All}
-use Rattle.model_loader.specs.Runs.{IsLowest, IsPaged}
+use Rattle.std.proofs.Common.{arith}
 use Rattle.model_loader.proofs.GapLemmas.{gap-found, gap-none, paged-runs}
 use Rattle.model_loader.proofs.gap.lowest_gap.Goals as goal
 

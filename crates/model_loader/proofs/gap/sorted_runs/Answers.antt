@@ -1,4 +1,4 @@
-use Rattle.std.proofs.Common.{◌≡◌, rules}
+use Rattle.std.proofs.Common.{rules}
 use Rattle.std.proofs.lemmas.List.Sorted.{IsNonDecreasingBy-from_sort_by_key}
 use Rattle.model_loader.specs.declared.gap.Run.{Run}
 use Rattle.model_loader.proofs.gap.sorted_runs.Goals as goal

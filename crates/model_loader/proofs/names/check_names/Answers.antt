@@ -1,12 +1,11 @@
-use Rattle.std.proofs.Common.{◌≡◌, ◌∙◌, ◌⊎◌, inl, inr, true, false, ap, sym, Some, None, refl}
+use Rattle.std.proofs.Common.{◌≡◌, ◌∙◌, inl, inr, true, ap, sym, refl}
 use Rattle.std.proofs.lemmas.Result.{err_from_is_err_and}
 use Rattle.std.specs.List.{list_any}
 use Rattle.std.specs.Str.{bytes_eq}
 use Rattle.model_loader.specs.declared.entry.Entry.{Entry}
 use Rattle.km_names.specs.First.{first}
 use Rattle.symbol_binding.specs.Table.{is_named}
-use Rattle.model_loader.specs.declared.fault.LoadFault.{LoadFault}
-use Rattle.model_loader.specs.declared.fault.LoadFault.TheVariants.{AlreadyLoaded, Memory}
+use Rattle.model_loader.specs.declared.fault.LoadFault.TheVariants.{AlreadyLoaded}
 use Rattle.model_loader.specs.Machine.{faces}
 use Rattle.model_loader.proofs.NameLemmas.{exports-taken, fails, is_named-fault, later, named-is, not_named, passes}
 use Rattle.model_loader.proofs.names.check_names.Goals as goal

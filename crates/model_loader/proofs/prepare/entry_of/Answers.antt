@@ -1,15 +1,10 @@
-use Rattle.std.proofs.Common.{◌≡◌, ◌∙◌, ◌⊎◌, inl, inr, length, ap, sym, subst, List, ℕ, Some, None}
-use Rattle.std.specs.Prelude.{option_map}
+use Rattle.std.proofs.Common.{◌≡◌, ◌∙◌, ◌⊎◌, length, ap, sym, subst, Some}
 use Rattle.std.proofs.lemmas.List.FromFn.{length-map-range_with_len}
-use Rattle.x86_relocate.specs.declared.patch.Overflow.{Overflow as TooWide}
-use Rattle.image_layout.specs.Symbols.{addresses}
-use Rattle.image_layout.specs.Laid.{laid, overflow}
+use Rattle.image_layout.specs.Laid.{laid}
 use Rattle.model_loader.specs.declared.fault.LoadFault.{LoadFault}
-use Rattle.model_loader.specs.declared.fault.LoadFault.TheVariants.{Memory, Overflow}
-use Rattle.model_loader.specs.Machine.{Machine}
+use Rattle.model_loader.specs.declared.fault.LoadFault.TheVariants.{Memory}
 use Rattle.model_loader.specs.NeedTests.{given_by}
-use Rattle.model_loader.specs.Standing.{Keeps}
-use Rattle.model_loader.specs.Step.{symbol_addresses, given_addresses, overflow_fault}
+use Rattle.model_loader.specs.Step.{symbol_addresses, overflow_fault}
 use Rattle.model_loader.proofs.EntryLemmas.{length-addresses, entry-is, addresses-are, fits-is, fault-is}
 use Rattle.model_loader.proofs.prepare.entry_of.Goals as goal
 

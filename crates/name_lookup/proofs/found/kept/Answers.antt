@@ -1,5 +1,5 @@
-use Rattle.std.proofs.Common.{ap, sym, ◌∙◌, not, filter, ◌||◌, ◌&&◌}
-use Rattle.name_table.specs.FirstSeen.{first_seen, is_among}
+use Rattle.std.proofs.Common.{ap, ◌∙◌, not, filter, ◌&&◌}
+use Rattle.name_table.specs.FirstSeen.{is_among}
 use Rattle.name_lookup.specs.Found.{is_blacklisted, is_dropped}
 use Rattle.name_lookup.proofs.FoundSteps.{filter-same}
 use Rattle.name_lookup.proofs.found.kept.Goals as goal

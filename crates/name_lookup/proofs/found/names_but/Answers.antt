@@ -1,4 +1,4 @@
-use Rattle.std.proofs.Common.{sym, ap, ◌∙◌, ◌++◌, ◌∷◌, [], not, ◌≡◌, ◌≤◌, Some, None, length, ℕ, List, option_map, arith}
+use Rattle.std.proofs.Common.{sym, ap, ◌∙◌, ◌++◌, ◌∷◌, [], not, ◌≡◌, None, ℕ, List, option_map, arith}
 use Rattle.name_table.specs.FirstSeen.{is_among}
 use Rattle.std.specs.List.{slice_get}
 use Rattle.name_lookup.proofs.FoundSteps.{passing-taken, passing-left, is_there}

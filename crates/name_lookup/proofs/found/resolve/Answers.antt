@@ -1,7 +1,7 @@
 use Rattle.std.proofs.Common.{ap, sym, subst, ◌∙◌, ◌≡◌, IfOk}
 use Rattle.km_names.specs.AliasForm.{normal_alias}
 use Rattle.name_lookup.specs.Maps.{maps_of}
-use Rattle.name_lookup.specs.Found.{found, first_list, kept, lists}
+use Rattle.name_lookup.specs.Found.{first_list, kept, lists}
 use Rattle.name_lookup.proofs.FoundSteps.{found-of_normal}
 use Rattle.name_lookup.proofs.found.resolve.Goals as goal
 

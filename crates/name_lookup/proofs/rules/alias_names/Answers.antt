@@ -1,4 +1,4 @@
-use Rattle.std.proofs.Common.{◌≡◌, sym, ap, ◌∙◌, ◌+◌, ◌++◌, ◌∷◌, [], take, filter_map, List, Option, Some, None, append-nil}
+use Rattle.std.proofs.Common.{◌≡◌, sym, ap, ◌∙◌, ◌+◌, ◌++◌, ◌∷◌, [], take, filter_map, append-nil}
 use Rattle.std.specs.List.{cons_option}
 use Rattle.name_lookup.specs.Found.{alias_name}
 use Rattle.name_lookup.proofs.FoundSteps.{filter_map-more}

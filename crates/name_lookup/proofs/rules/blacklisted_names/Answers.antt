@@ -2,7 +2,7 @@ use Rattle.std.proofs.Common.{◌≡◌, sym, ap, ◌∙◌, ◌||◌, ◌+◌, 
 use Rattle.std.specs.Option.{option_map_or}
 use Rattle.std.specs.Str.{bytes_eq}
 use Rattle.name_table.specs.FirstSeen.{is_among}
-use Rattle.name_lookup.specs.Found.{blacklisted_name, blacklists, is_blacklisted}
+use Rattle.name_lookup.specs.Found.{blacklists, is_blacklisted}
 use Rattle.name_lookup.proofs.FoundSteps.{blacklisted-more, no_more, one_more}
 use Rattle.name_lookup.proofs.rules.blacklisted_names.Goals as goal
 use Rattle.name_lookup.proofs.rules.blacklisted_names.Goals.{in-Some+in_ok-insert, in_default}

@@ -1,4 +1,4 @@
-use Rattle.std.proofs.Common.{◌≡◌, ◌∙◌, inr, ap, Some, sym}
+use Rattle.std.proofs.Common.{◌∙◌, inr, ap, Some, sym}
 use Rattle.std.specs.Prelude.{option_map}
 use Rattle.module_facts.specs.declared.facts.Need.{Need as FactsNeed}
 use Rattle.model_loader.specs.NeedTests.{fault_of}

@@ -1,4 +1,4 @@
-use Rattle.std.proofs.Common.{◌≡◌, ◌∙◌, ◌≤◌, ◌<◌, ◌∷◌, [], ℕ, List, Some, None, ap, sym, arith, cond, length}
+use Rattle.std.proofs.Common.{◌≡◌, ◌∙◌, [], Some, None, ap, sym, arith, cond, length}
 use Rattle.std.proofs.lemmas.List.{nil_from_length}
 use Rattle.std.specs.Option.{option_or}
 use Rattle.std.specs.Str.{bytes_eq}
