@@ -7,8 +7,6 @@ mod facts;
 #[cfg(test)]
 mod facts_more;
 #[cfg(test)]
-mod loading;
-#[cfg(test)]
 mod modinfo;
 #[cfg(test)]
 mod modinfo_names;
