@@ -14,7 +14,7 @@ use Rattle.model_loader.specs.declared.standing.Standing.{Standing}
 use Rattle.model_loader.specs.declared.standing.Named.{Named}
 use Rattle.model_loader.specs.declared.standing.ExportTable.{ExportTable}
 use Rattle.model_loader.specs.Machine.{export_named, kernel_placed}
-use Rattle.model_loader.specs.Parts.{kernel_fault}
+use Rattle.model_loader.specs.Machine.{kernel_fault}
 use Rattle.model_loader.specs.Standing.{export_pair, named_pair, standing, standing_of}
 
 -- What exports of the kernel keep of a name.

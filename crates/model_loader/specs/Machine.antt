@@ -1,6 +1,6 @@
 -- A machine: the symbols of a kernel with their addresses, a region for modules, and the modules that were loaded, oldest
 -- first. The kernel's struct module, include/linux/module.h, and find_symbol, kernel/module/main.c.
-use Rattle.std.specs.Prelude.{ℕ, List, [], ◌∷◌, map, find, Option, unwrap_or}
+use Rattle.std.specs.Prelude.{ℕ, List, [], ◌∷◌, map, find, Option, is_none, option_map, unwrap_or}
 use Rattle.std.specs.Str.{bytes_eq}
 use Rattle.km_names.specs.First.{first}
 use Rattle.symbol_binding.specs.Symbols.{Export, Need, Face, Kernel}
@@ -9,6 +9,8 @@ use Rattle.provider_rel.specs.declared.kernel.KernelExport.{KernelExport}
 use Rattle.provider_rel.specs.Faces.{kernel_of}
 -- the same of a module that isn't loaded, by its facts
 pub use Rattle.provider_rel.specs.Faces.{export_of_facts as facts_export, need_of_facts as facts_need, face_of as facts_face}
+use Rattle.model_loader.specs.declared.fault.MachineFault.{MachineFault}
+use Rattle.model_loader.specs.declared.fault.MachineFault.TheVariants.{KernelWithoutAddress}
 use Rattle.model_loader.specs.declared.entry.PlacedExport.{PlacedExport}
 use Rattle.model_loader.specs.declared.entry.BoundNeed.{BoundNeed}
 use Rattle.model_loader.specs.declared.entry.Entry.{Entry}
@@ -23,6 +25,10 @@ pub record Machine : Type 0 where
 -- The machine of a kernel, into which nothing is loaded.
 abbrev pub new_machine : KernelTable → Region → Machine
 new_machine kernel region = record { kernel = kernel; region = region; entries = [] }
+
+-- Why a kernel makes no machine: its first export without an address.
+abbrev pub kernel_fault : List KernelExport → Option MachineFault
+kernel_fault exports = option_map (λ e. KernelWithoutAddress e.name) (find (λ e. is_none e.address) exports)
 
 -- What those see of an export, of a need, and of the module of an entry who bind symbols.
 abbrev pub export_face : PlacedExport → Export

@@ -1,14 +1,11 @@
 -- The parts of an entry and of a machine, as the code makes them. No public contract cites it.
-use Rattle.std.specs.Prelude.{◌≡◌, ℕ, List, length, map, slice_index, Option, find, is_none, option_map}
+use Rattle.std.specs.Prelude.{◌≡◌, ℕ, List, length, map, slice_index}
 use Rattle.module_facts.specs.declared.facts.Export.{Export as FactsExport}
 use Rattle.module_facts.specs.declared.module.Module.{Module}
-use Rattle.provider_rel.specs.declared.kernel.KernelExport.{KernelExport}
 use Rattle.model_loader.specs.declared.entry.PlacedExport.{PlacedExport}
 use Rattle.model_loader.specs.declared.entry.Entry.{Entry}
 use Rattle.model_loader.specs.declared.region.Region.{Region}
 use Rattle.model_loader.specs.declared.standing.ExportTable.{ExportTable}
-use Rattle.model_loader.specs.declared.fault.MachineFault.{MachineFault}
-use Rattle.model_loader.specs.declared.fault.MachineFault.TheVariants.{KernelWithoutAddress}
 use Rattle.model_loader.specs.Machine.{Machine}
 use Rattle.model_loader.specs.Standing.{Keeps}
 use Rattle.model_loader.specs.Step.{bound_need}
@@ -33,7 +30,3 @@ pub record HasParts (machine : Machine) (region : Region) (entries : List Entry)
   pub region_is : machine.region ≡ region
   pub entries_are : machine.entries ≡ entries
   pub keeps : Keeps t machine
-
--- Why a kernel makes no machine: its first export without an address.
-abbrev pub kernel_fault : List KernelExport → Option MachineFault
-kernel_fault exports = option_map (λ e. KernelWithoutAddress e.name) (find (λ e. is_none e.address) exports)

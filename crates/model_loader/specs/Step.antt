@@ -109,6 +109,7 @@ placed_export machine m base e = record {
   address = address m.object base (given_addresses machine m) e.symbol;
 }
 
+-- A need of a module, without the number of its symbol.
 abbrev pub bound_need : FactsNeed → BoundNeed
 bound_need n = record { name = n.name; weak = n.weak; crc = n.crc }
 

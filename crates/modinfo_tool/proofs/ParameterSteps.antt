@@ -1,95 +1,18 @@
 -- Parameters, a field or a value more at a time.
-use Rattle.std.proofs.Common.{◌≡◌, ℕ, ◌+◌, ◌<◌, Bool, true, false, cond, not, ◌||◌, List, [], ◌∷◌, ◌++◌, Bor, length, take, get_or, map, filter, option_map, Option, Some, None, is_some, option_copied, refl, sym, ap, ◌∙◌, append-nil}
-use Rattle.std.specs.List.{list_any, find, slice_get}
+use Rattle.std.proofs.Common.{◌≡◌, ℕ, ◌+◌, ◌<◌, Bool, true, false, cond, not, List, [], ◌∷◌, ◌++◌, Bor, length, take, get_or, map, filter, option_map, Option, Some, None, is_some, option_copied, refl, sym, ap, ◌∙◌}
+use Rattle.std.specs.List.{find, slice_get}
 use Rattle.std.specs.Map.{lookup}
 use Rattle.std.specs.Option.{option_or}
 use Rattle.std.specs.Str.{bytes_eq}
 use Rattle.std.proofs.lemmas.Cmp.{nat_list_eq_equiv}
 use Rattle.std.proofs.lemmas.List.{take_more}
-use Rattle.std.proofs.lemmas.List.Elements.{filter-append}
 use Rattle.std.proofs.lemmas.List.Folds.{find-append}
 use Rattle.indexmap.specs.IndexSet.{insert_key}
 use Rattle.modinfo_fields.specs.declared.piece.Field.{Field}
-use Rattle.modinfo_tool.specs.Parameters.{name_of, rest_of, is_parameter, first_seen, parameter_names, first_told, described}
+use Rattle.modinfo_tool.specs.Parameters.{name_of, rest_of, is_parameter, parameter_names, first_told, described}
+use Rattle.name_table.specs.FirstSeen.{first_seen, with_name}
+use Rattle.name_table.proofs.SeenSteps.{first_seen-push, with_name-put}
 use Rattle.modinfo_tool.proofs.LineSteps.{passing-taken, passing-left}
-
-abbrev is_other : List ℕ → List ℕ → Bool
-is_other x y = not (bytes_eq y x)
-
--- one item more is looked at, where another is left out
-any-later : (x y o : List ℕ) (os : List (List ℕ)) → bytes_eq y x ≡ false → list_any (bytes_eq y) (filter (is_other x) os) ≡ list_any (bytes_eq y) os → (b : Bool) → bytes_eq o x ≡ b
-    → list_any (bytes_eq y) (cond (not (bytes_eq o x)) (o ∷ filter (is_other x) os) (filter (is_other x) os)) ≡ bytes_eq y o || list_any (bytes_eq y) os
-any-later x y o os apart later true same =
-    let gone : bytes_eq y o ≡ false = nat_list_eq_equiv.symm y o ∙ nat_list_eq_equiv.congr o x y same ∙ nat_list_eq_equiv.symm x y ∙ apart in
-    ap (λ b. list_any (bytes_eq y) (cond (not b) (o ∷ filter (is_other x) os) (filter (is_other x) os))) same ∙ later ∙ ap (λ b. b || list_any (bytes_eq y) os) (sym gone)
-any-later x y o os apart later false kept =
-    ap (λ b. list_any (bytes_eq y) (cond (not b) (o ∷ filter (is_other x) os) (filter (is_other x) os))) kept ∙ ap (λ b. bytes_eq y o || b) later
-
--- leaving another item out changes nothing for this one
-any-others : (x y : List ℕ) → bytes_eq y x ≡ false → (xs : List (List ℕ)) → list_any (bytes_eq y) (filter (is_other x) xs) ≡ list_any (bytes_eq y) xs
-any-others x y apart [] = refl
-any-others x y apart (o ∷ os) = any-later x y o os apart (any-others x y apart os) (bytes_eq o x) refl
-
--- the others of the items seen, and one item more
-seen-later : (x y : List ℕ) (seen : List (List ℕ)) (b : Bool) → bytes_eq y x ≡ b → (r : Bool) → list_any (bytes_eq y) seen ≡ r
-    → x ∷ filter (is_other x) (cond (list_any (bytes_eq y) seen) seen (seen ++ y ∷ []))
-    ≡ cond (bytes_eq y x || list_any (bytes_eq y) (filter (is_other x) seen)) (x ∷ filter (is_other x) seen) (x ∷ filter (is_other x) seen ++ y ∷ [])
-seen-later x y seen true same r any =
-    ap (λ l. x ∷ l) (by r any) ∙ sym (ap (λ b. cond (b || list_any (bytes_eq y) (filter (is_other x) seen)) (x ∷ filter (is_other x) seen) (x ∷ filter (is_other x) seen ++ y ∷ [])) same)
-  where
-    by : (r : Bool) → list_any (bytes_eq y) seen ≡ r → filter (is_other x) (cond (list_any (bytes_eq y) seen) seen (seen ++ y ∷ [])) ≡ filter (is_other x) seen
-    by true any = ap (λ b. filter (is_other x) (cond b seen (seen ++ y ∷ []))) any
-    by false any =
-        ap (λ b. filter (is_other x) (cond b seen (seen ++ y ∷ []))) any
-        ∙ filter-append (is_other x) seen (y ∷ [])
-        ∙ ap (λ b. filter (is_other x) seen ++ cond (not b) (y ∷ []) []) same
-        ∙ append-nil (filter (is_other x) seen)
-seen-later x y seen false apart r any =
-    by r any ∙ sym (ap (λ b. cond b (x ∷ filter (is_other x) seen) (x ∷ filter (is_other x) seen ++ y ∷ [])) tested)
-  where
-    tested : bytes_eq y x || list_any (bytes_eq y) (filter (is_other x) seen) ≡ list_any (bytes_eq y) seen
-    tested = ap (λ b. b || list_any (bytes_eq y) (filter (is_other x) seen)) apart ∙ any-others x y apart seen
-
-    by : (r : Bool) → list_any (bytes_eq y) seen ≡ r
-        → x ∷ filter (is_other x) (cond (list_any (bytes_eq y) seen) seen (seen ++ y ∷ [])) ≡ cond (list_any (bytes_eq y) seen) (x ∷ filter (is_other x) seen) (x ∷ filter (is_other x) seen ++ y ∷ [])
-    by true any =
-        ap (λ b. x ∷ filter (is_other x) (cond b seen (seen ++ y ∷ []))) any
-        ∙ sym (ap (λ b. cond b (x ∷ filter (is_other x) seen) (x ∷ filter (is_other x) seen ++ y ∷ [])) any)
-    by false any =
-        ap (λ b. x ∷ filter (is_other x) (cond b seen (seen ++ y ∷ []))) any
-        ∙ ap (λ l. x ∷ l) (filter-append (is_other x) seen (y ∷ []) ∙ ap (λ b. filter (is_other x) seen ++ cond (not b) (y ∷ []) []) apart)
-        ∙ sym (ap (λ b. cond b (x ∷ filter (is_other x) seen) (x ∷ filter (is_other x) seen ++ y ∷ [])) any)
-
--- one item more: it is new, or a repeat
-first_seen-push : (xs : List (List ℕ)) (y : List ℕ) → first_seen (xs ++ y ∷ []) ≡ cond (list_any (bytes_eq y) (first_seen xs)) (first_seen xs) (first_seen xs ++ y ∷ [])
-first_seen-push [] y = refl
-first_seen-push (x ∷ xs) y =
-    ap (λ l. x ∷ filter (is_other x) l) (first_seen-push xs y) ∙ seen-later x y (first_seen xs) (bytes_eq y x) refl (list_any (bytes_eq y) (first_seen xs)) refl
-
-any-shown : (name : List ℕ) (ks : List (Bor (List ℕ))) → list_any (bytes_eq name) (map (λ (n : Bor (List ℕ)). n.now) ks) ≡ list_any (λ (y : Bor (List ℕ)). bytes_eq name y.now) ks
-any-shown name [] = refl
-any-shown name (k ∷ ks) = ap (λ b. bytes_eq name k.now || b) (any-shown name ks)
-
-shown-push : (ks : List (Bor (List ℕ))) (k : Bor (List ℕ)) → map (λ (n : Bor (List ℕ)). n.now) (ks ++ k ∷ []) ≡ map (λ (n : Bor (List ℕ)). n.now) ks ++ k.now ∷ []
-shown-push [] k = refl
-shown-push (x ∷ ks) k = ap (λ l. x.now ∷ l) (shown-push ks k)
-
--- the names of some keys after one more is put in
-keys-put : (ks : List (Bor (List ℕ))) (k : Bor (List ℕ))
-    → map (λ (n : Bor (List ℕ)). n.now) (insert_key (λ (x y : Bor (List ℕ)). bytes_eq x.now y.now) ks k)
-    ≡ cond (list_any (bytes_eq k.now) (map (λ (n : Bor (List ℕ)). n.now) ks)) (map (λ (n : Bor (List ℕ)). n.now) ks) (map (λ (n : Bor (List ℕ)). n.now) ks ++ k.now ∷ [])
-keys-put ks k = by (list_any (λ (y : Bor (List ℕ)). bytes_eq k.now y.now) ks) refl
-  where
-    by : (b : Bool) → list_any (λ (y : Bor (List ℕ)). bytes_eq k.now y.now) ks ≡ b
-        → map (λ (n : Bor (List ℕ)). n.now) (cond (list_any (λ (y : Bor (List ℕ)). bytes_eq k.now y.now) ks) ks (ks ++ k ∷ []))
-        ≡ cond (list_any (bytes_eq k.now) (map (λ (n : Bor (List ℕ)). n.now) ks)) (map (λ (n : Bor (List ℕ)). n.now) ks) (map (λ (n : Bor (List ℕ)). n.now) ks ++ k.now ∷ [])
-    by true is =
-        ap (λ b. map (λ (n : Bor (List ℕ)). n.now) (cond b ks (ks ++ k ∷ []))) is
-        ∙ sym (ap (λ b. cond b (map (λ (n : Bor (List ℕ)). n.now) ks) (map (λ (n : Bor (List ℕ)). n.now) ks ++ k.now ∷ [])) (any-shown k.now ks ∙ is))
-    by false is =
-        ap (λ b. map (λ (n : Bor (List ℕ)). n.now) (cond b ks (ks ++ k ∷ []))) is
-        ∙ shown-push ks k
-        ∙ sym (ap (λ b. cond b (map (λ (n : Bor (List ℕ)). n.now) ks) (map (λ (n : Bor (List ℕ)). n.now) ks ++ k.now ∷ [])) (any-shown k.now ks ∙ is))
 
 map-push : (xs : List Field) (x : Field) → map (λ (field : Field). name_of field.value) (xs ++ x ∷ []) ≡ map (λ (field : Field). name_of field.value) xs ++ name_of x.value ∷ []
 map-push [] x = refl
@@ -101,9 +24,8 @@ module _ (xs : List Field) (i : ℕ) (x : Field) (here : slice_get xs i ≡ Some
       → map (λ (n : Bor (List ℕ)). n.now) ks ≡ parameter_names (take i xs) → map (λ (n : Bor (List ℕ)). n.now) new ≡ parameter_names (take (i + 1) xs)
   unfolding parameter_names
   names-taken ks new k passes put name so_far =
-      ap (map (λ (n : Bor (List ℕ)). n.now)) put
-      ∙ keys-put ks k
-      ∙ ap (λ l. cond (list_any (bytes_eq k.now) l) l (l ++ k.now ∷ [])) so_far
+      with_name-put ks new k put
+      ∙ ap (λ l. with_name l k.now) so_far
       ∙ sym (first_seen-push (map (λ (field : Field). name_of field.value) (filter is_parameter (take i xs))) k.now)
       ∙ ap (λ n. first_seen (map (λ (field : Field). name_of field.value) (filter is_parameter (take i xs)) ++ n ∷ [])) name
       ∙ ap first_seen (sym (map-push (filter is_parameter (take i xs)) x))

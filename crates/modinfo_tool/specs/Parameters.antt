@@ -1,10 +1,11 @@
 -- The parameters of a module, as its fields `parm` and `parmtype` tell of them: the kernel's MODULE_PARM_DESC and
 -- module_param write these as `NAME:REST` (include/linux/moduleparam.h). modinfo(8), "parameters".
-use Rattle.std.specs.Prelude.{ℕ, ◌==◌, ◌||◌, Bool, not, List, [], ◌∷◌, ◌++◌, Option, Some, None, option_map, codes, map, filter}
+use Rattle.std.specs.Prelude.{ℕ, ◌==◌, ◌||◌, Bool, List, ◌++◌, Option, Some, None, option_map, codes, map, filter}
 use Rattle.std.specs.List.{find, before_first, after_first}
 use Rattle.std.specs.Str.{bytes_eq}
 use Rattle.modinfo_fields.specs.declared.piece.Field.{Field}
 use Rattle.modinfo_fields.specs.Fields.{values_of_key}
+use Rattle.name_table.specs.FirstSeen.{first_seen}
 
 -- The parameter that a value tells of: what stands before the first `:`, or all where there is none.
 abbrev pub name_of : List ℕ → List ℕ
@@ -17,11 +18,6 @@ rest_of value = after_first (λ b. b == 58) value
 -- Whether a field tells of a parameter.
 abbrev pub is_parameter : Field → Bool
 is_parameter field = bytes_eq field.key (codes "parm") || bytes_eq field.key (codes "parmtype")
-
--- The list without repeats, the first of equal items kept.
-abbrev pub first_seen : List (List ℕ) → List (List ℕ)
-first_seen [] = []
-first_seen (x ∷ xs) = x ∷ filter (λ y. not (bytes_eq y x)) (first_seen xs)
 
 -- The parameters that any field tells of, in the order in which they are first seen.
 unfoldable pub parameter_names : List Field → List (List ℕ)
