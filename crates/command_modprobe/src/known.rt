@@ -108,12 +108,12 @@ fn read_lists<F: Reads>(
 {
     let rules = read_rules(alloc, configuration, folder, files)?;
     let unmet = read_unmet(alloc, folder, files)?;
-    let loaded = read_loaded(alloc, loaded, files)?;
+    let listed = read_loaded(alloc, loaded, files)?;
     Ok(Known {
         rules,
         indexes,
         unmet,
-        loaded,
+        loaded: listed,
     })
 }
 
@@ -130,8 +130,8 @@ fn read_rules<F: Reads>(
 {
     let path = join(alloc, folder, b"modules.softdep")?;
     let named = PathText::from_slice(alloc, path.as_bytes())?;
-    let bytes = read_optional(alloc, files, named)?;
-    let all = with_file(configuration, path, bytes)?;
+    let softdep = read_optional(alloc, files, named)?;
+    let all = with_file(configuration, path, softdep)?;
     rules_in(alloc, &all)
 }
 
@@ -180,7 +180,8 @@ fn read_loaded<F: Reads>(
     match path {
         Some(path) => {
             let bytes = read_needed(alloc, files, path)?;
-            Ok(Loaded::read(alloc, bytes.as_bytes())?)
+            let loaded = Loaded::read(alloc, bytes.as_bytes())?;
+            Ok(loaded)
         }
         None => Ok(Loaded::new(alloc)),
     }

@@ -3,10 +3,10 @@ ghost use Rattle.std.specs.Prelude.{◌≡◌, ◌++◌, ⊤, IfOk, OnOk};
 ghost use Rattle.km_outside.specs.OutSeen.{OutSeen};
 ghost use Rattle.km_course.specs.World.{world};
 ghost use Rattle.km_course.specs.Follows.{Answers, Follows};
-ghost use Rattle.km_course.specs.Course.{Outcome};
-ghost use Rattle.name_lookup.specs.Found.{found};
-ghost use Rattle.name_lookup.specs.Maps.{maps_of};
-ghost use Rattle.command_modprobe.specs.Resolved.{names_asked, lines_of_names, normal_or_itself, found_in, resolved, resolves_alias};
+ghost use Rattle.km_course.specs.declared.stop.Stop.TheVariants.{Ended};
+ghost use Rattle.km_course.specs.declared.end.End.TheVariants.{Refused};
+ghost use Rattle.km_course.specs.declared.refusal.Refusal.TheVariants.{NotFound};
+ghost use Rattle.command_modprobe.specs.Resolved.{names_asked, lines_of_names, normal_or_itself, resolved, resolves_alias};
 
 use crate::known::{Known, read_known};
 use command_files::modules_folder;
@@ -67,7 +67,8 @@ fn resolved_text(
     for name in names {
         let found = resolve(alloc, name, use_blacklist, &known.rules, &known.indexes)?;
         if found.list == 0 {
-            return Err(not_found(alloc, name)?);
+            let unknown = not_found(alloc, name)?;
+            return Err(unknown);
         }
         push_lines(&mut text, &found.names)?;
     }
@@ -76,13 +77,20 @@ fn resolved_text(
 
 /// The refusal of a name that stands for nothing, in its normal form where it has one.
 fn not_found(alloc: Global, name: &Name) -> Result<Stop, AllocError>
-    ensures { IfOk result (λ stop. stop ≡ Stop.Ended (End.Refused (Refusal.NotFound (normal_or_itself name.now)))) }
+    ensures { IfOk result (λ stop. stop ≡ Ended (Refused (NotFound (normal_or_itself name.now)))) }
 {
-    let name = match normal_alias(alloc, name.as_bytes())? {
-        Some(normal) => Name::from_slice(alloc, normal.as_bytes())?,
-        None => Name::from_slice(alloc, name.as_bytes())?,
-    };
+    let name = normal_name(alloc, name.as_bytes())?;
     Ok(Stop::from(Refusal::NotFound { name }))
+}
+
+/// A name in its normal form, or as it is where it has none.
+fn normal_name(alloc: Global, name: &[u8]) -> Result<Name, AllocError>
+    ensures { IfOk result (λ normal. normal ≡ normal_or_itself name.now) }
+{
+    match normal_alias(alloc, name)? {
+        Some(normal) => Name::from_slice(alloc, normal.as_bytes()),
+        None => Name::from_slice(alloc, name),
+    }
 }
 
 /// Puts a line for each name at the end.
