@@ -1,5 +1,5 @@
 -- The file modules.unmet: its text, and what is read of one.
-use Rattle.std.specs.Prelude.{◌≡◌, ℕ, ◌+◌, Bool, true, All, List, [], ◌∷◌, ◌++◌, Option, Some, None, option_map, is_none, Result, Ok, Err}
+use Rattle.std.specs.Prelude.{◌≡◌, ℕ, ◌+◌, true, All, List, [], ◌∷◌, ◌++◌, Option, Some, option_map, is_none, Result, Ok}
 use Rattle.std.specs.List.{flat_map, filter_map, position}
 use Rattle.km_names.specs.Lines.{lines_of}
 use Rattle.km_names.specs.Statements.{unless_fault}

@@ -17,6 +17,7 @@ pub struct Unmet {
 
 impl Model for Unmet {
     ghost use Rattle.std.specs.Prelude.{List};
+    ghost use Rattle.symbol_binding.specs.declared.unbound.Unbound.{Unbound};
 
     ghost Value = { List Unbound };
 
