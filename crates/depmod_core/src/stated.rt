@@ -190,7 +190,7 @@ fn key(alloc: Global, kind: Kind, stated: &[u8]) -> Result<Option<Blob>, AllocEr
 /// Puts the values of the module at a place into a kind's map.
 fn add_values(
     alloc: Global,
-    map: &mut KeyMap,
+    key_map: &mut KeyMap,
     kind: Kind,
     place: u32,
     name: &[u8],
@@ -198,11 +198,11 @@ fn add_values(
 ) -> Result<(), AllocError>
     requires name { IsTrue (is_word name.now) }
     requires texts { All (λ text. IsTrue (is_word text.now)) texts.now }
-    ensures { OnOk result (map.new ≡ with_values map.old (values_with kind place name.now (map (λ text. text.now) texts.now))) }
+    ensures { OnOk result (key_map.new ≡ with_values key_map.old (values_with kind place name.now (map (λ text. text.now) texts.now))) }
 {
     for stated in texts {
         if let Some(key) = key(alloc, kind, stated)? {
-            map.add(key.as_bytes(), place, name)?;
+            key_map.add(key.as_bytes(), place, name)?;
         }
     }
     Ok(())

@@ -76,9 +76,7 @@ impl Text {
     pub(crate) fn into_bytes(self, alloc: Global) -> Blob
         ensures { (bytes : List ℕ) → self ≡ with_piece kept bytes → result ≡ bytes }
     {
-        match self.kept {
-            Some(bytes) => bytes,
-            None => Blob::new(alloc),
-        }
+        let Text { length: _, kept } = self;
+        kept.unwrap_or(Blob::new(alloc))
     }
 }

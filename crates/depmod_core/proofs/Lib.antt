@@ -1,0 +1,4 @@
+pub mod TextSteps
+pub mod KeySteps
+pub mod MapSteps
+pub mod LineSteps
