@@ -23,20 +23,28 @@ graphic-byte b is =
     let tests = both (leb 33 b) (leb b 126) is in
     (leb-true 33 b tests.0, leb-true b 126 tests.1)
 
-pub graphic-bytes : (text : List ℕ) → is_graphic text ≡ true → All (λ b. (33 ≤ b) × (b ≤ 126)) text
-unfolding is_graphic
-graphic-bytes text is =
-    All-weaker (λ b. is_ascii_graphic b ≡ true) (λ b. (33 ≤ b) × (b ≤ 126)) graphic-byte text
-    (AllPass-from_list_all is_ascii_graphic text (both (not (eqb (length text) 0)) (list_all is_ascii_graphic text) is).1)
+pub bytes-of : (text : List ℕ) → list_all is_ascii_graphic text ≡ true → All (λ b. (33 ≤ b) × (b ≤ 126)) text
+bytes-of text is =
+    All-weaker (λ b. is_ascii_graphic b ≡ true) (λ b. (33 ≤ b) × (b ≤ 126)) graphic-byte text (AllPass-from_list_all is_ascii_graphic text is)
 
--- a word is a key, and a text
+pub characters : (text : List ℕ) → is_graphic text ≡ true → list_all is_ascii_graphic text ≡ true
+unfolding is_graphic
+characters text is = (both (not (eqb (length text) 0)) (list_all is_ascii_graphic text) is).1
+
+-- visible characters make a key, and a text
+pub key-of : (text : List ℕ) → list_all is_ascii_graphic text ≡ true → IsKey text
+key-of text is =
+    All-weaker (λ b. (33 ≤ b) × (b ≤ 126)) (λ b. (0 < b) × (b < 128)) (λ b h. (omega arith, omega arith)) text (bytes-of text is)
+
+pub text-of : (text : List ℕ) → list_all is_ascii_graphic text ≡ true → IsText text
+text-of text is =
+    All-weaker (λ b. (33 ≤ b) × (b ≤ 126)) (λ b. 0 < b) (λ b h. omega arith) text (bytes-of text is)
+
 pub graphic-key : (text : List ℕ) → is_graphic text ≡ true → IsKey text
-graphic-key text is =
-    All-weaker (λ b. (33 ≤ b) × (b ≤ 126)) (λ b. (0 < b) × (b < 128)) (λ b h. (omega arith, omega arith)) text (graphic-bytes text is)
+graphic-key text is = key-of text (characters text is)
 
 pub graphic-text : (text : List ℕ) → is_graphic text ≡ true → IsText text
-graphic-text text is =
-    All-weaker (λ b. (33 ≤ b) × (b ≤ 126)) (λ b. 0 < b) (λ b h. omega arith) text (graphic-bytes text is)
+graphic-text text is = text-of text (characters text is)
 
 -- what is kept passes
 kept-or : {X : Type 0} (p : X → Bool) (x : X) (xs : List X) (keeps : Bool) → (keeps ≡ true → p x ≡ true) → list_all p xs ≡ true → list_all p (cond keeps (x ∷ xs) xs) ≡ true

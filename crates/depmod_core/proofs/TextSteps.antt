@@ -2,6 +2,8 @@
 use Rattle.std.proofs.Common.{◌≡◌, refl, sym, ap, ◌∙◌, subst, ℕ, ◌+◌, ◌<◌, ◌≤◌, min, List, [], ◌∷◌, ◌++◌, length, take, get_or, flat_map, Option, Some, None, option_map, cond, arith, append_assoc, length-append}
 use Rattle.std.proofs.lemmas.List.{take_more, take_all, append-nil}
 use Rattle.std.proofs.lemmas.Grind.{flat_map-append}
+use Rattle.std.proofs.lemmas.Option.{get_or_from_slice_get, slice_get_within}
+use Rattle.std.specs.List.{slice_get}
 use Rattle.std.proofs.lemmas.Bool.{lt-ltb, le-ltb}
 use Rattle.km_names.specs.Limit.{file_limit}
 use Rattle.depmod_core.specs.declared.file.OutputFile.{OutputFile}
@@ -50,6 +52,10 @@ put-at f t s next xs i d inside before after =
 pub put-next : {X : Type 0} (f : X → List ℕ) (t s next : Text) (xs : List X) (i : ℕ) (x : X) → i < length xs → x ≡ get_or xs i x → s ≡ with_piece t (flat_map f (take i xs)) → next ≡ with_piece s (f x) → next ≡ with_piece t (flat_map f (take (i + 1) xs))
 put-next f t s next xs i x inside is before after =
     put-at f t s next xs i x inside before (after ∙ ap (λ y. with_piece s (f y)) is)
+
+pub put-found : {X : Type 0} (f : X → List ℕ) (t s next : Text) (xs : List X) (i : ℕ) (x : X) → slice_get xs i ≡ Some x → s ≡ with_piece t (flat_map f (take i xs)) → next ≡ with_piece s (f x) → next ≡ with_piece t (flat_map f (take (i + 1) xs))
+put-found f t s next xs i x found before after =
+    put-next f t s next xs i x (slice_get_within xs i x found) (sym (get_or_from_slice_get xs i x x found)) before after
 
 -- the end of such a loop
 pub put-whole : {X : Type 0} (f : X → List ℕ) (t s : Text) (xs : List X) (i : ℕ) → length xs ≤ i → s ≡ with_piece t (flat_map f (take i xs)) → s ≡ with_piece t (flat_map f xs)

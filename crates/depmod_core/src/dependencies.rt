@@ -1,11 +1,10 @@
 // On what the modules of a tree depend.
-ghost use Rattle.std.specs.Prelude.{◌≡◌, ◌<◌, ◌⊎◌, ◌++◌, Some, None, OnOk, IfOk, IfErr, length, map, reverse};
-ghost use Rattle.std.specs.List.{zip};
+ghost use Rattle.std.specs.Prelude.{◌≡◌, ◌≤◌, ◌⊎◌, Some, None, OnOk, IfOk, IfErr, length};
 ghost use Rattle.provider_rel.specs.Tree.{IsTree};
 ghost use Rattle.provider_rel.specs.Seen.{closures_by, places_of};
 ghost use Rattle.depmod_core.specs.Files.{size_fault};
 ghost use Rattle.depmod_core.specs.Text.{with_piece};
-ghost use Rattle.depmod_core.specs.Dependencies.{dependency_line, path_at as path_of, line_of, dep_text as text_of, dep_map as map_of_dependencies};
+ghost use Rattle.depmod_core.specs.Dependencies.{path_at as path_of, line_of, dep_text as text_of, dep_map as map_of_dependencies};
 
 use crate::text::Text;
 use crate::{OutputFault, OutputFile};
@@ -35,15 +34,17 @@ fn put_line(
     ensures { OnOk result (text.new ≡ with_piece text.old (line_of tree.now (facts.now, places_of order.now))) }
 {
     text.put_all(&[facts.path.as_bytes(), b":"])?;
-    for place in order.as_slice().iter().rev() {
-        text.put_all(&[b" ", path_at(tree, place)])?;
+    let places = order.as_slice();
+    for n in (0..places.len()).rev() {
+        text.put_all(&[b" ", path_at(tree, &places[n])])?;
     }
     Ok(())
 }
 
 /// Puts the text of modules.dep.
 fn put_lines(text: &mut Text, relation: &Relation, tree: &TreeFacts) -> Result<(), AllocError>
-    requires { length (closures_by relation.now) ≡ length tree.now }
+    requires few { length tree.now ≤ 10000 }
+    requires long { length (closures_by relation.now) ≡ length tree.now }
     ensures { OnOk result (text.new ≡ with_piece text.old (text_of tree.now (closures_by relation.now))) }
 {
     let modules = tree.as_slice();

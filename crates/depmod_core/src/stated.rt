@@ -197,7 +197,7 @@ fn add_values(
     texts: &[&[u8]],
 ) -> Result<(), AllocError>
     requires name { IsTrue (is_word name.now) }
-    requires texts { All (λ text. IsTrue (is_word text.now)) texts.now }
+    requires texts { All (λ text. IfSome (key_of kind text.now) IsKey) texts.now }
     ensures { OnOk result (key_map.new ≡ with_values key_map.old (values_with kind place name.now (map (λ text. text.now) texts.now))) }
 {
     for stated in texts {

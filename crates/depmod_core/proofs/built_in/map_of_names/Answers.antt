@@ -1,4 +1,4 @@
-use Rattle.std.proofs.Common.{◌≡◌, [], ℕ, List, Some, None, option_map, sym, ap, ◌∙◌, arith}
+use Rattle.std.proofs.Common.{◌≡◌, [], ◌∷◌, ℕ, List, Some, None, option_map, sym, ap, ◌∙◌, get_or, subst, arith}
 use Rattle.std.specs.FinMap.{empty}
 use Rattle.std.specs.List.{slice_get}
 use Rattle.std.proofs.lemmas.Option.{slice_get-get_or}
@@ -18,6 +18,8 @@ loop-place-preserved c =
     elim c.match-get.branch [
       | in-Some+in_ok-add w ↦
           let found : slice_get c.args.names.now c.loop-place.place ≡ Some w.in-Some.name.now = sym c.get.ensures ∙ ap (option_map (λ name. name.now)) w.in-Some.is in
-          value-found (λ (name : List ℕ). (name, (0, []))) empty c.loop-place.map c.match-get.map c.args.names.now c.loop-place.place w.in-Some.name.now found c.loop-place.invariant ?
-      | in_default w ↦ ?
+          value-found (λ (name : List ℕ). (name, (0, []))) empty c.loop-place.map c.match-get.map c.args.names.now c.loop-place.place w.in-Some.name.now found c.loop-place.invariant (w.map-is ∙ w.in_ok-add.ensures.ok)
+      | in_default w ↦
+          let found = slice_get-get_or c.args.names.now c.loop-place.place [] (omega (arith, c.loop-place-test.true, c.len-place-end.ensures)) in
+          absurd (cc (found, w.in_default.ensures))
     ]
