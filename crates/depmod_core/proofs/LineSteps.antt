@@ -127,3 +127,14 @@ seen-keys see kind f xs is good k d inside =
 -- a key that was made of what is stated
 pub made-key : (o : Option (List ℕ)) (key : List ℕ) → o ≡ Some key → IfSome o IsKey → IsKey key
 made-key o key is good = subst (λ p. IfSome p IsKey) is good
+
+-- the texts of lists of lines, one after the other
+pub text-of-lists : {X : Type 0} (f : X → List (List ℕ)) (xs : List X) → flat_map (λ x. lines_text (f x)) xs ≡ lines_text (flat_map f xs)
+text-of-lists f [] = refl
+text-of-lists f (x ∷ xs) =
+    ap (λ bytes. lines_text (f x) ++ bytes) (text-of-lists f xs) ∙ sym (flat_map-append ended (f x) (flat_map f xs))
+
+-- a module of a tree that was read at its place
+pub tree-module : (tree items : List Facts) (i : ℕ) (f : Facts) → items ≡ tree → i < length items → f ≡ get_or items i f → All IsTreeModule tree → IsTreeModule f
+tree-module tree items i f same inside is good =
+    subst IsTreeModule (sym (is ∙ ap (λ l. get_or l i f) same)) (good i f (omega (arith, ap length same)))
