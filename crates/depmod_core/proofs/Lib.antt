@@ -3,3 +3,4 @@ pub mod KeySteps
 pub mod AliasSteps
 pub mod MapSteps
 pub mod LineSteps
+pub mod FileSteps

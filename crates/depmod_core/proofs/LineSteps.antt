@@ -1,6 +1,6 @@
 -- Dependency lines, and the lines of what modules state.
 use Rattle.std.proofs.Common.{◌≡◌, refl, sym, ap, ◌∙◌, subst, ℕ, zero, suc, ◌+◌, ◌-◌, ◌<◌, ◌≤◌, Bool, true, false, ◌&&◌, not, cond, List, [], ◌∷◌, ◌++◌, length, map, take, drop, get_or, flat_map, reverse, filter, codes, All, Option, Some, None, is_some, append_assoc, arith}
-use Rattle.std.specs.List.{slice_get, zip, list_all}
+use Rattle.std.specs.List.{filter_map, enumerate_from, list_all}
 use Rattle.std.specs.Option.{option_map_or, IfSome}
 use Rattle.std.specs.Char.{is_ascii_graphic}
 use Rattle.std.proofs.lemmas.List.{reverse-append, drop_more, map-append, get_or-map, length-map}
@@ -21,8 +21,9 @@ use Rattle.depmod_core.specs.declared.text.Text.{Text}
 use Rattle.depmod_core.specs.Lines.{ended, lines_text}
 use Rattle.depmod_core.specs.Text.{with_piece}
 use Rattle.depmod_core.specs.Dependencies.{dependency_line, path_at, line_of}
-use Rattle.depmod_core.specs.Stated.{is_usable_alias, aliases_of, symbols_of}
-use Rattle.depmod_core.specs.Kinds.{key_of, texts_of}
+use Rattle.depmod_core.specs.Maps.{map_of}
+use Rattle.depmod_core.specs.Stated.{is_usable_alias, symbols_of, alias_text, softdep_text, symbols_text, alias_map, symbols_map, symbol_values}
+use Rattle.depmod_core.specs.Kinds.{key_of, texts_of, text_by, text_of, map_by, map_for, values_by}
 use Rattle.depmod_core.specs.Kinds.{line_of as stated_line}
 use Rattle.depmod_core.proofs.TextSteps.{with_piece-append}
 use Rattle.depmod_core.proofs.KeySteps.{both, graphic-text, key-of, characters}
@@ -47,9 +48,9 @@ line-pieces tree f places =
     let at = λ (i : TreeIndex). i.0 in
     append_assoc f.path (58 ∷ []) (flat_map (λ (place : TreeIndex). 32 ∷ path_at tree place.0) (reverse places))
     ∙ ap (λ paths. f.path ++ 58 ∷ paths) (
-      sym (flat_map-map (λ (n : ℕ). 32 ∷ path_at tree n) at (reverse places))
-      ∙ sym (flat_map-map (λ (other : List ℕ). 32 ∷ other) (path_at tree) (map at (reverse places)))
-      ∙ ap (λ ns. flat_map (λ (other : List ℕ). 32 ∷ other) (map (path_at tree) ns)) (turned-map at places))
+    sym (flat_map-map (λ (n : ℕ). 32 ∷ path_at tree n) at (reverse places))
+    ∙ sym (flat_map-map (λ (other : List ℕ). 32 ∷ other) (path_at tree) (map at (reverse places)))
+    ∙ ap (λ ns. flat_map (λ (other : List ℕ). 32 ∷ other) (map (path_at tree) ns)) (turned-map at places))
 
 -- the step of a loop that puts the paths from the last on
 pub put-turned : {X : Type 0} (f : X → List ℕ) (t s next : Text) (xs : List X) (n m : ℕ) (d : X) → m + 1 ≡ n → m < length xs → s ≡ with_piece t (flat_map f (reverse (drop n xs))) → next ≡ with_piece s (f (get_or xs m d)) → next ≡ with_piece t (flat_map f (reverse (drop m xs)))
@@ -60,9 +61,9 @@ put-turned f t s next xs n m d back inside before after =
     ∙ ap (λ u. with_piece u (f x)) (before ∙ ap (λ k. with_piece t (flat_map f (reverse (drop k xs)))) (sym back))
     ∙ with_piece-append t later (f x)
     ∙ ap (with_piece t) (
-      ap (λ bytes. later ++ bytes) (sym (append-nil (f x)))
-      ∙ sym (flat_map-append f (reverse (drop (m + 1) xs)) (x ∷ []))
-      ∙ ap (flat_map f) (sym (turned xs m d inside)))
+    ap (λ bytes. later ++ bytes) (sym (append-nil (f x)))
+    ∙ sym (flat_map-append f (reverse (drop (m + 1) xs)) (x ∷ []))
+    ∙ ap (flat_map f) (sym (turned xs m d inside)))
 
 -- all of what some lists have
 All-flat : {X Y : Type 0} (P : Y → Type 0) (f : X → List Y) (xs : List X) → ((x : X) → All P (f x)) → All P (flat_map f xs)
@@ -81,7 +82,7 @@ line-text tree f places all good =
     let others = map (path_at tree) (reverse places) in
     let each = λ (n : ℕ). All-cons P 32 (path_at tree n) (omega arith) (path-text tree n all) in
     let paths : All P (flat_map (λ (other : List ℕ). 32 ∷ other) others) =
-        subst (All P) (sym (flat_map-map (λ (other : List ℕ). 32 ∷ other) (path_at tree) (reverse places))) (All-flat P (λ (n : ℕ). 32 ∷ path_at tree n) (reverse places) each) in
+    subst (All P) (sym (flat_map-map (λ (other : List ℕ). 32 ∷ other) (path_at tree) (reverse places))) (All-flat P (λ (n : ℕ). 32 ∷ path_at tree n) (reverse places) each) in
     All-append P f.path (58 ∷ flat_map (λ (other : List ℕ). 32 ∷ other) others) (graphic-text f.path good.path) (All-cons P 58 _ (omega arith) paths)
 
 -- a line on a symbol in the pieces in which it is put
@@ -106,6 +107,7 @@ usable-key alias usable = go (normal_alias alias) refl
   where
     word : is_graphic alias ≡ true
     word = (both (is_graphic alias) (is_some (normal_alias alias)) usable).0
+
     go : (o : Option (List ℕ)) → normal_alias alias ≡ o → IfSome o IsKey
     go None is = tt
     go (Some key) is = normal-key alias key word is
@@ -138,3 +140,25 @@ text-of-lists f (x ∷ xs) =
 pub tree-module : (tree items : List Facts) (i : ℕ) (f : Facts) → items ≡ tree → i < length items → f ≡ get_or items i f → All IsTreeModule tree → IsTreeModule f
 tree-module tree items i f same inside is good =
     subst IsTreeModule (sym (is ∙ ap (λ l. get_or l i f) same)) (good i f (omega (arith, ap length same)))
+
+-- what modules state, by its kind
+pub kind-text : (kind : Kind) (tree : List Facts) → text_by kind tree ≡ text_of kind tree
+unfolding alias_text softdep_text symbols_text
+kind-text Alias tree = refl
+kind-text Softdep tree = refl
+kind-text Symbol tree = refl
+
+all-kept : {X Y : Type 0} (f : X → Y) (xs : List X) → filter_map (λ x. Some (f x)) xs ≡ map f xs
+all-kept f [] = refl
+all-kept f (x ∷ xs) = ap (λ ys. f x ∷ ys) (all-kept f xs)
+
+same-each : {X Y : Type 0} (f g : X → List Y) → ((x : X) → f x ≡ g x) → (xs : List X) → flat_map f xs ≡ flat_map g xs
+same-each f g same [] = refl
+same-each f g same (x ∷ xs) = λ i. same x i ++ same-each f g same xs i
+
+pub kind-map : (kind : Kind) (tree : List Facts) → map_by kind tree ≡ map_for kind tree
+unfolding alias_map symbols_map
+kind-map Alias tree = refl
+kind-map Softdep tree = refl
+kind-map Symbol tree =
+    ap map_of (same-each (values_by Symbol) symbol_values (λ m. all-kept (λ symbol. (codes "symbol:" ++ symbol, (m.0, m.1.name))) (symbols_of m.1)) (enumerate_from 0 tree))

@@ -45,9 +45,9 @@ put-at f t s next xs i d inside before after =
     ∙ ap (λ u. with_piece u (f x)) before
     ∙ with_piece-append t (flat_map f (take i xs)) (f x)
     ∙ ap (with_piece t) (
-      ap (λ bytes. flat_map f (take i xs) ++ bytes) (sym (append-nil (f x)))
-      ∙ sym (flat_map-append f (take i xs) (x ∷ []))
-      ∙ ap (flat_map f) (sym (take_more xs i d inside)))
+    ap (λ bytes. flat_map f (take i xs) ++ bytes) (sym (append-nil (f x)))
+    ∙ sym (flat_map-append f (take i xs) (x ∷ []))
+    ∙ ap (flat_map f) (sym (take_more xs i d inside)))
 
 pub put-next : {X : Type 0} (f : X → List ℕ) (t s next : Text) (xs : List X) (i : ℕ) (x : X) → i < length xs → x ≡ get_or xs i x → s ≡ with_piece t (flat_map f (take i xs)) → next ≡ with_piece s (f x) → next ≡ with_piece t (flat_map f (take (i + 1) xs))
 put-next f t s next xs i x inside is before after =

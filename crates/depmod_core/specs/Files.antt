@@ -55,6 +55,18 @@ unfoldable pub files : List Facts → Kernel → List ℕ → OutputFiles
 files tree kernel builtin =
     files_by tree (dependencies (modules_of tree) kernel) (unmet (modules_of tree) kernel) builtin
 
+-- The bytes of one of the files.
+abbrev pub content : OutputFiles → OutputFile → List ℕ
+content fs Dep = fs.dep
+content fs DepBin = fs.dep_bin
+content fs Alias = fs.alias
+content fs AliasBin = fs.alias_bin
+content fs Softdep = fs.softdep
+content fs Symbols = fs.symbols
+content fs SymbolsBin = fs.symbols_bin
+content fs BuiltinBin = fs.builtin_bin
+content fs Unmet = fs.unmet
+
 -- The fault of a file of so many bytes: it is too large. A count past 64 bits is given as the greatest of 64.
 abbrev pub size_fault : OutputFile → List ℕ → Option OutputFault
 size_fault name bytes =

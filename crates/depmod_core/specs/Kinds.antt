@@ -1,15 +1,20 @@
--- What modules state, by its kind.
-use Rattle.std.specs.Prelude.{ℕ, List, [], ◌∷◌, ◌++◌, map, flat_map, codes, Option, Some, None, option_map}
+-- What modules state, by its kind, and what indexes stand for, by their files.
+use Rattle.std.specs.Prelude.{⊤, ℕ, List, [], ◌∷◌, ◌++◌, map, flat_map, codes, Option, Some, None, option_map}
 use Rattle.std.specs.List.{filter_map, enumerate_from}
 use Rattle.km_names.specs.AliasForm.{normal_alias}
 use Rattle.index_format.specs.Map.{KeyValues}
+use Rattle.index_format.specs.Holds.{Holds}
 use Rattle.index_format.specs.Listing.{KeyValue}
 use Rattle.module_facts.specs.declared.facts.Facts.{Facts}
 use Rattle.depmod_core.specs.declared.stated.Kind.{Kind}
 use Rattle.depmod_core.specs.declared.stated.Kind.TheVariants.{Alias, Softdep, Symbol}
 use Rattle.depmod_core.specs.Lines.{lines_text}
 use Rattle.depmod_core.specs.Maps.{map_of}
-use Rattle.depmod_core.specs.Stated.{aliases_of, softdeps_of, symbols_of}
+use Rattle.depmod_core.specs.declared.file.OutputFile.{OutputFile}
+use Rattle.depmod_core.specs.declared.file.OutputFile.TheVariants.{DepBin, AliasBin, SymbolsBin, BuiltinBin}
+use Rattle.depmod_core.specs.Dependencies.{dep_map}
+use Rattle.depmod_core.specs.Stated.{aliases_of, softdeps_of, symbols_of, alias_text, softdep_text, symbols_text, alias_map, symbols_map}
+use Rattle.depmod_core.specs.BuiltIn.{built_in_map}
 
 -- The heading of the file.
 abbrev pub heading : Kind → List ℕ
@@ -33,7 +38,7 @@ line_of Symbol name text = codes "alias symbol:" ++ (text ++ (codes " " ++ name)
 abbrev pub lines_by : Kind → Facts → List (List ℕ)
 lines_by kind f = map (line_of kind f.name) (texts_of kind f)
 
--- The text of the file.
+-- The lines of the file, put one after the other.
 abbrev pub text_by : Kind → List Facts → List ℕ
 text_by kind tree = lines_text (heading kind ∷ flat_map (lines_by kind) tree)
 
@@ -53,3 +58,22 @@ values_by kind (place, f) = values_with kind place f.name (texts_of kind f)
 -- The map of the index.
 abbrev pub map_by : Kind → List Facts → KeyValues
 map_by kind tree = map_of (flat_map (values_by kind) (enumerate_from 0 tree))
+
+-- The text of the file, and the map of the index, as they are defined of a tree.
+abbrev pub text_of : Kind → List Facts → List ℕ
+text_of Alias tree = alias_text tree
+text_of Softdep tree = softdep_text tree
+text_of Symbol tree = symbols_text tree
+
+abbrev pub map_for : Kind → List Facts → KeyValues
+map_for Alias tree = alias_map tree
+map_for Softdep tree = map_by Softdep tree
+map_for Symbol tree = symbols_map tree
+
+-- The index stands for its map; this says nothing of a text.
+abbrev pub Stands : List Facts → List (List ℕ) → List ℕ → OutputFile → List ℕ → Type 0
+Stands tree closures builtin DepBin bytes = Holds bytes (dep_map tree closures)
+Stands tree closures builtin AliasBin bytes = Holds bytes (alias_map tree)
+Stands tree closures builtin SymbolsBin bytes = Holds bytes (symbols_map tree)
+Stands tree closures builtin BuiltinBin bytes = Holds bytes (built_in_map builtin)
+Stands tree closures builtin _ bytes = ⊤

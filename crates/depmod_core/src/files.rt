@@ -1,9 +1,10 @@
-ghost use Rattle.std.specs.Prelude.{◌≡◌, ◌⊎◌, Ok, Err, IfOk, IfErr};
+ghost use Rattle.std.specs.Prelude.{◌≡◌, ◌⊎◌, Ok, Err, Some, None, length, IfOk, IfErr, OnOk};
 ghost use Rattle.symbol_binding.specs.Symbols.{Kernel};
 ghost use Rattle.provider_rel.specs.Faces.{modules_of};
-ghost use Rattle.provider_rel.specs.Seen.{IsRelation};
+ghost use Rattle.provider_rel.specs.Seen.{IsRelation, closures_by, obstacles_by};
 ghost use Rattle.provider_rel.specs.Tree.{IsTree};
-ghost use Rattle.depmod_core.specs.Files.{outputs_of, IsRelationOf, StandFor};
+ghost use Rattle.depmod_core.specs.Files.{content, files_by, size_fault, outputs_of, IsRelationOf, StandFor};
+ghost use Rattle.depmod_core.specs.Kinds.{Stands};
 
 use crate::built_in::built_in_map;
 use crate::dependencies::{dep_map, dep_text};
@@ -38,6 +39,55 @@ pub struct OutputFiles {
     pub unmet: Blob,
 }
 
+impl OutputFiles {
+    /// The bytes of one of the files.
+    pub fn content(&self, file: OutputFile) -> &[u8]
+        ensures { result.now ≡ content self.now file }
+    {
+        match file {
+            OutputFile::Dep => self.dep.as_bytes(),
+            OutputFile::DepBin => self.dep_bin.as_bytes(),
+            OutputFile::Alias => self.alias.as_bytes(),
+            OutputFile::AliasBin => self.alias_bin.as_bytes(),
+            OutputFile::Softdep => self.softdep.as_bytes(),
+            OutputFile::Symbols => self.symbols.as_bytes(),
+            OutputFile::SymbolsBin => self.symbols_bin.as_bytes(),
+            OutputFile::BuiltinBin => self.builtin_bin.as_bytes(),
+            OutputFile::Unmet => self.unmet.as_bytes(),
+        }
+    }
+}
+
+/// The bytes of one of the files, which are made only where they aren't too many.
+#[tactic(auto, unfolding(crate::specs::Files::files_by))]
+fn make(
+    alloc: Global,
+    relation: &Relation,
+    tree: &TreeFacts,
+    builtin: &[u8],
+    file: OutputFile,
+) -> Result<Blob, OutputFault>
+    requires tree { IsTree tree.now }
+    requires long { length (closures_by relation.now) ≡ length tree.now }
+    ensures ok { IfOk result (λ bytes. bytes ≡ content (files_by tree.now (closures_by relation.now) (obstacles_by relation.now) builtin.now) file) }
+    ensures passed { OnOk result (size_fault file (content (files_by tree.now (closures_by relation.now) (obstacles_by relation.now) builtin.now) file) ≡ None) }
+    ensures err { IfErr result (λ fault. (fault ≡ OutputFault.Memory)
+        ⊎ (size_fault file (content (files_by tree.now (closures_by relation.now) (obstacles_by relation.now) builtin.now) file) ≡ Some fault)) }
+    ensures stands { IfOk result (λ bytes. Stands tree.now (closures_by relation.now) builtin.now file bytes) }
+{
+    match file {
+        OutputFile::Dep => dep_text(alloc, relation, tree),
+        OutputFile::DepBin => index(alloc, file, &dep_map(alloc, relation, tree)?),
+        OutputFile::Alias => stated_text(alloc, file, Kind::Alias, tree),
+        OutputFile::AliasBin => index(alloc, file, &stated_map(alloc, Kind::Alias, tree)?),
+        OutputFile::Softdep => stated_text(alloc, file, Kind::Softdep, tree),
+        OutputFile::Symbols => stated_text(alloc, file, Kind::Symbol, tree),
+        OutputFile::SymbolsBin => index(alloc, file, &stated_map(alloc, Kind::Symbol, tree)?),
+        OutputFile::BuiltinBin => index(alloc, file, &built_in_map(alloc, builtin)?),
+        OutputFile::Unmet => unmet_text(alloc, relation.obstacles()),
+    }
+}
+
 /// The files that depmod makes of a tree, with the tree's relation over a kernel, and of the bytes of modules.builtin.
 /// Each of the indexes among them stands for its map. modules.dep(5), depmod(8).
 ///
@@ -45,6 +95,7 @@ pub struct OutputFiles {
 ///
 /// `OutputTooLarge` exactly where a file would have more than 67,108,864 bytes, with the first such; it is known before
 /// the bytes of the file are written. Or `Memory`.
+#[tactic(auto, using(crate::proofs::FileSteps::closures_long))]
 pub fn outputs(
     alloc: Global,
     relation: &Relation,
@@ -61,27 +112,15 @@ pub fn outputs(
     ensures indexes { IfOk result (λ files. (kernel : Kernel) → IsRelation (modules_of tree.now) kernel relation.now →
         StandFor tree.now kernel builtin.now files) }
 {
-    let dep = dep_text(alloc, relation, tree)?;
-    let dep_bin = index(alloc, OutputFile::DepBin, &dep_map(alloc, relation, tree)?)?;
-    let alias = stated_text(alloc, OutputFile::Alias, Kind::Alias, tree)?;
-    let alias_bin = index(
-        alloc,
-        OutputFile::AliasBin,
-        &stated_map(alloc, Kind::Alias, tree)?,
-    )?;
-    let softdep = stated_text(alloc, OutputFile::Softdep, Kind::Softdep, tree)?;
-    let symbols = stated_text(alloc, OutputFile::Symbols, Kind::Symbol, tree)?;
-    let symbols_bin = index(
-        alloc,
-        OutputFile::SymbolsBin,
-        &stated_map(alloc, Kind::Symbol, tree)?,
-    )?;
-    let builtin_bin = index(
-        alloc,
-        OutputFile::BuiltinBin,
-        &built_in_map(alloc, builtin)?,
-    )?;
-    let unmet = unmet_text(alloc, relation.obstacles())?;
+    let dep = make(alloc, relation, tree, builtin, OutputFile::Dep)?;
+    let dep_bin = make(alloc, relation, tree, builtin, OutputFile::DepBin)?;
+    let alias = make(alloc, relation, tree, builtin, OutputFile::Alias)?;
+    let alias_bin = make(alloc, relation, tree, builtin, OutputFile::AliasBin)?;
+    let softdep = make(alloc, relation, tree, builtin, OutputFile::Softdep)?;
+    let symbols = make(alloc, relation, tree, builtin, OutputFile::Symbols)?;
+    let symbols_bin = make(alloc, relation, tree, builtin, OutputFile::SymbolsBin)?;
+    let builtin_bin = make(alloc, relation, tree, builtin, OutputFile::BuiltinBin)?;
+    let unmet = make(alloc, relation, tree, builtin, OutputFile::Unmet)?;
     Ok(OutputFiles {
         dep,
         dep_bin,

@@ -8,7 +8,7 @@ ghost use Rattle.depmod_core.specs.Files.{size_fault};
 ghost use Rattle.depmod_core.specs.Lines.{ended, lines_text};
 ghost use Rattle.depmod_core.specs.Maps.{with_values, map_of};
 ghost use Rattle.depmod_core.specs.Stated.{is_usable_alias as is_usable, is_usable_softdep as is_usable_text, is_printable as is_printable_byte, aliases_of, softdeps_of, symbols_of};
-ghost use Rattle.depmod_core.specs.Kinds.{heading as heading_of, texts_of, line_of, lines_by, text_by, key_of, values_with, values_by, map_by};
+ghost use Rattle.depmod_core.specs.Kinds.{heading as heading_of, texts_of, line_of, text_of, key_of, values_with, map_for};
 ghost use Rattle.depmod_core.specs.Text.{with_piece};
 
 use crate::text::Text;
@@ -141,7 +141,7 @@ fn heading(kind: Kind) -> &'static [u8]
 
 /// Puts the text of a kind's file.
 fn put_text(alloc: Global, text: &mut Text, kind: Kind, tree: &TreeFacts) -> Result<(), AllocError>
-    ensures { OnOk result (text.new ≡ with_piece text.old (text_by kind tree.now)) }
+    ensures { OnOk result (text.new ≡ with_piece text.old (text_of kind tree.now)) }
 {
     text.put_all(&[heading(kind), b"\n"])?;
     for facts in tree.as_slice() {
@@ -158,9 +158,9 @@ pub(crate) fn stated_text(
     kind: Kind,
     tree: &TreeFacts,
 ) -> Result<Blob, OutputFault>
-    ensures ok { IfOk result (λ bytes. bytes ≡ text_by kind tree.now) }
-    ensures passed { OnOk result (size_fault file (text_by kind tree.now) ≡ None) }
-    ensures err { IfErr result (λ fault. (fault ≡ OutputFault.Memory) ⊎ (size_fault file (text_by kind tree.now) ≡ Some fault)) }
+    ensures ok { IfOk result (λ bytes. bytes ≡ text_of kind tree.now) }
+    ensures passed { OnOk result (size_fault file (text_of kind tree.now) ≡ None) }
+    ensures err { IfErr result (λ fault. (fault ≡ OutputFault.Memory) ⊎ (size_fault file (text_of kind tree.now) ≡ Some fault)) }
 {
     let mut measured = Text::measured();
     put_text(alloc, &mut measured, kind, tree)?;
@@ -212,7 +212,7 @@ fn add_values(
 /// in the tree. depmod(8).
 pub(crate) fn stated_map(alloc: Global, kind: Kind, tree: &TreeFacts) -> Result<KeyMap, AllocError>
     requires { IsTree tree.now }
-    ensures { IfOk result (λ map. map ≡ map_by kind tree.now) }
+    ensures { IfOk result (λ map. map ≡ map_for kind tree.now) }
 {
     let mut map = KeyMap::new(alloc);
     let modules = tree.as_slice();

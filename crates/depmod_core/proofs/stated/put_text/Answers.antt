@@ -5,7 +5,7 @@ use Rattle.depmod_core.specs.Lines.{ended, lines_text}
 use Rattle.depmod_core.specs.Kinds.{heading, line_of, lines_by}
 use Rattle.depmod_core.specs.Text.{with_piece}
 use Rattle.depmod_core.proofs.TextSteps.{with-nothing, with_piece-append, put-next, put-whole}
-use Rattle.depmod_core.proofs.LineSteps.{text-of-lists}
+use Rattle.depmod_core.proofs.LineSteps.{text-of-lists, kind-text}
 use Rattle.depmod_core.proofs.stated.put_text.Goals as goal
 
 pub loop-facts-init : goal.loop-facts-init
@@ -23,10 +23,10 @@ loop-facts-preserved c =
     c.loop-facts.invariant
     (c.in_ok-put_lines.ensures
     ∙ ap (λ lines. with_piece c.loop-facts.text (lines_text lines)) (
-      ap (λ name. map (λ (text : Bor (List ℕ)). line_of kind name text.now) c.deref.result.now) c.as_bytes.ensures
-      ∙ ap (map (λ (text : Bor (List ℕ)). line_of kind f.name text.now)) c.deref.ensures.value
-      ∙ sym (map-map (line_of kind f.name) see c.in_ok-texts.texts.items)
-      ∙ ap (map (line_of kind f.name)) c.in_ok-texts.ensures))
+    ap (λ name. map (λ (text : Bor (List ℕ)). line_of kind name text.now) c.deref.result.now) c.as_bytes.ensures
+    ∙ ap (map (λ (text : Bor (List ℕ)). line_of kind f.name text.now)) c.deref.ensures.value
+    ∙ sym (map-map (line_of kind f.name) see c.in_ok-texts.texts.items)
+    ∙ ap (map (line_of kind f.name)) c.in_ok-texts.ensures))
 
 pub returns : goal.returns
 returns c =
@@ -37,4 +37,4 @@ returns c =
     (omega (arith, c.loop-facts-test.false, ap length c.as_slice-facts-items.ensures)) c.loop-facts.invariant
     ∙ ap (λ t. with_piece t (flat_map lines tree)) (c.in_ok-put_all.ensures ∙ ap (λ text. with_piece c.args.text.now (text ++ 10 ∷ [])) c.heading.ensures)
     ∙ with_piece-append c.args.text.now (ended (heading kind)) (flat_map lines tree)
-    ∙ ap (λ bytes. with_piece c.args.text.now (ended (heading kind) ++ bytes)) (text-of-lists (lines_by kind) tree)
+    ∙ ap (with_piece c.args.text.now) (ap (λ bytes. ended (heading kind) ++ bytes) (text-of-lists (lines_by kind) tree) ∙ kind-text kind tree)

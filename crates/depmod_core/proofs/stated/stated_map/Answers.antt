@@ -11,7 +11,7 @@ use Rattle.provider_rel.specs.Tree.{IsTreeModule}
 use Rattle.depmod_core.specs.Maps.{with_values, map_of}
 use Rattle.depmod_core.specs.Kinds.{key_of, texts_of, values_by, values_with}
 use Rattle.depmod_core.proofs.MapSteps.{values-found, placed}
-use Rattle.depmod_core.proofs.LineSteps.{seen-keys, tree-module}
+use Rattle.depmod_core.proofs.LineSteps.{seen-keys, tree-module, kind-map}
 use Rattle.depmod_core.proofs.stated.stated_map.Goals as goal
 
 pub add_values-requires-clause-texts : goal.add_values-requires-clause-texts
@@ -39,3 +39,4 @@ returns c =
     let all = enumerate_from 0 c.args.tree.now in
     c.loop-place.invariant
     ∙ ap (λ ms. map_of (flat_map (values_by c.args.kind) ms)) (take_all c.loop-place.place all (omega (arith, length-enumerate_from 0 c.args.tree.now, c.loop-place-test.false, ap length c.as_slice-modules.ensures)))
+    ∙ kind-map c.args.kind c.args.tree.now
