@@ -46,8 +46,8 @@ unfolding outputs_of
 refused tree r builtin e P found is =
     ⊎_elim (λ memory. inl memory)
     (λ p. inr (λ kernel made.
-        let same = same-files tree r builtin kernel made in
-        ap (λ fault. unless_fault fault (files tree kernel builtin)) (ap output_fault (sym same) ∙ found p)))
+    let same = same-files tree r builtin kernel made in
+    ap (λ fault. unless_fault fault (files tree kernel builtin)) (ap output_fault (sym same) ∙ found p)))
     is
 
 -- no file is

@@ -4,3 +4,4 @@ pub mod AliasSteps
 pub mod MapSteps
 pub mod LineSteps
 pub mod FileSteps
+pub mod TreeSteps
