@@ -1,3 +1,4 @@
 pub mod ModuleFile
 pub mod IndexFile
 pub mod KernelModules
+pub mod KernelTable

@@ -1,0 +1,5 @@
+pub mod Tree
+pub mod Modules
+pub mod Relation
+pub mod Related
+pub mod Warnings
