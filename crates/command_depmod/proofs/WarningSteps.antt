@@ -1,7 +1,9 @@
 -- The stages of warnings.
-use Rattle.std.proofs.Common.{◌≡◌, ℕ, List, sym, subst}
-use Rattle.std.specs.Prelude.{Option, Some, None, Result, Ok, Bool, ⊤}
+use Rattle.std.proofs.Common.{◌≡◌, ℕ, true, List, ◌++◌, ap, sym, subst, ◌∙◌}
+use Rattle.std.specs.Prelude.{Option, Some, None, Result, Ok, Bool, codes, ⊤}
 use Rattle.symbol_binding.specs.declared.unbound.Unbound.{Unbound}
+use Rattle.symbol_binding.specs.declared.unbound.Unbound.TheVariants.{Version}
+use Rattle.km_course.specs.Lines.{line}
 use Rattle.km_course.specs.Course.{Stage, each_from, warns}
 use Rattle.km_course.specs.World.{World}
 use Rattle.km_course.specs.Follows.{Follows}
@@ -24,3 +26,8 @@ warned o text bytes old new r is same f =
 
 pub warned_none : (o : Option (List ℕ)) (w : World) → None ≡ o → Follows (λ (x : ⊤). x) (warns_any o) w w (Ok tt)
 warned_none o w is = subst (λ line. Follows (λ (x : ⊤). x) (warns_any line) w w (Ok tt)) is (gave (λ (x : ⊤). x) w tt)
+
+-- the line that warns of a version
+pub version-line : (versions : Bool) (obstacle : Unbound) (path symbol provider text : List ℕ) → obstacle ≡ Version path symbol provider → versions ≡ true → text ≡ line (codes "warning: " ++ (path ++ (codes " disagrees about version of symbol " ++ symbol))) → Some text ≡ warning_line versions obstacle
+version-line versions obstacle path symbol provider text is given same =
+    ap Some same ∙ sym (ap (warning_line versions) is ∙ ap (λ b. warning_line b (Version path symbol provider)) given)

@@ -8,8 +8,6 @@ use Rattle.elf_object.specs.declared.section.Section.{Section}
 use Rattle.elf_object.specs.FaultText.{section_fault_text}
 use Rattle.elf_object.specs.Shape.{shape_fault}
 use Rattle.elf_object.specs.Sections.{FileSections, file_sections, bytes_of}
-use Rattle.modinfo_fields.specs.declared.piece.Field.{Field}
-use Rattle.modinfo_fields.specs.Fields.{fields_of}
 use Rattle.km_course.specs.Course.{Outcome, Stage, ◌>>=◌, given, ends, when◌then◌else◌, reads}
 use Rattle.km_course.specs.Course.Outcome.{value, end}
 use Rattle.km_course.specs.declared.end.End.TheVariants.{Refused}

@@ -16,9 +16,9 @@ use Rattle.command_depmod.proofs.Following.{along}
 use Rattle.command_depmod.proofs.ModuleSteps.{checked}
 use Rattle.command_depmod.proofs.modules.read_facts.Goals as goal
 
-pub returns-in_err-path-then-is_compressed-clause-follows : goal.returns-in_err-path-then-is_compressed-clause-follows
-returns-in_err-path-then-is_compressed-clause-follows g c = λ out err.
-    let p = err_from_is_err_and c.from_residual-then-is_compressed.result c.from_residual-then-is_compressed.ensures.1 in
+pub returns-in_err-path-clause-follows : goal.returns-in_err-path-clause-follows
+returns-in_err-path-clause-follows g c = λ out err.
+    let p = err_from_is_err_and c.from_residual.result c.from_residual.ensures.1 in
     wants _ _ _ _ p.1 p.2
 
 pub returns-then-is_compressed-clause-follows : goal.returns-then-is_compressed-clause-follows
@@ -30,20 +30,20 @@ returns-then-is_compressed-clause-follows g c = λ out err.
 
 pub returns-in_err-file-clause-follows : goal.returns-in_err-file-clause-follows
 returns-in_err-file-clause-follows g c = λ out err.
-    let p = err_from_is_err_and c.from_residual.result c.from_residual.ensures.1 in
+    let p = err_from_is_err_and c.from_residual-in_err-file.result c.from_residual-in_err-file.ensures.1 in
     wants _ _ _ _ p.1 p.2
 
 pub returns-in_err-bytes-clause-follows : goal.returns-in_err-bytes-clause-follows
 returns-in_err-bytes-clause-follows g c = λ out err.
     let p = err_from_is_err_and c.from_residual-in_err-bytes.result c.from_residual-in_err-bytes.ensures.1 in
     passed_over _ _ _ _ _ _ _ c.if-is_compressed.ensures
-    (along (λ file. reads file >>= checked c.args.path.now) _ _ (c.in_ok-file.ensures ∙ ap (path_below c.args.folder.now) c.as_bytes.ensures)
+    (along (λ file. reads file >>= checked c.args.path.now) _ _ (c.in_ok-file.ensures ∙ ap (path_below c.args.folder.now) c.as_bytes-2.ensures)
     (exits _ _ (checked c.args.path.now) p.1 p.2 (c.in_err-bytes.ensures.follows out err)))
 
 pub returns-clause-follows : goal.returns-clause-follows
 returns-clause-follows g c = λ out err.
     let path = c.args.path.now in
     passed_over _ _ _ _ _ _ _ c.if-is_compressed.ensures
-    (along (λ file. reads file >>= checked path) _ _ (c.in_ok-file.ensures ∙ ap (path_below c.args.folder.now) c.as_bytes.ensures)
+    (along (λ file. reads file >>= checked path) _ _ (c.in_ok-file.ensures ∙ ap (path_below c.args.folder.now) c.as_bytes-2.ensures)
     (next (checked path) (c.in_ok-bytes.ensures.follows out err)
     (answered (λ (x : Facts). x) (facts_outcome path c.in_ok-bytes.bytes (fact_fault path c.in_ok-bytes.bytes)) _ c.check_facts.result c.check_facts.ensures.answers)))

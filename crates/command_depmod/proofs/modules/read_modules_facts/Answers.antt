@@ -12,8 +12,8 @@ use Rattle.command_depmod.proofs.modules.read_modules_facts.Goals as goal
 
 pub loop-path-init : goal.loop-path-init
 loop-path-init g c = record {
-  leads = λ out err. subst (λ before. LeadsTo (λ (x : List Facts). x) (reads_modules_facts c.args.folder.now c.args.paths.now) (world (g.F.Reads.seen c.args.files.now) out err) (the_others c.args.folder.now c.args.paths.now before) (world (g.F.Reads.seen c.args.files.now) out err)) (sym c.new.ensures) (leads-start (λ (x : List Facts). x) _ _);
-  facts = rw c.new.ensures (no-facts c.args.paths.now);
+  leads = λ out err. subst (λ before. LeadsTo (λ (x : List Facts). x) (reads_modules_facts c.args.folder.now c.args.paths.now) (world (g.F.Reads.seen c.args.files.now) out err) (the_others c.args.folder.now c.args.paths.now before) (world (g.F.Reads.seen c.args.files.now) out err)) (sym c.new-tree.ensures) (leads-start (λ (x : List Facts). x) _ _);
+  facts = rw c.new-tree.ensures (no-facts c.args.paths.now);
 }
 
 pub returns-in_err-facts-clause-follows : goal.returns-in_err-facts-clause-follows
@@ -45,7 +45,7 @@ loop-path-preserved g c =
     let facts = c.in_ok-facts.facts in
     record {
       leads = λ out err.
-          subst (λ more. LeadsTo (λ (x : List Facts). x) (reads_modules_facts folder paths) (world (g.F.Reads.seen c.args.files.now) out err) (the_others folder (drop (i + 1) paths) more) (world (g.F.Reads.seen c.read_facts-facts.new.files) out err)) (sym c.in_ok-push.ensures.ok)
+          subst (λ more. LeadsTo (λ (x : List Facts). x) (reads_modules_facts folder paths) (world (g.F.Reads.seen c.args.files.now) out err) (the_others folder (drop (i + 1) paths) more) (world (g.F.Reads.seen c.read_facts.new.files) out err)) (sym c.in_ok-push.ensures.ok)
           (leads-on (λ (x : List Facts). x) _ _ _ _ (adds_facts folder) tree c.path-item.result (drop (i + 1) paths) (tree ++ facts ∷ [])
           (leads-item (λ (x : List Facts). x) _ _ _ (adds_facts folder) tree paths i c.path-item.result c.loop-path-test.true c.path-item.is (c.loop-path.invariant.leads out err))
           (next (added tree) (c.in_ok-facts.ensures.follows out err) (gave (λ (x : List Facts). x) _ (tree ++ facts ∷ []))));

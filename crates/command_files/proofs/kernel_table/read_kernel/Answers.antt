@@ -12,8 +12,8 @@ returns-in-Some g c = λ out err.
 
 pub returns-in-Some-symvers : goal.returns-in-Some-symvers
 returns-in-Some-symvers g c = λ out err.
-    by_symvers _ _ _ _ _ _ c.in-None.is c.in-Some.is (c.read_symvers.ensures out err)
+    by_symvers _ _ _ _ _ _ c.in-None.is c.in-Some-symvers.is (c.read_symvers.ensures out err)
 
 pub returns-in-None-symvers : goal.returns-in-None-symvers
 returns-in-None-symvers g c = λ out err.
-    by_neither _ _ _ _ c.in-None.is c.in-None-in-None.is c.unknown.ensures.known c.unknown.ensures.exports
+    by_neither _ _ _ _ c.in-None.is c.in-None-symvers.is c.unknown.ensures.known c.unknown.ensures.exports
