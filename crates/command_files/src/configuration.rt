@@ -1,5 +1,5 @@
 // The files of a tool's configuration.
-ghost use Rattle.std.specs.Prelude.{◌≡◌, ◌≤◌, ◌∷◌, [], List, ℕ, length, map, All, IfOk, OnOk, Option, Some, codes};
+ghost use Rattle.std.specs.Prelude.{◌≡◌, ◌≤◌, ◌∷◌, [], List, ℕ, length, All, IfOk, OnOk};
 ghost use Rattle.std.specs.BTreeMap as tree;
 ghost use Rattle.std.specs.FinMap as fin;
 ghost use Rattle.km_names.specs.Limit.{file_limit};
@@ -7,7 +7,7 @@ ghost use Rattle.km_outside.specs.Contents.{by_bytes};
 ghost use Rattle.km_outside.specs.OutSeen.{OutSeen};
 ghost use Rattle.km_course.specs.World.{world};
 ghost use Rattle.km_course.specs.Follows.{Follows};
-ghost use Rattle.command_files.specs.Configuration.{folder_name as folder_name_of, by_name, with_names, paths_of, entries_in_bytes, lists_folder, lists_folders, reads_file, reads_files, reads_given, reads_listed, reads_configuration, stop_of};
+ghost use Rattle.command_files.specs.Configuration.{roots as roots_in_order, folder_name as folder_name_of, by_name, with_names, paths_of, entries_in_bytes, lists_folder, lists_folders, reads_file, reads_files, reads_given, reads_listed, reads_configuration, stop_of};
 
 use km_course::{Refusal, Stop, list_conf_needed, list_conf_optional, read_needed};
 use km_names::{ConfFault, ConfFile, ConfFiles, List as Items, Names, PathText, Paths, join};
@@ -49,14 +49,8 @@ pub fn read_configuration<F: Reads>(
     match config {
         Some(path) => read_given(alloc, path, files),
         None => {
-            let roots = [
-                b"/etc".as_slice(),
-                b"/run",
-                b"/usr/local/lib",
-                b"/usr/lib",
-                b"/lib",
-            ];
-            let folders = list_folders(alloc, tool, &roots, files)?;
+            let roots = roots(alloc)?;
+            let folders = list_folders(alloc, tool, roots.as_slice(), files)?;
             read_listed(alloc, &folders, files)
         }
     }
@@ -70,6 +64,19 @@ pub fn stop_of_fault(fault: ConfFault) -> Stop
         ConfFault::BadLine { file, line } => Stop::from(Refusal::BadLine { file, number: line }),
         ConfFault::Memory => Stop::Memory,
     }
+}
+
+/// Where the folders of a tool's configuration stand.
+fn roots(alloc: Global) -> Result<Paths, AllocError>
+    ensures { IfOk result (λ paths. paths ≡ roots_in_order) }
+{
+    let mut paths = Paths::new(alloc);
+    paths.push(PathText::from_slice(alloc, b"/etc")?)?;
+    paths.push(PathText::from_slice(alloc, b"/run")?)?;
+    paths.push(PathText::from_slice(alloc, b"/usr/local/lib")?)?;
+    paths.push(PathText::from_slice(alloc, b"/usr/lib")?)?;
+    paths.push(PathText::from_slice(alloc, b"/lib")?)?;
+    Ok(paths)
 }
 
 /// The name of the folders of a tool's configuration.
@@ -122,10 +129,10 @@ fn one_folder(
 fn list_folders<F: Reads>(
     alloc: Global,
     tool: Tool,
-    roots: &[&[u8]],
+    roots: &[PathText],
     files: &mut F,
 ) -> Result<Items<ListedFolder>, Stop>
-    ensures { (out err : OutSeen) → Follows (λ x. x) (lists_folders (folder_name_of tool) (map (λ root. root.now) roots.now))
+    ensures { (out err : OutSeen) → Follows (λ x. x) (lists_folders (folder_name_of tool) roots.now)
         (world (F.seen files.old) out err) (world (F.seen files.new) out err) result }
 {
     let name = folder_name(tool);
@@ -140,15 +147,14 @@ fn list_folders<F: Reads>(
 fn with_folder<F: Reads>(
     alloc: Global,
     mut listed: Items<ListedFolder>,
-    root: &[u8],
+    root: &PathText,
     name: &[u8],
     files: &mut F,
 ) -> Result<Items<ListedFolder>, Stop>
     ensures { (out err : OutSeen) → Follows (λ x. x) (lists_folder name.now listed root.now)
         (world (F.seen files.old) out err) (world (F.seen files.new) out err) result }
 {
-    let root = PathText::from_slice(alloc, root)?;
-    let path = join(alloc, &root, name)?;
+    let path = join(alloc, root, name)?;
     let named = PathText::from_slice(alloc, path.as_bytes())?;
     let names = list_conf_optional(alloc, files, named)?;
     listed.push(ListedFolder { path, names })?;
@@ -245,8 +251,8 @@ fn with_file<F: Reads>(
     ensures limit { IfOk result (λ more. All (λ file. length file.bytes ≤ file_limit) more) }
 {
     let named = PathText::from_slice(alloc, path.as_bytes())?;
-    let path = PathText::from_slice(alloc, path.as_bytes())?;
+    let own = PathText::from_slice(alloc, path.as_bytes())?;
     let bytes = read_needed(alloc, files, named)?;
-    read.push(ConfFile { path, bytes })?;
+    read.push(ConfFile { path: own, bytes })?;
     Ok(read)
 }
