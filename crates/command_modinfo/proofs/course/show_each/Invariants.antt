@@ -4,7 +4,7 @@ use Rattle.km_outside.specs.OutSeen.{OutSeen}
 use Rattle.km_course.specs.World.{world}
 use Rattle.km_course.proofs.Steps.{LeadsTo}
 use Rattle.command_modinfo.specs.Modinfo.{shows_each}
-use Rattle.command_modinfo.proofs.modinfo.show_each.Given as goal
+use Rattle.command_modinfo.proofs.course.show_each.Given as goal
 
 -- Whatever shows the other words from here shows all from the start.
 abbrev pub invariant-loop-word : goal.invariant-loop-word

@@ -7,7 +7,7 @@ use Rattle.km_course.specs.Follows.{Answers, Follows}
 use Rattle.km_course.specs.declared.end.End.TheVariants.{NotUnderstood}
 use Rattle.km_course.proofs.Steps.{wants, answered}
 use Rattle.command_modinfo.specs.Modinfo.{modinfo_asked_for}
-use Rattle.command_modinfo.proofs.modinfo.modinfo.Goals as goal
+use Rattle.command_modinfo.proofs.course.modinfo.Goals as goal
 
 pub returns-in_err-asked : goal.returns-in_err-asked
 returns-in_err-asked g c = λ err.

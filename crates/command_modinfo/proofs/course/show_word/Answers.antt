@@ -4,7 +4,7 @@ use Rattle.std.proofs.lemmas.Result.{err_from_is_err_and}
 use Rattle.km_course.proofs.Steps.{next, exits, answered}
 use Rattle.command_modinfo.specs.Modinfo.{path_asked}
 use Rattle.command_modinfo.proofs.SourceSteps.{shows_found}
-use Rattle.command_modinfo.proofs.modinfo.show_word.Goals as goal
+use Rattle.command_modinfo.proofs.course.show_word.Goals as goal
 
 pub returns-in_err-path : goal.returns-in_err-path
 returns-in_err-path g c = λ err.

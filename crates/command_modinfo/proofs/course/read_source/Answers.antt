@@ -4,11 +4,11 @@ use Rattle.std.proofs.lemmas.Result.{err_from_is_err_and}
 use Rattle.km_course.specs.World.{world}
 use Rattle.km_course.specs.Follows.{Follows}
 use Rattle.km_course.proofs.Steps.{next, exits, wants, gave}
-use Rattle.command_modinfo.specs.declared.modinfo.Source.{Source}
-use Rattle.command_modinfo.specs.declared.modinfo.Source.TheVariants.{Paths, Names}
+use Rattle.command_modinfo.specs.declared.course.Source.{Source}
+use Rattle.command_modinfo.specs.declared.course.Source.TheVariants.{Paths, Names}
 use Rattle.command_modinfo.specs.Modinfo.{reads_source}
 use Rattle.command_modinfo.proofs.SourceSteps.{by_version, named}
-use Rattle.command_modinfo.proofs.modinfo.read_source.Goals as goal
+use Rattle.command_modinfo.proofs.course.read_source.Goals as goal
 
 pub returns-in_err-folder-in-Some : goal.returns-in_err-folder-in-Some
 returns-in_err-folder-in-Some g c = λ out err.

@@ -6,7 +6,7 @@ use Rattle.km_course.specs.Follows.{Follows}
 use Rattle.km_course.proofs.Steps.{next, exits}
 use Rattle.command_modinfo.specs.Modinfo.{options_asked, shows_each}
 use Rattle.command_modinfo.proofs.SourceSteps.{shows_from}
-use Rattle.command_modinfo.proofs.modinfo.show_asked.Goals as goal
+use Rattle.command_modinfo.proofs.course.show_asked.Goals as goal
 
 pub returns-in_err-source : goal.returns-in_err-source
 returns-in_err-source g c = λ err.

@@ -7,7 +7,7 @@ use Rattle.km_course.specs.Course.{says_any}
 use Rattle.km_course.specs.Follows.{Follows}
 use Rattle.km_course.proofs.Steps.{next, exits, wants}
 use Rattle.command_modinfo.proofs.SourceSteps.{said}
-use Rattle.command_modinfo.proofs.modinfo.show_module.Goals as goal
+use Rattle.command_modinfo.proofs.course.show_module.Goals as goal
 
 pub returns-in_err-named : goal.returns-in_err-named
 returns-in_err-named g c = λ err.

@@ -7,7 +7,7 @@ use Rattle.km_course.specs.Follows.{Follows}
 use Rattle.km_course.proofs.Steps.{next, exits, gave}
 use Rattle.command_modinfo.specs.Modinfo.{shows_each}
 use Rattle.command_modinfo.proofs.SourceSteps.{next-word, shows_rest}
-use Rattle.command_modinfo.proofs.modinfo.show_each.Goals as goal
+use Rattle.command_modinfo.proofs.course.show_each.Goals as goal
 
 pub returns-in_err-show_word : goal.returns-in_err-show_word
 returns-in_err-show_word g c = λ err.
