@@ -6,13 +6,13 @@ use Rattle.depmod_core.specs.declared.fault.OutputFault.{OutputFault}
 use Rattle.depmod_core.specs.declared.fault.OutputFault.TheVariants as faults
 use Rattle.depmod_core.specs.declared.file.OutputFile.{OutputFile}
 use Rattle.depmod_core.specs.declared.files.OutputFiles.{OutputFiles}
-use Rattle.depmod_core.specs.Files.{file_name, outputs_of}
+use Rattle.depmod_core.specs.Files.{file_name, content, outputs_of}
 use Rattle.km_course.specs.Course.{Stage, given, each_from, puts, says_any}
 use Rattle.km_course.specs.Course.Outcome.{value, end}
 use Rattle.km_course.specs.declared.end.End.TheVariants.{Refused}
 use Rattle.km_course.specs.declared.refusal.Refusal.TheVariants.{OutputTooLarge}
 use Rattle.command_depmod.specs.Relation.{Tree}
-use Rattle.command_depmod.specs.Outputs.{outputs_outcome, contents}
+use Rattle.command_depmod.specs.Outputs.{outputs_outcome}
 
 -- the stage after modules.builtin was read
 abbrev pub made_of : Tree → List ℕ → Stage OutputFiles
@@ -20,13 +20,13 @@ made_of tree builtin = given (outputs_outcome (outputs_of tree.facts tree.kernel
 
 -- the stage of a file, and of those after it
 abbrev pub puts_file : List ℕ → OutputFiles → ⊤ → OutputFile → Stage ⊤
-puts_file folder made _ file = puts (path_below folder (file_name file)) (contents made file)
+puts_file folder made _ file = puts (path_below folder (file_name file)) (content made file)
 
 abbrev pub puts_others : List ℕ → OutputFiles → List OutputFile → ⊤ → Stage ⊤
 puts_others folder made files _ = each_from (puts_file folder made) tt files
 
 abbrev pub says_file : OutputFiles → ⊤ → OutputFile → Stage ⊤
-says_file made _ file = says_any (contents made file)
+says_file made _ file = says_any (content made file)
 
 abbrev pub says_others : OutputFiles → List OutputFile → ⊤ → Stage ⊤
 says_others made files _ = each_from (says_file made) tt files

@@ -6,7 +6,7 @@ use Rattle.depmod_core.specs.declared.fault.OutputFault.TheVariants as faults
 use Rattle.depmod_core.specs.declared.file.OutputFile.{OutputFile}
 use Rattle.depmod_core.specs.declared.file.OutputFile.TheVariants.{Dep, DepBin, Alias, AliasBin, Softdep, Symbols, SymbolsBin, BuiltinBin, Unmet}
 use Rattle.depmod_core.specs.declared.files.OutputFiles.{OutputFiles}
-use Rattle.depmod_core.specs.Files.{file_name, outputs_of}
+use Rattle.depmod_core.specs.Files.{file_name, content, outputs_of}
 use Rattle.km_course.specs.Course.{Act, Outcome, Stage, ◌>>=◌, given, reads_any, puts, says_any, each_from, when◌then◌else◌}
 use Rattle.km_course.specs.Course.Act.{put}
 use Rattle.km_course.specs.Course.Outcome.{value, end}
@@ -32,18 +32,6 @@ makes_outputs folder tree = do
   builtin ← reads_any (path_below folder (codes "modules.builtin"))
   given (outputs_outcome (outputs_of tree.facts tree.kernel builtin))
 
--- the bytes of a file
-abbrev pub contents : OutputFiles → OutputFile → List ℕ
-contents made Dep = made.dep
-contents made DepBin = made.dep_bin
-contents made Alias = made.alias
-contents made AliasBin = made.alias_bin
-contents made Softdep = made.softdep
-contents made Symbols = made.symbols
-contents made SymbolsBin = made.symbols_bin
-contents made BuiltinBin = made.builtin_bin
-contents made Unmet = made.unmet
-
 -- all nine files, in the order in which they are replaced
 abbrev pub all_files : List OutputFile
 all_files = Dep ∷ DepBin ∷ Alias ∷ AliasBin ∷ Softdep ∷ Symbols ∷ SymbolsBin ∷ BuiltinBin ∷ Unmet ∷ []
@@ -55,11 +43,11 @@ text_files = Dep ∷ Alias ∷ Softdep ∷ Symbols ∷ Unmet ∷ []
 -- Some of the files are put into the folder, one after the other.
 abbrev pub puts_each : List ℕ → OutputFiles → List OutputFile → Stage ⊤
 puts_each folder made files =
-    each_from (λ _ file. puts (path_below folder (file_name file)) (contents made file)) tt files
+    each_from (λ _ file. puts (path_below folder (file_name file)) (content made file)) tt files
 
 -- Some of the files are written to the output, one after the other.
 abbrev pub says_each : OutputFiles → List OutputFile → Stage ⊤
-says_each made files = each_from (λ _ file. says_any (contents made file)) tt files
+says_each made files = each_from (λ _ file. says_any (content made file)) tt files
 
 -- With `-n` the text files are written to the output, and nothing is replaced; else all files are put into the folder.
 abbrev pub hands_out : Bool → List ℕ → OutputFiles → Stage ⊤

@@ -7,7 +7,7 @@ ghost use Rattle.km_course.specs.Follows.{Answers, Follows};
 ghost use Rattle.depmod_core.specs.Files.{outputs_of};
 ghost use Rattle.provider_rel.specs.Faces.{kernel_of};
 ghost use Rattle.command_depmod.specs.Related.{IsRelated, seen_tree};
-ghost use Rattle.command_depmod.specs.Outputs.{contents as contents_of, hands_out, makes_outputs, outputs_outcome, puts_each, says_each};
+ghost use Rattle.command_depmod.specs.Outputs.{hands_out, makes_outputs, outputs_outcome, puts_each, says_each};
 
 use crate::relation::RelatedTree;
 use depmod_core::{OutputFault, OutputFile, OutputFiles, outputs};
@@ -93,7 +93,7 @@ fn say_each<O: Out>(made: &OutputFiles, which: &[OutputFile], out: &mut O) -> Re
         (world files (O.seen out.old) err) (world files (O.seen out.new) err) result }
 {
     for file in which {
-        say_any(out, contents(made, *file))?;
+        say_any(out, made.content(*file))?;
     }
     Ok(())
 }
@@ -111,24 +111,7 @@ fn put_each<F: Writes>(
 {
     for file in which {
         let path = join(alloc, folder, file.name())?;
-        put(alloc, files, path, contents(made, *file))?;
+        put(alloc, files, path, made.content(*file))?;
     }
     Ok(())
-}
-
-/// The bytes of a file.
-fn contents(made: &OutputFiles, file: OutputFile) -> &[u8]
-    ensures { result.now ≡ contents_of made.now file }
-{
-    match file {
-        OutputFile::Dep => made.dep.as_bytes(),
-        OutputFile::DepBin => made.dep_bin.as_bytes(),
-        OutputFile::Alias => made.alias.as_bytes(),
-        OutputFile::AliasBin => made.alias_bin.as_bytes(),
-        OutputFile::Softdep => made.softdep.as_bytes(),
-        OutputFile::Symbols => made.symbols.as_bytes(),
-        OutputFile::SymbolsBin => made.symbols_bin.as_bytes(),
-        OutputFile::BuiltinBin => made.builtin_bin.as_bytes(),
-        OutputFile::Unmet => made.unmet.as_bytes(),
-    }
 }
