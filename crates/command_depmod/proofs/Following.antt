@@ -21,6 +21,11 @@ pub leads-item : {T S A : Type 0} (view : T → S) (whole : Stage S) (began now 
 leads-item view whole began now step state items i item h is leads =
     subst (λ rest. LeadsTo view whole began (each_from step state rest) now) (next-item items i item h is) leads
 
+-- the same of an item that is named by its place
+pub leads-at : {T S A : Type 0} (view : T → S) (whole : Stage S) (began now : World) (step : S → A → Stage S) (state : S) (items : List A) (i : ℕ) (d : A) → i < length items → LeadsTo view whole began (each_from step state (drop i items)) now → LeadsTo view whole began (each_from step state (get_or items i d ∷ drop (i + 1) items)) now
+leads-at view whole began now step state items i d h leads =
+    subst (λ rest. LeadsTo view whole began (each_from step state rest) now) (drop_more items i d h) leads
+
 -- no item is left
 pub leads-done : {T S A : Type 0} (view : T → S) (whole : Stage S) (began now : World) (step : S → A → Stage S) (x : T) (items : List A) (i : ℕ) → length items ≤ i → LeadsTo view whole began (each_from step (view x) (drop i items)) now → Follows view whole began now (Ok x)
 leads-done view whole began now step x items i h leads =

@@ -40,14 +40,21 @@ all_files = Dep ∷ DepBin ∷ Alias ∷ AliasBin ∷ Softdep ∷ Symbols ∷ Sy
 abbrev pub text_files : List OutputFile
 text_files = Dep ∷ Alias ∷ Softdep ∷ Symbols ∷ Unmet ∷ []
 
+-- A file is put into the folder.
+abbrev pub puts_file : List ℕ → OutputFiles → OutputFile → Stage ⊤
+puts_file folder made file = puts (path_below folder (file_name file)) (content made file)
+
 -- Some of the files are put into the folder, one after the other.
 abbrev pub puts_each : List ℕ → OutputFiles → List OutputFile → Stage ⊤
-puts_each folder made files =
-    each_from (λ _ file. puts (path_below folder (file_name file)) (content made file)) tt files
+puts_each folder made files = each_from (λ _ file. puts_file folder made file) tt files
+
+-- A file is written to the output, if it has any bytes.
+abbrev pub says_file : OutputFiles → OutputFile → Stage ⊤
+says_file made file = says_any (content made file)
 
 -- Some of the files are written to the output, one after the other.
 abbrev pub says_each : OutputFiles → List OutputFile → Stage ⊤
-says_each made files = each_from (λ _ file. says_any (content made file)) tt files
+says_each made files = each_from (λ _ file. says_file made file) tt files
 
 -- With `-n` the text files are written to the output, and nothing is replaced; else all files are put into the folder.
 abbrev pub hands_out : Bool → List ℕ → OutputFiles → Stage ⊤

@@ -7,7 +7,7 @@ ghost use Rattle.km_course.specs.Follows.{Answers, Follows};
 ghost use Rattle.depmod_core.specs.Files.{outputs_of};
 ghost use Rattle.provider_rel.specs.Faces.{kernel_of};
 ghost use Rattle.command_depmod.specs.Related.{IsRelated, seen_tree};
-ghost use Rattle.command_depmod.specs.Outputs.{hands_out, makes_outputs, outputs_outcome, puts_each, says_each};
+ghost use Rattle.command_depmod.specs.Outputs.{hands_out, makes_outputs, outputs_outcome, puts_each, puts_file, says_each, says_file};
 
 use crate::relation::RelatedTree;
 use depmod_core::{OutputFault, OutputFile, OutputFiles, outputs};
@@ -93,9 +93,17 @@ fn say_each<O: Out>(made: &OutputFiles, which: &[OutputFile], out: &mut O) -> Re
         (world files (O.seen out.old) err) (world files (O.seen out.new) err) result }
 {
     for file in which {
-        say_any(out, made.content(*file))?;
+        say_file(made, *file, out)?;
     }
     Ok(())
+}
+
+/// Writes a file to the output, if it has any bytes.
+fn say_file<O: Out>(made: &OutputFiles, file: OutputFile, out: &mut O) -> Result<(), Stop>
+    ensures { (files : FilesSeen) (err : OutSeen) → Follows (λ x. x) (says_file made.now file)
+        (world files (O.seen out.old) err) (world files (O.seen out.new) err) result }
+{
+    say_any(out, made.content(file))
 }
 
 /// Puts some of the files into the folder, one after the other, each whole or not at all.
@@ -110,8 +118,22 @@ fn put_each<F: Writes>(
         (world (F.seen files.old) out err) (world (F.seen files.new) out err) result }
 {
     for file in which {
-        let path = join(alloc, folder, file.name())?;
-        put(alloc, files, path, made.content(*file))?;
+        put_file(alloc, folder, made, *file, files)?;
     }
     Ok(())
+}
+
+/// Puts a file into the folder, whole or not at all.
+fn put_file<F: Writes>(
+    alloc: Global,
+    folder: &PathText,
+    made: &OutputFiles,
+    file: OutputFile,
+    files: &mut F,
+) -> Result<(), Stop>
+    ensures { (out err : OutSeen) → Follows (λ x. x) (puts_file folder.now made.now file)
+        (world (F.seen files.old) out err) (world (F.seen files.new) out err) result }
+{
+    let path = join(alloc, folder, file.name())?;
+    put(alloc, files, path, made.content(file))
 }

@@ -1,20 +1,28 @@
-use Rattle.std.proofs.Common.{◌+◌, drop, ap, sym, subst, ◌∙◌}
-use Rattle.std.specs.Prelude.{Ok, Err, ⊤}
+use Rattle.std.proofs.Common.{◌+◌, drop}
+use Rattle.std.specs.Prelude.{⊤}
 use Rattle.std.proofs.lemmas.Result.{err_from_is_err_and}
-use Rattle.km_names.specs.Path.{path_below}
-use Rattle.km_course.specs.World.{world}
-use Rattle.km_course.specs.Course.{puts}
-use Rattle.km_course.specs.Follows.{Follows}
-use Rattle.km_course.proofs.Steps.{exits, no_memory, leads-on}
-use Rattle.command_depmod.proofs.Following.{leads-item, leads-done}
-use Rattle.command_depmod.proofs.OutputSteps.{puts_file, puts_others, put_at}
+use Rattle.depmod_core.specs.declared.file.OutputFile.TheVariants.{Dep}
+use Rattle.km_course.proofs.Steps.{exits, leads-on}
+use Rattle.command_depmod.proofs.Following.{leads-at, leads-done}
+use Rattle.command_depmod.proofs.OutputSteps.{put_one, put_others}
 use Rattle.command_depmod.proofs.outputs.put_each.Goals as goal
 
-pub returns-in_err-path : goal.returns-in_err-path
-returns-in_err-path g c = λ out err.
+pub returns-in_err-put_file : goal.returns-in_err-put_file
+returns-in_err-put_file g c = λ out err.
     let p = err_from_is_err_and c.from_residual.result c.from_residual.ensures.1 in
-    let step = puts_file c.args.folder.now c.args.made.now in
+    let step = put_one c.args.folder.now c.args.made.now in
     let which = c.args.which.now in
-    leads-item (λ (x : ⊤). x) _ _ _ step tt which c.loop-file.file-index c.file.now c.loop-file-test.true c.file-item.is (c.loop-file.invariant out err) _ _
-    (exits _ _ (puts_others c.args.folder.now c.args.made.now (drop (c.loop-file.file-index + 1) which)) p.1 p.2
-    (no_memory (λ (x : ⊤). x) (step tt c.file.now) _))
+    leads-at (λ (x : ⊤). x) _ _ _ step tt which c.loop-file.file-index Dep c.loop-file-test.true (c.loop-file.invariant out err) _ _
+    (exits _ _ (put_others c.args.folder.now c.args.made.now (drop (c.loop-file.file-index + 1) which)) p.1 p.2 (c.in_err-put_file.ensures out err))
+
+pub loop-file-preserved : goal.loop-file-preserved
+loop-file-preserved g c = λ out err.
+    let step = put_one c.args.folder.now c.args.made.now in
+    let which = c.args.which.now in
+    leads-on (λ (x : ⊤). x) _ _ _ _ step tt _ (drop (c.loop-file.file-index + 1) which) tt
+    (leads-at (λ (x : ⊤). x) _ _ _ step tt which c.loop-file.file-index Dep c.loop-file-test.true (c.loop-file.invariant out err))
+    (c.in_ok-put_file.ensures out err)
+
+pub returns : goal.returns
+returns g c = λ out err.
+    leads-done (λ (x : ⊤). x) _ _ _ (put_one c.args.folder.now c.args.made.now) tt c.args.which.now c.loop-file.file-index c.loop-file-test.false (c.loop-file.invariant out err)
