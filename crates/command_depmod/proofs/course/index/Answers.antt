@@ -1,6 +1,8 @@
 use Rattle.std.proofs.Common.{◌≡◌, ap, sym, ◌∙◌}
 use Rattle.std.specs.Prelude.{is_some, ⊤}
 use Rattle.std.proofs.lemmas.Result.{err_from_is_err_and}
+use Rattle.symbol_binding.specs.Unmet.{unmet}
+use Rattle.provider_rel.specs.Faces.{modules_of}
 use Rattle.km_course.specs.Course.{◌>>=◌}
 use Rattle.km_course.proofs.Steps.{next, exits, wants}
 use Rattle.command_depmod.specs.Depmod.{modules_of_request, target_of_request, reads_related}
@@ -53,7 +55,7 @@ returns-in_err-warn_unmet g c =
     (next (made asked.errsyms (is_some asked.symvers) asked.dry_run (target_of_request asked) tree)
     (along (λ folder. makes_outputs folder tree) _ _ c.in_ok-folder.ensures
     (c.in_ok-made.ensures (g.O.Out.seen c.args.out.now) (g.E.Out.seen c.args.err.now)))
-    (along (λ versions. warns_unmet asked.errsyms versions _ >>= last) _ _ c.is_some-versions.ensures
+    (along (λ versions. warns_unmet asked.errsyms versions (unmet (modules_of tree.facts) tree.kernel) >>= last) _ _ c.is_some-versions.ensures
     (along (λ obstacles. warns_unmet asked.errsyms c.is_some-versions.result obstacles >>= last) _ _ (c.as_slice.ensures ∙ c.obstacles.ensures ∙ c.in_ok-tree.ensures.related.relation.obstacles)
     (exits _ _ last p.1 p.2 (c.in_err-warn_unmet.ensures (g.F.Reads.seen c.make_outputs.new.files) (g.O.Out.seen c.args.out.now))))))
 
@@ -68,7 +70,7 @@ returns g c =
     (along (λ folder. makes_outputs folder tree) _ _ c.in_ok-folder.ensures
     (c.in_ok-made.ensures (g.O.Out.seen c.args.out.now) (g.E.Out.seen c.args.err.now)))
     (next (warned asked.dry_run (target_of_request asked) c.in_ok-made.made)
-    (along (λ versions. warns_unmet asked.errsyms versions _) _ _ c.is_some-versions.ensures
+    (along (λ versions. warns_unmet asked.errsyms versions (unmet (modules_of tree.facts) tree.kernel)) _ _ c.is_some-versions.ensures
     (along (λ obstacles. warns_unmet asked.errsyms c.is_some-versions.result obstacles) _ _ (c.as_slice.ensures ∙ c.obstacles.ensures ∙ c.in_ok-tree.ensures.related.relation.obstacles)
     (c.in_ok-warn_unmet.ensures (g.F.Reads.seen c.make_outputs.new.files) (g.O.Out.seen c.args.out.now))))
     (along (λ target. hands_out asked.dry_run target c.in_ok-made.made) _ _ c.in_ok-target.ensures (c.hand_out.ensures (g.E.Out.seen c.warn_unmet.new.err)))))
