@@ -4,6 +4,8 @@ ghost use Rattle.kmod_cli.specs.Program.{command_named};
 /// A command of the program. Each has a course, which the words after its name decide.
 #[derive(Clone, Copy)]
 pub(crate) enum Command {
+    /// Indexes the modules of a kernel. depmod(8).
+    Depmod,
     /// Shows what modules say of themselves. modinfo(8).
     Modinfo,
 }
@@ -13,6 +15,9 @@ pub(crate) enum Command {
 pub(crate) fn command_named(word: &[u8]) -> Option<Command>
     ensures { result ≡ command_named word.now }
 {
+    if word == b"depmod".as_slice() {
+        return Some(Command::Depmod);
+    }
     if word == b"modinfo".as_slice() {
         return Some(Command::Modinfo);
     }
