@@ -1,0 +1,153 @@
+// The sheets of a trial's modules.
+ghost use Rattle.std.specs.Prelude.{◌≡◌, [], ◌∷◌, map, IfOk};
+ghost use Rattle.tree_gen.specs.Trial.{digit as last_digit, four_digits as digits_of, symbol_name as name_of_symbol, exported as exported_by, printk as printk_of_kernel, needed as needed_of, stated, strong, address, texts as texts_of, module_sheet as sheet_of};
+
+use crate::sheet::{
+    Sheet, SheetExport, SheetExports, SheetNeed, SheetNeeds, SheetPlace, SheetPlaces, SheetVersion,
+    SheetVersions,
+};
+use elf_format::R_X86_64_64;
+use km_names::{Blob, Name, Texts};
+use std::alloc::{AllocError, Global};
+
+/// The version of the kernel's `printk`.
+const PRINTK_VERSION: u64 = 0x1111_1111;
+
+/// The version of the symbol of module 0.
+const FIRST_VERSION: u64 = 0x2000_0000;
+
+/// The last decimal digit of a number.
+fn digit(number: u32) -> u8
+    ensures { result ≡ last_digit number }
+{
+    b'0' + (number % 10) as u8
+}
+
+/// The last four decimal digits of a number.
+pub(crate) fn four_digits(number: u32) -> [u8; 4]
+    ensures { result ≡ digits_of number }
+{
+    [
+        digit(number / 1000),
+        digit(number / 100),
+        digit(number / 10),
+        digit(number),
+    ]
+}
+
+/// The name of the symbol that a module exports.
+#[tactic(auto, unfolding(crate::specs::Trial::symbol_name))]
+fn symbol_name(alloc: Global, module: u32) -> Result<Name, AllocError>
+    ensures { IfOk result (λ name. name ≡ name_of_symbol module) }
+{
+    let mut name = Name::from_slice(alloc, b"s")?;
+    name.extend(&four_digits(module))?;
+    Ok(name)
+}
+
+/// The symbol that a module exports, with its version.
+fn exported(alloc: Global, module: u32) -> Result<SheetVersion, AllocError>
+    ensures { IfOk result (λ version. version ≡ exported_by module) }
+{
+    let name = symbol_name(alloc, module)?;
+    let crc = FIRST_VERSION + u64::from(module);
+    Ok(SheetVersion { name, crc })
+}
+
+/// The symbol of the kernel that each module needs, with its version.
+fn printk(alloc: Global) -> Result<SheetVersion, AllocError>
+    ensures { IfOk result (λ version. version ≡ printk_of_kernel) }
+{
+    let name = Name::from_slice(alloc, b"printk")?;
+    Ok(SheetVersion {
+        name,
+        crc: PRINTK_VERSION,
+    })
+}
+
+/// The symbols that a module needs which draws these modules, with their versions.
+fn needed(alloc: Global, modules: &[u32]) -> Result<SheetVersions, AllocError>
+    ensures { IfOk result (λ versions. versions ≡ needed_of modules.now) }
+{
+    let mut versions = SheetVersions::new(alloc);
+    versions.push(printk(alloc)?)?;
+    for module in modules {
+        versions.push(exported(alloc, *module)?)?;
+    }
+    Ok(versions)
+}
+
+/// The symbol of a module as its one export.
+fn exports(alloc: Global, module: u32) -> Result<SheetExports, AllocError>
+    ensures { IfOk result (λ exports. exports ≡ stated (exported_by module) ∷ []) }
+{
+    let SheetVersion { name, crc } = exported(alloc, module)?;
+    let mut exports = SheetExports::new(alloc);
+    exports.push(SheetExport {
+        name,
+        crc: Some(crc),
+    })?;
+    Ok(exports)
+}
+
+/// Needs of these symbols, none of them weak.
+fn needs(alloc: Global, needed: &[SheetVersion]) -> Result<SheetNeeds, AllocError>
+    ensures { IfOk result (λ needs. needs ≡ map strong needed.now) }
+{
+    let mut needs = SheetNeeds::new(alloc);
+    for version in needed {
+        let name = Name::from_slice(alloc, version.name.as_bytes())?;
+        needs.push(SheetNeed { name, weak: false })?;
+    }
+    Ok(needs)
+}
+
+/// A word for the address of each of these symbols.
+fn places(alloc: Global, needed: &[SheetVersion]) -> Result<SheetPlaces, AllocError>
+    ensures { IfOk result (λ places. places ≡ map address needed.now) }
+{
+    let mut places = SheetPlaces::new(alloc);
+    for version in needed {
+        let symbol = Name::from_slice(alloc, version.name.as_bytes())?;
+        places.push(SheetPlace {
+            kind: R_X86_64_64,
+            symbol,
+            addend: 0,
+        })?;
+    }
+    Ok(places)
+}
+
+/// The texts of a module.
+fn texts(alloc: Global, module: u32) -> Result<Texts, AllocError>
+    ensures { IfOk result (λ texts. texts ≡ texts_of module) }
+{
+    let license = Blob::from_slice(alloc, b"license=GPL")?;
+    let mut alias = Blob::from_slice(alloc, b"alias=trial:m")?;
+    alias.extend(&four_digits(module))?;
+    let mut texts = Texts::new(alloc);
+    texts.push(license)?;
+    texts.push(alias)?;
+    Ok(texts)
+}
+
+/// The sheet of a module that draws these modules.
+#[tactic(auto, unfolding(crate::specs::Trial::module_sheet))]
+pub(crate) fn module_sheet(
+    alloc: Global,
+    module: u32,
+    modules: &[u32],
+) -> Result<Sheet, AllocError>
+    ensures { IfOk result (λ sheet. sheet ≡ sheet_of module modules.now) }
+{
+    let versions = needed(alloc, modules)?;
+    let needs = needs(alloc, versions.as_slice())?;
+    let places = places(alloc, versions.as_slice())?;
+    Ok(Sheet {
+        texts: texts(alloc, module)?,
+        versions,
+        exports: exports(alloc, module)?,
+        needs,
+        places,
+    })
+}
