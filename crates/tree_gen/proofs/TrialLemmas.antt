@@ -1,7 +1,7 @@
 -- The made tree of a trial: what is drawn, and that each module has a sheet.
-use Rattle.std.proofs.Common.{◌≡◌, ℕ, zero, suc, ◌+◌, ◌-◌, ◌*◌, ◌/◌, ◌%◌, ◌^◌, ◌<◌, ◌==◌, ◌≢◌, Bool, true, false, not, nat_le, List, [], ◌∷◌, ◌++◌, length, get_or, codes, fold, refl, sym, ap, ◌∙◌, arith, add-zero}
+use Rattle.std.proofs.Common.{◌≡◌, ℕ, zero, suc, ◌+◌, ◌-◌, ◌*◌, ◌/◌, ◌%◌, ◌^◌, ◌<◌, ◌==◌, ◌≢◌, true, false, not, nat_le, List, [], ◌∷◌, ◌++◌, length, get_or, codes, fold, refl, sym, ap, ◌∙◌, arith, add-zero, add-one}
 use Rattle.std.proofs.Math.Nat.{mod-add-mod}
-use Rattle.std.proofs.lemmas.Bool.{ne_eqb, or_from, false_from_ne_true, cond_both, eqb-true, eqb-false}
+use Rattle.std.proofs.lemmas.Bool.{ne_eqb, false_from_ne_true, cond_both, eqb-false}
 use Rattle.std.proofs.lemmas.Cmp.{nat_list_eq_equiv}
 use Rattle.std.proofs.lemmas.List.Sums.{fold-append}
 use Rattle.std.proofs.lemmas.Nat.{mod_below}
@@ -20,6 +20,11 @@ next_wraps x = mod-add-mod (x * 6364136223846793005) (2 ^ 64) 144269504088896340
 pub start_more : (seed m x : ℕ) → 0 < m → x ≡ start_of seed m → next (next x) ≡ start_of seed (m + 1)
 start_more seed m x some is =
     let twice : 2 * (m + 1 - 1) ≡ suc (suc (2 * (m - 1))) = omega arith in rw twice (ap (λ y. next (next y)) is)
+
+-- the first module draws nothing
+pub start_first : (seed m x : ℕ) → m ≡ 0 → x ≡ start_of seed m → x ≡ start_of seed (m + 1)
+start_first seed zero x first is = is
+start_first seed (suc m) x first is = absurd (omega arith)
 
 digit-no_nul : (n : ℕ) → (digit n == 0) ≡ false
 digit-no_nul n = ne_eqb (digit n) 0 (λ e. omega arith)
@@ -105,14 +110,14 @@ is_sheet_made i x small =
     cond_both (i == 0) [] (without_twin a b) Fits
     (λ _. sheet-none i)
     (λ e.
-        let some : i ≢ 0 = eqb-false i 0 e in
-        let less-a : a < i = mod_below (after 1 x / 2 ^ 33) i (omega arith) in
-        let less-b : b < i = mod_below (after 2 x / 2 ^ 33) i (omega arith) in
-        cond_both (a == b) (a ∷ []) (a ∷ b ∷ []) Fits
-        (λ _. sheet-one i a small less-a)
-        (λ d. sheet-two i a b small less-a less-b (eqb-false a b d)))
+    let some : i ≢ 0 = eqb-false i 0 e in
+    let less-a : a < i = mod_below (after 1 x / 2 ^ 33) i (omega arith) in
+    let less-b : b < i = mod_below (after 2 x / 2 ^ 33) i (omega arith) in
+    cond_both (a == b) (a ∷ []) (a ∷ b ∷ []) Fits
+    (λ _. sheet-one i a small less-a)
+    (λ d. sheet-two i a b small less-a less-b (eqb-false a b d)))
 
-range-more : (a n : ℕ) → range_with_len a (n + 1) ≡ range_with_len a n ++ (a + n) ∷ []
+range-more : (a n : ℕ) → range_with_len a (suc n) ≡ range_with_len a n ++ (a + n) ∷ []
 range-more a zero = ap (λ k. k ∷ []) (sym (add-zero a))
 range-more a (suc n) =
     let next : a + 1 + n ≡ a + suc n = omega arith in ap (λ l. a ∷ l) (range-more (a + 1) n ∙ ap (λ k. range_with_len (a + 1) n ++ k ∷ []) next)
@@ -120,4 +125,8 @@ range-more a (suc n) =
 -- the tree with a module more
 pub trial_more : (seed n : ℕ) → trial_files seed (n + 1) ≡ with_module seed (trial_files seed n) n
 unfolding trial_files
-trial_more seed n = ap (fold (with_module seed) kernel_files) (range-more 0 n) ∙ fold-append (with_module seed) kernel_files (range_with_len 0 n) (n ∷ [])
+trial_more seed n =
+    let last : 0 + n ≡ n = omega arith in
+    ap (λ k. fold (with_module seed) kernel_files (range_with_len 0 k)) (add-one n)
+    ∙ ap (fold (with_module seed) kernel_files) (range-more 0 n ∙ ap (λ k. range_with_len 0 n ++ k ∷ []) last)
+    ∙ fold-append (with_module seed) kernel_files (range_with_len 0 n) (n ∷ [])

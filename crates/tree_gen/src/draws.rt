@@ -38,17 +38,17 @@ impl Draws {
         ((self.last >> LOW_BITS) % u64::from(end)) as u32
     }
 
-    /// The modules that a module draws: none for the first, and else the two numbers below its own that follow,
-    /// or one where they are equal.
+    /// The modules that the module of this number draws: none for the first, and else the two numbers below its own
+    /// that follow, or one where they are equal.
     #[tactic(auto, unfolding(crate::specs::Trial::drawn))]
-    pub(crate) fn modules(&mut self, alloc: Global, module: u32) -> Result<Vec<u32>, AllocError>
-        ensures modules { IfOk result (λ v. v.items ≡ drawn module self.old.last) }
-        ensures next { IfOk result (λ _. (seed : ℕ) → self.old.last ≡ start_of seed module → self.new.last ≡ start_of seed (module + 1)) }
+    pub(crate) fn modules(&mut self, alloc: Global, number: u32) -> Result<Vec<u32>, AllocError>
+        ensures modules { IfOk result (λ v. v.items ≡ drawn number self.old.last) }
+        ensures next { IfOk result (λ _. (seed : ℕ) → self.old.last ≡ start_of seed number → self.new.last ≡ start_of seed (number + 1)) }
     {
         let mut modules = Vec::new(alloc);
-        if module > 0 {
-            let first = self.draw(module);
-            let second = self.draw(module);
+        if number > 0 {
+            let first = self.draw(number);
+            let second = self.draw(number);
             modules.push(first)?;
             if second != first {
                 modules.push(second)?;

@@ -14,26 +14,26 @@ const SYMVERS: &[u8] = b"0x11111111\tprintk\tvmlinux\tEXPORT_SYMBOL\n";
 /// The kernel's addresses, as `System.map` lists them.
 const SYSTEM_MAP: &[u8] = b"ffffffff81000000 T printk\n";
 
-/// The path of a module.
+/// The path of the module of this number.
 #[tactic(auto, unfolding(crate::specs::Trial::module_path))]
-fn module_path(alloc: Global, module: u32) -> Result<PathText, AllocError>
-    ensures { IfOk result (λ path. path ≡ path_of module) }
+fn module_path(alloc: Global, number: u32) -> Result<PathText, AllocError>
+    ensures { IfOk result (λ path. path ≡ path_of number) }
 {
     let mut path = PathText::from_slice(alloc, b"/t/lib/modules/trial/kernel/m")?;
-    path.extend(&four_digits(module))?;
+    path.extend(&four_digits(number))?;
     path.extend(b".ko")?;
     Ok(path)
 }
 
-/// The object file of a module, which draws the modules that it needs.
+/// The object file of the module of this number, which draws the modules that it needs.
 #[tactic(auto, using(crate::proofs::TrialLemmas::is_sheet_made), unfolding(crate::specs::Trial::module_file))]
-fn module_file(alloc: Global, module: u32, draws: &mut Draws) -> Result<Blob, AllocError>
-    requires { module < 10000 }
-    ensures file { IfOk result (λ bytes. (seed : ℕ) → draws.old.last ≡ start_of seed module → bytes ≡ file_of_module seed module) }
-    ensures next { IfOk result (λ _. (seed : ℕ) → draws.old.last ≡ start_of seed module → draws.new.last ≡ start_of seed (module + 1)) }
+fn module_file(alloc: Global, number: u32, draws: &mut Draws) -> Result<Blob, AllocError>
+    requires { number < 10000 }
+    ensures file { IfOk result (λ bytes. (seed : ℕ) → draws.old.last ≡ start_of seed number → bytes ≡ file_of_module seed number) }
+    ensures next { IfOk result (λ _. (seed : ℕ) → draws.old.last ≡ start_of seed number → draws.new.last ≡ start_of seed (number + 1)) }
 {
-    let modules = draws.modules(alloc, module)?;
-    let sheet = module_sheet(alloc, module, &modules)?;
+    let modules = draws.modules(alloc, number)?;
+    let sheet = module_sheet(alloc, number, &modules)?;
     object(alloc, &sheet)
 }
 
@@ -60,9 +60,9 @@ pub fn generate(alloc: Global, seed: u64, count: u32) -> Result<MemFiles, AllocE
 {
     let mut files = kernel_files(alloc)?;
     let mut draws = Draws::new(seed);
-    for module in 0..count {
-        let path = module_path(alloc, module)?;
-        let bytes = module_file(alloc, module, &mut draws)?;
+    for number in 0..count {
+        let path = module_path(alloc, number)?;
+        let bytes = module_file(alloc, number, &mut draws)?;
         files.put(&path, bytes.as_bytes())?;
     }
     Ok(files)

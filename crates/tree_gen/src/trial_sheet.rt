@@ -35,22 +35,22 @@ pub(crate) fn four_digits(number: u32) -> [u8; 4]
     ]
 }
 
-/// The name of the symbol that a module exports.
+/// The name of the symbol that the module of this number exports.
 #[tactic(auto, unfolding(crate::specs::Trial::symbol_name))]
-fn symbol_name(alloc: Global, module: u32) -> Result<Name, AllocError>
-    ensures { IfOk result (λ name. name ≡ name_of_symbol module) }
+fn symbol_name(alloc: Global, number: u32) -> Result<Name, AllocError>
+    ensures { IfOk result (λ name. name ≡ name_of_symbol number) }
 {
     let mut name = Name::from_slice(alloc, b"s")?;
-    name.extend(&four_digits(module))?;
+    name.extend(&four_digits(number))?;
     Ok(name)
 }
 
-/// The symbol that a module exports, with its version.
-fn exported(alloc: Global, module: u32) -> Result<SheetVersion, AllocError>
-    ensures { IfOk result (λ version. version ≡ exported_by module) }
+/// The symbol that the module of this number exports, with its version.
+fn exported(alloc: Global, number: u32) -> Result<SheetVersion, AllocError>
+    ensures { IfOk result (λ version. version ≡ exported_by number) }
 {
-    let name = symbol_name(alloc, module)?;
-    let crc = FIRST_VERSION + u64::from(module);
+    let name = symbol_name(alloc, number)?;
+    let crc = FIRST_VERSION + u64::from(number);
     Ok(SheetVersion { name, crc })
 }
 
@@ -71,17 +71,17 @@ fn needed(alloc: Global, modules: &[u32]) -> Result<SheetVersions, AllocError>
 {
     let mut versions = SheetVersions::new(alloc);
     versions.push(printk(alloc)?)?;
-    for module in modules {
-        versions.push(exported(alloc, *module)?)?;
+    for drawn in modules {
+        versions.push(exported(alloc, *drawn)?)?;
     }
     Ok(versions)
 }
 
-/// The symbol of a module as its one export.
-fn exports(alloc: Global, module: u32) -> Result<SheetExports, AllocError>
-    ensures { IfOk result (λ exports. exports ≡ stated (exported_by module) ∷ []) }
+/// The symbol of the module of this number as its one export.
+fn exports(alloc: Global, number: u32) -> Result<SheetExports, AllocError>
+    ensures { IfOk result (λ exports. exports ≡ stated (exported_by number) ∷ []) }
 {
-    let SheetVersion { name, crc } = exported(alloc, module)?;
+    let SheetVersion { name, crc } = exported(alloc, number)?;
     let mut exports = SheetExports::new(alloc);
     exports.push(SheetExport {
         name,
@@ -118,35 +118,31 @@ fn places(alloc: Global, needed: &[SheetVersion]) -> Result<SheetPlaces, AllocEr
     Ok(places)
 }
 
-/// The texts of a module.
-fn texts(alloc: Global, module: u32) -> Result<Texts, AllocError>
-    ensures { IfOk result (λ texts. texts ≡ texts_of module) }
+/// The texts of the module of this number.
+fn texts(alloc: Global, number: u32) -> Result<Texts, AllocError>
+    ensures { IfOk result (λ texts. texts ≡ texts_of number) }
 {
     let license = Blob::from_slice(alloc, b"license=GPL")?;
     let mut alias = Blob::from_slice(alloc, b"alias=trial:m")?;
-    alias.extend(&four_digits(module))?;
+    alias.extend(&four_digits(number))?;
     let mut texts = Texts::new(alloc);
     texts.push(license)?;
     texts.push(alias)?;
     Ok(texts)
 }
 
-/// The sheet of a module that draws these modules.
+/// The sheet of the module of this number, which draws these modules.
 #[tactic(auto, unfolding(crate::specs::Trial::module_sheet))]
-pub(crate) fn module_sheet(
-    alloc: Global,
-    module: u32,
-    modules: &[u32],
-) -> Result<Sheet, AllocError>
-    ensures { IfOk result (λ sheet. sheet ≡ sheet_of module modules.now) }
+pub(crate) fn module_sheet(alloc: Global, number: u32, modules: &[u32]) -> Result<Sheet, AllocError>
+    ensures { IfOk result (λ sheet. sheet ≡ sheet_of number modules.now) }
 {
     let versions = needed(alloc, modules)?;
     let needs = needs(alloc, versions.as_slice())?;
     let places = places(alloc, versions.as_slice())?;
     Ok(Sheet {
-        texts: texts(alloc, module)?,
+        texts: texts(alloc, number)?,
         versions,
-        exports: exports(alloc, module)?,
+        exports: exports(alloc, number)?,
         needs,
         places,
     })

@@ -13,16 +13,40 @@ type Rows = [(&'static str, usize, u64); 4];
 const TWO: Rows = [
     ("/t/Module.symvers", 40, 0xd0a3_2c8f_6bd0_fb44),
     ("/t/System.map", 26, 0xafb5_b551_e332_67c0),
-    ("/t/lib/modules/trial/kernel/m0000.ko", 1_024, 0x117b_fef4_c819_97ea),
-    ("/t/lib/modules/trial/kernel/m0001.ko", 1_144, 0x6339_f2ef_479a_02e8),
+    (
+        "/t/lib/modules/trial/kernel/m0000.ko",
+        1_024,
+        0x117b_fef4_c819_97ea,
+    ),
+    (
+        "/t/lib/modules/trial/kernel/m0001.ko",
+        1_144,
+        0x6339_f2ef_479a_02e8,
+    ),
 ];
 
 /// Modules of the tree of seed 7 and 20 modules that draw one module or two.
 const TWENTY: Rows = [
-    ("/t/lib/modules/trial/kernel/m0004.ko", 1_144, 0xa94f_b410_9b15_709b),
-    ("/t/lib/modules/trial/kernel/m0013.ko", 1_272, 0x7980_8f65_ebb5_59ae),
-    ("/t/lib/modules/trial/kernel/m0018.ko", 1_144, 0xea92_d136_9be9_b1da),
-    ("/t/lib/modules/trial/kernel/m0019.ko", 1_272, 0xb786_66d0_a30a_8b52),
+    (
+        "/t/lib/modules/trial/kernel/m0004.ko",
+        1_144,
+        0xa94f_b410_9b15_709b,
+    ),
+    (
+        "/t/lib/modules/trial/kernel/m0013.ko",
+        1_272,
+        0x7980_8f65_ebb5_59ae,
+    ),
+    (
+        "/t/lib/modules/trial/kernel/m0018.ko",
+        1_144,
+        0xea92_d136_9be9_b1da,
+    ),
+    (
+        "/t/lib/modules/trial/kernel/m0019.ko",
+        1_272,
+        0xb786_66d0_a30a_8b52,
+    ),
 ];
 
 /// The hash FNV-1a of 64 bits.
