@@ -36,11 +36,15 @@ drawn i x = if i == 0 then [] else without_twin (draw i (after 1 x)) (draw i (af
 abbrev pub start_of : ℕ → ℕ → ℕ
 start_of seed i = after (2 * (i - 1)) seed
 
--- The last decimal digit of a number.
+-- What each of so many modules draws from the seed, from module 0 on.
+abbrev pub drawn_from : ℕ → ℕ → List (List ℕ)
+drawn_from seed count = map (λ i. drawn i (start_of seed i)) (range_with_len 0 count)
+
+-- The last decimal digit of a number, in ASCII.
 abbrev pub digit : ℕ → ℕ
 digit n = 48 + n % 10
 
--- A number below 10,000 in four decimal digits.
+-- A number below 10,000 in four decimal digits, in ASCII.
 abbrev pub four_digits : ℕ → List ℕ
 four_digits n = digit (n / 1000) ∷ digit (n / 100) ∷ digit (n / 10) ∷ digit n ∷ []
 

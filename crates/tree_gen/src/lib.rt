@@ -27,6 +27,7 @@ mod trial;
 mod trial_sheet;
 #[cfg(test)]
 mod trial_tests;
+mod worked;
 
 pub use conditions::is_sheet;
 pub use object_file::{object, object_more};
@@ -35,3 +36,4 @@ pub use sheet::{
     SheetSpace, SheetSpaces, SheetVersion, SheetVersions,
 };
 pub use trial::generate;
+pub use worked::draws_of_small_seeds;
