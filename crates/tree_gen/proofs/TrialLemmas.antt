@@ -9,7 +9,7 @@ use Rattle.std.proofs.lemmas.Slice.Eq.{bytes_eq-Decides}
 use Rattle.std.specs.List.{list_any, range_with_len}
 use Rattle.std.specs.Str.{bytes_eq}
 use Rattle.tree_gen.specs.Sheet.{is_text, is_sheet, are_few, are_texts, are_known, no_more}
-use Rattle.tree_gen.specs.Trial.{next, after, draw, drawn, without_twin, start_of, digit, four_digits, module_name, symbol_name, module_sheet, with_module, kernel_files, trial_files}
+use Rattle.tree_gen.specs.Trial.{next, after, draw, drawn, without_twin, start_of, digit, four_digits, module_name, symbol_name, module_sheet, with_module, kernel_contents, trial_contents}
 
 -- the next number, where product and sum are cut to 64 bits one after the other
 pub next_wraps : (x : ℕ) → ((x * 6364136223846793005) % 2 ^ 64 + 1442695040888963407) % 2 ^ 64 ≡ next x
@@ -123,10 +123,10 @@ range-more a (suc n) =
     let next : a + 1 + n ≡ a + suc n = omega arith in ap (λ l. a ∷ l) (range-more (a + 1) n ∙ ap (λ k. range_with_len (a + 1) n ++ k ∷ []) next)
 
 -- the tree with a module more
-pub trial_more : (seed n : ℕ) → trial_files seed (n + 1) ≡ with_module seed (trial_files seed n) n
-unfolding trial_files
+pub trial_more : (seed n : ℕ) → trial_contents seed (n + 1) ≡ with_module seed (trial_contents seed n) n
+unfolding trial_contents
 trial_more seed n =
     let last : 0 + n ≡ n = omega arith in
-    ap (λ k. fold (with_module seed) kernel_files (range_with_len 0 k)) (add-one n)
-    ∙ ap (fold (with_module seed) kernel_files) (range-more 0 n ∙ ap (λ k. range_with_len 0 n ++ k ∷ []) last)
-    ∙ fold-append (with_module seed) kernel_files (range_with_len 0 n) (n ∷ [])
+    ap (λ k. fold (with_module seed) kernel_contents (range_with_len 0 k)) (add-one n)
+    ∙ ap (fold (with_module seed) kernel_contents) (range-more 0 n ∙ ap (λ k. range_with_len 0 n ++ k ∷ []) last)
+    ∙ fold-append (with_module seed) kernel_contents (range_with_len 0 n) (n ∷ [])

@@ -1,8 +1,10 @@
 -- The made tree of a trial: files in memory, drawn from a seed. The tree is this project's own.
 use Rattle.std.specs.Prelude.{ℕ, ◌+◌, ◌-◌, ◌*◌, ◌/◌, ◌%◌, ◌^◌, ◌==◌, if◌then◌else◌, zero, suc, false, pos, List, [], ◌∷◌, ◌++◌, map, fold, codes, Some}
 use Rattle.std.specs.List.{range_with_len}
+use Rattle.std.specs.FinMap.{empty, insert}
 use Rattle.elf_format.specs.declared.relocation.TheConstants.{R_X86_64_64}
-use Rattle.km_outside.specs.MemFilesSeen.{MemFilesSeen, no_files, with_file}
+use Rattle.km_outside.specs.Contents.{Contents}
+use Rattle.km_outside.specs.MemFilesSeen.{MemFilesSeen, no_files}
 use Rattle.tree_gen.specs.declared.sheet.Sheet.{Sheet}
 use Rattle.tree_gen.specs.declared.sheet.SheetExport.{SheetExport}
 use Rattle.tree_gen.specs.declared.sheet.SheetNeed.{SheetNeed}
@@ -56,7 +58,7 @@ module_name i = codes "m" ++ four_digits i
 unfoldable pub symbol_name : ℕ → List ℕ
 symbol_name i = codes "s" ++ four_digits i
 
--- That symbol with its version.
+-- The symbol that module i exports, with its version.
 abbrev pub exported : ℕ → SheetVersion
 exported i = record { name = symbol_name i; crc = 0x20000000 + i }
 
@@ -102,10 +104,6 @@ module_path i = codes "/t/lib/modules/trial/kernel/" ++ module_name i ++ codes "
 unfoldable pub module_file : ℕ → ℕ → List ℕ
 module_file seed i = object_of (module_sheet i (drawn i (start_of seed i)))
 
--- The files with module i.
-abbrev pub with_module : ℕ → MemFilesSeen → ℕ → MemFilesSeen
-with_module seed files i = with_file files (module_path i) (module_file seed i)
-
 -- The kernel's exports with their versions, one line of a Module.symvers.
 abbrev pub kernel_symvers : List ℕ
 kernel_symvers = codes "0x11111111" ++ 9 ∷ codes "printk" ++ 9 ∷ codes "vmlinux" ++ 9 ∷ codes "EXPORT_SYMBOL" ++ 10 ∷ []
@@ -115,9 +113,21 @@ abbrev pub kernel_map : List ℕ
 kernel_map = codes "ffffffff81000000 T printk" ++ 10 ∷ []
 
 -- The two files of the kernel.
-unfoldable pub kernel_files : MemFilesSeen
-kernel_files = with_file (with_file no_files (codes "/t/Module.symvers") kernel_symvers) (codes "/t/System.map") kernel_map
+unfoldable pub kernel_contents : Contents
+kernel_contents = insert (insert empty (codes "/t/Module.symvers") kernel_symvers) (codes "/t/System.map") kernel_map
 
--- The tree of a seed and a count: the files of the kernel, and the modules from 0 on, so many.
-unfoldable pub trial_files : ℕ → ℕ → MemFilesSeen
-trial_files seed count = fold (with_module seed) kernel_files (range_with_len 0 count)
+-- These files, and that of module i.
+abbrev pub with_module : ℕ → Contents → ℕ → Contents
+with_module seed files i = insert files (module_path i) (module_file seed i)
+
+-- The tree of a seed and a count: the files of the kernel, and those of so many modules, from module 0 on.
+unfoldable pub trial_contents : ℕ → ℕ → Contents
+trial_contents seed count = fold (with_module seed) kernel_contents (range_with_len 0 count)
+
+-- Files in memory with these contents: no call was made, and none is to fail.
+abbrev pub unused : Contents → MemFilesSeen
+unused contents = record no_files { contents = contents }
+
+-- The tree as files in memory.
+abbrev pub trial_files : ℕ → ℕ → MemFilesSeen
+trial_files seed count = unused (trial_contents seed count)

@@ -1,5 +1,5 @@
 ghost use Rattle.std.specs.Prelude.{◌≡◌, ◌≤◌, ◌<◌, ◌+◌, ℕ, IfOk};
-ghost use Rattle.tree_gen.specs.Trial.{start_of, module_path as path_of, module_file as file_of_module, kernel_files as files_of_kernel, trial_files};
+ghost use Rattle.tree_gen.specs.Trial.{start_of, module_path as path_of, module_file as file_of_module, kernel_contents, unused, trial_files};
 
 use crate::draws::Draws;
 use crate::object_file::object;
@@ -38,9 +38,9 @@ fn module_file(alloc: Global, number: u32, draws: &mut Draws) -> Result<Blob, Al
 }
 
 /// The two files of the kernel.
-#[tactic(auto, unfolding(crate::specs::Trial::kernel_files))]
+#[tactic(auto, unfolding(crate::specs::Trial::kernel_contents))]
 fn kernel_files(alloc: Global) -> Result<MemFiles, AllocError>
-    ensures { IfOk result (λ files. files ≡ files_of_kernel) }
+    ensures { IfOk result (λ files. files ≡ unused kernel_contents) }
 {
     let symvers = PathText::from_slice(alloc, b"/t/Module.symvers")?;
     let system_map = PathText::from_slice(alloc, b"/t/System.map")?;
@@ -53,7 +53,7 @@ fn kernel_files(alloc: Global) -> Result<MemFiles, AllocError>
 /// The made tree of a trial, below `/t`: `count` modules of the kernel `trial`, 1 to 2000, each of which needs the kernel's
 /// `printk` and the symbols of one or two modules before it that are drawn from the seed, and the kernel's `Module.symvers`
 /// and `System.map`. No call of the files fails. Only memory can be wanting.
-#[tactic(auto, unfolding(crate::specs::Trial::trial_files))]
+#[tactic(auto, unfolding(crate::specs::Trial::trial_contents))]
 pub fn generate(alloc: Global, seed: u64, count: u32) -> Result<MemFiles, AllocError>
     requires { (1 ≤ count) × (count ≤ 2000) }
     ensures { IfOk result (λ files. files ≡ trial_files seed count) }
