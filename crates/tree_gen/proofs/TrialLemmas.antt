@@ -9,7 +9,7 @@ use Rattle.std.proofs.lemmas.Slice.Eq.{bytes_eq-Decides}
 use Rattle.std.specs.List.{list_any, range_with_len}
 use Rattle.std.specs.Str.{bytes_eq}
 use Rattle.tree_gen.specs.Sheet.{is_text, is_sheet, are_few, are_texts, are_known, no_more}
-use Rattle.tree_gen.specs.Trial.{next, after, draw, drawn, without_twin, start_of, digit, four_digits, module_name, symbol_name, module_sheet, with_module, kernel_contents, trial_contents}
+use Rattle.tree_gen.specs.Trial.{next, after, draw, drawn, without_twin, start_of, digit, four_digits, name_of, symbol_name, module_sheet, with_module, kernel_contents, trial_contents}
 
 -- the next number, where product and sum are cut to 64 bits one after the other
 pub next_wraps : (x : ℕ) → ((x * 6364136223846793005) % 2 ^ 64 + 1442695040888963407) % 2 ^ 64 ≡ next x
@@ -48,7 +48,7 @@ license-text : is_text (codes "license=GPL") ≡ true
 unfolding is_text
 license-text = refl
 
-alias-text : (i : ℕ) → is_text (codes "alias=trial:" ++ module_name i) ≡ true
+alias-text : (i : ℕ) → is_text (codes "alias=trial:" ++ name_of i) ≡ true
 unfolding is_text
 alias-text i = ap not (digits-no_nul i)
 

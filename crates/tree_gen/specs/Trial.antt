@@ -51,8 +51,8 @@ abbrev pub four_digits : ℕ → List ℕ
 four_digits n = digit (n / 1000) ∷ digit (n / 100) ∷ digit (n / 10) ∷ digit n ∷ []
 
 -- The name of module i.
-abbrev pub module_name : ℕ → List ℕ
-module_name i = codes "m" ++ four_digits i
+abbrev pub name_of : ℕ → List ℕ
+name_of i = codes "m" ++ four_digits i
 
 -- The name of the symbol that module i exports.
 unfoldable pub symbol_name : ℕ → List ℕ
@@ -84,7 +84,7 @@ address v = record { kind = R_X86_64_64; symbol = v.name; addend = pos 0 }
 
 -- The texts of module i: its license, and an alias of its own.
 abbrev pub texts : ℕ → List (List ℕ)
-texts i = codes "license=GPL" ∷ (codes "alias=trial:" ++ module_name i) ∷ []
+texts i = codes "license=GPL" ∷ (codes "alias=trial:" ++ name_of i) ∷ []
 
 -- Module i, which draws these modules: it exports one symbol, and each that it needs has a version and a word.
 unfoldable pub module_sheet : ℕ → List ℕ → Sheet
@@ -98,7 +98,7 @@ module_sheet i modules = record {
 
 -- The path of module i.
 unfoldable pub module_path : ℕ → List ℕ
-module_path i = codes "/t/lib/modules/trial/kernel/" ++ module_name i ++ codes ".ko"
+module_path i = codes "/t/lib/modules/trial/kernel/" ++ name_of i ++ codes ".ko"
 
 -- The object file of module i, of the sheet with what it draws from the seed.
 unfoldable pub module_file : ℕ → ℕ → List ℕ
