@@ -25,7 +25,7 @@ use Rattle.plan_binding.specs.Names.{name_fault, first_name_fault}
 use Rattle.plan_binding.specs.Plan.{faces_of, IsStep}
 use Rattle.plan_binding.specs.Lines.{Lines, AreClosed}
 use Rattle.plan_binding.specs.Loads.{load_all, unless_refused, IsPlaceFault}
-use Rattle.plan_binding.specs.Binding.{IsIndexed, IsPlanned, IsLoaded, Binds, ClosedPlansBind, names_of}
+use Rattle.plan_binding.specs.Binding.{IsIndexed, IsPlanned, IsLoaded, Binds, ClosedPlansBind, LoadsBind, names_of}
 use Rattle.plan_binding.proofs.ListLemmas.{Member-map, from-map}
 use Rattle.plan_binding.proofs.ProviderLemmas.{same_name}
 use Rattle.plan_binding.proofs.UnmetLemmas.{all-member}
@@ -89,20 +89,29 @@ table-names : (es : List KernelExport) → map (λ (e : Export). e.name) (map se
 table-names [] = refl
 table-names (e ∷ es) = ap (λ ns. e.name ∷ ns) (table-names es)
 
--- the machine of a kernel with nothing loaded is sound
-new-sound : (kernel addressed : Kernel) (region : Region) → IsTable kernel.exports → kernel_of addressed ≡ kernel_of kernel → IsSound (new_machine addressed region) []
-unfolding IsDistinct
-new-sound kernel addressed region table same = record {
-  bound = tt;
-  names = tt;
-  exports = subst (IsDistinct bytes_eq) (sym (append-nil (map (λ (e : KernelExport). e.name) addressed.exports) ∙ names)) (distinct-names (λ (e : KernelExport). e.name) kernel.exports table.distinct);
-  placed = λ k d less. absurd (omega arith);
-  apart = λ i j d less inside. absurd (omega arith);
-}
+-- the table with addresses is one too
+same-table : (kernel addressed : Kernel) → IsTable kernel.exports → kernel_of addressed ≡ kernel_of kernel → IsDistinct bytes_eq (map (λ (e : KernelExport). e.name) addressed.exports)
+same-table kernel addressed table same =
+    subst (IsDistinct bytes_eq) (sym names) (distinct-names (λ (e : KernelExport). e.name) kernel.exports table.distinct)
   where
     names : map (λ (e : KernelExport). e.name) addressed.exports ≡ map (λ (e : KernelExport). e.name) kernel.exports
     names =
         sym (table-names addressed.exports) ∙ ap (λ (k : SeenKernel). map (λ (e : Export). e.name) k.exports) same ∙ table-names kernel.exports
+
+-- the machine of a kernel with nothing loaded is sound
+new-sound : (kernel : Kernel) (region : Region) → IsDistinct bytes_eq (map (λ (e : KernelExport). e.name) kernel.exports) → IsSound (new_machine kernel region) []
+unfolding IsDistinct
+new-sound kernel region distinct = record {
+  bound = tt;
+  names = tt;
+  exports = subst (IsDistinct bytes_eq) (sym (append-nil (map (λ (e : KernelExport). e.name) kernel.exports))) distinct;
+  placed = λ k d less. absurd (omega arith);
+  apart = λ i j d less inside. absurd (omega arith);
+}
+
+pub loads-bind : LoadsBind
+loads-bind kernel region ms machine table loaded =
+    loads-sound (new_machine kernel region) [] ms machine (new-sound kernel region (same-table kernel kernel table refl)) loaded
 
 ok-value : {T E : Type 0} (r : Result T E) → IsOk r → (x : T) × (r ≡ Ok x)
 ok-value (Ok x) is = (x, refl)
@@ -151,7 +160,7 @@ module _ (tree : List Facts) (kernel : Kernel) (deps : Lines) (addressed : Kerne
         subst (λ r. IfErr r IsPlaceFault) (sym (load-append (new_machine addressed region) listed plan ∙ ap (unless_refused (λ next. load_all next plan)) start.1))
         (loads-stop start.0 plan (λ before m after split machine is. clear-at before m after split machine (split-loaded before machine is)));
     sound = λ before after split machine loaded.
-        loads-sound (new_machine addressed region) [] (listed ++ before) machine (new-sound kernel addressed region indexed.table planned.same_table) loaded;
+        loads-sound (new_machine addressed region) [] (listed ++ before) machine (new-sound addressed region (same-table kernel addressed indexed.table planned.same_table)) loaded;
   }
 
 pub closed-plans-bind : ClosedPlansBind

@@ -1,5 +1,4 @@
 pub mod ListLemmas
-pub mod AlongLemmas
 pub mod NeedLemmas
 pub mod ProviderLemmas
 pub mod UnmetLemmas

@@ -7,7 +7,9 @@ use Rattle.std.proofs.lemmas.Option.{none-some, same_Some, slice_get_within}
 use Rattle.std.specs.List.{list_any, cons_option, position_or_len}
 use Rattle.std.specs.Option.{option_map_or}
 use Rattle.std.specs.Str.{bytes_eq}
+use Rattle.std.proofs.lemmas.Cmp.{nat_list_eq_equiv}
 use Rattle.km_names.specs.First.{first}
+use Rattle.name_table.specs.FirstSeen.{is_among}
 use Rattle.relation_order.specs.Sets.{has, below}
 use Rattle.relation_order.specs.Cycle.{cycle}
 use Rattle.relation_order.proofs.Lists.{has-range}
@@ -21,8 +23,7 @@ use Rattle.provider_rel.specs.Relation.{place, uses_at, name_at}
 use Rattle.provider_rel.proofs.ClosedLaw.{closure-first}
 use Rattle.plan_binding.specs.Members.{Member}
 use Rattle.plan_binding.specs.Plan.{faces_of, is_at, collides, IsStep, IsClosed}
-use Rattle.plan_binding.specs.Lines.{among, Lines, meets, AreClosed, AreLinesOf}
-use Rattle.plan_binding.proofs.AlongLemmas.{AllAlong-at}
+use Rattle.plan_binding.specs.Lines.{Lines, meets, AreClosed, AreLinesOf}
 use Rattle.plan_binding.proofs.ListLemmas.{Member-right, Member-map, Member-cases}
 use Rattle.plan_binding.proofs.PlanLemmas.{step-member, before-member}
 use Rattle.plan_binding.proofs.ProviderLemmas.{same_name, its_name, given-owner, of_first-member}
@@ -31,20 +32,23 @@ use Rattle.plan_binding.proofs.ProviderLemmas.{same_name, its_name, given-owner,
 abbrev pub names_of : List Module → List (List ℕ)
 names_of ms = map (λ m. m.face.name) ms
 
--- a name is among those of modules where one of them has it
-among-named : (ms : List Module) (x : List ℕ) → among (names_of ms) x ≡ is_named (faces_of ms) x
-among-named [] x = refl
-among-named (m ∷ ms) x = ap (λ b. bytes_eq m.face.name x || b) (among-named ms x)
+names-flip : (x y : List ℕ) → bytes_eq x y ≡ bytes_eq y x
+names-flip x y = nat_list_eq_equiv.symm x y
 
-among-both : (listed plan : List Module) (x : List ℕ) → among (names_of listed ++ names_of plan) x ≡ is_named (faces_of (listed ++ plan)) x
+-- a name is among those of modules where one of them has it
+among-named : (ms : List Module) (x : List ℕ) → is_among (names_of ms) x ≡ is_named (faces_of ms) x
+among-named [] x = refl
+among-named (m ∷ ms) x = rw (names-flip x m.face.name, among-named ms x) refl
+
+among-both : (listed plan : List Module) (x : List ℕ) → is_among (names_of listed ++ names_of plan) x ≡ is_named (faces_of (listed ++ plan)) x
 among-both listed plan x =
-    ap (λ ns. among ns x) (sym (map-append (λ (m : Module). m.face.name) listed plan)) ∙ among-named (listed ++ plan) x
+    ap (λ ns. is_among ns x) (sym (map-append (λ (m : Module). m.face.name) listed plan)) ∙ among-named (listed ++ plan) x
 
 -- a path is among those of names where a module has it
-among-paths : (deps : Lines) (ms : List Module) (a : List ℕ) → ((m : Module) → Member m ms → deps.path m.face.name ≡ m.path) → among (map deps.path (names_of ms)) a ≡ is_at ms a
+among-paths : (deps : Lines) (ms : List Module) (a : List ℕ) → ((m : Module) → Member m ms → deps.path m.face.name ≡ m.path) → is_among (map deps.path (names_of ms)) a ≡ is_at ms a
 among-paths deps [] a paths = refl
 among-paths deps (m ∷ ms) a paths =
-    rw (paths m (inl refl), among-paths deps ms a (λ p in'. paths p (inr in'))) refl
+    rw (paths m (inl refl), names-flip a m.path, among-paths deps ms a (λ p in'. paths p (inr in'))) refl
 
 meets-collides : (deps : Lines) (listed plan : List Module) (l : Unbound) → ((m : Module) → Member m (listed ++ plan) → deps.path m.face.name ≡ m.path) → meets deps (names_of listed) (names_of plan) l ≡ collides listed plan l
 meets-collides deps listed plan (Missing m x) paths = refl
@@ -54,11 +58,11 @@ meets-collides deps listed plan (Namespace m x by) paths = refl
 meets-collides deps listed plan (Double x a b) paths =
     rw (both a, both b, own a, own b) refl
   where
-    both : (a : List ℕ) → among (map deps.path (names_of listed ++ names_of plan)) a ≡ is_at (listed ++ plan) a
+    both : (a : List ℕ) → is_among (map deps.path (names_of listed ++ names_of plan)) a ≡ is_at (listed ++ plan) a
     both a =
-        ap (λ ns. among (map deps.path ns) a) (sym (map-append (λ (m : Module). m.face.name) listed plan)) ∙ among-paths deps (listed ++ plan) a paths
+        ap (λ ns. is_among (map deps.path ns) a) (sym (map-append (λ (m : Module). m.face.name) listed plan)) ∙ among-paths deps (listed ++ plan) a paths
 
-    own : (a : List ℕ) → among (map deps.path (names_of plan)) a ≡ is_at plan a
+    own : (a : List ℕ) → is_among (map deps.path (names_of plan)) a ≡ is_at plan a
     own a = among-paths deps plan a (λ m in'. paths m (Member-right m listed plan in'))
 
 any-same : {X : Type 0} (p q : X → Bool) (xs : List X) → ((x : X) → p x ≡ q x) → list_any p xs ≡ list_any q xs
@@ -158,11 +162,11 @@ uses-named tree kernel deps m p acyclic lines in' used =
 pub names-suffice : (tree : List Module) (kernel : Kernel) (deps : Lines) (listed plan : List Module) → ((p q : Module) → Member p tree → Member q tree → p.face.name ≡ q.face.name → p ≡ q) → cycle (uses_at tree kernel) (below (length tree)) ≡ [] → AreLinesOf tree kernel deps → ((m : Module) → Member m listed → Member m tree) → ((m : Module) → Member m plan → Member m tree) → AreClosed deps (unmet tree kernel) (names_of listed) (names_of plan) → IsClosed tree kernel listed plan
 names-suffice tree kernel deps listed plan distinct acyclic of_tree listed_tree plan_tree closed = record {
   of_tree = plan_tree;
-  fresh = λ before m step. sym (among-both listed before m.face.name) ∙ AllAlong-at (λ (before : List (List ℕ)) (x : List ℕ). among before x ≡ false) (names_of listed) (names_of before) m.face.name (names_of step.after) (rw (named-step plan before m step) at closed.fresh);
+  fresh = λ before m step. sym (among-both listed before m.face.name) ∙ closed.fresh (names_of before) m.face.name (names_of step.after) (named-step plan before m step);
   behind = λ before m step p used.
       let in_plan = step-member plan before m step in
       let there : is_named (faces_of (listed ++ before)) p.face.name ≡ true =
-      sym (among-both listed before p.face.name) ∙ AllAlong-at (λ (before : List (List ℕ)) (x : List ℕ). (y : List ℕ) → Member y (deps.line x) → among before y ≡ true) (names_of listed) (names_of before) m.face.name (names_of step.after) (rw (named-step plan before m step) at closed.behind) p.face.name (uses-named tree kernel deps m p acyclic of_tree (plan_tree m in_plan) used) in
+      sym (among-both listed before p.face.name) ∙ closed.behind (names_of before) m.face.name (names_of step.after) (named-step plan before m step) p.face.name (uses-named tree kernel deps m p acyclic of_tree (plan_tree m in_plan) used) in
       let q = named-member (listed ++ before) p.face.name there in
       let q_tree : Member q.0 tree =
       elim (Member-cases q.0 listed before q.1) [

@@ -28,6 +28,15 @@ pub record IsIndexed (tree : List Facts) (kernel : Kernel) (deps : Lines) : Type
   pub acyclic : cycle (uses_at (modules_of tree) (kernel_of kernel)) (below (length tree)) ≡ []
   pub lines : AreLinesOf (modules_of tree) (kernel_of kernel) deps
 
+-- Whatever is loaded into a new machine, whose kernel exports no name twice, is bound: each strong need to an export
+-- that was there before and agrees.
+abbrev pub LoadsBind : Type 0
+LoadsBind =
+    (kernel : Kernel) (region : Region) (ms : List Module) (machine : Machine)
+    → IsTable kernel.exports
+    → load_all (new_machine kernel region) ms ≡ Ok machine
+    → IsSound machine ms
+
 -- The names of modules.
 abbrev pub names_of : List Module → List (List ℕ)
 names_of ms = map (λ m. m.facts.name) ms

@@ -3,12 +3,19 @@ ghost use Rattle.std.specs.Prelude.{◌≡◌, true, false, Some, None, [], ◌�
 ghost use Rattle.model_loader.specs.declared.fault.LoadFault.TheVariants.{AlreadyLoaded, MissingSymbol, VersionDiffers, ExportTaken};
 ghost use Rattle.plan_binding.specs.Names.{first_name_fault};
 ghost use Rattle.plan_binding.specs.Plan.{ClosedPlansPass, faces_of};
-ghost use Rattle.plan_binding.specs.Binding.{ClosedPlansBind};
+ghost use Rattle.plan_binding.specs.Binding.{ClosedPlansBind, LoadsBind};
+ghost use Rattle.plan_binding.specs.Loads.{LoadsFollow};
 ghost use Rattle.plan_binding.specs.Premises.{premises, all_but, bare, hidden, wanting, p, q};
 
 /// No module of a closed plan is refused for its names.
 pub fn closed_plans_pass()
     ensures { ClosedPlansPass }
+{}
+
+/// Modules are loaded one after the other, and whatever is loaded into a new machine is bound.
+pub fn loads_bind()
+    ensures follow { LoadsFollow }
+    ensures bind { LoadsBind }
 {}
 
 /// A closed plan of modules of an indexed tree, loaded after listed modules that load, is refused for want of room or for

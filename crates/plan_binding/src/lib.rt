@@ -11,4 +11,4 @@
 
 mod laws;
 
-pub use laws::{closed_plans_bind, closed_plans_pass, premises_are_needed};
+pub use laws::{closed_plans_bind, closed_plans_pass, loads_bind, premises_are_needed};
