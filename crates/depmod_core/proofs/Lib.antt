@@ -1,0 +1,7 @@
+pub mod TextSteps
+pub mod KeySteps
+pub mod AliasSteps
+pub mod MapSteps
+pub mod LineSteps
+pub mod FileSteps
+pub mod TreeSteps

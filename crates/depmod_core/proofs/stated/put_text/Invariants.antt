@@ -1,0 +1,8 @@
+use Rattle.std.proofs.Common.{◌≡◌, ◌∷◌, flat_map, take}
+use Rattle.depmod_core.specs.Lines.{lines_text}
+use Rattle.depmod_core.specs.Kinds.{heading, lines_by}
+use Rattle.depmod_core.specs.Text.{with_piece}
+use Rattle.depmod_core.proofs.stated.put_text.Given as goal
+
+abbrev pub invariant-loop-facts : goal.invariant-loop-facts
+invariant-loop-facts l = l.text ≡ with_piece l.initial.text (flat_map (λ facts. lines_text (lines_by l.kind facts)) (take l.facts-index l.tree))

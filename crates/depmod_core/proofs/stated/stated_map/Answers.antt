@@ -1,0 +1,42 @@
+use Rattle.std.proofs.Common.{◌≡◌, List, ℕ, Bor, All, Some, sym, ap, ◌∙◌, subst, get_or, length, map, flat_map, take, arith}
+use Rattle.std.specs.List.{slice_get, enumerate_from}
+use Rattle.std.specs.Option.{IfSome}
+use Rattle.std.specs.FinMap.{empty}
+use Rattle.std.proofs.lemmas.List.{take_all}
+use Rattle.std.proofs.lemmas.List.FromFn.{length-enumerate_from}
+use Rattle.std.proofs.lemmas.Option.{slice_get_read}
+use Rattle.index_format.specs.Map.{IsKey}
+use Rattle.module_facts.specs.declared.facts.Facts.{Facts}
+use Rattle.provider_rel.specs.Tree.{IsTreeModule}
+use Rattle.depmod_core.specs.Maps.{with_values, map_of}
+use Rattle.depmod_core.specs.Kinds.{key_of, texts_of, values_by, values_with}
+use Rattle.depmod_core.proofs.MapSteps.{values-found, placed}
+use Rattle.depmod_core.proofs.LineSteps.{seen-keys, tree-module, kind-map}
+use Rattle.depmod_core.proofs.stated.stated_map.Goals as goal
+
+pub add_values-requires-clause-texts : goal.add_values-requires-clause-texts
+add_values-requires-clause-texts c =
+    let f : Facts = c.index-modules-place.result in
+    let see = λ (text : Bor (List ℕ)). text.now in
+    let good : IsTreeModule f = tree-module c.args.tree.now c.as_slice-modules.result.now c.loop-place.place f c.as_slice-modules.ensures c.loop-place-test.true c.index-modules-place.is c.requires.modules in
+    seen-keys see c.args.kind f c.deref.result.now (ap (map see) c.deref.ensures.value ∙ c.in_ok-texts.ensures) good
+
+pub loop-place-preserved : goal.loop-place-preserved
+loop-place-preserved c =
+    let kind = c.args.kind in
+    let tree = c.args.tree.now in
+    let i = c.loop-place.place in
+    let f : Facts = c.index-modules-place.result in
+    let see = λ (text : Bor (List ℕ)). text.now in
+    let at : slice_get tree i ≡ Some f = slice_get_read tree (length c.as_slice-modules.result.now) i f (ap length c.as_slice-modules.ensures) c.loop-place-test.true (c.index-modules-place.is ∙ ap (λ l. get_or l i f) c.as_slice-modules.ensures) in
+    values-found (values_by kind) empty c.loop-place.map c.add_values.new.key_map (enumerate_from 0 tree) i (i, f) (placed tree i f at) c.loop-place.invariant
+    (c.in_ok-add_values.ensures
+    ∙ ap (λ name. with_values c.loop-place.map (values_with kind i name (map see c.deref.result.now))) c.as_bytes.ensures
+    ∙ ap (λ texts. with_values c.loop-place.map (values_with kind i f.name texts)) (ap (map see) c.deref.ensures.value ∙ c.in_ok-texts.ensures))
+
+pub returns : goal.returns
+returns c =
+    let all = enumerate_from 0 c.args.tree.now in
+    c.loop-place.invariant
+    ∙ ap (λ ms. map_of (flat_map (values_by c.args.kind) ms)) (take_all c.loop-place.place all (omega (arith, length-enumerate_from 0 c.args.tree.now, c.loop-place-test.false, ap length c.as_slice-modules.ensures)))
+    ∙ kind-map c.args.kind c.args.tree.now

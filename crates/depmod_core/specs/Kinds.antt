@@ -1,0 +1,79 @@
+-- What modules state, by its kind, and what indexes stand for, by their files.
+use Rattle.std.specs.Prelude.{⊤, ℕ, List, [], ◌∷◌, ◌++◌, map, flat_map, codes, Option, Some, None, option_map}
+use Rattle.std.specs.List.{filter_map, enumerate_from}
+use Rattle.km_names.specs.AliasForm.{normal_alias}
+use Rattle.index_format.specs.Map.{KeyValues}
+use Rattle.index_format.specs.Holds.{Holds}
+use Rattle.index_format.specs.Listing.{KeyValue}
+use Rattle.module_facts.specs.declared.facts.Facts.{Facts}
+use Rattle.depmod_core.specs.declared.stated.Kind.{Kind}
+use Rattle.depmod_core.specs.declared.stated.Kind.TheVariants.{Alias, Softdep, Symbol}
+use Rattle.depmod_core.specs.Lines.{lines_text}
+use Rattle.depmod_core.specs.Maps.{map_of}
+use Rattle.depmod_core.specs.declared.file.OutputFile.{OutputFile}
+use Rattle.depmod_core.specs.declared.file.OutputFile.TheVariants.{DepBin, AliasBin, SymbolsBin, BuiltinBin}
+use Rattle.depmod_core.specs.Dependencies.{dep_map}
+use Rattle.depmod_core.specs.Stated.{aliases_of, softdeps_of, symbols_of, alias_text, softdep_text, symbols_text, alias_map, symbols_map}
+use Rattle.depmod_core.specs.BuiltIn.{built_in_map}
+
+-- The heading of the file.
+abbrev pub heading : Kind → List ℕ
+heading Alias = codes "# Aliases extracted from modules themselves."
+heading Softdep = codes "# Soft dependencies extracted from modules themselves."
+heading Symbol = codes "# Aliases for symbols, used by symbol_request()."
+
+-- What a module states.
+abbrev pub texts_of : Kind → Facts → List (List ℕ)
+texts_of Alias f = aliases_of f
+texts_of Softdep f = softdeps_of f
+texts_of Symbol f = symbols_of f
+
+-- A line of the module of this name.
+abbrev pub line_of : Kind → List ℕ → List ℕ → List ℕ
+line_of Alias name text = codes "alias " ++ (text ++ (codes " " ++ name))
+line_of Softdep name text = codes "softdep " ++ (name ++ (codes " " ++ text))
+line_of Symbol name text = codes "alias symbol:" ++ (text ++ (codes " " ++ name))
+
+-- The lines of a module.
+abbrev pub lines_by : Kind → Facts → List (List ℕ)
+lines_by kind f = map (line_of kind f.name) (texts_of kind f)
+
+-- The lines of the file, put one after the other.
+abbrev pub text_by : Kind → List Facts → List ℕ
+text_by kind tree = lines_text (heading kind ∷ flat_map (lines_by kind) tree)
+
+-- The key by which the index has what is stated; softdeps have no index.
+abbrev pub key_of : Kind → List ℕ → Option (List ℕ)
+key_of Alias text = normal_alias text
+key_of Softdep text = None
+key_of Symbol text = Some (codes "symbol:" ++ text)
+
+-- The values of the module at a place.
+abbrev pub values_with : Kind → ℕ → List ℕ → List (List ℕ) → List KeyValue
+values_with kind place name texts = filter_map (λ text. option_map (λ key. (key, (place, name))) (key_of kind text)) texts
+
+abbrev pub values_by : Kind → ℕ × Facts → List KeyValue
+values_by kind (place, f) = values_with kind place f.name (texts_of kind f)
+
+-- The map of the index.
+abbrev pub map_by : Kind → List Facts → KeyValues
+map_by kind tree = map_of (flat_map (values_by kind) (enumerate_from 0 tree))
+
+-- The text of the file, and the map of the index, as they are defined of a tree.
+abbrev pub text_of : Kind → List Facts → List ℕ
+text_of Alias tree = alias_text tree
+text_of Softdep tree = softdep_text tree
+text_of Symbol tree = symbols_text tree
+
+abbrev pub map_for : Kind → List Facts → KeyValues
+map_for Alias tree = alias_map tree
+map_for Softdep tree = map_by Softdep tree
+map_for Symbol tree = symbols_map tree
+
+-- The index stands for its map; this says nothing of a text.
+abbrev pub Stands : List Facts → List (List ℕ) → List ℕ → OutputFile → List ℕ → Type 0
+Stands tree closures builtin DepBin bytes = Holds bytes (dep_map tree closures)
+Stands tree closures builtin AliasBin bytes = Holds bytes (alias_map tree)
+Stands tree closures builtin SymbolsBin bytes = Holds bytes (symbols_map tree)
+Stands tree closures builtin BuiltinBin bytes = Holds bytes (built_in_map builtin)
+Stands tree closures builtin _ bytes = ⊤

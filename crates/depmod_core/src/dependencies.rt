@@ -1,0 +1,108 @@
+// On what the modules of a tree depend.
+ghost use Rattle.std.specs.Prelude.{◌≡◌, ◌≤◌, ◌⊎◌, Some, None, OnOk, IfOk, IfErr, length};
+ghost use Rattle.provider_rel.specs.Tree.{IsTree};
+ghost use Rattle.provider_rel.specs.Seen.{closures_by, places_of};
+ghost use Rattle.depmod_core.specs.Files.{size_fault};
+ghost use Rattle.depmod_core.specs.Text.{with_piece};
+ghost use Rattle.depmod_core.specs.Dependencies.{path_at as path_of, line_of, dep_text as text_of, dep_map as map_of_dependencies};
+
+use crate::text::Text;
+use crate::{OutputFault, OutputFile};
+use index_write::KeyMap;
+use km_names::{Blob, TreeIndex};
+use module_facts::Facts;
+use provider_rel::{Order, Relation, TreeFacts};
+use std::alloc::{AllocError, Global};
+
+/// The path of the module at a place of a tree.
+fn path_at<'a>(tree: &'a TreeFacts, place: &TreeIndex) -> &'a [u8]
+    ensures { result.now ≡ path_of tree.now place.now.0 }
+{
+    match tree.get(place.0 as usize) {
+        Some(facts) => facts.path.as_bytes(),
+        None => &[],
+    }
+}
+
+/// Puts the dependency line of a module, which depends on those at these places.
+fn put_line(
+    text: &mut Text,
+    tree: &TreeFacts,
+    facts: &Facts,
+    order: &Order,
+) -> Result<(), AllocError>
+    ensures { OnOk result (text.new ≡ with_piece text.old (line_of tree.now (facts.now, places_of order.now))) }
+{
+    text.put_all(&[facts.path.as_bytes(), b":"])?;
+    let places = order.as_slice();
+    for n in (0..places.len()).rev() {
+        text.put_all(&[b" ", path_at(tree, &places[n])])?;
+    }
+    Ok(())
+}
+
+/// Puts the text of modules.dep.
+fn put_lines(text: &mut Text, relation: &Relation, tree: &TreeFacts) -> Result<(), AllocError>
+    requires few { length tree.now ≤ 10000 }
+    requires long { length (closures_by relation.now) ≡ length tree.now }
+    ensures { OnOk result (text.new ≡ with_piece text.old (text_of tree.now (closures_by relation.now))) }
+{
+    let modules = tree.as_slice();
+    for place in 0..modules.len() {
+        let order = relation.closure(TreeIndex(place as u32));
+        put_line(text, tree, &modules[place], order)?;
+        text.put(b"\n")?;
+    }
+    Ok(())
+}
+
+/// The text of modules.dep: for each module its path, and the paths of the modules on which it depends, from the last to
+/// the first. modules.dep(5).
+pub(crate) fn dep_text(
+    alloc: Global,
+    relation: &Relation,
+    tree: &TreeFacts,
+) -> Result<Blob, OutputFault>
+    requires tree { IsTree tree.now }
+    requires long { length (closures_by relation.now) ≡ length tree.now }
+    ensures ok { IfOk result (λ bytes. bytes ≡ text_of tree.now (closures_by relation.now)) }
+    ensures passed { OnOk result (size_fault OutputFile.Dep (text_of tree.now (closures_by relation.now)) ≡ None) }
+    ensures err { IfErr result (λ fault. (fault ≡ OutputFault.Memory)
+        ⊎ (size_fault OutputFile.Dep (text_of tree.now (closures_by relation.now)) ≡ Some fault)) }
+{
+    let mut measured = Text::measured();
+    put_lines(&mut measured, relation, tree)?;
+    let mut text = Text::with_capacity(alloc, measured.checked_length(OutputFile::Dep)?)?;
+    put_lines(&mut text, relation, tree)?;
+    Ok(text.into_bytes(alloc))
+}
+
+/// The dependency line of a module.
+fn line(alloc: Global, tree: &TreeFacts, facts: &Facts, order: &Order) -> Result<Blob, AllocError>
+    ensures { IfOk result (λ bytes. bytes ≡ line_of tree.now (facts.now, places_of order.now)) }
+{
+    let mut text = Text::with_capacity(alloc, facts.path.len())?;
+    put_line(&mut text, tree, facts, order)?;
+    Ok(text.into_bytes(alloc))
+}
+
+/// The map of modules.dep.bin: from the name of each module to its dependency line, the priority its place in the tree.
+pub(crate) fn dep_map(
+    alloc: Global,
+    relation: &Relation,
+    tree: &TreeFacts,
+) -> Result<KeyMap, AllocError>
+    requires tree { IsTree tree.now }
+    requires long { length (closures_by relation.now) ≡ length tree.now }
+    ensures { IfOk result (λ map. map ≡ map_of_dependencies tree.now (closures_by relation.now)) }
+{
+    let mut map = KeyMap::new(alloc);
+    let modules = tree.as_slice();
+    for place in 0..modules.len() {
+        let facts = &modules[place];
+        let order = relation.closure(TreeIndex(place as u32));
+        let line = line(alloc, tree, facts, order)?;
+        map.add(facts.name.as_bytes(), place as u32, line.as_bytes())?;
+    }
+    Ok(map)
+}

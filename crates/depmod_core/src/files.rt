@@ -1,0 +1,135 @@
+ghost use Rattle.std.specs.Prelude.{◌≡◌, ◌⊎◌, Ok, Err, Some, None, length, IfOk, IfErr, OnOk};
+ghost use Rattle.symbol_binding.specs.Symbols.{Kernel};
+ghost use Rattle.provider_rel.specs.Faces.{modules_of};
+ghost use Rattle.provider_rel.specs.Seen.{IsRelation, closures_by, obstacles_by};
+ghost use Rattle.provider_rel.specs.Tree.{IsTree};
+ghost use Rattle.depmod_core.specs.Files.{content, files_by, size_fault, outputs_of, IsRelationOf, StandFor};
+ghost use Rattle.depmod_core.specs.Kinds.{Stands};
+
+use crate::built_in::built_in_map;
+use crate::dependencies::{dep_map, dep_text};
+use crate::index::index;
+use crate::stated::{Kind, stated_map, stated_text};
+use crate::unmet::unmet_text;
+use crate::{OutputFault, OutputFile};
+use km_names::Blob;
+use provider_rel::{Relation, TreeFacts};
+use std::alloc::Global;
+
+/// The contents of the files that depmod makes, in the order in which they are replaced. modules.dep(5), depmod(8).
+#[derive(Debug, Drop)]
+pub struct OutputFiles {
+    /// modules.dep: for each module the modules on which it depends.
+    pub dep: Blob,
+    /// modules.dep.bin: the same, by the names of modules.
+    pub dep_bin: Blob,
+    /// modules.alias: the aliases that modules state.
+    pub alias: Blob,
+    /// modules.alias.bin: the names of the modules that state them, by normal forms of aliases.
+    pub alias_bin: Blob,
+    /// modules.softdep: the soft dependencies that modules state.
+    pub softdep: Blob,
+    /// modules.symbols: the symbols that modules export, as aliases.
+    pub symbols: Blob,
+    /// modules.symbols.bin: the names of the modules that export them.
+    pub symbols_bin: Blob,
+    /// modules.builtin.bin: the names of the modules that are built into the kernel.
+    pub builtin_bin: Blob,
+    /// modules.unmet: what stands in the way of loading modules.
+    pub unmet: Blob,
+}
+
+impl OutputFiles {
+    /// The bytes of one of the files.
+    pub fn content(&self, file: OutputFile) -> &[u8]
+        ensures { result.now ≡ content self.now file }
+    {
+        match file {
+            OutputFile::Dep => self.dep.as_bytes(),
+            OutputFile::DepBin => self.dep_bin.as_bytes(),
+            OutputFile::Alias => self.alias.as_bytes(),
+            OutputFile::AliasBin => self.alias_bin.as_bytes(),
+            OutputFile::Softdep => self.softdep.as_bytes(),
+            OutputFile::Symbols => self.symbols.as_bytes(),
+            OutputFile::SymbolsBin => self.symbols_bin.as_bytes(),
+            OutputFile::BuiltinBin => self.builtin_bin.as_bytes(),
+            OutputFile::Unmet => self.unmet.as_bytes(),
+        }
+    }
+}
+
+/// The bytes of one of the files, which are made only where they aren't too many.
+#[tactic(auto, unfolding(crate::specs::Files::files_by))]
+fn make(
+    alloc: Global,
+    relation: &Relation,
+    tree: &TreeFacts,
+    builtin: &[u8],
+    file: OutputFile,
+) -> Result<Blob, OutputFault>
+    requires tree { IsTree tree.now }
+    requires long { length (closures_by relation.now) ≡ length tree.now }
+    ensures ok { IfOk result (λ bytes. bytes ≡ content (files_by tree.now (closures_by relation.now) (obstacles_by relation.now) builtin.now) file) }
+    ensures passed { OnOk result (size_fault file (content (files_by tree.now (closures_by relation.now) (obstacles_by relation.now) builtin.now) file) ≡ None) }
+    ensures err { IfErr result (λ fault. (fault ≡ OutputFault.Memory)
+        ⊎ (size_fault file (content (files_by tree.now (closures_by relation.now) (obstacles_by relation.now) builtin.now) file) ≡ Some fault)) }
+    ensures stands { IfOk result (λ bytes. Stands tree.now (closures_by relation.now) builtin.now file bytes) }
+{
+    match file {
+        OutputFile::Dep => dep_text(alloc, relation, tree),
+        OutputFile::DepBin => index(alloc, file, &dep_map(alloc, relation, tree)?),
+        OutputFile::Alias => stated_text(alloc, file, Kind::Alias, tree),
+        OutputFile::AliasBin => index(alloc, file, &stated_map(alloc, Kind::Alias, tree)?),
+        OutputFile::Softdep => stated_text(alloc, file, Kind::Softdep, tree),
+        OutputFile::Symbols => stated_text(alloc, file, Kind::Symbol, tree),
+        OutputFile::SymbolsBin => index(alloc, file, &stated_map(alloc, Kind::Symbol, tree)?),
+        OutputFile::BuiltinBin => index(alloc, file, &built_in_map(alloc, builtin)?),
+        OutputFile::Unmet => unmet_text(alloc, relation.obstacles()),
+    }
+}
+
+/// The files that depmod makes of a tree, with the tree's relation over a kernel, and of the bytes of modules.builtin.
+/// Each of the indexes among them stands for its map. modules.dep(5), depmod(8).
+///
+/// # Errors
+///
+/// `OutputTooLarge` exactly where a file would have more than 67,108,864 bytes, with the first such; it is known before
+/// the bytes of the file are written. Or `Memory`.
+#[tactic(auto, using(crate::proofs::FileSteps::closures_long))]
+pub fn outputs(
+    alloc: Global,
+    relation: &Relation,
+    tree: &TreeFacts,
+    builtin: &[u8],
+) -> Result<OutputFiles, OutputFault>
+    requires tree { IsTree tree.now }
+    requires relation { IsRelationOf tree.now relation.now }
+    ensures ok { IfOk result (λ files. (kernel : Kernel) → IsRelation (modules_of tree.now) kernel relation.now →
+        outputs_of tree.now kernel builtin.now ≡ Ok files) }
+    ensures err { IfErr result (λ fault. (fault ≡ OutputFault.Memory)
+        ⊎ ((kernel : Kernel) → IsRelation (modules_of tree.now) kernel relation.now →
+        outputs_of tree.now kernel builtin.now ≡ Err fault)) }
+    ensures indexes { IfOk result (λ files. (kernel : Kernel) → IsRelation (modules_of tree.now) kernel relation.now →
+        StandFor tree.now kernel builtin.now files) }
+{
+    let dep = make(alloc, relation, tree, builtin, OutputFile::Dep)?;
+    let dep_bin = make(alloc, relation, tree, builtin, OutputFile::DepBin)?;
+    let alias = make(alloc, relation, tree, builtin, OutputFile::Alias)?;
+    let alias_bin = make(alloc, relation, tree, builtin, OutputFile::AliasBin)?;
+    let softdep = make(alloc, relation, tree, builtin, OutputFile::Softdep)?;
+    let symbols = make(alloc, relation, tree, builtin, OutputFile::Symbols)?;
+    let symbols_bin = make(alloc, relation, tree, builtin, OutputFile::SymbolsBin)?;
+    let builtin_bin = make(alloc, relation, tree, builtin, OutputFile::BuiltinBin)?;
+    let unmet = make(alloc, relation, tree, builtin, OutputFile::Unmet)?;
+    Ok(OutputFiles {
+        dep,
+        dep_bin,
+        alias,
+        alias_bin,
+        softdep,
+        symbols,
+        symbols_bin,
+        builtin_bin,
+        unmet,
+    })
+}

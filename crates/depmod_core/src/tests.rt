@@ -1,0 +1,156 @@
+// The files of trees with no module and with one, as bytes that were written by hand.
+ghost use Rattle.std.specs.Prelude.{IfOk};
+ghost use Rattle.provider_rel.specs.Tree.{IsTree, IsTreeModule};
+
+use crate::{OutputFile, OutputFiles, outputs};
+use km_names::{Blob, Name, Names, PathText, Texts};
+use module_facts::{Export, Exports, Facts, Need, Needs};
+use provider_rel::{Kernel, Relation, TreeFacts};
+use std::alloc::{AllocError, Global};
+use std::test::Fail;
+
+/// An index without keys.
+const NO_KEYS: &[u8] = b"\xb0\x07\xf4\x57\x00\x02\x00\x01\x00\x00\x00\x0c";
+
+/// The files of a tree over a kernel that exports nothing.
+fn files(alloc: Global, tree: &TreeFacts, builtin: &[u8]) -> Result<OutputFiles, Fail>
+    requires { IsTree tree.now }
+{
+    let Ok(kernel) = Kernel::from_symvers(alloc, b"") else {
+        return Err(Fail::from("no kernel"));
+    };
+    let Ok(relation) = Relation::make(alloc, tree, &kernel) else {
+        return Err(Fail::from("no relation"));
+    };
+    match outputs(alloc, &relation, tree, builtin) {
+        Ok(files) => Ok(files),
+        Err(_) => Err(Fail::from("no files")),
+    }
+}
+
+/// Some texts.
+fn texts(alloc: Global, all: &[&[u8]]) -> Result<Texts, AllocError> {
+    let mut texts = Texts::new(alloc);
+    for text in all {
+        texts.push(Blob::from_slice(alloc, text)?)?;
+    }
+    Ok(texts)
+}
+
+/// The facts of a module that exports one symbol and needs another.
+fn facts(alloc: Global) -> Result<Facts, AllocError>
+    ensures { IfOk result IsTreeModule }
+{
+    let mut exports = Exports::new(alloc);
+    exports.push(Export {
+        name: Name::from_slice(alloc, b"fa")?,
+        symbol: 1,
+        crc: None,
+        gpl: false,
+        space: Name::new(alloc),
+    })?;
+    let mut needs = Needs::new(alloc);
+    needs.push(Need {
+        name: Name::from_slice(alloc, b"nosuch")?,
+        symbol: 2,
+        weak: false,
+        crc: None,
+    })?;
+    Ok(Facts {
+        path: PathText::from_slice(alloc, b"kernel/a.ko")?,
+        name: Name::from_slice(alloc, b"a")?,
+        exports,
+        needs,
+        aliases: texts(
+            alloc,
+            &[b"pci-x:v0000[!a-f]d*".as_slice(), b"bad[x", b"two words"],
+        )?,
+        softdeps: texts(alloc, &[b"pre: b-c".as_slice(), b"  ", b"", b"post: c \\"])?,
+        free: true,
+        imports: Names::new(alloc),
+    })
+}
+
+/// The tree of one module.
+fn tree_of_one(alloc: Global, facts: Facts) -> Result<TreeFacts, AllocError>
+    requires { IsTreeModule facts }
+    ensures { IfOk result IsTree }
+{
+    let mut tree = TreeFacts::new(alloc);
+    tree.push(facts)?;
+    Ok(tree)
+}
+
+#[test]
+fn the_files_of_no_module(rt: HostRuntime) -> Result<(), Fail> {
+    let tree = TreeFacts::new(rt.alloc());
+    let files = files(rt.alloc(), &tree, b"")?;
+    for (file, bytes) in [
+        (OutputFile::Dep, b"".as_slice()),
+        (OutputFile::DepBin, NO_KEYS),
+        (
+            OutputFile::Alias,
+            b"# Aliases extracted from modules themselves.\n",
+        ),
+        (OutputFile::AliasBin, NO_KEYS),
+        (
+            OutputFile::Softdep,
+            b"# Soft dependencies extracted from modules themselves.\n",
+        ),
+        (
+            OutputFile::Symbols,
+            b"# Aliases for symbols, used by symbol_request().\n",
+        ),
+        (OutputFile::SymbolsBin, NO_KEYS),
+        (OutputFile::BuiltinBin, NO_KEYS),
+        (OutputFile::Unmet, b""),
+    ] {
+        assert_eq!(rt; files.content(file), bytes, "{file:?}");
+    }
+    Ok(())
+}
+
+#[test]
+fn the_files_of_one_module(rt: HostRuntime) -> Result<(), Fail> {
+    let tree = tree_of_one(rt.alloc(), facts(rt.alloc())?)?;
+    let files = files(
+        rt.alloc(),
+        &tree,
+        b"kernel/lib/b-c.ko\n\nkernel/b_c.ko\nkernel/a a.ko",
+    )?;
+    for (file, bytes) in [
+        (OutputFile::Dep, b"kernel/a.ko:\n".as_slice()),
+        (
+            OutputFile::DepBin,
+            b"\xb0\x07\xf4\x57\x00\x02\x00\x01\x20\x00\x00\x21\x00\x00\x00\x01\x00\x00\x00\x00kernel/a.ko:\x00aa\x40\x00\x00\x0c",
+        ),
+        (
+            OutputFile::Alias,
+            b"# Aliases extracted from modules themselves.\nalias pci-x:v0000[!a-f]d* a\n",
+        ),
+        (
+            OutputFile::AliasBin,
+            b"\xb0\x07\xf4\x57\x00\x02\x00\x01\x20\x00\x00\x29ci_x:v0000[!a-f]d*\x00\x00\x00\x00\x01\x00\x00\x00\x00a\x00pp\xc0\x00\x00\x0c",
+        ),
+        (
+            OutputFile::Softdep,
+            b"# Soft dependencies extracted from modules themselves.\nsoftdep a pre: b-c\n",
+        ),
+        (
+            OutputFile::Symbols,
+            b"# Aliases for symbols, used by symbol_request().\nalias symbol:fa a\n",
+        ),
+        (
+            OutputFile::SymbolsBin,
+            b"\xb0\x07\xf4\x57\x00\x02\x00\x01\x20\x00\x00\x1fymbol:fa\x00\x00\x00\x00\x01\x00\x00\x00\x00a\x00ss\xc0\x00\x00\x0c",
+        ),
+        (
+            OutputFile::BuiltinBin,
+            b"\xb0\x07\xf4\x57\x00\x02\x00\x01\x20\x00\x00\x18_c\x00\x00\x00\x00\x01\x00\x00\x00\x00\x00bb\xc0\x00\x00\x0c",
+        ),
+        (OutputFile::Unmet, b"missing kernel/a.ko nosuch\n"),
+    ] {
+        assert_eq!(rt; files.content(file), bytes, "{file:?}");
+    }
+    Ok(())
+}

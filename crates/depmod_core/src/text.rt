@@ -1,0 +1,82 @@
+// Texts in the making.
+ghost use Rattle.std.specs.Prelude.{◌≡◌, ◌≤◌, ◌⊎◌, ◌++◌, List, ℕ, Some, None, OnOk, IfOk, IfErr, length, map, min, unwrap_or, flat_map};
+ghost use Rattle.km_names.specs.Limit.{file_limit};
+ghost use Rattle.depmod_core.specs.Files.{size_fault};
+ghost use Rattle.depmod_core.specs.Text.{measured as measured_text, kept, with_piece};
+
+use crate::{OutputFault, OutputFile};
+use km_names::{Blob, FILE_LIMIT};
+use std::alloc::{AllocError, Global};
+
+/// A text in the making: how long it is so far, and its bytes where they are kept.
+#[derive(Drop)]
+pub(crate) struct Text {
+    length: u64,
+    kept: Option<Blob>,
+}
+
+impl Text {
+    /// The empty text, of which nothing will be kept.
+    pub(crate) fn measured() -> Text
+        ensures { result ≡ measured_text }
+    {
+        Text {
+            length: 0,
+            kept: None,
+        }
+    }
+
+    /// The empty text, whose bytes will be kept, with room for so many.
+    pub(crate) fn with_capacity(alloc: Global, capacity: usize) -> Result<Text, AllocError>
+        ensures { IfOk result (λ text. text ≡ kept) }
+    {
+        Ok(Text {
+            length: 0,
+            kept: Some(Blob::from_vec(Vec::with_capacity(alloc, capacity)?)),
+        })
+    }
+
+    /// Puts bytes at the end.
+    #[tactic(auto, unfolding(crate::specs::Text::with_piece))]
+    pub(crate) fn put(&mut self, piece: &[u8]) -> Result<(), AllocError>
+        ensures { OnOk result (self.new ≡ with_piece self.old piece.now) }
+    {
+        self.length = self.length.saturating_add(piece.len() as u64);
+        if let Some(bytes) = &mut self.kept {
+            bytes.extend(piece)?;
+        }
+        Ok(())
+    }
+
+    /// Puts pieces at the end, one after the other.
+    pub(crate) fn put_all(&mut self, pieces: &[&[u8]]) -> Result<(), AllocError>
+        ensures { OnOk result (self.new ≡ with_piece self.old (flat_map (λ piece. piece.now) pieces.now)) }
+    {
+        for piece in pieces {
+            self.put(piece)?;
+        }
+        Ok(())
+    }
+
+    /// How long the text of a file is, which was measured, unless that is too much.
+    pub(crate) fn checked_length(&self, file: OutputFile) -> Result<usize, OutputFault>
+        ensures ok { (bytes : List ℕ) → self.now ≡ with_piece measured_text bytes → OnOk result (size_fault file bytes ≡ None) }
+        ensures err { (bytes : List ℕ) → self.now ≡ with_piece measured_text bytes → IfErr result (λ fault. size_fault file bytes ≡ Some fault) }
+    {
+        if self.length > FILE_LIMIT as u64 {
+            return Err(OutputFault::OutputTooLarge {
+                file,
+                length: self.length,
+            });
+        }
+        Ok(self.length as usize)
+    }
+
+    /// The bytes that were kept.
+    pub(crate) fn into_bytes(self, alloc: Global) -> Blob
+        ensures { (bytes : List ℕ) → self ≡ with_piece kept bytes → result ≡ bytes }
+    {
+        let Text { length: _, kept } = self;
+        kept.unwrap_or(Blob::new(alloc))
+    }
+}

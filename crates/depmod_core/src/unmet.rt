@@ -1,0 +1,90 @@
+// What stands in the way of loading modules.
+ghost use Rattle.std.specs.Prelude.{◌≡◌, ◌⊎◌, ◌++◌, ◌∷◌, [], Some, None, OnOk, IfOk, IfErr, length};
+ghost use Rattle.unmet_file.specs.Line.{line_text};
+ghost use Rattle.unmet_file.specs.Unmet.{file_text};
+ghost use Rattle.depmod_core.specs.Files.{size_fault};
+ghost use Rattle.depmod_core.specs.Lines.{ended};
+ghost use Rattle.depmod_core.specs.Text.{with_piece};
+
+use crate::text::Text;
+use crate::{OutputFault, OutputFile};
+use km_names::{Blob, Name, PathText};
+use provider_rel::{Obstacles, Unbound};
+use std::alloc::{AllocError, Global};
+
+/// Puts a line of modules.unmet, with its line end.
+#[tactic(auto, unfolding(unmet_file::specs::Line::line_text))]
+fn put_line(text: &mut Text, line: &Unbound) -> Result<(), AllocError>
+    ensures { OnOk result (text.new ≡ with_piece text.old (ended (line_text line.now))) }
+{
+    let (word, first, second, third) = match line {
+        Unbound::Missing { path, symbol } => {
+            return text.put_all(&[b"missing ", path.as_bytes(), b" ", symbol.as_bytes(), b"\n"]);
+        }
+        Unbound::Gpl {
+            path,
+            symbol,
+            provider,
+        } => (
+            b"gpl ".as_slice(),
+            path.as_bytes(),
+            symbol.as_bytes(),
+            provider.as_bytes(),
+        ),
+        Unbound::Version {
+            path,
+            symbol,
+            provider,
+        } => (
+            b"version ".as_slice(),
+            path.as_bytes(),
+            symbol.as_bytes(),
+            provider.as_bytes(),
+        ),
+        Unbound::Namespace {
+            path,
+            symbol,
+            provider,
+        } => (
+            b"namespace ".as_slice(),
+            path.as_bytes(),
+            symbol.as_bytes(),
+            provider.as_bytes(),
+        ),
+        Unbound::Double {
+            symbol,
+            first,
+            second,
+        } => (
+            b"double ".as_slice(),
+            symbol.as_bytes(),
+            first.as_bytes(),
+            second.as_bytes(),
+        ),
+    };
+    text.put_all(&[word, first, b" ", second, b" ", third, b"\n"])
+}
+
+/// Puts the text of modules.unmet.
+#[tactic(auto, unfolding(unmet_file::specs::Unmet::file_text))]
+fn put_lines(text: &mut Text, lines: &Obstacles) -> Result<(), AllocError>
+    ensures { OnOk result (text.new ≡ with_piece text.old (file_text lines.now)) }
+{
+    for line in lines.as_slice() {
+        put_line(text, line)?;
+    }
+    Ok(())
+}
+
+/// The text of modules.unmet.
+pub(crate) fn unmet_text(alloc: Global, lines: &Obstacles) -> Result<Blob, OutputFault>
+    ensures ok { IfOk result (λ bytes. bytes ≡ file_text lines.now) }
+    ensures passed { OnOk result (size_fault OutputFile.Unmet (file_text lines.now) ≡ None) }
+    ensures err { IfErr result (λ fault. (fault ≡ OutputFault.Memory) ⊎ (size_fault OutputFile.Unmet (file_text lines.now) ≡ Some fault)) }
+{
+    let mut measured = Text::measured();
+    put_lines(&mut measured, lines)?;
+    let mut text = Text::with_capacity(alloc, measured.checked_length(OutputFile::Unmet)?)?;
+    put_lines(&mut text, lines)?;
+    Ok(text.into_bytes(alloc))
+}
