@@ -1,0 +1,4 @@
+pub mod IndexLemmas
+pub mod MapLemmas
+pub mod HoldLemmas
+pub mod BindingLemmas
