@@ -1,12 +1,12 @@
 -- The file of a map stands for the map.
-use Rattle.std.proofs.Common.{◌≡◌, ◌∙◌, ◌+◌, ◌<◌, ◌≤◌, ◌^◌, ℕ, suc, Bool, true, false, cond, List, [], ◌∷◌, length, map, Option, Some, None, unwrap_or, refl, sym, ap, subst, inl, inr, arith, lit<}
+use Rattle.std.proofs.Common.{◌+◌, ◌<◌, ◌≤◌, ◌^◌, ℕ, Bool, true, false, cond, List, [], ◌∷◌, length, Some, unwrap_or, refl, sym, subst, inl, inr, arith, lit<}
 use Rattle.std.specs.Prelude.{All, nat_lt}
-use Rattle.std.specs.List.{AllByRecursion, list_all, zip, enumerate_from}
+use Rattle.std.specs.List.{AllByRecursion, list_all}
 use Rattle.std.specs.Ordering.{nat_cmp, eq_by_cmp}
 use Rattle.std.specs.declared.cmp.Ordering.{Ordering}
 use Rattle.std.specs.declared.cmp.Ordering.TheVariants.{Less, Equal, Greater}
 use Rattle.std.specs.Cmp.Lexicographic.{slice_cmp}
-use Rattle.std.specs.FinMap.{entries, empty, get, insert, find, put, get-entries, entries-insert, entries_sorted}
+use Rattle.std.specs.FinMap.{entries, empty, find, put, get-entries, entries-insert, entries_sorted}
 use Rattle.std.specs.FinMap.Entries.{by_order}
 use Rattle.std.proofs.lemmas.Cmp.{nat_list_cmp_total}
 use Rattle.index_format.specs.Map.{Value, KeyValues, values_of, place, with_value, IsKey}
@@ -21,7 +21,7 @@ use Rattle.index_write.proofs.Standing.{holds}
 use Rattle.module_facts.specs.declared.facts.Facts.{Facts}
 use Rattle.provider_rel.specs.Tree.{IsTree, IsTreeModule}
 use Rattle.depmod_core.specs.Maps.{with_values, map_of}
-use Rattle.depmod_core.specs.Dependencies.{dep_value, dep_map}
+use Rattle.depmod_core.specs.Dependencies.{dep_map}
 use Rattle.depmod_core.proofs.KeySteps.{graphic-key}
 use Rattle.depmod_core.proofs.LineSteps.{line-text}
 use Rattle.plan_binding.specs.Members.{Member}

@@ -2,3 +2,5 @@ pub mod IndexLemmas
 pub mod MapLemmas
 pub mod HoldLemmas
 pub mod BindingLemmas
+pub mod UnmetTextLemmas
+pub mod IndexedLemmas

@@ -1,5 +1,6 @@
 // The laws.
 ghost use Rattle.indexed_plan.specs.Index.{MapsHaveLines, FilesHaveLines};
+ghost use Rattle.indexed_plan.specs.Indexed.{FoldersReadAsIndexed};
 ghost use Rattle.indexed_plan.specs.Binding.{IndexedPlansBind};
 
 /// The map that depmod makes has the dependency lines of its tree, and the lines of such a map say what each module of
@@ -12,4 +13,10 @@ pub fn indexed_lines()
 /// A plan that is closed over the dependency lines that depmod made of a tree binds.
 pub fn indexed_plans_bind()
     ensures { IndexedPlansBind }
+{}
+
+/// A folder that stands as depmod indexed it is read as that: its modules are valid and have the facts of the tree, its
+/// modules.dep.bin has the tree's dependency lines, and its modules.unmet the tree's lines.
+pub fn folders_read_as_indexed()
+    ensures { FoldersReadAsIndexed }
 {}
