@@ -4,7 +4,8 @@ use Rattle.std.specs.Prelude.{not, slice_get}
 use Rattle.std.proofs.lemmas.Bool.{true≢false, or_cases, or_left, or_right, eq-eqb}
 use Rattle.std.proofs.lemmas.List.{map-append}
 use Rattle.std.proofs.lemmas.Option.{none-some, same_Some, slice_get_within}
-use Rattle.std.specs.List.{list_any, cons_option, position_or_len}
+use Rattle.std.specs.List.{AllByRecursion, IsDistinct, list_any, cons_option, position_or_len}
+use Rattle.std.proofs.lemmas.List.Folds.{list_any-append}
 use Rattle.std.specs.Option.{option_map_or}
 use Rattle.std.specs.Str.{bytes_eq}
 use Rattle.std.proofs.lemmas.Cmp.{nat_list_eq_equiv}
@@ -158,11 +159,23 @@ uses-named tree kernel deps m p acyclic lines in' used =
     let member : has (below (length tree)) (place tree p) ≡ true = has-range 0 (length tree) (place tree p) (omega arith) (omega (arith, low)) in
     subst (λ name. Member name (deps.line m.face.name)) there.1 (lines.named at.0 (place tree p) m at.1 (closure-first (uses_at tree kernel) (length tree) at.0 (place tree p) acyclic goes member))
 
+-- of distinct names each differs from those before it
+all-member : (P : List ℕ → Type 0) (x : List ℕ) (xs : List (List ℕ)) → AllByRecursion P xs → Member x xs → P x
+all-member P x [] all in' = absurd in'
+all-member P x (y ∷ ys) all (inl is) = subst P is all.0
+all-member P x (y ∷ ys) all (inr later) = all-member P x ys all.1 later
+
+distinct-before : (before : List (List ℕ)) (x : List ℕ) (after : List (List ℕ)) → IsDistinct bytes_eq (before ++ x ∷ after) → is_among before x ≡ false
+unfolding IsDistinct
+distinct-before [] x after distinct = refl
+distinct-before (y ∷ ys) x after distinct =
+    rw (names-flip x y, all-member (λ z. bytes_eq y z ≡ false) x (ys ++ x ∷ after) distinct.0 (Member-right x ys (x ∷ after) (inl refl))) (distinct-before ys x after distinct.1)
+
 -- Plans that are closed by their names are closed.
 pub names-suffice : (tree : List Module) (kernel : Kernel) (deps : Lines) (listed plan : List Module) → ((p q : Module) → Member p tree → Member q tree → p.face.name ≡ q.face.name → p ≡ q) → cycle (uses_at tree kernel) (below (length tree)) ≡ [] → AreLinesOf tree kernel deps → ((m : Module) → Member m listed → Member m tree) → ((m : Module) → Member m plan → Member m tree) → AreClosed deps (unmet tree kernel) (names_of listed) (names_of plan) → IsClosed tree kernel listed plan
 names-suffice tree kernel deps listed plan distinct acyclic of_tree listed_tree plan_tree closed = record {
   of_tree = plan_tree;
-  fresh = λ before m step. sym (among-both listed before m.face.name) ∙ closed.fresh (names_of before) m.face.name (names_of step.after) (named-step plan before m step);
+  fresh = λ before m step. sym (among-both listed before m.face.name) ∙ fresh (names_of before) m.face.name (names_of step.after) (named-step plan before m step);
   behind = λ before m step p used.
       let in_plan = step-member plan before m step in
       let there : is_named (faces_of (listed ++ before)) p.face.name ≡ true =
@@ -179,6 +192,11 @@ names-suffice tree kernel deps listed plan distinct acyclic of_tree listed_tree 
       rw (of_tree.paths m (plan_tree m in')) at (closed.clear m.face.name (Member-map (λ (m : Module). m.face.name) m plan in'));
 }
   where
+    fresh : (before : List (List ℕ)) (x : List ℕ) (after : List (List ℕ)) → names_of plan ≡ before ++ x ∷ after → is_among (names_of listed ++ before) x ≡ false
+    fresh before x after split =
+        list_any-append (bytes_eq x) (names_of listed) before
+        ∙ rw (closed.unlisted x (subst (Member x) (sym split) (Member-right x before (x ∷ after) (inl refl)))) (distinct-before before x after (subst (IsDistinct bytes_eq) split closed.distinct))
+
     paths : (m : Module) → Member m (listed ++ plan) → deps.path m.face.name ≡ m.path
     paths m in' =
         elim (Member-cases m listed plan in') [

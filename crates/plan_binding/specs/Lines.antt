@@ -1,7 +1,7 @@
 -- Closed plans by the names of their modules: over the dependency lines that an index has, and lines of modules.unmet.
 -- modules.dep(5).
 use Rattle.std.specs.Prelude.{◌≡◌, ◌&&◌, ◌||◌, ℕ, Bool, true, false, List, ◌∷◌, ◌++◌, map, length, slice_get, Some}
-use Rattle.std.specs.List.{list_any}
+use Rattle.std.specs.List.{IsDistinct, list_any}
 use Rattle.std.specs.Str.{bytes_eq}
 use Rattle.name_table.specs.FirstSeen.{is_among}
 use Rattle.relation_order.specs.Sets.{has, below}
@@ -32,7 +32,8 @@ meets deps listed plan (Double x a b) =
 -- The names of a plan are closed over listed names, by dependency lines and lines of modules.unmet.
 pub record AreClosed (deps : Lines) (unmet : List Unbound) (listed plan : List (List ℕ)) : Type 0 where
   -- the names are distinct, and none is listed
-  pub fresh : (before : List (List ℕ)) (x : List ℕ) (after : List (List ℕ)) → plan ≡ before ++ x ∷ after → is_among (listed ++ before) x ≡ false
+  pub distinct : IsDistinct bytes_eq plan
+  pub unlisted : (x : List ℕ) → Member x plan → is_among listed x ≡ false
   -- each that a dependency line names is listed, or stands before
   pub behind : (before : List (List ℕ)) (x : List ℕ) (after : List (List ℕ)) → plan ≡ before ++ x ∷ after → (y : List ℕ) → Member y (deps.line x) → is_among (listed ++ before) y ≡ true
   -- no double line has both sides among the plan, the listed modules and the kernel, and one of them in the plan
