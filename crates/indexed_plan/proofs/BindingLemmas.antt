@@ -13,7 +13,7 @@ use Rattle.indexed_plan.proofs.MapLemmas.{files-have-lines}
 pub indexed-plans-bind : IndexedPlansBind
 indexed-plans-bind tree kernel dep addressed region listed plan indexed planned =
     let made : HasLines tree (kernel_of kernel) dep =
-    λ i f at. ap (λ vs. option_map_or (λ (v : Value). v.1) (slice_get vs 0) []) (indexed.map f.name) ∙ files-have-lines tree (kernel_of kernel) indexed.names i f at in
+    λ i f at. indexed.map f.name ∙ files-have-lines tree (kernel_of kernel) indexed.names i f at in
     closed-plans-bind tree kernel (lines_of_map dep) addressed region listed plan
     (record {
       known = indexed.known;

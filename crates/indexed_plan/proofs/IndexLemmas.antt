@@ -10,7 +10,7 @@ use Rattle.std.proofs.lemmas.Option.{slice_get-map}
 use Rattle.std.proofs.lemmas.List.Splits.{slice_split-cons_no}
 use Rattle.km_names.specs.Ascii.{is_graphic}
 use Rattle.km_names.specs.Path.{module_name}
-use Rattle.index_format.specs.Map.{KeyValues}
+use Rattle.index_format.specs.Map.{Value, KeyValues}
 use Rattle.mod_tree.specs.DependencyLine.{own_path, pieces_after, line_needs}
 use Rattle.relation_order.specs.Sets.{has, below}
 use Rattle.relation_order.specs.Closures.{closure}
@@ -33,7 +33,7 @@ before-at p (y ∷ ys) x rest none is =
     let one : 1 + position_or_len p (ys ++ x ∷ rest) ≡ suc (position_or_len p (ys ++ x ∷ rest)) = omega arith in
     rw h.0 (ap (λ n. take n (y ∷ ys ++ x ∷ rest)) one ∙ ap (λ l. y ∷ l) (before-at p ys x rest h.1 is))
 
-after-at : (p : ℕ → Bool) (xs : List ℕ) (x : ℕ) (rest : List ℕ) → list_any p xs ≡ false → p x ≡ true → after_first p (xs ++ x ∷ rest) ≡ rest
+pub after-at : (p : ℕ → Bool) (xs : List ℕ) (x : ℕ) (rest : List ℕ) → list_any p xs ≡ false → p x ≡ true → after_first p (xs ++ x ∷ rest) ≡ rest
 after-at p [] x rest none is = rw is refl
 after-at p (y ∷ ys) x rest none is =
     let h = or_parts (p y) (list_any p ys) none in
@@ -48,12 +48,12 @@ piece (b ∷ bs) rest os none is =
     slice_split-cons_no (λ b. b == 32) b (bs ++ rest) h.0 ∙ ap (onto_first b) (piece bs rest os h.1 is)
 
 -- pieces after spaces
-pieces : (os : List (List ℕ)) → ((o : List ℕ) → Member o os → list_any (λ b. b == 32) o ≡ false) → slice_split (λ b. b == 32) (flat_map (λ other. 32 ∷ other) os) ≡ [] ∷ os
+pub pieces : (os : List (List ℕ)) → ((o : List ℕ) → Member o os → list_any (λ b. b == 32) o ≡ false) → slice_split (λ b. b == 32) (flat_map (λ other. 32 ∷ other) os) ≡ [] ∷ os
 pieces [] none = refl
 pieces (o ∷ os) none =
     ap (λ l. [] ∷ l) (piece o (flat_map (λ other. 32 ∷ other) os) os (none o (inl refl)) (pieces os (λ p in'. none p (inr in'))))
 
-needs-are : (path : List ℕ) (os : List (List ℕ)) → list_any (λ b. b == 58) path ≡ false → ((o : List ℕ) → Member o os → list_any (λ b. b == 32) o ≡ false) → line_needs (dependency_line path os) ≡ os
+pub needs-are : (path : List ℕ) (os : List (List ℕ)) → list_any (λ b. b == 58) path ≡ false → ((o : List ℕ) → Member o os → list_any (λ b. b == 32) o ≡ false) → line_needs (dependency_line path os) ≡ os
 unfolding line_needs
 needs-are path os colon none =
     let rest : pieces_after (dependency_line path os) ≡ [] ∷ os =
@@ -70,12 +70,12 @@ no-space (b ∷ bs) all =
     other : (b : ℕ) → (b == 32) ≡ true → is_ascii_graphic b ≡ true → ⊥
     other b is graphic = grind (arith)
 
-visible-spaceless : (text : List ℕ) → IsTrue (is_graphic text) → list_any (λ b. b == 32) text ≡ false
+pub visible-spaceless : (text : List ℕ) → IsTrue (is_graphic text) → list_any (λ b. b == 32) text ≡ false
 unfolding is_graphic
 visible-spaceless text visible = no-space text (and_parts _ _ visible).1
 
 -- a member of places
-has-member : (xs : List ℕ) (x : ℕ) → has xs x ≡ true → Member x xs
+pub has-member : (xs : List ℕ) (x : ℕ) → has xs x ≡ true → Member x xs
 has-member [] x is = absurd (true≢false (sym is))
 has-member (y ∷ ys) x is =
     elim (or_cases (x == y) (has ys x) is) [ inl here ↦ inl (sym (same x y here)) | inr later ↦ inr (has-member ys x later) ]
@@ -83,14 +83,14 @@ has-member (y ∷ ys) x is =
     same : (x y : ℕ) → (x == y) ≡ true → x ≡ y
     same x y is = grind (arith)
 
-Member-reverse : {X : Type 0} (x : X) (xs : List X) → Member x xs → Member x (reverse xs)
+pub Member-reverse : {X : Type 0} (x : X) (xs : List X) → Member x xs → Member x (reverse xs)
 Member-reverse x [] in' = absurd in'
 Member-reverse x (y ∷ ys) (inl is) =
     subst (Member x) (sym (reverse-append (y ∷ []) ys)) (Member-right x (reverse ys) (y ∷ []) (inl is))
 Member-reverse x (y ∷ ys) (inr later) =
     subst (Member x) (sym (reverse-append (y ∷ []) ys)) (Member-left x (reverse ys) (y ∷ []) (Member-reverse x ys later))
 
-get-member : {X : Type 0} (xs : List X) (i : ℕ) (x : X) → slice_get xs i ≡ Some x → Member x xs
+pub get-member : {X : Type 0} (xs : List X) (i : ℕ) (x : X) → slice_get xs i ≡ Some x → Member x xs
 get-member [] i x is = absurd cc
 get-member (y ∷ ys) zero x is = let same : y ≡ x = cc in inl same
 get-member (y ∷ ys) (suc i) x is = inr (get-member ys i x is)
@@ -99,6 +99,16 @@ mapped-at : {X Y : Type 0} (f : X → Y) (xs : List X) (i : ℕ) (y : Y) → sli
 mapped-at f [] i y is = absurd cc
 mapped-at f (x ∷ xs) zero y is = let same : f x ≡ y = cc in (x, refl, same)
 mapped-at f (x ∷ xs) (suc i) y is = mapped-at f xs i y is
+
+pub colonless : (f : Facts) → IsAtPath f → list_any (λ b. b == 58) f.path ≡ false
+colonless f at = go (list_any (λ b. b == 58) f.path) at.colon
+  where
+    go : (b : Bool) → IsTrue (not b) → b ≡ false
+    go true is = absurd (true≢false (sym is))
+    go false is = refl
+
+pub own-is : (f : Facts) (needed : List (List ℕ)) → IsAtPath f → own_path (dependency_line f.path needed) ≡ f.path
+own-is f needed at = before-at (λ b. b == 58) f.path 58 (flat_map (λ other. 32 ∷ other) needed) (colonless f at) refl
 
 module _ (tree : List Facts) (kernel : Kernel) (dep : KeyValues) (paths : (f : Facts) → Member f tree → IsAtPath f) (lines : HasLines tree kernel dep) where
   -- names by places are those of paths by places
@@ -118,33 +128,26 @@ module _ (tree : List Facts) (kernel : Kernel) (dep : KeyValues) (paths : (f : F
       let h = from-map (path_at tree) o os in' in
       subst (λ p. list_any (λ b. b == 32) p ≡ false) h.2 (spaceless-by h.0 (slice_get tree h.0) refl)
 
-  colonless : (f : Facts) → Member f tree → list_any (λ b. b == 58) f.path ≡ false
-  colonless f in' = go (list_any (λ b. b == 58) f.path) (paths f in').colon
-    where
-      go : (b : Bool) → IsTrue (not b) → b ≡ false
-      go true is = absurd (true≢false (sym is))
-      go false is = refl
-
-  own : (f : Facts) (needed : List (List ℕ)) → Member f tree → own_path (dependency_line f.path needed) ≡ f.path
-  own f needed in' = before-at (λ b. b == 58) f.path 58 (flat_map (λ other. 32 ∷ other) needed) (colonless f in') refl
+  line-at : (i : ℕ) (f : Facts) → slice_get tree i ≡ Some f → first_text dep f.name ≡ dependency_line f.path (map (path_at tree) (reverse (closure (uses_at (modules_of tree) kernel) (below (length tree)) i)))
+  line-at i f at = ap (λ vs. option_map_or (λ (v : Value). v.1) (slice_get vs 0) []) (lines i f at)
 
   pub maps-have : AreLinesOf (modules_of tree) kernel (lines_of_map dep)
   maps-have = record {
     paths = λ m in'.
         let h = from-map module_of m tree in' in
         let at = member-place h.0 tree h.1 in
-        subst (λ (m : Module). own_path (first_text dep m.face.name) ≡ m.path) h.2 (ap own_path (lines at.0 h.0 at.1) ∙ own h.0 _ h.1);
+        subst (λ (m : Module). own_path (first_text dep m.face.name) ≡ m.path) h.2 (ap own_path (line-at at.0 h.0 at.1) ∙ own-is h.0 (map (path_at tree) (reverse (closure (uses_at (modules_of tree) kernel) (below (length tree)) at.0))) (paths h.0 h.1));
     named = λ i j m at inside.
         let places = closure (uses_at (modules_of tree) kernel) (below (length (modules_of tree))) i in
         let f = mapped-at module_of tree i m at in
         let needed = map (path_at tree) (reverse places) in
         let count : length (modules_of tree) ≡ length tree = length-map tree module_of in
         let line : first_text dep f.0.name ≡ dependency_line f.0.path needed =
-        lines i f.0 f.1 ∙ ap (λ n. dependency_line f.0.path (map (path_at tree) (reverse (closure (uses_at (modules_of tree) kernel) (below n) i)))) (sym count) in
+        line-at i f.0 f.1 ∙ ap (λ n. dependency_line f.0.path (map (path_at tree) (reverse (closure (uses_at (modules_of tree) kernel) (below n) i)))) (sym count) in
         let named : Member (module_name (path_at tree j)) (map module_name needed) =
         Member-map module_name (path_at tree j) needed (Member-map (path_at tree) j (reverse places) (Member-reverse j places (has-member places j inside))) in
         let texts : line_needs (first_text dep f.0.name) ≡ needed =
-        ap line_needs line ∙ needs-are f.0.path needed (colonless f.0 (get-member tree i f.0 f.1)) (spaceless (reverse places)) in
+        ap line_needs line ∙ needs-are f.0.path needed (colonless f.0 (paths f.0 (get-member tree i f.0 f.1))) (spaceless (reverse places)) in
         subst (λ (m : Module). Member (name_at (modules_of tree) j) (map module_name (line_needs (first_text dep m.face.name)))) f.2
         (subst (λ name. Member name (map module_name (line_needs (first_text dep f.0.name)))) (sym (name-path j)) (subst (λ os. Member (module_name (path_at tree j)) (map module_name os)) (sym texts) named));
   }

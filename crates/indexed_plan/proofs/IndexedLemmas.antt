@@ -63,6 +63,7 @@ acyclic tree kernel none =
 at-path : (held : Contents) (folder : List ℕ) (f : Facts) → IsTreeModule f → IsModuleFile held folder f → IsAtPath f
 unfolding object_facts
 at-path held folder f good there = record {
+  kind = there.kind;
   name = ap (λ (g : Facts). g.name) there.facts;
   visible = good.path;
   colon = good.colon;

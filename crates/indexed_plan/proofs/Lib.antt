@@ -3,4 +3,5 @@ pub mod MapLemmas
 pub mod HoldLemmas
 pub mod BindingLemmas
 pub mod UnmetTextLemmas
+pub mod NamedLemmas
 pub mod IndexedLemmas

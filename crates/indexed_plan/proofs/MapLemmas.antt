@@ -36,7 +36,7 @@ own-key m k v none =
     ap (λ o. unwrap_or o []) (get-insert nat_list_cmp_total m k (place (values_of m k) v) k ∙ ap (λ b. cond b (Some (place (values_of m k) v)) (get m k)) (is_eq-slice_cmp k k ∙ (bytes_eq-Decides k k).1 refl))
     ∙ ap (λ vs. place vs v) none
 
-other-keys : (m : KeyValues) (ps : List KeyValue) (q : List ℕ) → ((p : KeyValue) → Member p ps → bytes_eq q p.0 ≡ false) → values_of (with_values m ps) q ≡ values_of m q
+pub other-keys : (m : KeyValues) (ps : List KeyValue) (q : List ℕ) → ((p : KeyValue) → Member p ps → bytes_eq q p.0 ≡ false) → values_of (with_values m ps) q ≡ values_of m q
 other-keys m [] q apart = refl
 other-keys m (p ∷ ps) q apart =
     other-keys (with_value m p.0 p.1) ps q (λ r in'. apart r (inr in')) ∙ other-key m p.0 p.1 q (apart p (inl refl))
@@ -66,7 +66,7 @@ abbrev pub numbered : List Facts → ℕ → List Facts → List (List ℕ) → 
 numbered tree n ms cs = map (dep_value tree) (enumerate_from n (zip ms cs))
 
 -- the keys are names of the modules
-key-named : (tree : List Facts) (n : ℕ) (ms : List Facts) (cs : List (List ℕ)) (p : KeyValue) → Member p (numbered tree n ms cs) → (f : Facts) × Member f ms × (f.name ≡ p.0)
+pub key-named : (tree : List Facts) (n : ℕ) (ms : List Facts) (cs : List (List ℕ)) (p : KeyValue) → Member p (numbered tree n ms cs) → (f : Facts) × Member f ms × (f.name ≡ p.0)
 key-named tree n [] cs p in' = absurd in'
 key-named tree n (f ∷ ms) [] p in' = absurd in'
 key-named tree n (f ∷ ms) (c ∷ cs) p (inl is) = (f, inl refl, ap (λ (q : KeyValue). q.0) is)
@@ -132,4 +132,4 @@ files-have-lines tree kernel apart i f at =
     ap (λ n. slice_get (closures r n) i) count ∙ closure-at r (length tree) i (within tree i f at) in
     let one : values_of (dep_map tree (dependencies (modules_of tree) kernel)) f.name ≡ (0 + i, line_of tree (f, c)) ∷ [] =
     one-value empty (numbered tree 0 tree (dependencies (modules_of tree) kernel)) (dep_value tree (0 + i, (f, c))) (numbered-apart tree 0 tree (dependencies (modules_of tree) kernel) apart) (ap (λ o. unwrap_or o []) (get-empty (slice_cmp nat_cmp) f.name)) (numbered-at tree 0 tree (dependencies (modules_of tree) kernel) i f c at at_c) in
-    ap (λ vs. option_map_or (λ (v : Value). v.1) (slice_get vs 0) []) one
+    one ∙ ap (λ k. (k, line_of tree (f, c)) ∷ []) (zero-add i)

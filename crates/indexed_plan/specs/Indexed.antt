@@ -9,6 +9,7 @@ use Rattle.index_format.specs.Holds.{Holds}
 use Rattle.module_facts.specs.declared.facts.Facts.{Facts}
 use Rattle.module_facts.specs.Facts.{facts_of}
 use Rattle.module_facts.specs.Faults.{fact_fault}
+use Rattle.mod_tree.specs.Tree.{is_module_path}
 use Rattle.symbol_binding.specs.Unmet.{unmet}
 use Rattle.unmet_file.specs.Unmet.{unmet_of}
 use Rattle.provider_rel.specs.declared.kernel.Kernel.{Kernel}
@@ -29,6 +30,7 @@ HasFile held path bytes = get held path ≡ Some bytes
 
 -- The file at the path of a module is a valid one, and has these facts.
 pub record IsModuleFile (held : Contents) (folder : List ℕ) (f : Facts) : Type 0 where
+  pub kind : is_module_path f.path ≡ true
   pub bytes : List ℕ
   pub there : HasFile held (path_below folder f.path) bytes
   pub passed : fact_fault f.path bytes ≡ None
@@ -68,6 +70,7 @@ pub record ReadsAsIndexed (held : Contents) (folder : List ℕ) (tree : List Fac
   pub lines : (bytes : List ℕ) (dep : KeyValues) → HasFile held (path_below folder (file_name DepBin)) bytes → Holds bytes dep → StandsAsIndexed tree kernel dep
   pub unmet : (path bytes : List ℕ) → HasFile held (path_below folder (file_name Unmet)) bytes → unmet_of path bytes ≡ Ok (unmet (modules_of tree) (kernel_of kernel))
 
+-- Folders that stand as depmod indexed them are read so.
 abbrev pub FoldersReadAsIndexed : Type 0
 FoldersReadAsIndexed =
     (held : Contents) (folder : List ℕ) (tree : List Facts) (kernel : Kernel) (builtin : List ℕ)

@@ -1,13 +1,14 @@
 // The laws.
 ghost use Rattle.indexed_plan.specs.Index.{MapsHaveLines, FilesHaveLines};
 ghost use Rattle.indexed_plan.specs.Indexed.{FoldersReadAsIndexed};
-ghost use Rattle.indexed_plan.specs.Binding.{IndexedPlansBind};
+ghost use Rattle.indexed_plan.specs.Binding.{IndexedPlansBind, LinesAreOfTree};
 
-/// The map that depmod makes has the dependency lines of its tree, and the lines of such a map say what each module of
-/// the tree depends on.
+/// The map that depmod makes has the dependency lines of its tree, the lines of such a map say what each module of the
+/// tree depends on, and it has no others.
 pub fn indexed_lines()
     ensures files { FilesHaveLines }
     ensures maps { MapsHaveLines }
+    ensures named { LinesAreOfTree }
 {}
 
 /// A plan that is closed over the dependency lines that depmod made of a tree binds.
