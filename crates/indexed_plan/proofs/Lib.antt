@@ -5,3 +5,4 @@ pub mod BindingLemmas
 pub mod UnmetTextLemmas
 pub mod NamedLemmas
 pub mod IndexedLemmas
+pub mod FolderLemmas

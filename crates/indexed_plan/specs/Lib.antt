@@ -1,3 +1,4 @@
 pub mod Index
 pub mod Binding
 pub mod Indexed
+pub mod Folder

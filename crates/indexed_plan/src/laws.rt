@@ -1,6 +1,7 @@
 // The laws.
 ghost use Rattle.indexed_plan.specs.Index.{MapsHaveLines, FilesHaveLines};
 ghost use Rattle.indexed_plan.specs.Indexed.{FoldersReadAsIndexed};
+ghost use Rattle.indexed_plan.specs.Folder.{FilesAreValid, FoldersBind};
 ghost use Rattle.indexed_plan.specs.Binding.{IndexedPlansBind, LinesAreOfTree};
 
 /// The map that depmod makes has the dependency lines of its tree, the lines of such a map say what each module of the
@@ -20,4 +21,11 @@ pub fn indexed_plans_bind()
 /// modules.dep.bin has the tree's dependency lines, and its modules.unmet the tree's lines.
 pub fn folders_read_as_indexed()
     ensures { FoldersReadAsIndexed }
+{}
+
+/// Each module that a plan names is read of a valid file of such a folder; and a plan that is closed over what was read
+/// of the folder binds, after listed modules that load.
+pub fn folders_bind()
+    ensures valid { FilesAreValid }
+    ensures bind { FoldersBind }
 {}

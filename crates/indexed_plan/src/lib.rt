@@ -9,4 +9,4 @@
 
 mod laws;
 
-pub use laws::{folders_read_as_indexed, indexed_lines, indexed_plans_bind};
+pub use laws::{folders_bind, folders_read_as_indexed, indexed_lines, indexed_plans_bind};
