@@ -1,8 +1,5 @@
 -- Plans that are closed over the files of depmod.
-use Rattle.std.proofs.Common.{◌∙◌, ap, []}
-use Rattle.std.specs.Prelude.{slice_get}
-use Rattle.std.specs.Option.{option_map_or}
-use Rattle.index_format.specs.Map.{Value}
+use Rattle.std.proofs.Common.{◌∙◌}
 use Rattle.provider_rel.specs.Faces.{kernel_of}
 use Rattle.plan_binding.proofs.BindingLemmas.{closed-plans-bind}
 use Rattle.indexed_plan.specs.Index.{HasLines, lines_of_map}

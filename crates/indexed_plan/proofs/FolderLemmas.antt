@@ -1,6 +1,6 @@
 -- Loads from a folder that stands as it was indexed.
 use Rattle.std.proofs.Common.{◌≡◌, ◌∙◌, ℕ, List, [], ◌∷◌, None, refl, sym, ap, subst, inl, inr}
-use Rattle.std.specs.Prelude.{Result, Ok, Err, IsOk}
+use Rattle.std.specs.Prelude.{Result, Ok, IsOk}
 use Rattle.km_names.specs.Path.{path_below}
 use Rattle.km_names.specs.declared.conf.ConfFault.{ConfFault}
 use Rattle.km_outside.specs.Contents.{Contents}

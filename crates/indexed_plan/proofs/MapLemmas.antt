@@ -1,8 +1,7 @@
 -- The values of a map by their keys.
 use Rattle.std.proofs.Common.{◌≡◌, ◌∙◌, ◌+◌, ◌<◌, zero-add, ℕ, zero, suc, false, cond, List, [], ◌∷◌, length, map, Some, option_map, unwrap_or, refl, sym, ap, subst, inl, inr, arith}
-use Rattle.std.specs.Prelude.{All, AllPairs, slice_get}
+use Rattle.std.specs.Prelude.{AllPairs, slice_get}
 use Rattle.std.specs.List.{zip, enumerate_from, range_with_len}
-use Rattle.std.specs.Option.{option_map_or}
 use Rattle.std.specs.Ordering.{nat_cmp}
 use Rattle.std.specs.Cmp.Lexicographic.{slice_cmp}
 use Rattle.std.specs.FinMap.{empty, get, get-empty, get-insert}
@@ -23,6 +22,7 @@ use Rattle.provider_rel.specs.Relation.{uses_at, dependencies}
 use Rattle.depmod_core.specs.Maps.{with_values}
 use Rattle.depmod_core.specs.Dependencies.{dep_value, dep_map, line_of}
 use Rattle.plan_binding.specs.Members.{Member}
+use Rattle.plan_binding.proofs.UnmetLemmas.{all-member}
 use Rattle.indexed_plan.specs.Index.{FilesHaveLines}
 
 -- a value of one key leaves those of another
@@ -76,11 +76,6 @@ key-named tree n (f ∷ ms) (c ∷ cs) p (inr later) =
 not-same : (x y : List ℕ) → (x ≡ y → ⊥) → bytes_eq x y ≡ false
 not-same x y differ =
     elim (cases_Bool (bytes_eq x y)) [ inl is ↦ absurd (differ ((bytes_eq-Decides x y).0 is)) | inr is ↦ is ]
-
-all-member : {X : Type 0} (P : X → Type 0) (x : X) (xs : List X) → All P xs → Member x xs → P x
-all-member P x [] all in' = absurd in'
-all-member P x (y ∷ xs) all (inl is) = subst P is (all 0 x (omega arith))
-all-member P x (y ∷ xs) all (inr later) = all-member P x xs (λ k d less. all (suc k) d (omega (arith, less))) later
 
 numbered-apart : (tree : List Facts) (n : ℕ) (ms : List Facts) (cs : List (List ℕ)) → AllPairs (λ (a b : Facts). a.name ≡ b.name → ⊥) ms → AreApart (numbered tree n ms cs)
 numbered-apart tree n [] cs apart = tt

@@ -1,6 +1,6 @@
 -- What stands under the names of a map that depmod made.
-use Rattle.std.proofs.Common.{◌≡◌, ◌∙◌, ◌<◌, ◌≤◌, ◌==◌, ℕ, zero, suc, Bool, true, false, cond, ◌&&◌, List, [], ◌∷◌, ◌++◌, length, map, reverse, flat_map, Option, Some, None, refl, sym, ap, subst, inl, inr, arith}
-use Rattle.std.specs.Prelude.{◌⊎◌, ◌||◌, IsTrue, not, slice_get, unwrap_or}
+use Rattle.std.proofs.Common.{◌≡◌, ◌∙◌, ◌<◌, ◌==◌, ℕ, zero, suc, Bool, true, false, ◌&&◌, List, [], ◌∷◌, length, map, reverse, flat_map, Option, Some, None, refl, sym, ap, subst, inl, inr, arith}
+use Rattle.std.specs.Prelude.{◌⊎◌, not, slice_get, unwrap_or}
 use Rattle.std.specs.List.{list_any, list_all, slice_split}
 use Rattle.std.specs.Option.{option_map_or}
 use Rattle.std.specs.Char.{is_ascii_graphic}
@@ -8,14 +8,13 @@ use Rattle.std.specs.FinMap.{empty, get-empty}
 use Rattle.std.specs.Cmp.Lexicographic.{slice_cmp}
 use Rattle.std.specs.Ordering.{nat_cmp}
 use Rattle.std.specs.Str.{bytes_eq}
-use Rattle.std.proofs.lemmas.Bool.{true≢false, or_parts, or_left, or_right, and_parts, eq-eqb, cases_Bool}
+use Rattle.std.proofs.lemmas.Bool.{or_parts, or_left, or_right, and_parts, eq-eqb, cases_Bool}
 use Rattle.std.proofs.lemmas.List.{reverse-append}
 use Rattle.std.proofs.lemmas.List.Folds.{list_any-append}
 use Rattle.std.proofs.lemmas.Slice.Eq.{bytes_eq-Decides}
 use Rattle.km_names.specs.Ascii.{is_graphic}
 use Rattle.index_format.specs.Map.{Value, KeyValues, values_of}
 use Rattle.index_format.specs.Listing.{KeyValue}
-use Rattle.mod_tree.specs.Tree.{is_module_path}
 use Rattle.mod_tree.specs.DependencyLine.{are_needed, is_dependency_line, is_line_path, is_separator, line_needs, own_path, pieces_after}
 use Rattle.relation_order.specs.Sets.{Relation, has, below}
 use Rattle.relation_order.specs.Reached.{reached}
