@@ -1,1 +1,3 @@
 pub mod FileSteps
+pub mod TableSteps
+pub mod ConfigurationSteps

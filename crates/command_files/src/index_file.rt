@@ -14,11 +14,7 @@ use std::marker::Brand;
 use std::sync::ledger::{Blank, Ledger};
 
 /// The index in the file at the path, which is needed.
-pub fn read_index<F: Reads>(
-    alloc: Global,
-    path: PathText,
-    files: &mut F,
-) -> Result<Index, Stop>
+pub fn read_index<F: Reads>(alloc: Global, path: PathText, files: &mut F) -> Result<Index, Stop>
     ensures { (out err : OutSeen) → Follows (λ x. x) (reads_index path)
         (world (F.seen files.old) out err) (world (F.seen files.new) out err) result }
 {

@@ -50,11 +50,7 @@ pub fn read_modules<F: Reads>(
 
 /// The path of the module of this name, whose `-` is read as `_`. A name that isn't listed, or whose value is
 /// no dependency line, is not found.
-pub fn path_of_name(
-    alloc: Global,
-    modules: &KernelModules,
-    name: &[u8],
-) -> Result<PathText, Stop>
+pub fn path_of_name(alloc: Global, modules: &KernelModules, name: &[u8]) -> Result<PathText, Stop>
     ensures { Answers (λ x. x) (path_outcome modules.now (underscored name.now)) result }
 {
     let name = underscored(alloc, name)?;

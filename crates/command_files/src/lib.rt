@@ -1,13 +1,18 @@
-//! The stages that the commands share: the file of a module, an index, and the modules of a kernel. Each reads
-//! a file, checks it at once, and gives what it read or ends the command with the line of its refusal.
+//! The stages that the commands share: the file of a module, an index, the modules of a kernel, the kernel's table, and the
+//! files of a tool's configuration. Each gives what it read, checked at once where it is one file, or ends the command with
+//! the line of its refusal.
 //!
 //! It stands on `km_course` for the relation between a call and its stage, and on the readers of the formats.
 #![tactic(auto)]
 
+mod configuration;
 mod index_file;
 mod kernel_modules;
+mod kernel_table;
 mod module_file;
 
+pub use configuration::{ListedFolder, Tool, read_configuration, stop_of_fault};
 pub use index_file::{first_text, read_index};
 pub use kernel_modules::{KernelModules, modules_folder, path_of_name, read_modules};
+pub use kernel_table::{read_kernel, read_map, read_symvers};
 pub use module_file::read_sections;

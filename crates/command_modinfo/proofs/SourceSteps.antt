@@ -11,8 +11,8 @@ use Rattle.km_course.specs.World.{World}
 use Rattle.km_course.specs.Follows.{Follows}
 use Rattle.km_course.specs.declared.stop.Stop.{Stop}
 use Rattle.command_files.specs.declared.kernel_modules.KernelModules.{KernelModules}
-use Rattle.command_modinfo.specs.declared.modinfo.Source.{Source}
-use Rattle.command_modinfo.specs.declared.modinfo.Source.TheVariants.{Names}
+use Rattle.command_modinfo.specs.declared.course.Source.{Source}
+use Rattle.command_modinfo.specs.declared.course.Source.TheVariants.{Names}
 use Rattle.command_modinfo.specs.ModuleInfo.{module_fields}
 use Rattle.command_files.specs.KernelModules.{modules_folder, reads_modules}
 use Rattle.command_modinfo.specs.Modinfo.{reads_source, shows, shows_each, shows_word}

@@ -8,8 +8,8 @@ use Rattle.modinfo_tool.specs.Show.{shown}
 use Rattle.km_course.specs.Course.{Outcome, Stage, ◌>>=◌, given, gives, ends, each_from, says_any}
 use Rattle.km_course.specs.Course.Outcome.{value}
 use Rattle.km_course.specs.declared.end.End.TheVariants.{NotUnderstood}
-use Rattle.command_modinfo.specs.declared.modinfo.Source.{Source}
-use Rattle.command_modinfo.specs.declared.modinfo.Source.TheVariants.{Paths, Names}
+use Rattle.command_modinfo.specs.declared.course.Source.{Source}
+use Rattle.command_modinfo.specs.declared.course.Source.TheVariants.{Paths, Names}
 use Rattle.command_files.specs.ModuleFile.{reads_sections}
 use Rattle.command_modinfo.specs.ModuleInfo.{module_fields}
 use Rattle.command_files.specs.KernelModules.{modules_folder, path_outcome, reads_modules}

@@ -4,7 +4,7 @@
 //! `modinfo_tool` for the text that it shows.
 #![tactic(auto)]
 
-mod modinfo;
+mod course;
 mod module_info;
 
-pub use modinfo::modinfo;
+pub use course::modinfo;

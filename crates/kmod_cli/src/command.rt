@@ -4,8 +4,12 @@ ghost use Rattle.kmod_cli.specs.Program.{command_named};
 /// A command of the program. Each has a course, which the words after its name decide.
 #[derive(Clone, Copy)]
 pub(crate) enum Command {
+    /// Indexes the modules of a kernel. depmod(8).
+    Depmod,
     /// Shows what modules say of themselves. modinfo(8).
     Modinfo,
+    /// Tells which modules names stand for. modprobe(8).
+    Modprobe,
 }
 
 /// The command of this name.
@@ -13,8 +17,14 @@ pub(crate) enum Command {
 pub(crate) fn command_named(word: &[u8]) -> Option<Command>
     ensures { result ≡ command_named word.now }
 {
+    if word == b"depmod".as_slice() {
+        return Some(Command::Depmod);
+    }
     if word == b"modinfo".as_slice() {
         return Some(Command::Modinfo);
+    }
+    if word == b"modprobe".as_slice() {
+        return Some(Command::Modprobe);
     }
     None
 }

@@ -7,4 +7,4 @@
 mod command;
 mod program;
 
-pub use program::run;
+pub use program::{depmod, modprobe, run};

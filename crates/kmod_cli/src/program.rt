@@ -1,19 +1,20 @@
-ghost use Rattle.km_outside.specs.OutSeen.{OutSeen};
 ghost use Rattle.km_course.specs.World.{world};
-ghost use Rattle.km_course.specs.Follows.{Follows};
 ghost use Rattle.km_course.specs.Carries.{Carries};
+ghost use Rattle.command_depmod.specs.Depmod.{depmod_course};
+ghost use Rattle.command_modinfo.specs.Modinfo.{modinfo_course};
+ghost use Rattle.command_modprobe.specs.Modprobe.{modprobe_course};
 ghost use Rattle.kmod_cli.specs.Program.{course, course_named};
 
 use crate::command::{Command, command_named};
-use command_modinfo::modinfo;
 use km_course::{End, Stop, conclude};
 use km_names::Word;
-use km_outside::{Files, Out};
+use km_outside::{Files, Out, Reads, Writes};
 use std::alloc::Global;
 
 /// Does all that the program does: carries out the course of the words, which are those after the
 /// program's name, and answers the exit status. Status 0 is done, 1 refused, 2 not understood, 3 a failed
-/// call on files, `out` or `err`, and 4 want of memory; all but 0 have a line on `err`.
+/// call on files, `out` or `err`, and 4 want of memory; all but 0 have a line on `err`. The first word names
+/// the command.
 pub fn run<F: Files, O: Out, E: Out>(
     alloc: Global,
     words: &[Word],
@@ -25,39 +26,84 @@ pub fn run<F: Files, O: Out, E: Out>(
         (world (F.seen files.old) (O.seen out.old) (E.seen err.old))
         (world (F.seen files.new) (O.seen out.new) (E.seen err.new)) result }
 {
-    let outcome = perform(alloc, words, files, out);
-    conclude(alloc, outcome, err)
-}
-
-/// Does what the words ask for, up to the first refusal. The first word names the command.
-fn perform<F: Files, O: Out>(
-    alloc: Global,
-    words: &[Word],
-    files: &mut F,
-    out: &mut O,
-) -> Result<(), Stop>
-    ensures { (err : OutSeen) → Follows (λ x. x) (course words.now)
-        (world (F.seen files.old) (O.seen out.old) err) (world (F.seen files.new) (O.seen out.new) err) result }
-{
     match words {
-        [] => Err(Stop::from(End::NotUnderstood)),
-        [name, rest @ ..] => command(alloc, command_named(name.as_bytes()), rest, files, out),
+        [] => command(alloc, None, words, files, out, err),
+        [name, rest @ ..] => {
+            let named = command_named(name.as_bytes());
+            command(alloc, named, rest, files, out, err)
+        }
     }
 }
 
 /// Does what the words after a command's name ask for.
-fn command<F: Files, O: Out>(
+fn command<F: Files, O: Out, E: Out>(
     alloc: Global,
     named: Option<Command>,
     words: &[Word],
     files: &mut F,
     out: &mut O,
-) -> Result<(), Stop>
-    ensures { (err : OutSeen) → Follows (λ x. x) (course_named named words.now)
-        (world (F.seen files.old) (O.seen out.old) err) (world (F.seen files.new) (O.seen out.new) err) result }
+    err: &mut E,
+) -> u8
+    ensures { Carries (course_named named words.now)
+        (world (F.seen files.old) (O.seen out.old) (E.seen err.old))
+        (world (F.seen files.new) (O.seen out.new) (E.seen err.new)) result }
 {
     match named {
-        Some(Command::Modinfo) => modinfo(alloc, words, files, out),
-        None => Err(Stop::from(End::NotUnderstood)),
+        Some(command) => match command {
+            Command::Depmod => depmod(alloc, words, files, out, err),
+            Command::Modinfo => modinfo(alloc, words, files, out, err),
+            Command::Modprobe => modprobe(alloc, words, files, out, err),
+        },
+        None => conclude(alloc, Err(Stop::from(End::NotUnderstood)), err),
     }
+}
+
+/// Does what `depmod` does with these words after its name, and answers the exit status, as [`run`] does: indexes the
+/// modules of a kernel. depmod(8).
+pub fn depmod<F: Files, O: Out, E: Out>(
+    alloc: Global,
+    words: &[Word],
+    files: &mut F,
+    out: &mut O,
+    err: &mut E,
+) -> u8
+    ensures { Carries (depmod_course words.now)
+        (world (F.seen files.old) (O.seen out.old) (E.seen err.old))
+        (world (F.seen files.new) (O.seen out.new) (E.seen err.new)) result }
+{
+    let outcome = command_depmod::depmod(alloc, words, files, out, err);
+    conclude(alloc, outcome, err)
+}
+
+/// Does what `modinfo` does with these words after its name. modinfo(8).
+fn modinfo<F: Reads, O: Out, E: Out>(
+    alloc: Global,
+    words: &[Word],
+    files: &mut F,
+    out: &mut O,
+    err: &mut E,
+) -> u8
+    ensures { Carries (modinfo_course words.now)
+        (world (F.seen files.old) (O.seen out.old) (E.seen err.old))
+        (world (F.seen files.new) (O.seen out.new) (E.seen err.new)) result }
+{
+    let outcome = command_modinfo::modinfo(alloc, words, files, out);
+    conclude(alloc, outcome, err)
+}
+
+/// Does what `modprobe` does with these words after its name, and answers the exit status, as [`run`] does: tells which
+/// modules names stand for. It lists no folder of modules, so that their paths come from the index alone. modprobe(8).
+pub fn modprobe<F: Writes, O: Out, E: Out>(
+    alloc: Global,
+    words: &[Word],
+    files: &mut F,
+    out: &mut O,
+    err: &mut E,
+) -> u8
+    ensures { Carries (modprobe_course words.now)
+        (world (F.seen files.old) (O.seen out.old) (E.seen err.old))
+        (world (F.seen files.new) (O.seen out.new) (E.seen err.new)) result }
+{
+    let outcome = command_modprobe::modprobe(alloc, words, files, out);
+    conclude(alloc, outcome, err)
 }

@@ -8,7 +8,7 @@ use Rattle.km_course.specs.Follows.{Follows}
 use Rattle.km_course.proofs.Steps.{next, exits, wants, gave}
 use Rattle.command_files.specs.declared.kernel_modules.KernelModules.{KernelModules}
 use Rattle.command_files.specs.IndexFile.{reads_index}
-use Rattle.command_modinfo.proofs.SourceSteps.{listed}
+use Rattle.command_files.proofs.FileSteps.{listed}
 use Rattle.command_files.proofs.kernel_modules.read_modules.Goals as goal
 
 pub returns-in_err-file : goal.returns-in_err-file

@@ -1,27 +1,43 @@
 use Rattle.std.proofs.Common.{◌≡◌, refl, sym, subst, ◌∙◌, ap}
 use Rattle.std.specs.Prelude.{Some, Err, ⊤}
 use Rattle.km_course.specs.World.{world}
+use Rattle.km_course.specs.Course.{ends}
 use Rattle.km_course.specs.Course.Outcome.{end}
-use Rattle.km_course.specs.Follows.{Answers, Follows}
+use Rattle.km_course.specs.Follows.{Answers}
+use Rattle.km_course.specs.Carries.{Carries}
 use Rattle.km_course.specs.declared.end.End.TheVariants.{NotUnderstood}
 use Rattle.km_course.proofs.Steps.{answered}
-use Rattle.kmod_cli.specs.declared.command.Command.{Command}
-use Rattle.kmod_cli.specs.declared.command.Command.TheVariants.{Modinfo}
+use Rattle.km_course.proofs.Carried.{carried}
 use Rattle.kmod_cli.specs.Program.{course_named}
 use Rattle.kmod_cli.proofs.program.command.Goals as goal
 
-only_modinfo : (command : Command) → command ≡ Modinfo
-only_modinfo Modinfo = refl
+pub returns-in-Depmod : goal.returns-in-Depmod
+returns-in-Depmod g c =
+    subst (λ named. Carries (course_named named c.args.words.now) (world (g.F.Reads.seen c.args.files.now) (g.O.Out.seen c.args.out.now) (g.E.Out.seen c.args.err.now)) (world (g.F.Reads.seen c.depmod.new.files) (g.O.Out.seen c.depmod.new.out) (g.E.Out.seen c.depmod.new.err)) c.depmod.result)
+    (sym (c.in-Some.is ∙ ap Some c.in-Depmod.is))
+    c.depmod.ensures
 
-pub returns-in-Some-Modinfo : goal.returns-in-Some-Modinfo
-returns-in-Some-Modinfo g c = λ err.
-    subst (λ named. Follows (λ (x : ⊤). x) (course_named named c.args.words.now) (world (g.F.Reads.seen c.args.files.now) (g.O.Out.seen c.args.out.now) err) (world (g.F.Reads.seen c.modinfo.new.files) (g.O.Out.seen c.modinfo.new.out) err) c.modinfo.result)
-    (sym (c.in-Some-Modinfo.is ∙ ap Some (only_modinfo c.in-Some-Modinfo.field-0)))
-    (c.modinfo.ensures err)
+pub returns-in-Modinfo : goal.returns-in-Modinfo
+returns-in-Modinfo g c =
+    subst (λ named. Carries (course_named named c.args.words.now) (world (g.F.Reads.seen c.args.files.now) (g.O.Out.seen c.args.out.now) (g.E.Out.seen c.args.err.now)) (world (g.F.Reads.seen c.modinfo.new.files) (g.O.Out.seen c.modinfo.new.out) (g.E.Out.seen c.modinfo.new.err)) c.modinfo.result)
+    (sym (c.in-Some.is ∙ ap Some c.in-Modinfo.is))
+    c.modinfo.ensures
+
+pub returns-in-Modprobe : goal.returns-in-Modprobe
+returns-in-Modprobe g c =
+    subst (λ named. Carries (course_named named c.args.words.now) (world (g.F.Reads.seen c.args.files.now) (g.O.Out.seen c.args.out.now) (g.E.Out.seen c.args.err.now)) (world (g.F.Reads.seen c.modprobe.new.files) (g.O.Out.seen c.modprobe.new.out) (g.E.Out.seen c.modprobe.new.err)) c.modprobe.result)
+    (sym (c.in-Some.is ∙ ap Some c.in-Modprobe.is))
+    c.modprobe.ensures
 
 pub returns-in-None : goal.returns-in-None
-returns-in-None g c = λ err.
-    subst (λ named. Follows (λ (x : ⊤). x) (course_named named c.args.words.now) (world (g.F.Reads.seen c.args.files.now) (g.O.Out.seen c.args.out.now) err) (world (g.F.Reads.seen c.args.files.now) (g.O.Out.seen c.args.out.now) err) (Err c.from.result))
+returns-in-None g c =
+    let old = world (g.F.Reads.seen c.args.files.now) (g.O.Out.seen c.args.out.now) (g.E.Out.seen c.args.err.now) in
+    subst (λ named. Carries (course_named named c.args.words.now) old (world (g.F.Reads.seen c.args.files.now) (g.O.Out.seen c.args.out.now) (g.E.Out.seen c.conclude.new.err)) c.conclude.result)
     (sym c.in-None.is)
-    (answered (λ (x : ⊤). x) (end NotUnderstood) _ (Err c.from.result)
+    (carried (ends NotUnderstood) old old (g.E.Out.seen c.conclude.new.err) (Err c.from.result) c.conclude.result (
+      record { out = g.met.O.Out.within c.args.out.now; err = g.met.E.Out.within c.args.err.now },
+      record { out = g.met.O.Out.within c.args.out.now; err = g.met.E.Out.within c.conclude.new.err },
+    )
+    (answered (λ (x : ⊤). x) (end NotUnderstood) old (Err c.from.result)
     (subst (λ stop. Answers (λ (x : ⊤). x) (end NotUnderstood) (Err stop)) (sym c.from.ensures) refl))
+    c.conclude.ensures)

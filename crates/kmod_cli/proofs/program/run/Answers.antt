@@ -1,16 +1,24 @@
+use Rattle.std.proofs.Common.{ℕ, ◌-◌, List, length, take, drop, sym, ap, subst, ◌∙◌}
+use Rattle.std.proofs.lemmas.List.{take_rest}
 use Rattle.km_course.specs.World.{world}
-use Rattle.km_course.proofs.Carried.{carried}
-use Rattle.kmod_cli.specs.Program.{course}
+use Rattle.km_course.specs.Carries.{Carries}
+use Rattle.kmod_cli.specs.Program.{command_named, course, course_named}
+use Rattle.kmod_cli.proofs.CommandSteps.{no-words, name-first}
 use Rattle.kmod_cli.proofs.program.run.Goals as goal
 
-pub returns : goal.returns
-returns g c =
-    carried (course c.args.words.now)
-    (world (g.F.Reads.seen c.args.files.now) (g.O.Out.seen c.args.out.now) (g.E.Out.seen c.args.err.now))
-    (world (g.F.Reads.seen c.perform-outcome.new.files) (g.O.Out.seen c.perform-outcome.new.out) (g.E.Out.seen c.args.err.now))
-    (g.E.Out.seen c.conclude.new.err) c.perform-outcome.result c.conclude.result (
-      record { out = g.met.O.Out.within c.args.out.now; err = g.met.E.Out.within c.args.err.now },
-      record { out = g.met.O.Out.within c.perform-outcome.new.out; err = g.met.E.Out.within c.conclude.new.err },
-    )
-    (c.perform-outcome.ensures (g.E.Out.seen c.args.err.now))
-    c.conclude.ensures
+pub returns-in-empty : goal.returns-in-empty
+returns-in-empty g c =
+    subst (λ words. Carries (course words) (world (g.F.Reads.seen c.args.files.now) (g.O.Out.seen c.args.out.now) (g.E.Out.seen c.args.err.now)) (world (g.F.Reads.seen c.command.new.files) (g.O.Out.seen c.command.new.out) (g.E.Out.seen c.command.new.err)) c.command.result)
+    (sym (no-words c.args.words.now c.in-empty.len_below)) c.command.ensures
+
+pub returns-in-len1-up : goal.returns-in-len1-up
+returns-in-len1-up g c =
+    let words = c.args.words.now in
+    let rest : List (List ℕ) = take (length words - 1) (drop 1 words) in
+    let old = world (g.F.Reads.seen c.args.files.now) (g.O.Out.seen c.args.out.now) (g.E.Out.seen c.args.err.now) in
+    let new = world (g.F.Reads.seen c.command-in-len1-up.new.files) (g.O.Out.seen c.command-in-len1-up.new.out) (g.E.Out.seen c.command-in-len1-up.new.err) in
+    subst (λ all. Carries (course all) old new c.command-in-len1-up.result)
+    (sym (name-first words rest c.name-item.result c.in-len1-up.len_at_least c.name-item.is (take_rest words 1)))
+    (subst (λ named. Carries (course_named named rest) old new c.command-in-len1-up.result)
+    (c.command_named-named.ensures ∙ ap command_named c.as_bytes.ensures)
+    c.command-in-len1-up.ensures)

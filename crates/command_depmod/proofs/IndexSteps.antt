@@ -1,0 +1,39 @@
+-- The stages of the course of `depmod`, joined.
+use Rattle.std.proofs.Common.{ℕ, List}
+use Rattle.std.specs.Prelude.{Option, Bool, ⊤}
+use Rattle.module_facts.specs.declared.facts.Facts.{Facts}
+use Rattle.symbol_binding.specs.Unmet.{unmet}
+use Rattle.provider_rel.specs.Faces.{modules_of}
+use Rattle.depmod_core.specs.declared.files.OutputFiles.{OutputFiles}
+use Rattle.km_course.specs.Course.{Stage, ◌>>=◌, given}
+use Rattle.command_files.specs.KernelTable.{Table, reads_kernel, seen_kernel}
+use Rattle.command_depmod.specs.Tree.{reads_tree}
+use Rattle.command_depmod.specs.Modules.{reads_modules_facts}
+use Rattle.command_depmod.specs.Relation.{Tree, relation_outcome}
+use Rattle.command_depmod.specs.Outputs.{makes_outputs, hands_out}
+use Rattle.command_depmod.specs.Warnings.{warns_unmet}
+
+-- the stages after the search list, the tree, the kernel's table and the facts were read
+abbrev pub related : Table → List Facts → Stage Tree
+related kernel facts = given (relation_outcome (record { facts = facts; kernel = seen_kernel kernel }))
+
+abbrev pub with_kernel : List ℕ → List (List ℕ) → Table → Stage Tree
+with_kernel folder paths kernel = reads_modules_facts folder paths >>= λ facts. related kernel facts
+
+abbrev pub with_paths : List ℕ → Option (List ℕ) → Option (List ℕ) → List (List ℕ) → Stage Tree
+with_paths folder map symvers paths = reads_kernel map symvers >>= λ kernel. with_kernel folder paths kernel
+
+abbrev pub with_search : List ℕ → Option (List ℕ) → Option (List ℕ) → List (List ℕ) → Stage Tree
+with_search folder map symvers search = reads_tree folder search >>= λ paths. with_paths folder map symvers paths
+
+-- the stages after the warnings, the files and the tree
+abbrev pub warned : Bool → List ℕ → OutputFiles → ⊤ → Stage ⊤
+warned dry_run target made _ = hands_out dry_run target made
+
+abbrev pub made : Bool → Bool → Bool → List ℕ → Tree → OutputFiles → Stage ⊤
+made errsyms versions dry_run target tree files =
+    warns_unmet errsyms versions (unmet (modules_of tree.facts) tree.kernel) >>= λ w. warned dry_run target files w
+
+abbrev pub indexed : Bool → Bool → Bool → List ℕ → List ℕ → Tree → Stage ⊤
+indexed errsyms versions dry_run folder target tree =
+    makes_outputs folder tree >>= λ files. made errsyms versions dry_run target tree files

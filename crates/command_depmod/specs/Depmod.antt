@@ -1,0 +1,52 @@
+-- The course of `depmod`. depmod(8).
+use Rattle.std.specs.Prelude.{ℕ, List, codes, Option, Some, None, is_some, Result, Ok, Err, ⊤}
+use Rattle.mod_tree.specs.Search.{search_of}
+use Rattle.symbol_binding.specs.Unmet.{unmet}
+use Rattle.provider_rel.specs.Faces.{modules_of}
+use Rattle.kmod_words.specs.declared.depmod.DepmodWords.{DepmodWords}
+use Rattle.kmod_words.specs.Depmod.{depmod_request}
+use Rattle.km_course.specs.Course.{Stage, ◌>>=◌, given, ends}
+use Rattle.km_course.specs.declared.end.End.TheVariants.{NotUnderstood}
+use Rattle.command_files.specs.KernelModules.{modules_folder}
+use Rattle.command_files.specs.KernelTable.{reads_kernel, seen_kernel}
+use Rattle.command_depmod.specs.Search.{reads_search}
+use Rattle.command_depmod.specs.Tree.{reads_tree}
+use Rattle.command_depmod.specs.Modules.{reads_modules_facts}
+use Rattle.command_depmod.specs.Relation.{Tree, relation_outcome}
+use Rattle.command_depmod.specs.Outputs.{makes_outputs, hands_out}
+use Rattle.command_depmod.specs.Warnings.{warns_unmet}
+
+-- the folder in which the modules stand, and the one into which files are put
+abbrev pub modules_of_request : DepmodWords → List ℕ
+modules_of_request asked = modules_folder asked.basedir asked.version
+
+abbrev pub target_of_request : DepmodWords → List ℕ
+target_of_request asked = modules_folder asked.outdir asked.version
+
+-- The tree in a folder, with its relation: the configuration is read, the tree is chosen, the kernel's table is read, each
+-- module of the tree is read and checked, and then they are related.
+abbrev pub reads_related : List ℕ → Option (List ℕ) → Option (List ℕ) → Option (List ℕ) → Stage Tree
+reads_related folder config map symvers = do
+  search ← reads_search config
+  paths ← reads_tree folder search
+  kernel ← reads_kernel map symvers
+  facts ← reads_modules_facts folder paths
+  given (relation_outcome (record { facts = facts; kernel = seen_kernel kernel }))
+
+-- The course of a request: the tree is read, its files are made, and only then is anything written: the warnings first,
+-- and then the files.
+abbrev pub indexes : DepmodWords → Stage ⊤
+indexes asked = do
+  tree ← reads_related (modules_of_request asked) asked.config asked.filesyms asked.symvers
+  made ← makes_outputs (modules_of_request asked) tree
+  warned ← warns_unmet asked.errsyms (is_some asked.symvers) (unmet (modules_of tree.facts) tree.kernel)
+  hands_out asked.dry_run (target_of_request asked) made
+
+-- the course of what the words ask for
+abbrev pub depmod_asked_for : Option DepmodWords → Stage ⊤
+depmod_asked_for None = ends NotUnderstood
+depmod_asked_for (Some asked) = indexes asked
+
+-- The course of `depmod` with these words after it.
+abbrev pub depmod_course : List (List ℕ) → Stage ⊤
+depmod_course words = depmod_asked_for (depmod_request words)

@@ -1,0 +1,48 @@
+-- The tree of a kernel's modules, as `depmod` finds it in their folder. depmod(8), depmod.d(5).
+use Rattle.std.specs.Prelude.{◌≡◌, ◌≤◌, ◌==◌, ℕ, not, List, length, codes, Result, Ok, Err, All, AllPairs, IsTrue}
+use Rattle.std.specs.List.{list_any}
+use Rattle.km_names.specs.Ascii.{is_graphic}
+use Rattle.km_names.specs.Path.{path_below, module_name}
+use Rattle.mod_tree.specs.Tree.{tree_of}
+use Rattle.mod_tree.specs.declared.tree.TreeFault.{TreeFault}
+use Rattle.mod_tree.specs.declared.tree.TreeFault.TheVariants as faults
+use Rattle.km_course.specs.Course.{Outcome, Stage, ◌>>=◌, given, lists_tree, reads_any}
+use Rattle.km_course.specs.Course.Outcome.{value, end}
+use Rattle.km_course.specs.declared.end.End.TheVariants.{Refused}
+use Rattle.km_course.specs.declared.refusal.Refusal.{Refusal}
+use Rattle.km_course.specs.declared.refusal.Refusal.TheVariants.{BadPath, TooManyModules}
+use Rattle.km_course.specs.declared.stop.Stop.{Stop}
+use Rattle.km_course.specs.declared.stop.Stop.TheVariants.{Ended, Memory}
+
+-- what a fault of a tree refuses; no tree comes to want of memory
+abbrev pub tree_refusal : TreeFault → Refusal
+tree_refusal (faults.BadPath path) = BadPath path
+tree_refusal (faults.TooManyModules count) = TooManyModules
+tree_refusal faults.Memory = TooManyModules
+
+-- how a fault of a tree stops the command
+abbrev pub tree_stop : TreeFault → Stop
+tree_stop (faults.BadPath path) = Ended (Refused (BadPath path))
+tree_stop (faults.TooManyModules count) = Ended (Refused TooManyModules)
+tree_stop faults.Memory = Memory
+
+-- What listed paths come to that have this tree: its paths, or a refusal.
+unfoldable pub tree_outcome : Result (List (List ℕ)) TreeFault → Outcome (List (List ℕ))
+tree_outcome (Ok paths) = value paths
+tree_outcome (Err fault) = end (Refused (tree_refusal fault))
+
+-- The paths of the tree in the folder, relative to it and in the order of the tree. The folder is listed, which is
+-- needed, and then its modules.order is read, which counts as empty where it isn't there.
+abbrev pub reads_tree : List ℕ → List (List ℕ) → Stage (List (List ℕ))
+reads_tree folder search = do
+  listed ← lists_tree folder
+  order ← reads_any (path_below folder (codes "modules.order"))
+  given (tree_outcome (tree_of listed order search))
+
+-- What is known of the paths of a tree: there are at most 10,000, no two of modules of one name; each is a word of visible
+-- characters, and has no `:`.
+pub record AreTreePaths (paths : List (List ℕ)) : Type 0 where
+  pub few : length paths ≤ 10000
+  pub distinct : AllPairs (λ (a b : List ℕ). module_name a ≡ module_name b → ⊥) paths
+  pub graphic : All (λ path. IsTrue (is_graphic path)) paths
+  pub colon : All (λ path. IsTrue (not (list_any (λ b. b == 58) path))) paths

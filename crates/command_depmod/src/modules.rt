@@ -1,0 +1,76 @@
+// The modules of a tree, each read and checked at its turn.
+ghost use Rattle.std.specs.Prelude.{◌≡◌, ◌≤◌, length, IfOk};
+ghost use Rattle.km_names.specs.Limit.{file_limit};
+ghost use Rattle.km_outside.specs.OutSeen.{OutSeen};
+ghost use Rattle.km_course.specs.World.{world};
+ghost use Rattle.km_course.specs.Follows.{Answers, Follows};
+ghost use Rattle.command_depmod.specs.Tree.{AreTreePaths};
+ghost use Rattle.module_facts.specs.Faults.{fact_fault};
+ghost use Rattle.provider_rel.specs.Tree.{IsTree};
+ghost use Rattle.command_depmod.specs.Modules.{AreFactsAt, facts_outcome, reads_facts, reads_modules_facts};
+
+use km_course::{Refusal, Stop, read_needed};
+use km_names::{Blob, PathText, is_compressed, join};
+use km_outside::Reads;
+use module_facts::{Facts, ModuleFault, read_module};
+use provider_rel::TreeFacts;
+use std::alloc::Global;
+
+/// The facts of the modules at the paths of a tree in the folder. One module's file is held at a time.
+pub(crate) fn read_modules_facts<F: Reads>(
+    alloc: Global,
+    folder: &PathText,
+    paths: &[PathText],
+    files: &mut F,
+) -> Result<TreeFacts, Stop>
+    requires { AreTreePaths paths.now }
+    ensures follows { (out err : OutSeen) → Follows (λ x. x) (reads_modules_facts folder.now paths.now)
+        (world (F.seen files.old) out err) (world (F.seen files.new) out err) result }
+    ensures tree { IfOk result (λ tree. IsTree tree) }
+{
+    let mut tree = TreeFacts::new(alloc);
+    for path in paths {
+        let facts = read_facts(alloc, folder, path, files)?;
+        tree.push(facts)?;
+    }
+    Ok(tree)
+}
+
+/// The facts of the module at a path of the tree in the folder. A compressed one is refused unread.
+fn read_facts<F: Reads>(
+    alloc: Global,
+    folder: &PathText,
+    path: &PathText,
+    files: &mut F,
+) -> Result<Facts, Stop>
+    ensures follows { (out err : OutSeen) → Follows (λ x. x) (reads_facts folder.now path.now)
+        (world (F.seen files.old) out err) (world (F.seen files.new) out err) result }
+    ensures facts { IfOk result (λ facts. AreFactsAt path.now facts) }
+{
+    if is_compressed(path) {
+        let path = PathText::from_slice(alloc, path.as_bytes())?;
+        return Err(Stop::from(Refusal::Compressed { path }));
+    }
+    let file = join(alloc, folder, path.as_bytes())?;
+    let bytes = read_needed(alloc, files, file)?;
+    check_facts(alloc, path, bytes)
+}
+
+/// The facts of the module of these bytes at a path of the tree, or its refusal. Only the facts are kept.
+fn check_facts(alloc: Global, path: &PathText, bytes: Blob) -> Result<Facts, Stop>
+    requires { length bytes ≤ file_limit }
+    ensures answers { Answers (λ x. x) (facts_outcome path.now bytes (fact_fault path.now bytes)) result }
+    ensures facts { IfOk result (λ facts. AreFactsAt path.now facts) }
+{
+    match read_module(alloc, path, bytes) {
+        Ok(module) => Ok(module.facts),
+        Err(fault) => match fault {
+            ModuleFault::Memory => Err(Stop::Memory),
+            _ => {
+                let text = fault.text(alloc)?;
+                let path = PathText::from_slice(alloc, path.as_bytes())?;
+                Err(Stop::from(Refusal::BadModule { path, text }))
+            }
+        },
+    }
+}

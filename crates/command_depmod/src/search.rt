@@ -1,0 +1,40 @@
+// The search list of the configuration.
+ghost use Rattle.std.specs.Prelude.{◌≤◌, length, All};
+ghost use Rattle.km_names.specs.Limit.{file_limit};
+ghost use Rattle.km_outside.specs.OutSeen.{OutSeen};
+ghost use Rattle.km_course.specs.World.{world};
+ghost use Rattle.km_course.specs.Follows.{Answers, Follows};
+ghost use Rattle.mod_tree.specs.Search.{search_of};
+ghost use Rattle.command_files.specs.Configuration.{stated_outcome};
+ghost use Rattle.command_depmod.specs.Search.{reads_search};
+
+use command_files::{Tool, read_configuration, stop_of_fault};
+use km_course::Stop;
+use km_names::{ConfFiles, PathText};
+use km_outside::Reads;
+use mod_tree::{Search, parse_search};
+use std::alloc::Global;
+
+/// The search list of the configuration, at the path that is given or in the usual folders.
+pub(crate) fn read_search<F: Reads>(
+    alloc: Global,
+    config: Option<PathText>,
+    files: &mut F,
+) -> Result<Search, Stop>
+    ensures { (out err : OutSeen) → Follows (λ x. x) (reads_search config)
+        (world (F.seen files.old) out err) (world (F.seen files.new) out err) result }
+{
+    let read = read_configuration(alloc, Tool::Depmod, config, files)?;
+    parse(alloc, &read)
+}
+
+/// The search list of the files, or the refusal of the first line that isn't understood.
+fn parse(alloc: Global, files: &ConfFiles) -> Result<Search, Stop>
+    requires { All (λ file. length file.bytes ≤ file_limit) files.now }
+    ensures { Answers (λ x. x) (stated_outcome (search_of files.now)) result }
+{
+    match parse_search(alloc, files) {
+        Ok(search) => Ok(search),
+        Err(fault) => Err(stop_of_fault(fault)),
+    }
+}

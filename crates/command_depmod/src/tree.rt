@@ -1,0 +1,58 @@
+// The tree in a folder of modules.
+ghost use Rattle.std.specs.Prelude.{◌≡◌, IfOk};
+ghost use Rattle.km_outside.specs.OutSeen.{OutSeen};
+ghost use Rattle.km_course.specs.World.{world};
+ghost use Rattle.km_course.specs.Follows.{Answers, Follows};
+ghost use Rattle.mod_tree.specs.Tree.{tree_of};
+ghost use Rattle.command_depmod.specs.Tree.{AreTreePaths, reads_tree, tree_outcome, tree_stop};
+
+use km_course::{Refusal, Stop, list_tree_needed, read_optional};
+use km_names::{Blob, PathText, Paths, join};
+use km_outside::Files;
+use mod_tree::{Search, Tree, TreeFault, choose};
+use std::alloc::Global;
+
+/// The paths of the tree in the folder: it is listed, and its modules.order is read.
+pub(crate) fn read_tree<F: Files>(
+    alloc: Global,
+    folder: &PathText,
+    search: &Search,
+    files: &mut F,
+) -> Result<Tree, Stop>
+    ensures follows { (out err : OutSeen) → Follows (λ x. x) (reads_tree folder.now search.now)
+        (world (F.seen files.old) out err) (world (F.seen files.new) out err) result }
+    ensures paths { IfOk result (λ tree. AreTreePaths tree) }
+{
+    let listed_folder = PathText::from_slice(alloc, folder.as_bytes())?;
+    let listed = list_tree_needed(alloc, files, listed_folder)?;
+    let order_file = join(alloc, folder, b"modules.order")?;
+    let order = read_optional(alloc, files, order_file)?;
+    choose_tree(alloc, &listed, &order, search)
+}
+
+/// The tree of the listed paths, for what modules.order has.
+fn choose_tree(
+    alloc: Global,
+    listed: &Paths,
+    order: &Blob,
+    search: &Search,
+) -> Result<Tree, Stop>
+    ensures answers { Answers (λ x. x) (tree_outcome (tree_of listed.now order.now search.now)) result }
+    ensures paths { IfOk result (λ tree. AreTreePaths tree) }
+{
+    match choose(alloc, listed, order.as_bytes(), search) {
+        Ok(tree) => Ok(tree),
+        Err(fault) => Err(refused(fault)),
+    }
+}
+
+/// How a fault of the tree stops the command.
+fn refused(fault: TreeFault) -> Stop
+    ensures { result ≡ tree_stop fault }
+{
+    match fault {
+        TreeFault::BadPath { path } => Stop::from(Refusal::BadPath { path }),
+        TreeFault::TooManyModules { count: _ } => Stop::from(Refusal::TooManyModules),
+        TreeFault::Memory => Stop::Memory,
+    }
+}

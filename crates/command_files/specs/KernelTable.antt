@@ -1,0 +1,66 @@
+-- The table of a kernel's exports, as the commands read it from a System.map or a Module.symvers. depmod(8), `-F` and
+-- `-E`.
+use Rattle.std.specs.Prelude.{ℕ, true, false, Bool, List, [], map, Option, Some, None, Result, Ok, Err}
+use Rattle.symbol_binding.specs.Symbols.{Kernel as SeenKernel}
+use Rattle.provider_rel.specs.declared.fault.KernelFault.{KernelFault}
+use Rattle.provider_rel.specs.declared.fault.KernelFault.TheVariants.{BadKernelLine, Memory}
+use Rattle.provider_rel.specs.declared.kernel.Kernel.{Kernel}
+use Rattle.provider_rel.specs.declared.kernel.KernelExport.{KernelExport}
+use Rattle.provider_rel.specs.KernelTable.{exports_of_map, exports_of_symvers, seen_export}
+use Rattle.km_course.specs.Course.{Outcome, Stage, ◌>>=◌, given, gives, reads}
+use Rattle.km_course.specs.Course.Outcome.{value, end}
+use Rattle.km_course.specs.declared.end.End.TheVariants.{Refused}
+use Rattle.km_course.specs.declared.stop.Stop.{Stop}
+use Rattle.km_course.specs.declared.stop.Stop.TheVariants.{Ended, Memory as Wanting}
+use Rattle.km_course.specs.declared.refusal.Refusal.{Refusal}
+use Rattle.km_course.specs.declared.refusal.Refusal.TheVariants.{BadLine}
+
+-- A kernel's table: whether its exports are known, and which they are.
+pub record Table : Type 0 where
+  pub known : Bool
+  pub exports : List KernelExport
+
+-- the table of a kernel
+abbrev pub table_of : Kernel → Table
+table_of kernel = record { known = kernel.known; exports = kernel.exports }
+
+-- The kernel of a table, as those who bind symbols see it.
+abbrev pub seen_kernel : Table → SeenKernel
+seen_kernel table = record { known = table.known; exports = map seen_export table.exports }
+
+-- the table of a kernel of which nothing is known
+abbrev pub unknown_table : Table
+unknown_table = record { known = false; exports = [] }
+
+-- what a line of a table that isn't understood refuses; no table comes to want of memory
+abbrev pub line_refusal : List ℕ → KernelFault → Refusal
+line_refusal file (BadKernelLine number) = BadLine file number
+line_refusal file Memory = BadLine file 0
+
+-- What a file that states these exports comes to: its table, or the refusal of its first line that isn't understood.
+unfoldable pub table_outcome : List ℕ → Result (List KernelExport) KernelFault → Outcome Table
+table_outcome file (Ok exports) = value (record { known = true; exports = exports })
+table_outcome file (Err fault) = end (Refused (line_refusal file fault))
+
+-- how a fault of a file's table stops a command
+abbrev pub table_stop : List ℕ → KernelFault → Stop
+table_stop file (BadKernelLine number) = Ended (Refused (BadLine file number))
+table_stop file Memory = Wanting
+
+-- The table of the System.map at the path, which is needed.
+abbrev pub reads_map : List ℕ → Stage Table
+reads_map file = do
+  bytes ← reads file
+  given (table_outcome file (exports_of_map bytes))
+
+-- The table of the Module.symvers at the path, which is needed.
+abbrev pub reads_symvers : List ℕ → Stage Table
+reads_symvers file = do
+  bytes ← reads file
+  given (table_outcome file (exports_of_symvers bytes))
+
+-- The table of a System.map or of a Module.symvers, where one of them is named; else nothing is known of the kernel.
+abbrev pub reads_kernel : Option (List ℕ) → Option (List ℕ) → Stage Table
+reads_kernel (Some file) symvers = reads_map file
+reads_kernel None (Some file) = reads_symvers file
+reads_kernel None None = gives unknown_table
