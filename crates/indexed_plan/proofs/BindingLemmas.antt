@@ -14,7 +14,6 @@ indexed-plans-bind tree kernel dep addressed region listed plan indexed planned 
     closed-plans-bind tree kernel (lines_of_map dep) addressed region listed plan
     (record {
       known = indexed.known;
-      table = indexed.table;
       names = indexed.names;
       acyclic = indexed.acyclic;
       lines = maps-have-lines tree (kernel_of kernel) dep indexed.paths made;

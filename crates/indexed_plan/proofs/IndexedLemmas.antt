@@ -95,7 +95,6 @@ module _ (held : Contents) (folder : List ℕ) (tree : List Facts) (kernel : Ker
       let made_holds : Holds bytes own = subst (λ b. Holds b own) (sym same) (dep-holds tree (dependencies (modules_of tree) (kernel_of kernel)) indexed.is_tree dep-small) in
       record {
         known = indexed.known;
-        table = indexed.table;
         names = indexed.is_tree.distinct;
         paths = λ f in'. at-path held folder f (all-member IsTreeModule f tree indexed.is_tree.modules in') (indexed.modules f in');
         acyclic = acyclic tree (kernel_of kernel) indexed.related;

@@ -6,7 +6,6 @@ use Rattle.index_format.specs.Map.{Value, KeyValues, values_of}
 use Rattle.module_facts.specs.declared.facts.Facts.{Facts}
 use Rattle.module_facts.specs.declared.module.Module.{Module}
 use Rattle.provider_rel.specs.declared.kernel.Kernel.{Kernel}
-use Rattle.provider_rel.specs.KernelTable.{IsTable}
 use Rattle.provider_rel.specs.Faces.{modules_of, kernel_of}
 use Rattle.provider_rel.specs.Relation.{uses_at, dependencies}
 use Rattle.model_loader.specs.declared.region.Region.{Region}
@@ -17,9 +16,8 @@ use Rattle.indexed_plan.specs.Index.{IsAtPath, IsLineIn, lines_of_map}
 
 -- A tree of modules stands as it was indexed, over a known kernel: this map has its dependency lines.
 pub record StandsAsIndexed (tree : List Facts) (kernel : Kernel) (dep : KeyValues) : Type 0 where
-  -- the kernel's table is known, and no two of its exports have one name
+  -- the kernel's table is known
   pub known : kernel.known ≡ true
-  pub table : IsTable kernel.exports
   -- no two modules have one name, and each has the name of its path
   pub names : AllPairs (λ (a b : Facts). a.name ≡ b.name → ⊥) tree
   pub paths : (f : Facts) → Member f tree → IsAtPath f

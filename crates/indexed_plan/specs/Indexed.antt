@@ -13,7 +13,6 @@ use Rattle.mod_tree.specs.Tree.{is_module_path}
 use Rattle.symbol_binding.specs.Unmet.{unmet}
 use Rattle.unmet_file.specs.Unmet.{unmet_of}
 use Rattle.provider_rel.specs.declared.kernel.Kernel.{Kernel}
-use Rattle.provider_rel.specs.KernelTable.{IsTable}
 use Rattle.provider_rel.specs.Faces.{modules_of, kernel_of}
 use Rattle.provider_rel.specs.Tree.{IsTree}
 use Rattle.provider_rel.specs.Relation.{relation_fault}
@@ -54,9 +53,8 @@ pub record Indexed (held : Contents) (folder : List ℕ) (tree : List Facts) (ke
   -- the tree is one of valid modules, whose files are in the folder
   pub is_tree : IsTree tree
   pub modules : (f : Facts) → Member f tree → IsModuleFile held folder f
-  -- the kernel's table is known, and no two of its exports have one name
+  -- the kernel's table is known
   pub known : kernel.known ≡ true
-  pub table : IsTable kernel.exports
   -- no walk from a module to one that it uses leads back, and no limit is passed
   pub related : relation_fault (modules_of tree) (kernel_of kernel) ≡ None
   pub small : output_fault (files tree (kernel_of kernel) builtin) ≡ None

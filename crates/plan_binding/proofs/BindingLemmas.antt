@@ -9,11 +9,10 @@ use Rattle.relation_order.specs.Sets.{below}
 use Rattle.relation_order.specs.Cycle.{cycle}
 use Rattle.module_facts.specs.declared.facts.Facts.{Facts}
 use Rattle.module_facts.specs.declared.module.Module.{Module}
-use Rattle.symbol_binding.specs.Symbols.{Export, Module as SeenModule, Kernel as SeenKernel}
+use Rattle.symbol_binding.specs.Symbols.{Module as SeenModule}
 use Rattle.symbol_binding.specs.Unmet.{unmet}
 use Rattle.provider_rel.specs.declared.kernel.Kernel.{Kernel}
 use Rattle.provider_rel.specs.declared.kernel.KernelExport.{KernelExport}
-use Rattle.provider_rel.specs.KernelTable.{IsTable, seen_export}
 use Rattle.provider_rel.specs.Faces.{face_of, module_of, modules_of, kernel_of}
 use Rattle.provider_rel.specs.Relation.{uses_at}
 use Rattle.model_loader.specs.declared.region.Region.{Region}
@@ -84,34 +83,20 @@ distinct-names f (x ∷ xs) apart =
     head [] all = tt
     head (y ∷ ys) all = (other (f x) (f y) (all 0 y (omega arith)), head ys (λ k d less. all (suc k) d (omega (arith, less))))
 
--- addresses leave the names of a kernel's exports as they are
-table-names : (es : List KernelExport) → map (λ (e : Export). e.name) (map seen_export es) ≡ map (λ (e : KernelExport). e.name) es
-table-names [] = refl
-table-names (e ∷ es) = ap (λ ns. e.name ∷ ns) (table-names es)
-
--- the table with addresses is one too
-same-table : (kernel addressed : Kernel) → IsTable kernel.exports → kernel_of addressed ≡ kernel_of kernel → IsDistinct bytes_eq (map (λ (e : KernelExport). e.name) addressed.exports)
-same-table kernel addressed table same =
-    subst (IsDistinct bytes_eq) (sym names) (distinct-names (λ (e : KernelExport). e.name) kernel.exports table.distinct)
-  where
-    names : map (λ (e : KernelExport). e.name) addressed.exports ≡ map (λ (e : KernelExport). e.name) kernel.exports
-    names =
-        sym (table-names addressed.exports) ∙ ap (λ (k : SeenKernel). map (λ (e : Export). e.name) k.exports) same ∙ table-names kernel.exports
-
 -- the machine of a kernel with nothing loaded is sound
-new-sound : (kernel : Kernel) (region : Region) → IsDistinct bytes_eq (map (λ (e : KernelExport). e.name) kernel.exports) → IsSound (new_machine kernel region) []
+new-sound : (kernel : Kernel) (region : Region) → IsSound (new_machine kernel region) []
 unfolding IsDistinct
-new-sound kernel region distinct = record {
+new-sound kernel region = record {
   bound = tt;
   names = tt;
-  exports = subst (IsDistinct bytes_eq) (sym (append-nil (map (λ (e : KernelExport). e.name) kernel.exports))) distinct;
+  exports = subst (IsDistinct bytes_eq) (sym (append-nil (map (λ (e : KernelExport). e.name) kernel.exports))) (distinct-names (λ (e : KernelExport). e.name) kernel.exports kernel.table.distinct);
   placed = λ k d less. absurd (omega arith);
   apart = λ i j d less inside. absurd (omega arith);
 }
 
 pub loads-bind : LoadsBind
-loads-bind kernel region ms machine table loaded =
-    loads-sound (new_machine kernel region) [] ms machine (new-sound kernel region (same-table kernel kernel table refl)) loaded
+loads-bind kernel region ms machine loaded =
+    loads-sound (new_machine kernel region) [] ms machine (new-sound kernel region) loaded
 
 ok-value : {T E : Type 0} (r : Result T E) → IsOk r → (x : T) × (r ≡ Ok x)
 ok-value (Ok x) is = (x, refl)
@@ -160,7 +145,7 @@ module _ (tree : List Facts) (kernel : Kernel) (deps : Lines) (addressed : Kerne
         subst (λ r. IfErr r IsPlaceFault) (sym (load-append (new_machine addressed region) listed plan ∙ ap (unless_refused (λ next. load_all next plan)) start.1))
         (loads-stop start.0 plan (λ before m after split machine is. clear-at before m after split machine (split-loaded before machine is)));
     sound = λ before after split machine loaded.
-        loads-sound (new_machine addressed region) [] (listed ++ before) machine (new-sound addressed region (same-table kernel addressed indexed.table planned.same_table)) loaded;
+        loads-sound (new_machine addressed region) [] (listed ++ before) machine (new-sound addressed region) loaded;
   }
 
 pub closed-plans-bind : ClosedPlansBind

@@ -8,3 +8,4 @@ pub mod PlanLemmas
 pub mod LineLemmas
 pub mod LoadLemmas
 pub mod BindingLemmas
+pub mod InstanceLemmas

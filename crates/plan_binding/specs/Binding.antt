@@ -6,7 +6,6 @@ use Rattle.module_facts.specs.declared.facts.Facts.{Facts}
 use Rattle.module_facts.specs.declared.module.Module.{Module}
 use Rattle.symbol_binding.specs.Unmet.{unmet}
 use Rattle.provider_rel.specs.declared.kernel.Kernel.{Kernel}
-use Rattle.provider_rel.specs.KernelTable.{IsTable}
 use Rattle.provider_rel.specs.Faces.{modules_of, kernel_of}
 use Rattle.provider_rel.specs.Relation.{uses_at}
 use Rattle.model_loader.specs.declared.region.Region.{Region}
@@ -19,21 +18,18 @@ use Rattle.plan_binding.specs.Loads.{load_all, IsPlaceFault}
 
 -- A tree of modules over a known kernel, with the dependency lines of its modules, has a relation.
 pub record IsIndexed (tree : List Facts) (kernel : Kernel) (deps : Lines) : Type 0 where
-  -- the kernel's table is known, and no two of its exports have one name
+  -- the kernel's table is known
   pub known : kernel.known ≡ true
-  pub table : IsTable kernel.exports
   -- no two modules have one name
   pub names : AllPairs (λ (a b : Facts). a.name ≡ b.name → ⊥) tree
   -- no walk from a module to one that it uses leads back
   pub acyclic : cycle (uses_at (modules_of tree) (kernel_of kernel)) (below (length tree)) ≡ []
   pub lines : AreLinesOf (modules_of tree) (kernel_of kernel) deps
 
--- Whatever is loaded into a new machine, whose kernel exports no name twice, is bound: each strong need to an export
--- that was there before and agrees.
+-- Whatever is loaded into a new machine is bound: each strong need to an export that was there before and agrees.
 abbrev pub LoadsBind : Type 0
 LoadsBind =
     (kernel : Kernel) (region : Region) (ms : List Module) (machine : Machine)
-    → IsTable kernel.exports
     → load_all (new_machine kernel region) ms ≡ Ok machine
     → IsSound machine ms
 

@@ -5,3 +5,4 @@ pub mod Lines
 pub mod Loads
 pub mod Binding
 pub mod Premises
+pub mod Instance

@@ -4,6 +4,7 @@ ghost use Rattle.model_loader.specs.declared.fault.LoadFault.TheVariants.{Alread
 ghost use Rattle.plan_binding.specs.Names.{first_name_fault};
 ghost use Rattle.plan_binding.specs.Plan.{ClosedPlansPass, faces_of};
 ghost use Rattle.plan_binding.specs.Binding.{ClosedPlansBind, LoadsBind};
+ghost use Rattle.plan_binding.specs.Instance.{TwoAreClosed};
 ghost use Rattle.plan_binding.specs.Loads.{LoadsFollow};
 ghost use Rattle.plan_binding.specs.Premises.{premises, all_but, bare, hidden, wanting, p, q};
 
@@ -47,4 +48,9 @@ pub fn premises_are_needed()
     ensures alone_refused { first_name_fault bare [] (faces_of (p ∷ q ∷ [])) ≡ Some (ExportTaken (codes "x") (codes "p")) }
     ensures clear { premises (wanting false ∷ []) bare [] (wanting false ∷ []) ≡ all_but 7 }
     ensures clear_refused { first_name_fault bare [] (faces_of (wanting false ∷ [])) ≡ Some (MissingSymbol (codes "x")) }
+{}
+
+/// What the law on plans asks of a tree, its kernel and a plan holds of a tree of two modules.
+pub fn two_modules_are_closed()
+    ensures { TwoAreClosed }
 {}

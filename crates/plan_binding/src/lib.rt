@@ -11,4 +11,6 @@
 
 mod laws;
 
-pub use laws::{closed_plans_bind, closed_plans_pass, loads_bind, premises_are_needed};
+pub use laws::{
+    closed_plans_bind, closed_plans_pass, loads_bind, premises_are_needed, two_modules_are_closed,
+};
