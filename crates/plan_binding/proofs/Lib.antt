@@ -9,3 +9,4 @@ pub mod LineLemmas
 pub mod LoadLemmas
 pub mod BindingLemmas
 pub mod InstanceLemmas
+pub mod AddressLemmas

@@ -6,6 +6,7 @@ use Rattle.module_facts.specs.declared.facts.Facts.{Facts}
 use Rattle.module_facts.specs.declared.module.Module.{Module}
 use Rattle.symbol_binding.specs.Unmet.{unmet}
 use Rattle.provider_rel.specs.declared.kernel.Kernel.{Kernel}
+use Rattle.provider_rel.specs.KernelTable.{exports_with_addresses}
 use Rattle.provider_rel.specs.Faces.{modules_of, kernel_of}
 use Rattle.provider_rel.specs.Relation.{uses_at}
 use Rattle.model_loader.specs.declared.region.Region.{Region}
@@ -51,6 +52,15 @@ pub record IsPlanned (tree : List Facts) (kernel : Kernel) (deps : Lines) (addre
   -- the modules of the plan are of the tree, and the plan is closed over the listed ones
   pub plan_of : (m : Module) → Member m plan → Member m.facts tree
   pub closed : AreClosed deps (unmet (modules_of tree) (kernel_of kernel)) (names_of listed) (names_of plan)
+
+-- Addresses that a System.map adds to a kernel's table leave what is seen of it: the table that was indexed is the
+-- machine's, where both come of one Module.symvers.
+abbrev pub AddressesAreUnseen : Type 0
+AddressesAreUnseen =
+    (kernel addressed : Kernel) (bytes : List ℕ)
+    → addressed.known ≡ kernel.known
+    → exports_with_addresses bytes kernel.exports ≡ Ok addressed.exports
+    → kernel_of addressed ≡ kernel_of kernel
 
 -- A plan binds, loaded after listed modules.
 pub record Binds (kernel : Kernel) (region : Region) (listed plan : List Module) : Type 0 where

@@ -3,7 +3,7 @@ ghost use Rattle.std.specs.Prelude.{◌≡◌, true, false, Some, None, [], ◌�
 ghost use Rattle.model_loader.specs.declared.fault.LoadFault.TheVariants.{AlreadyLoaded, MissingSymbol, VersionDiffers, ExportTaken};
 ghost use Rattle.plan_binding.specs.Names.{first_name_fault};
 ghost use Rattle.plan_binding.specs.Plan.{ClosedPlansPass, faces_of};
-ghost use Rattle.plan_binding.specs.Binding.{ClosedPlansBind, LoadsBind};
+ghost use Rattle.plan_binding.specs.Binding.{AddressesAreUnseen, ClosedPlansBind, LoadsBind};
 ghost use Rattle.plan_binding.specs.Instance.{TwoAreClosed};
 ghost use Rattle.plan_binding.specs.Loads.{LoadsFollow};
 ghost use Rattle.plan_binding.specs.Premises.{premises, all_but, bare, hidden, wanting, p, q};
@@ -17,6 +17,11 @@ pub fn closed_plans_pass()
 pub fn loads_bind()
     ensures follow { LoadsFollow }
     ensures bind { LoadsBind }
+{}
+
+/// Addresses that are added to the table of a kernel change nothing of what is seen of it.
+pub fn addresses_are_unseen()
+    ensures { AddressesAreUnseen }
 {}
 
 /// A closed plan of modules of an indexed tree, loaded after listed modules that load, is refused for want of room or for
