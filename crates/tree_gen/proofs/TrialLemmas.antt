@@ -1,8 +1,9 @@
 -- The made tree of a trial: what is drawn, and that each module has a sheet.
-use Rattle.std.proofs.Common.{◌≡◌, ℕ, zero, suc, ◌+◌, ◌-◌, ◌*◌, ◌/◌, ◌%◌, ◌^◌, ◌<◌, ◌==◌, ◌≢◌, true, false, not, nat_le, List, [], ◌∷◌, ◌++◌, length, get_or, codes, fold, refl, sym, ap, ◌∙◌, arith, add-zero, add-one}
+use Rattle.std.proofs.Common.{◌≡◌, ℕ, zero, suc, ◌+◌, ◌-◌, ◌*◌, ◌/◌, ◌%◌, ◌^◌, ◌<◌, ◌==◌, ◌≢◌, All, true, false, not, nat_le, List, [], ◌∷◌, ◌++◌, length, get_or, codes, fold, refl, sym, ap, ◌∙◌, arith, add-zero, add-one}
 use Rattle.std.proofs.Math.Nat.{mod-add-mod}
 use Rattle.std.proofs.lemmas.Bool.{ne_eqb, false_from_ne_true, cond_both, eqb-false}
 use Rattle.std.proofs.lemmas.Cmp.{nat_list_eq_equiv}
+use Rattle.std.proofs.lemmas.List.Elements.{All-nil, All-cons}
 use Rattle.std.proofs.lemmas.List.Sums.{fold-append}
 use Rattle.std.proofs.lemmas.Nat.{mod_below}
 use Rattle.std.proofs.lemmas.Slice.Eq.{bytes_eq-Decides}
@@ -116,6 +117,23 @@ is_sheet_made i x small =
     cond_both (a == b) (a ∷ []) (a ∷ b ∷ []) Fits
     (λ _. sheet-one i a small less-a)
     (λ d. sheet-two i a b small less-a less-b (eqb-false a b d)))
+
+-- what a module draws stands before it
+pub drawn_before : (i x : ℕ) → All (λ k. k < i) (drawn i x)
+unfolding drawn
+drawn_before i x =
+    let a : ℕ = draw i (after 1 x) in
+    let b : ℕ = draw i (after 2 x) in
+    let Before : List ℕ → Type 0 = λ l. All (λ k. k < i) l in
+    cond_both (i == 0) [] (without_twin a b) Before
+    (λ _. All-nil (λ k. k < i))
+    (λ e.
+    let some : i ≢ 0 = eqb-false i 0 e in
+    let less-a : a < i = mod_below (after 1 x / 2 ^ 33) i (omega arith) in
+    let less-b : b < i = mod_below (after 2 x / 2 ^ 33) i (omega arith) in
+    cond_both (a == b) (a ∷ []) (a ∷ b ∷ []) Before
+    (λ _. All-cons (λ k. k < i) a [] less-a (All-nil (λ k. k < i)))
+    (λ _. All-cons (λ k. k < i) a (b ∷ []) less-a (All-cons (λ k. k < i) b [] less-b (All-nil (λ k. k < i)))))
 
 range-more : (a n : ℕ) → range_with_len a (suc n) ≡ range_with_len a n ++ (a + n) ∷ []
 range-more a zero = ap (λ k. k ∷ []) (sym (add-zero a))
