@@ -101,39 +101,33 @@ sheet-two i a b small less-a less-b other =
     let ba = other-symbol b a (omega arith) (omega arith) (λ e. other (sym e)) in
     simp (license-text, alias-text, printk-text, symbol-text, symbol-short, symbol-no_printk, printk-no_symbol, same-symbol, ia, ai, ib, bi, ab, ba)
 
--- each module that is made has a sheet
-pub is_sheet_made : (i x : ℕ) → i < 10000 → is_sheet (module_sheet i (drawn i x)) no_more ≡ true
+-- what holds of no module, of one and of two before it, holds of what a module draws
+drawn_by : (P : List ℕ → Type 0) (i x : ℕ) → P [] → ((a : ℕ) → a < i → P (a ∷ [])) → ((a b : ℕ) → a < i → b < i → (a ≡ b → ⊥) → P (a ∷ b ∷ []))
+    → P (drawn i x)
 unfolding drawn
-is_sheet_made i x small =
+drawn_by P i x none one two =
     let a : ℕ = draw i (after 1 x) in
     let b : ℕ = draw i (after 2 x) in
-    let Fits : List ℕ → Type 0 = λ l. is_sheet (module_sheet i l) no_more ≡ true in
-    cond_both (i == 0) [] (without_twin a b) Fits
-    (λ _. sheet-none i)
+    cond_both (i == 0) [] (without_twin a b) P
+    (λ _. none)
     (λ e.
     let some : i ≢ 0 = eqb-false i 0 e in
     let less-a : a < i = mod_below (after 1 x / 2 ^ 33) i (omega arith) in
     let less-b : b < i = mod_below (after 2 x / 2 ^ 33) i (omega arith) in
-    cond_both (a == b) (a ∷ []) (a ∷ b ∷ []) Fits
-    (λ _. sheet-one i a small less-a)
-    (λ d. sheet-two i a b small less-a less-b (eqb-false a b d)))
+    cond_both (a == b) (a ∷ []) (a ∷ b ∷ []) P (λ _. one a less-a) (λ d. two a b less-a less-b (eqb-false a b d)))
+
+-- each module that is made has a sheet
+pub is_sheet_made : (i x : ℕ) → i < 10000 → is_sheet (module_sheet i (drawn i x)) no_more ≡ true
+is_sheet_made i x small =
+    drawn_by (λ l. is_sheet (module_sheet i l) no_more ≡ true) i x (sheet-none i) (λ a. sheet-one i a small) (λ a b. sheet-two i a b small)
 
 -- what a module draws stands before it
 pub drawn_before : (i x : ℕ) → All (λ k. k < i) (drawn i x)
-unfolding drawn
 drawn_before i x =
-    let a : ℕ = draw i (after 1 x) in
-    let b : ℕ = draw i (after 2 x) in
-    let Before : List ℕ → Type 0 = λ l. All (λ k. k < i) l in
-    cond_both (i == 0) [] (without_twin a b) Before
-    (λ _. All-nil (λ k. k < i))
-    (λ e.
-    let some : i ≢ 0 = eqb-false i 0 e in
-    let less-a : a < i = mod_below (after 1 x / 2 ^ 33) i (omega arith) in
-    let less-b : b < i = mod_below (after 2 x / 2 ^ 33) i (omega arith) in
-    cond_both (a == b) (a ∷ []) (a ∷ b ∷ []) Before
-    (λ _. All-cons (λ k. k < i) a [] less-a (All-nil (λ k. k < i)))
-    (λ _. All-cons (λ k. k < i) a (b ∷ []) less-a (All-cons (λ k. k < i) b [] less-b (All-nil (λ k. k < i)))))
+    let Before : ℕ → Type 0 = λ k. k < i in
+    drawn_by (All Before) i x (All-nil Before)
+    (λ a less. All-cons Before a [] less (All-nil Before))
+    (λ a b less-a less-b _. All-cons Before a (b ∷ []) less-a (All-cons Before b [] less-b (All-nil Before)))
 
 range-more : (a n : ℕ) → range_with_len a (suc n) ≡ range_with_len a n ++ (a + n) ∷ []
 range-more a zero = ap (λ k. k ∷ []) (sym (add-zero a))
