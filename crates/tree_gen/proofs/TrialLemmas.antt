@@ -1,8 +1,9 @@
 -- The made tree of a trial: what is drawn, and that each module has a sheet.
-use Rattle.std.proofs.Common.{◌≡◌, ℕ, zero, suc, ◌+◌, ◌-◌, ◌*◌, ◌/◌, ◌%◌, ◌^◌, ◌<◌, ◌==◌, ◌≢◌, true, false, not, nat_le, List, [], ◌∷◌, ◌++◌, length, get_or, codes, fold, refl, sym, ap, ◌∙◌, arith, add-zero, add-one}
+use Rattle.std.proofs.Common.{◌≡◌, ℕ, zero, suc, ◌+◌, ◌-◌, ◌*◌, ◌/◌, ◌%◌, ◌^◌, ◌<◌, ◌==◌, ◌≢◌, All, true, false, not, nat_le, List, [], ◌∷◌, ◌++◌, length, get_or, codes, fold, refl, sym, ap, ◌∙◌, arith, add-zero, add-one}
 use Rattle.std.proofs.Math.Nat.{mod-add-mod}
 use Rattle.std.proofs.lemmas.Bool.{ne_eqb, false_from_ne_true, cond_both, eqb-false}
 use Rattle.std.proofs.lemmas.Cmp.{nat_list_eq_equiv}
+use Rattle.std.proofs.lemmas.List.Elements.{All-nil, All-cons}
 use Rattle.std.proofs.lemmas.List.Sums.{fold-append}
 use Rattle.std.proofs.lemmas.Nat.{mod_below}
 use Rattle.std.proofs.lemmas.Slice.Eq.{bytes_eq-Decides}
@@ -100,22 +101,33 @@ sheet-two i a b small less-a less-b other =
     let ba = other-symbol b a (omega arith) (omega arith) (λ e. other (sym e)) in
     simp (license-text, alias-text, printk-text, symbol-text, symbol-short, symbol-no_printk, printk-no_symbol, same-symbol, ia, ai, ib, bi, ab, ba)
 
--- each module that is made has a sheet
-pub is_sheet_made : (i x : ℕ) → i < 10000 → is_sheet (module_sheet i (drawn i x)) no_more ≡ true
+-- what holds of no module, of one and of two before it, holds of what a module draws
+drawn_by : (P : List ℕ → Type 0) (i x : ℕ) → P [] → ((a : ℕ) → a < i → P (a ∷ [])) → ((a b : ℕ) → a < i → b < i → (a ≡ b → ⊥) → P (a ∷ b ∷ []))
+    → P (drawn i x)
 unfolding drawn
-is_sheet_made i x small =
+drawn_by P i x none one two =
     let a : ℕ = draw i (after 1 x) in
     let b : ℕ = draw i (after 2 x) in
-    let Fits : List ℕ → Type 0 = λ l. is_sheet (module_sheet i l) no_more ≡ true in
-    cond_both (i == 0) [] (without_twin a b) Fits
-    (λ _. sheet-none i)
+    cond_both (i == 0) [] (without_twin a b) P
+    (λ _. none)
     (λ e.
     let some : i ≢ 0 = eqb-false i 0 e in
     let less-a : a < i = mod_below (after 1 x / 2 ^ 33) i (omega arith) in
     let less-b : b < i = mod_below (after 2 x / 2 ^ 33) i (omega arith) in
-    cond_both (a == b) (a ∷ []) (a ∷ b ∷ []) Fits
-    (λ _. sheet-one i a small less-a)
-    (λ d. sheet-two i a b small less-a less-b (eqb-false a b d)))
+    cond_both (a == b) (a ∷ []) (a ∷ b ∷ []) P (λ _. one a less-a) (λ d. two a b less-a less-b (eqb-false a b d)))
+
+-- each module that is made has a sheet
+pub is_sheet_made : (i x : ℕ) → i < 10000 → is_sheet (module_sheet i (drawn i x)) no_more ≡ true
+is_sheet_made i x small =
+    drawn_by (λ l. is_sheet (module_sheet i l) no_more ≡ true) i x (sheet-none i) (λ a. sheet-one i a small) (λ a b. sheet-two i a b small)
+
+-- what a module draws stands before it
+pub drawn_before : (i x : ℕ) → All (λ k. k < i) (drawn i x)
+drawn_before i x =
+    let Before : ℕ → Type 0 = λ k. k < i in
+    drawn_by (All Before) i x (All-nil Before)
+    (λ a less. All-cons Before a [] less (All-nil Before))
+    (λ a b less-a less-b _. All-cons Before a (b ∷ []) less-a (All-cons Before b [] less-b (All-nil Before)))
 
 range-more : (a n : ℕ) → range_with_len a (suc n) ≡ range_with_len a n ++ (a + n) ∷ []
 range-more a zero = ap (λ k. k ∷ []) (sym (add-zero a))

@@ -36,4 +36,4 @@ pub use sheet::{
     SheetSpace, SheetSpaces, SheetVersion, SheetVersions,
 };
 pub use trial::generate;
-pub use worked::draws_of_small_seeds;
+pub use worked::{draws_of_small_seeds, draws_stand_before};

@@ -50,9 +50,9 @@ fn kernel_files(alloc: Global) -> Result<MemFiles, AllocError>
     Ok(files)
 }
 
-/// The made tree of a trial, below `/t`: `count` modules of the kernel `trial`, 1 to 2000, each of which needs the kernel's
-/// `printk` and the symbols of one or two modules before it that are drawn from the seed, and the kernel's `Module.symvers`
-/// and `System.map`. No call of the files fails. Only memory can be wanting.
+/// The made tree of a trial, below `/t`: the kernel's `Module.symvers` and `System.map`, and `count` modules of the kernel
+/// `trial`, 1 to 2000. Each needs the kernel's `printk`, and each but the first the symbols of one or two modules before it
+/// that are drawn from the seed. No call of the files fails. Only memory can be wanting.
 #[tactic(auto, unfolding(crate::specs::Trial::trial_contents))]
 pub fn generate(alloc: Global, seed: u64, count: u32) -> Result<MemFiles, AllocError>
     requires { (1 ≤ count) × (count ≤ 2000) }
