@@ -7,3 +7,4 @@ pub mod RelationSteps
 pub mod OutputSteps
 pub mod WarningSteps
 pub mod IndexSteps
+pub mod ReplaceLaw

@@ -6,3 +6,4 @@ pub mod Related
 pub mod Outputs
 pub mod Warnings
 pub mod Depmod
+pub mod Replaced

@@ -1,6 +1,7 @@
-ghost use Rattle.km_course.specs.World.{world};
+ghost use Rattle.km_course.specs.World.{Shown, Tells, world};
 ghost use Rattle.km_course.specs.Carries.{Carries};
 ghost use Rattle.command_depmod.specs.Depmod.{depmod_course};
+ghost use Rattle.command_depmod.specs.Replaced.{LeavesFiles};
 ghost use Rattle.command_modinfo.specs.Modinfo.{modinfo_course};
 ghost use Rattle.command_modprobe.specs.Modprobe.{modprobe_course};
 ghost use Rattle.kmod_cli.specs.Program.{course, course_named};
@@ -59,7 +60,8 @@ fn command<F: Files, O: Out, E: Out>(
 }
 
 /// Does what `depmod` does with these words after its name, and answers the exit status, as [`run`] does: indexes the
-/// modules of a kernel. depmod(8).
+/// modules of a kernel. A refused one replaces no file, and neither does one with `-n`; whatever stops another, it has
+/// replaced a first part of its nine files, each whole. depmod(8).
 pub fn depmod<F: Files, O: Out, E: Out>(
     alloc: Global,
     words: &[Word],
@@ -67,9 +69,11 @@ pub fn depmod<F: Files, O: Out, E: Out>(
     out: &mut O,
     err: &mut E,
 ) -> u8
-    ensures { Carries (depmod_course words.now)
+    ensures carries { Carries (depmod_course words.now)
         (world (F.seen files.old) (O.seen out.old) (E.seen err.old))
         (world (F.seen files.new) (O.seen out.new) (E.seen err.new)) result }
+    ensures replaces { (shown : Shown) → Tells (world (F.seen files.old) (O.seen out.old) (E.seen err.old)) shown →
+        LeavesFiles words.now shown.files (F.seen files.new).contents result }
 {
     let outcome = command_depmod::depmod(alloc, words, files, out, err);
     conclude(alloc, outcome, err)

@@ -15,7 +15,7 @@ pub returns-in-Depmod : goal.returns-in-Depmod
 returns-in-Depmod g c =
     subst (λ named. Carries (course_named named c.args.words.now) (world (g.F.Reads.seen c.args.files.now) (g.O.Out.seen c.args.out.now) (g.E.Out.seen c.args.err.now)) (world (g.F.Reads.seen c.depmod.new.files) (g.O.Out.seen c.depmod.new.out) (g.E.Out.seen c.depmod.new.err)) c.depmod.result)
     (sym (c.in-Some.is ∙ ap Some c.in-Depmod.is))
-    c.depmod.ensures
+    c.depmod.ensures.carries
 
 pub returns-in-Modinfo : goal.returns-in-Modinfo
 returns-in-Modinfo g c =
