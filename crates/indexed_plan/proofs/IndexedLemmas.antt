@@ -16,7 +16,6 @@ use Rattle.relation_order.specs.Cycle.{cycle}
 use Rattle.symbol_binding.specs.Symbols.{Module, Kernel as SeenKernel}
 use Rattle.symbol_binding.specs.Unmet.{unmet}
 use Rattle.unmet_file.specs.Unmet.{file_text, unmet_of}
-use Rattle.unmet_file.proofs.WrittenSteps.{all-back}
 use Rattle.provider_rel.specs.declared.kernel.Kernel.{Kernel}
 use Rattle.provider_rel.specs.Faces.{module_of, modules_of, kernel_of}
 use Rattle.provider_rel.specs.Tree.{IsTreeModule}
@@ -27,6 +26,7 @@ use Rattle.depmod_core.specs.declared.fault.OutputFault.{OutputFault}
 use Rattle.depmod_core.specs.declared.fault.OutputFault.TheVariants.{OutputTooLarge}
 use Rattle.depmod_core.specs.declared.files.OutputFiles.{OutputFiles}
 use Rattle.depmod_core.specs.Dependencies.{dep_map}
+use Rattle.depmod_core.proofs.UnmetSteps.{unmet-back}
 use Rattle.depmod_core.specs.Files.{file_name, files, files_by, output_fault, size_fault}
 use Rattle.plan_binding.proofs.ListLemmas.{first-none}
 use Rattle.plan_binding.proofs.UnmetLemmas.{all-member}
@@ -34,7 +34,6 @@ use Rattle.indexed_plan.specs.Index.{IsAtPath}
 use Rattle.indexed_plan.specs.Binding.{StandsAsIndexed}
 use Rattle.indexed_plan.specs.Indexed.{HasFile, IsModuleFile, Indexed, ReadsAsIndexed, FoldersReadAsIndexed}
 use Rattle.indexed_plan.proofs.HoldLemmas.{dep-holds}
-use Rattle.indexed_plan.proofs.UnmetTextLemmas.{tree-lines}
 use Rattle.std.proofs.lemmas.List.{length-map}
 
 -- a path has one file
@@ -114,7 +113,7 @@ module _ (held : Contents) (folder : List ℕ) (tree : List Facts) (kernel : Ker
     lines = stands;
     unmet = λ path bytes there.
         ap (unmet_of path) (one-file held (path_below folder (file_name Unmet)) bytes made.unmet there indexed.made.unmet ∙ unmet-file)
-        ∙ all-back path (unmet (modules_of tree) (kernel_of kernel)) (tree-lines tree (kernel_of kernel) indexed.is_tree);
+        ∙ unmet-back tree (kernel_of kernel) indexed.is_tree path;
   }
 
 pub folders-read : FoldersReadAsIndexed

@@ -2,7 +2,6 @@ pub mod IndexLemmas
 pub mod MapLemmas
 pub mod HoldLemmas
 pub mod BindingLemmas
-pub mod UnmetTextLemmas
 pub mod NamedLemmas
 pub mod IndexedLemmas
 pub mod FolderLemmas

@@ -13,6 +13,7 @@ use Rattle.std.proofs.lemmas.List.{reverse-append}
 use Rattle.std.proofs.lemmas.List.Folds.{list_any-append}
 use Rattle.std.proofs.lemmas.Slice.Eq.{bytes_eq-Decides}
 use Rattle.km_names.specs.Ascii.{is_graphic}
+use Rattle.km_names.specs.Path.{module_name}
 use Rattle.index_format.specs.Map.{Value, KeyValues, values_of}
 use Rattle.index_format.specs.Listing.{KeyValue}
 use Rattle.mod_tree.specs.DependencyLine.{are_needed, is_dependency_line, is_line_path, is_separator, line_needs, own_path, pieces_after}
@@ -155,7 +156,10 @@ module _ (tree : List Facts) (paths : (f : Facts) → Member f tree → IsAtPath
         named = named;
         is_line = is-line r i f in';
         own = own-is f os (paths f in');
-        others = λ path needed. of-tree r i path (subst (Member path) needs needed);
+        own_name = ap module_name (own-is f os (paths f in')) ∙ sym (paths f in').name ∙ named;
+        others = λ path needed.
+            let h = of-tree r i path (subst (Member path) needs needed) in
+            (h.0, h.1, h.2, (paths h.0 h.1).name ∙ ap module_name h.2);
       }
 
 first-value : (vs : List Value) (v w : Value) → vs ≡ w ∷ [] → slice_get vs 0 ≡ Some v → w ≡ v

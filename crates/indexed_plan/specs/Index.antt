@@ -50,7 +50,8 @@ pub record IsLineIn (tree : List Facts) (name line : List ℕ) : Type 0 where
   pub named : owner.name ≡ name
   pub is_line : is_dependency_line line ≡ true
   pub own : own_path line ≡ owner.path
-  pub others : (path : List ℕ) → Member path (line_needs line) → (other : Facts) × Member other tree × (other.path ≡ path)
+  pub own_name : module_name (own_path line) ≡ name
+  pub others : (path : List ℕ) → Member path (line_needs line) → (other : Facts) × Member other tree × (other.path ≡ path) × (other.name ≡ module_name path)
 
 -- The lines of such a map are those of the tree.
 abbrev pub MapsHaveLines : Type 0
