@@ -7,12 +7,24 @@ mod facts;
 #[cfg(test)]
 mod facts_more;
 #[cfg(test)]
+mod indexing;
+#[cfg(test)]
+mod load_row;
+#[cfg(test)]
+mod loading;
+#[cfg(test)]
 mod modinfo;
 #[cfg(test)]
 mod modinfo_names;
 #[cfg(test)]
 mod object;
 #[cfg(test)]
+mod placement;
+#[cfg(test)]
 mod row;
 #[cfg(test)]
 mod sheet_row;
+#[cfg(test)]
+mod sheets;
+#[cfg(test)]
+mod tree_row;

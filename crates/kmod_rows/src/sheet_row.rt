@@ -44,6 +44,13 @@ pub(crate) struct MoreRow {
     pub(crate) spaces: &'static [SpaceRow],
 }
 
+/// Nothing besides a sheet.
+pub(crate) const NO_MORE: MoreRow = MoreRow {
+    ext: &[],
+    gpl: &[],
+    spaces: &[],
+};
+
 /// A sheet, written out.
 #[derive(Clone, Copy)]
 pub(crate) struct SheetRow {
@@ -53,6 +60,15 @@ pub(crate) struct SheetRow {
     pub(crate) needs: &'static [NeedRow],
     pub(crate) places: &'static [PlaceRow],
 }
+
+/// A sheet of nothing.
+pub(crate) const EMPTY_SHEET: SheetRow = SheetRow {
+    texts: &[],
+    versions: &[],
+    exports: &[],
+    needs: &[],
+    places: &[],
+};
 
 fn texts(alloc: Global, rows: &[&'static [u8]]) -> Result<Texts, AllocError> {
     let mut list = List::new(alloc);

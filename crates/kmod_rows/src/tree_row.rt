@@ -1,0 +1,99 @@
+use crate::row::Objects;
+use crate::sheet_row::{MoreRow, SheetRow, object_with};
+use km_names::PathText;
+use km_outside::CallKind;
+use std::alloc::Global;
+use std::process::Abort;
+use std::test::Fail;
+
+/// A file that is there before a command, or is to be there after it.
+pub(crate) struct FileRow {
+    pub(crate) path: &'static str,
+    pub(crate) bytes: &'static [u8],
+}
+
+/// A module of a tree: its whole path, its sheet, and what more its object is to have.
+pub(crate) type ModuleRow<'a> = (&'static str, SheetRow, &'a MoreRow);
+
+/// A command over a tree: which modules and other files are there, which replacement fails, the words, the status, what is
+/// written to the output and to err, and which files are there afterwards.
+#[derive(Clone, Copy)]
+pub(crate) struct TreeRow<'a> {
+    pub(crate) modules: &'a [ModuleRow<'a>],
+    pub(crate) files: &'a [FileRow],
+    pub(crate) fail_replace: Option<u8>,
+    pub(crate) words: &'a [&'a str],
+    pub(crate) status: u8,
+    pub(crate) out: &'static str,
+    pub(crate) err: &'static str,
+    pub(crate) after: &'a [FileRow],
+}
+
+/// The table of a kernel that exports `printk`.
+pub(crate) const SYMVERS: FileRow = FileRow {
+    path: "/r/Module.symvers",
+    bytes: b"0x11111111\tprintk\tvmlinux\tEXPORT_SYMBOL\n",
+};
+
+/// The usual words over the usual table.
+pub(crate) const USUAL: TreeRow<'static> = TreeRow {
+    modules: &[],
+    files: &[SYMVERS],
+    fail_replace: None,
+    words: &["depmod", "-b", "/r", "-E", "/r/Module.symvers", "6.1.0"],
+    status: 0,
+    out: "",
+    err: "",
+    after: &[],
+};
+
+/// Puts the modules of a row.
+fn put_modules(
+    rt: &impl Abort,
+    alloc: Global,
+    objects: &mut Objects,
+    modules: &[ModuleRow<'_>],
+) -> Result<(), Fail> {
+    for (path, sheet, more) in modules {
+        let object = object_with(rt, alloc, sheet, more)?;
+        objects.put(alloc, path, object.as_bytes())?;
+    }
+    Ok(())
+}
+
+/// Puts the other files of a row.
+fn put_files(alloc: Global, objects: &mut Objects, files: &[FileRow]) -> Result<(), Fail> {
+    for file in files {
+        objects.put(alloc, file.path, file.bytes)?;
+    }
+    Ok(())
+}
+
+/// The files have these bytes.
+fn expect_files(
+    rt: &impl Abort,
+    alloc: Global,
+    objects: &Objects,
+    files: &[FileRow],
+) -> Result<(), Fail> {
+    for file in files {
+        let path = PathText::from_slice(alloc, file.path.as_bytes())?;
+        let bytes = objects.files.get(&path).expect(rt, "a file");
+        assert_eq!(rt; bytes, file.bytes);
+    }
+    Ok(())
+}
+
+/// Runs a command over a tree, and compares what came of it.
+pub(crate) fn expect_tree(rt: &impl Abort, alloc: Global, row: &TreeRow<'_>) -> Result<(), Fail> {
+    let mut objects = Objects::new(alloc)?;
+    put_modules(rt, alloc, &mut objects, row.modules)?;
+    put_files(alloc, &mut objects, row.files)?;
+    if let Some(number) = row.fail_replace {
+        objects
+            .files
+            .fail_call(CallKind::Replace, u64::from(number))?;
+    }
+    objects.expect_row(rt, alloc, (row.words, row.status, row.out, row.err))?;
+    expect_files(rt, alloc, &objects, row.after)
+}
