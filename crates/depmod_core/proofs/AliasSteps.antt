@@ -1,6 +1,6 @@
 -- The normal form of a word of visible characters has visible characters alone.
-use Rattle.std.proofs.Common.{◌≡◌, refl, sym, ap, ◌∙◌, subst, ℕ, zero, suc, Bool, true, false, not, ◌&&◌, cond, List, [], ◌∷◌, ◌++◌, length, map, take, drop, eqb, Option, Some, None}
-use Rattle.std.specs.List.{list_all, slice_split, onto_first, position_or_len, before_first, join_with_byte}
+use Rattle.std.proofs.Common.{◌≡◌, refl, sym, ap, ◌∙◌, ℕ, zero, suc, Bool, true, false, ◌&&◌, cond, List, [], ◌∷◌, map, take, drop, eqb, Some, None}
+use Rattle.std.specs.List.{list_all, slice_split, onto_first, position_or_len, join_with_byte}
 use Rattle.std.specs.Char.{is_ascii_graphic}
 use Rattle.std.proofs.lemmas.List.Folds.{list_all-append}
 use Rattle.km_names.specs.Ascii.{is_graphic}

@@ -1,5 +1,5 @@
 -- The files one after the other.
-use Rattle.std.proofs.Common.{◌≡◌, refl, sym, ap, ◌∙◌, ◌⊎◌, ⊎_elim, inl, inr, ℕ, List, [], ◌∷◌, length, map, flat_map, codes, Option, Some, None, Result, Ok, Err}
+use Rattle.std.proofs.Common.{◌≡◌, sym, ap, ◌∙◌, ◌⊎◌, ⊎_elim, inl, inr, ℕ, List, ◌∷◌, length, Option, Some, None, Ok, Err}
 use Rattle.std.proofs.lemmas.List.{length-map}
 use Rattle.std.proofs.lemmas.List.FromFn.{length-range_with_len}
 use Rattle.relation_order.specs.Sets.{below}
@@ -7,7 +7,6 @@ use Rattle.relation_order.specs.Closures.{closure}
 use Rattle.km_names.specs.First.{first}
 use Rattle.km_names.specs.Statements.{unless_fault}
 use Rattle.symbol_binding.specs.Symbols.{Kernel}
-use Rattle.symbol_binding.specs.declared.unbound.Unbound.{Unbound}
 use Rattle.module_facts.specs.declared.facts.Facts.{Facts}
 use Rattle.provider_rel.specs.declared.relation.Relation.{Relation}
 use Rattle.provider_rel.specs.Faces.{module_of, modules_of}

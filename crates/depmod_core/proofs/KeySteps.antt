@@ -1,14 +1,12 @@
 -- Keys and texts of indexes: words of visible characters.
-use Rattle.std.proofs.Common.{◌≡◌, refl, sym, ap, ◌∙◌, subst, ℕ, zero, suc, ◌+◌, ◌<◌, ◌≤◌, Bool, true, false, not, ◌&&◌, cond, List, [], ◌∷◌, ◌++◌, length, map, filter, leb, eqb, All, Option, Some, None, arith}
-use Rattle.std.specs.List.{list_all, slice_get, AllPass}
+use Rattle.std.proofs.Common.{◌≡◌, refl, ap, ◌∙◌, subst, ℕ, zero, suc, ◌<◌, ◌≤◌, Bool, true, false, not, ◌&&◌, cond, List, [], ◌∷◌, length, filter, leb, eqb, All, Some, arith}
+use Rattle.std.specs.List.{list_all, slice_get}
 use Rattle.std.specs.Char.{is_ascii_graphic}
 use Rattle.std.specs.Str.{bytes_eq}
 use Rattle.std.proofs.lemmas.Bool.{leb-true}
-use Rattle.std.proofs.lemmas.List.{append-nil}
 use Rattle.std.proofs.lemmas.List.Elements.{All-weaker}
 use Rattle.std.proofs.lemmas.List.Sums.{AllPass-from_list_all}
 use Rattle.km_names.specs.Ascii.{is_graphic}
-use Rattle.km_names.specs.Lines.{lines_of}
 use Rattle.index_format.specs.Map.{IsKey, IsText}
 use Rattle.name_table.specs.FirstSeen.{first_seen}
 
@@ -75,9 +73,3 @@ passes-at p (y ∷ ys) zero x is at = subst (λ z. p z ≡ true) (the-same at) (
     the-same : {X : Type 0} {a b : X} → Some a ≡ Some b → a ≡ b
     the-same e = cc
 passes-at p (y ∷ ys) (suc i) x is at = passes-at p ys i x (both (p y) (list_all p ys) is).1 at
-
--- a text of no byte has no line
-pub no-lines : (bytes : List ℕ) → length bytes ≡ 0 → lines_of bytes ≡ []
-unfolding lines_of
-no-lines [] is = refl
-no-lines (b ∷ bytes) is = absurd (omega arith)

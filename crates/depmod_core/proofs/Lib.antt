@@ -4,4 +4,4 @@ pub mod AliasSteps
 pub mod MapSteps
 pub mod LineSteps
 pub mod FileSteps
-pub mod TreeSteps
+pub mod UnmetSteps

@@ -1,8 +1,7 @@
 -- Dependency lines, and the lines of what modules state.
-use Rattle.std.proofs.Common.{◌≡◌, refl, sym, ap, ◌∙◌, subst, ℕ, zero, suc, ◌+◌, ◌-◌, ◌<◌, ◌≤◌, Bool, true, false, ◌&&◌, not, cond, List, [], ◌∷◌, ◌++◌, length, map, take, drop, get_or, flat_map, reverse, filter, codes, All, Option, Some, None, is_some, append_assoc, arith}
-use Rattle.std.specs.List.{filter_map, enumerate_from, list_all}
-use Rattle.std.specs.Option.{option_map_or, IfSome}
-use Rattle.std.specs.Char.{is_ascii_graphic}
+use Rattle.std.proofs.Common.{◌≡◌, refl, sym, ap, ◌∙◌, subst, ℕ, zero, suc, ◌+◌, ◌<◌, Bool, true, false, cond, List, [], ◌∷◌, ◌++◌, length, map, drop, get_or, flat_map, reverse, filter, codes, All, Option, Some, None, is_some, append_assoc, arith}
+use Rattle.std.specs.List.{filter_map, enumerate_from}
+use Rattle.std.specs.Option.{IfSome}
 use Rattle.std.proofs.lemmas.List.{reverse-append, drop_more, map-append, get_or-map, length-map}
 use Rattle.std.proofs.lemmas.List.Elements.{All-nil, All-cons, All-append, All-head, All-tail, All-map}
 use Rattle.std.proofs.lemmas.List.Folds.{flat_map-map}
@@ -20,7 +19,7 @@ use Rattle.depmod_core.specs.declared.stated.Kind.TheVariants.{Alias, Softdep, S
 use Rattle.depmod_core.specs.declared.text.Text.{Text}
 use Rattle.depmod_core.specs.Lines.{ended, lines_text}
 use Rattle.depmod_core.specs.Text.{with_piece}
-use Rattle.depmod_core.specs.Dependencies.{dependency_line, path_at, line_of}
+use Rattle.depmod_core.specs.Dependencies.{path_at, line_of}
 use Rattle.depmod_core.specs.Maps.{map_of}
 use Rattle.depmod_core.specs.Stated.{is_usable_alias, symbols_of, alias_text, softdep_text, symbols_text, alias_map, symbols_map, symbol_values}
 use Rattle.depmod_core.specs.Kinds.{key_of, texts_of, text_by, text_of, map_by, map_for, values_by}

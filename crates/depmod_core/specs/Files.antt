@@ -1,5 +1,5 @@
 -- The nine files of depmod, or the first of them that would be too large. depmod(8), modules.dep(5).
-use Rattle.std.specs.Prelude.{◌≡◌, ℕ, nat_lt, min, List, [], ◌∷◌, length, codes, Option, Some, None, Result, if◌then◌else◌}
+use Rattle.std.specs.Prelude.{◌≡◌, ℕ, nat_lt, min, List, [], ◌∷◌, length, codes, Option, Some, None, Result, Ok, if◌then◌else◌}
 use Rattle.km_names.specs.First.{first}
 use Rattle.km_names.specs.Limit.{file_limit}
 use Rattle.km_names.specs.Statements.{unless_fault}
@@ -9,7 +9,7 @@ use Rattle.module_facts.specs.declared.facts.Facts.{Facts}
 use Rattle.symbol_binding.specs.Symbols.{Kernel}
 use Rattle.symbol_binding.specs.Unmet.{unmet}
 use Rattle.symbol_binding.specs.declared.unbound.Unbound.{Unbound}
-use Rattle.unmet_file.specs.Unmet.{file_text}
+use Rattle.unmet_file.specs.Unmet.{file_text, unmet_of}
 use Rattle.provider_rel.specs.Faces.{modules_of}
 use Rattle.provider_rel.specs.Relation.{dependencies}
 use Rattle.provider_rel.specs.Seen.{IsRelation}
@@ -95,10 +95,12 @@ outputs_of tree kernel builtin = let made = files tree kernel builtin in unless_
 abbrev pub IsRelationOf : List Facts → Relation → Type 0
 IsRelationOf tree relation = (kernel : Kernel) × IsRelation (modules_of tree) kernel relation
 
--- The indexes among the files stand for their maps: no reader refuses them, and each key reaches the values that it has
--- in the map, and no others.
+-- The files stand for what they are made of. The indexes stand for their maps: no reader refuses them, and each key
+-- reaches the values that it has in the map, and no others. And what a reader takes from modules.unmet, at whatever path,
+-- is what stands in the way of loading modules.
 pub record StandFor (tree : List Facts) (kernel : Kernel) (builtin : List ℕ) (made : OutputFiles) : Type 0 where
   pub dep : Holds made.dep_bin (dep_map tree (dependencies (modules_of tree) kernel))
   pub alias : Holds made.alias_bin (alias_map tree)
   pub symbols : Holds made.symbols_bin (symbols_map tree)
   pub built_in : Holds made.builtin_bin (built_in_map builtin)
+  pub lines : (path : List ℕ) → unmet_of path made.unmet ≡ Ok (unmet (modules_of tree) kernel)

@@ -1,5 +1,5 @@
 -- What modules state, by its kind, and what indexes stand for, by their files.
-use Rattle.std.specs.Prelude.{⊤, ℕ, List, [], ◌∷◌, ◌++◌, map, flat_map, codes, Option, Some, None, option_map}
+use Rattle.std.specs.Prelude.{⊤, ℕ, List, ◌∷◌, ◌++◌, map, flat_map, codes, Option, Some, None, option_map}
 use Rattle.std.specs.List.{filter_map, enumerate_from}
 use Rattle.km_names.specs.AliasForm.{normal_alias}
 use Rattle.index_format.specs.Map.{KeyValues}

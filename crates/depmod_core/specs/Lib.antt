@@ -6,3 +6,4 @@ pub mod BuiltIn
 pub mod Files
 pub mod Text
 pub mod Kinds
+pub mod Worked

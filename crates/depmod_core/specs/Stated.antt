@@ -1,6 +1,6 @@
 -- What modules state for others to find them by: aliases, softdeps, and the symbols that they export. depmod(8),
 -- modprobe.d(5).
-use Rattle.std.specs.Prelude.{ℕ, ◌==◌, ◌&&◌, ◌||◌, not, Bool, nat_eq, List, [], ◌∷◌, ◌++◌, map, filter, flat_map, codes, Option, is_some, option_map}
+use Rattle.std.specs.Prelude.{ℕ, ◌==◌, ◌&&◌, ◌||◌, not, Bool, nat_eq, List, [], ◌∷◌, ◌++◌, map, filter, flat_map, codes, is_some, option_map}
 use Rattle.std.specs.List.{list_all, filter_map, ends_with, enumerate_from}
 use Rattle.std.specs.Char.{is_ascii_graphic}
 use Rattle.km_names.specs.Ascii.{is_graphic}

@@ -89,7 +89,8 @@ fn make(
 }
 
 /// The files that depmod makes of a tree, with the tree's relation over a kernel, and of the bytes of modules.builtin.
-/// Each of the indexes among them stands for its map. modules.dep(5), depmod(8).
+/// The files stand for what they are made of: each index for its map, and modules.unmet for its lines. modules.dep(5),
+/// depmod(8).
 ///
 /// # Errors
 ///
@@ -109,7 +110,7 @@ pub fn outputs(
     ensures err { IfErr result (λ fault. (fault ≡ OutputFault.Memory)
         ⊎ ((kernel : Kernel) → IsRelation (modules_of tree.now) kernel relation.now →
         outputs_of tree.now kernel builtin.now ≡ Err fault)) }
-    ensures indexes { IfOk result (λ files. (kernel : Kernel) → IsRelation (modules_of tree.now) kernel relation.now →
+    ensures decode { IfOk result (λ files. (kernel : Kernel) → IsRelation (modules_of tree.now) kernel relation.now →
         StandFor tree.now kernel builtin.now files) }
 {
     let dep = make(alloc, relation, tree, builtin, OutputFile::Dep)?;

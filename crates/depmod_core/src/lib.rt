@@ -17,7 +17,9 @@ mod stated;
 mod tests;
 mod text;
 mod unmet;
+mod worked;
 
 pub use fault::OutputFault;
 pub use file::OutputFile;
 pub use files::{OutputFiles, outputs};
+pub use worked::{index_of_a_small_tree, texts_of_small_trees};

@@ -1,12 +1,12 @@
 // What modules state for others to find them by.
-ghost use Rattle.std.specs.Prelude.{◌≡◌, ◌≤◌, ◌<◌, ◌+◌, ◌^◌, ◌==◌, ◌⊎◌, ◌∷◌, [], nat_eq, Some, None, OnOk, IfOk, IfErr, IfSome, IsTrue, All, filter, length, map, flat_map};
-ghost use Rattle.std.specs.List.{list_all, ends_with};
+ghost use Rattle.std.specs.Prelude.{◌≡◌, ◌==◌, ◌⊎◌, Some, None, OnOk, IfOk, IfErr, IfSome, IsTrue, All, map};
+ghost use Rattle.std.specs.List.{list_all};
 ghost use Rattle.km_names.specs.Ascii.{is_graphic as is_word};
-ghost use Rattle.index_format.specs.Map.{IsKey, IsText};
-ghost use Rattle.provider_rel.specs.Tree.{IsTree, IsTreeModule};
+ghost use Rattle.index_format.specs.Map.{IsKey};
+ghost use Rattle.provider_rel.specs.Tree.{IsTree};
 ghost use Rattle.depmod_core.specs.Files.{size_fault};
 ghost use Rattle.depmod_core.specs.Lines.{ended, lines_text};
-ghost use Rattle.depmod_core.specs.Maps.{with_values, map_of};
+ghost use Rattle.depmod_core.specs.Maps.{with_values};
 ghost use Rattle.depmod_core.specs.Stated.{is_usable_alias as is_usable, is_usable_softdep as is_usable_text, is_printable as is_printable_byte, aliases_of, softdeps_of, symbols_of};
 ghost use Rattle.depmod_core.specs.Kinds.{heading as heading_of, texts_of, line_of, text_of, key_of, values_with, map_for};
 ghost use Rattle.depmod_core.specs.Text.{with_piece};

@@ -1,6 +1,5 @@
 // Texts in the making.
-ghost use Rattle.std.specs.Prelude.{◌≡◌, ◌≤◌, ◌⊎◌, ◌++◌, List, ℕ, Some, None, OnOk, IfOk, IfErr, length, map, min, unwrap_or, flat_map};
-ghost use Rattle.km_names.specs.Limit.{file_limit};
+ghost use Rattle.std.specs.Prelude.{◌≡◌, List, ℕ, Some, None, OnOk, IfOk, IfErr, length, flat_map};
 ghost use Rattle.depmod_core.specs.Files.{size_fault};
 ghost use Rattle.depmod_core.specs.Text.{measured as measured_text, kept, with_piece};
 

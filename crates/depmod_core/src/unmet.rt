@@ -1,5 +1,5 @@
 // What stands in the way of loading modules.
-ghost use Rattle.std.specs.Prelude.{◌≡◌, ◌⊎◌, ◌++◌, ◌∷◌, [], Some, None, OnOk, IfOk, IfErr, length};
+ghost use Rattle.std.specs.Prelude.{◌≡◌, ◌⊎◌, Some, None, OnOk, IfOk, IfErr};
 ghost use Rattle.unmet_file.specs.Line.{line_text};
 ghost use Rattle.unmet_file.specs.Unmet.{file_text};
 ghost use Rattle.depmod_core.specs.Files.{size_fault};

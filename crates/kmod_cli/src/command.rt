@@ -8,6 +8,8 @@ pub(crate) enum Command {
     Depmod,
     /// Shows what modules say of themselves. modinfo(8).
     Modinfo,
+    /// Tells which modules names stand for. modprobe(8).
+    Modprobe,
 }
 
 /// The command of this name.
@@ -20,6 +22,9 @@ pub(crate) fn command_named(word: &[u8]) -> Option<Command>
     }
     if word == b"modinfo".as_slice() {
         return Some(Command::Modinfo);
+    }
+    if word == b"modprobe".as_slice() {
+        return Some(Command::Modprobe);
     }
     None
 }

@@ -7,4 +7,4 @@
 mod command;
 mod program;
 
-pub use program::{depmod, run};
+pub use program::{depmod, modprobe, run};

@@ -3,12 +3,13 @@ ghost use Rattle.km_course.specs.Carries.{Carries};
 ghost use Rattle.command_depmod.specs.Depmod.{depmod_course};
 ghost use Rattle.command_depmod.specs.Replaced.{LeavesFiles};
 ghost use Rattle.command_modinfo.specs.Modinfo.{modinfo_course};
+ghost use Rattle.command_modprobe.specs.Modprobe.{modprobe_course};
 ghost use Rattle.kmod_cli.specs.Program.{course, course_named};
 
 use crate::command::{Command, command_named};
 use km_course::{End, Stop, conclude};
 use km_names::Word;
-use km_outside::{Files, Out, Reads};
+use km_outside::{Files, Out, Reads, Writes};
 use std::alloc::Global;
 
 /// Does all that the program does: carries out the course of the words, which are those after the
@@ -52,6 +53,7 @@ fn command<F: Files, O: Out, E: Out>(
         Some(command) => match command {
             Command::Depmod => depmod(alloc, words, files, out, err),
             Command::Modinfo => modinfo(alloc, words, files, out, err),
+            Command::Modprobe => modprobe(alloc, words, files, out, err),
         },
         None => conclude(alloc, Err(Stop::from(End::NotUnderstood)), err),
     }
@@ -90,5 +92,22 @@ fn modinfo<F: Reads, O: Out, E: Out>(
         (world (F.seen files.new) (O.seen out.new) (E.seen err.new)) result }
 {
     let outcome = command_modinfo::modinfo(alloc, words, files, out);
+    conclude(alloc, outcome, err)
+}
+
+/// Does what `modprobe` does with these words after its name, and answers the exit status, as [`run`] does: tells which
+/// modules names stand for. It lists no folder of modules, so that their paths come from the index alone. modprobe(8).
+pub fn modprobe<F: Writes, O: Out, E: Out>(
+    alloc: Global,
+    words: &[Word],
+    files: &mut F,
+    out: &mut O,
+    err: &mut E,
+) -> u8
+    ensures { Carries (modprobe_course words.now)
+        (world (F.seen files.old) (O.seen out.old) (E.seen err.old))
+        (world (F.seen files.new) (O.seen out.new) (E.seen err.new)) result }
+{
+    let outcome = command_modprobe::modprobe(alloc, words, files, out);
     conclude(alloc, outcome, err)
 }

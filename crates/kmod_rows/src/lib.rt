@@ -17,6 +17,8 @@ mod modinfo;
 #[cfg(test)]
 mod modinfo_names;
 #[cfg(test)]
+mod modprobe_names;
+#[cfg(test)]
 mod object;
 #[cfg(test)]
 mod placement;

@@ -7,6 +7,7 @@ use std::process::Abort;
 use std::test::Fail;
 
 /// A file that is there before a command, or is to be there after it.
+#[derive(Clone, Copy)]
 pub(crate) struct FileRow {
     pub(crate) path: &'static str,
     pub(crate) bytes: &'static [u8],

@@ -5,3 +5,4 @@ pub mod PartLemmas
 pub mod DistinctLemmas
 pub mod SheetLemmas
 pub mod SymbolLemmas
+pub mod TrialLemmas

@@ -18,13 +18,16 @@ text_bytes s = zeros (16 * length s.exports)
 abbrev pub data_bytes : Sheet → List ℕ
 data_bytes s = zeros (8 * length s.places)
 
+-- Of `.modinfo`: each text with its NUL. modinfo(8).
 abbrev pub modinfo_bytes : Sheet → List ℕ
 modinfo_bytes s = flat_map with_nul s.texts
 
--- An entry of 64 bytes: the version, and the name filled up with zeros.
+-- An entry of 64 bytes: the version, and the name filled up with zeros. The kernel's include/linux/module.h, struct
+-- modversion_info.
 abbrev pub version_bytes : SheetVersion → List ℕ
 version_bytes v = xword v.crc ++ v.name ++ zeros (56 - length v.name)
 
+-- Of `__versions`: the entries of all versions. The kernel's include/linux/module.h, struct modversion_info.
 abbrev pub versions_bytes : Sheet → List ℕ
 versions_bytes s = flat_map version_bytes s.versions
 
@@ -38,11 +41,15 @@ abbrev pub places_bytes : Sheet → SheetMore → ℕ → List SheetPlace → Li
 places_bytes s m k [] = []
 places_bytes s m k (p ∷ places) = place_bytes s m k p ++ places_bytes s m (k + 1) places
 
+-- Of `.rela.data`: the relocations of all words. gABI 4, "Relocation".
 unfoldable pub rela_bytes : Sheet → SheetMore → List ℕ
 rela_bytes s m = places_bytes s m 0 s.places
 
+-- Of `.symtab`: an entry of zeros, and then those of the symbols, whose names stand after the empty one. gABI 4, "Symbol
+-- Table".
 unfoldable pub symtab_bytes : Sheet → SheetMore → List ℕ
 symtab_bytes s m = zeros 24 ++ entries_bytes 1 (symbols s m)
 
+-- Of `.strtab`: the empty name, and then those of the symbols. gABI 4, "String Table".
 unfoldable pub strtab_bytes : Sheet → SheetMore → List ℕ
 strtab_bytes s m = 0 ∷ names_bytes (symbols s m)

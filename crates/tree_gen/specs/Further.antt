@@ -12,19 +12,23 @@ use Rattle.tree_gen.specs.declared.sheet.SheetSpace.{SheetSpace}
 use Rattle.tree_gen.specs.declared.sheet.SheetVersion.{SheetVersion}
 use Rattle.tree_gen.specs.Number.{word, zeros, with_nul}
 
--- The numbers of extended versions, their names, and the texts of namespaces.
+-- Of `__version_ext_crcs`: the numbers of extended versions, 4 bytes each. The kernel's scripts/mod/modpost.c.
 abbrev pub crc_bytes : List SheetVersion → List ℕ
 crc_bytes ext = flat_map (λ (v : SheetVersion). word v.crc) ext
 
+-- Of `__version_ext_names`: their names, each with its NUL. The kernel's scripts/mod/modpost.c.
 abbrev pub name_bytes : List SheetVersion → List ℕ
 name_bytes ext = flat_map (λ (v : SheetVersion). with_nul v.name) ext
 
+-- Of `__ksymtab_strings`: the texts of namespaces, each with its NUL. The kernel's include/linux/export.h.
 abbrev pub space_bytes : List SheetSpace → List ℕ
 space_bytes spaces = flat_map (λ (p : SheetSpace). with_nul p.space) spaces
 
+-- What the headers of these sections say: they have bytes in the file, and are loaded. gABI 4, "Sections".
 abbrev pub further_attributes : Attributes
 further_attributes = record { kind = SHT_PROGBITS; flags = SHF_ALLOC; link = 0; info = 0; align = 8; entry_size = 0 }
 
+-- One of these sections, by its name and its content.
 abbrev pub further_part : List ℕ → List ℕ → Part
 further_part name content = record { name = name; attributes = further_attributes; content = content }
 
@@ -33,23 +37,28 @@ abbrev pub unless_empty : {X : Type 0} → List X → List Part → List Part
 unless_empty [] parts = []
 unless_empty (x ∷ xs) parts = parts
 
+-- The two sections of extended versions. The kernel's scripts/mod/modpost.c.
 abbrev pub version_parts : SheetMore → List Part
 version_parts m =
     unless_empty m.ext (further_part (codes "__version_ext_crcs") (crc_bytes m.ext) ∷ further_part (codes "__version_ext_names") (name_bytes m.ext) ∷ [])
 
+-- The section of GPL-only exports, 8 zeros for each. The kernel's include/linux/export.h, EXPORT_SYMBOL_GPL.
 abbrev pub gpl_parts : SheetMore → List Part
 gpl_parts m = unless_empty m.gpl (further_part (codes "__ksymtab_gpl") (zeros (8 * length m.gpl)) ∷ [])
 
+-- The section of the texts of namespaces. The kernel's include/linux/export.h, EXPORT_SYMBOL_NS.
 abbrev pub space_parts : SheetMore → List Part
 space_parts m = unless_empty m.spaces (further_part (codes "__ksymtab_strings") (space_bytes m.spaces) ∷ [])
 
+-- The sections from 9 on, in their order.
 unfoldable pub further_parts : SheetMore → List Part
 further_parts m = version_parts m ++ gpl_parts m ++ space_parts m
 
--- The numbers of `__ksymtab_gpl` and of `__ksymtab_strings`, by the sections before them.
+-- The number of `__ksymtab_gpl`, by the sections before it.
 unfoldable pub gpl_section : SheetMore → ℕ
 gpl_section m = FURTHER + length (version_parts m)
 
+-- The number of `__ksymtab_strings`, by the sections before it.
 unfoldable pub strings_section : SheetMore → ℕ
 strings_section m = FURTHER + length (version_parts m) + length (gpl_parts m)
 

@@ -6,3 +6,4 @@ pub mod Symbols
 pub mod Contents
 pub mod Object
 pub mod Writing
+pub mod Trial

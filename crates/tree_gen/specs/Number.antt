@@ -2,13 +2,15 @@
 use Rattle.std.specs.Prelude.{ℕ, List, [], ◌∷◌, ◌++◌, replicate}
 use Rattle.std.specs.Int.{w16, w32, w64, to_le_bytes}
 
--- Numbers of 2, 4 and 8 bytes, the lowest byte first: Elf64_Half, Elf64_Word, Elf64_Xword.
+-- A number of 2 bytes, the lowest first. gABI 4, "Data Representation", Elf64_Half.
 unfoldable pub half : ℕ → List ℕ
 half n = to_le_bytes w16 n
 
+-- A number of 4 bytes, the lowest first. gABI 4, "Data Representation", Elf64_Word.
 unfoldable pub word : ℕ → List ℕ
 word n = to_le_bytes w32 n
 
+-- A number of 8 bytes, the lowest first. gABI 4, "Data Representation", Elf64_Xword.
 unfoldable pub xword : ℕ → List ℕ
 xword n = to_le_bytes w64 n
 

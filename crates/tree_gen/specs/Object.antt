@@ -53,9 +53,10 @@ with_names before after =
 unfoldable pub parts_of : Sheet → SheetMore → List Part
 parts_of s m = with_names (loaded_parts s ++ linked_parts s m) (further_parts m)
 
--- The object file of a sheet with more, and of a sheet alone.
+-- The object file of a sheet with more.
 unfoldable pub object_more_of : Sheet → SheetMore → List ℕ
 object_more_of s m = file_of (parts_of s m)
 
+-- The object file of a sheet alone.
 abbrev pub object_of : Sheet → List ℕ
 object_of s = object_more_of s no_more

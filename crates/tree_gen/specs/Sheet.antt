@@ -10,17 +10,19 @@ use Rattle.tree_gen.specs.declared.sheet.SheetPlace.{SheetPlace}
 use Rattle.tree_gen.specs.declared.sheet.SheetSpace.{SheetSpace}
 use Rattle.tree_gen.specs.declared.sheet.SheetVersion.{SheetVersion}
 
--- The names of the exported symbols, of these and the undefined ones, of the symbols of places, and of the exports that
--- are in a namespace.
+-- The names of the exported symbols.
 abbrev pub export_names : Sheet → List (List ℕ)
 export_names s = map (λ (e : SheetExport). e.name) s.exports
 
+-- The names of the exported symbols, and then of the undefined ones.
 abbrev pub symbol_names : Sheet → List (List ℕ)
 symbol_names s = export_names s ++ map (λ (n : SheetNeed). n.name) s.needs
 
+-- The names of the symbols of places.
 abbrev pub place_names : Sheet → List (List ℕ)
 place_names s = map (λ (p : SheetPlace). p.symbol) s.places
 
+-- The names of the exports that are in a namespace.
 abbrev pub spaced_names : SheetMore → List (List ℕ)
 spaced_names m = map (λ (p : SheetSpace). p.name) m.spaces
 

@@ -13,9 +13,10 @@ use std::alloc::{AllocError, Global};
 /// The most items that a list has.
 const MOST_ITEMS: usize = 65535;
 
-/// The most bytes of a text or a name, and of the name of a version.
+/// The most bytes of a text or a name.
 const LONGEST_TEXT: usize = 4096;
 
+/// The most bytes of the name of a version.
 const LONGEST_VERSION_NAME: usize = 55;
 
 /// The most that an extended version is.

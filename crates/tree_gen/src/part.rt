@@ -6,18 +6,22 @@ use elf_format::SYM_SIZE;
 use km_names::{Blob, Name};
 use std::alloc::{AllocError, Global};
 
-/// The numbers of sections, by the order in which they stand in an object: code, words, symbols, the names of
-/// symbols, the names of sections, and the first one of what is more.
+/// The number of the section of code, by the order in which sections stand in an object.
 pub(crate) const TEXT: u16 = 1;
 
+/// The number of the section of words.
 pub(crate) const DATA: u32 = 2;
 
+/// The number of the section of symbols.
 pub(crate) const SYMTAB: u32 = 6;
 
+/// The number of the section of the names of symbols.
 pub(crate) const STRTAB: u32 = 7;
 
+/// The number of the section of the names of sections.
 pub(crate) const SECTION_NAMES: u16 = 8;
 
+/// The number of the first section of what is more.
 pub(crate) const FURTHER: u16 = 9;
 
 /// What a section header says of its section, but for the places of its name and its content. gABI 4, "Sections",

@@ -1,4 +1,4 @@
-use Rattle.std.proofs.Common.{◌≡◌, ap, ◌∙◌, true, filter, map}
+use Rattle.std.proofs.Common.{ap, ◌∙◌, filter, map}
 use Rattle.std.specs.List.{list_all}
 use Rattle.km_names.specs.Ascii.{is_graphic}
 use Rattle.km_names.specs.Lines.{lines_of}

@@ -1,4 +1,4 @@
-use Rattle.std.proofs.Common.{◌≡◌, List, ℕ, Some, sym, ap, ◌∙◌, subst, get_or, length, map, take, arith}
+use Rattle.std.proofs.Common.{◌≡◌, Some, sym, ap, ◌∙◌, subst, get_or, length, map, arith}
 use Rattle.std.specs.List.{slice_get, enumerate_from, zip}
 use Rattle.std.specs.FinMap.{empty}
 use Rattle.std.proofs.lemmas.List.{take_all}
@@ -10,7 +10,7 @@ use Rattle.module_facts.specs.declared.facts.Facts.{Facts}
 use Rattle.provider_rel.specs.Tree.{IsTreeModule}
 use Rattle.provider_rel.specs.Seen.{closures_by, places_of}
 use Rattle.depmod_core.specs.Maps.{map_of}
-use Rattle.depmod_core.specs.Dependencies.{Dependent, dep_value, line_of, dep_map}
+use Rattle.depmod_core.specs.Dependencies.{Dependent, dep_value, dep_map}
 use Rattle.depmod_core.proofs.KeySteps.{graphic-key}
 use Rattle.depmod_core.proofs.MapSteps.{value-found, placed, zipped}
 use Rattle.depmod_core.proofs.LineSteps.{line-text, tree-module}

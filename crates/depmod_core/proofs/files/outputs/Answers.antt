@@ -1,7 +1,10 @@
-use Rattle.std.proofs.Common.{◌≡◌, Some, None, refl, sym, ap, ◌∙◌}
+use Rattle.std.proofs.Common.{refl, ap, subst, ◌∙◌}
 use Rattle.std.proofs.lemmas.Result.{err_from_is_err_and}
-use Rattle.provider_rel.specs.Seen.{closures_by, obstacles_by}
+use Rattle.index_format.specs.Holds.{Holds}
+use Rattle.unmet_file.specs.Unmet.{file_text, unmet_of}
+use Rattle.depmod_core.specs.Dependencies.{dep_map}
 use Rattle.depmod_core.specs.Files.{files_by, output_fault}
+use Rattle.depmod_core.proofs.UnmetSteps.{unmet-back}
 use Rattle.depmod_core.proofs.FileSteps.{passed, failed, refused, made-all}
 use Rattle.depmod_core.proofs.files.outputs.Goals as goal
 
@@ -84,3 +87,15 @@ returns-clause-ok c =
       builtin_bin = c.in_ok-builtin_bin.ensures.ok i;
       unmet = c.in_ok-unmet.ensures.ok i;
     })
+
+pub returns-clause-decode : goal.returns-clause-decode
+unfolding files_by
+returns-clause-decode c kernel made =
+    let tree = c.args.tree.now in
+    record {
+      dep = subst (λ closures. Holds c.in_ok-dep_bin.dep_bin (dep_map tree closures)) made.closures c.in_ok-dep_bin.ensures.stands;
+      alias = c.in_ok-alias_bin.ensures.stands;
+      symbols = c.in_ok-symbols_bin.ensures.stands;
+      built_in = c.in_ok-builtin_bin.ensures.stands;
+      lines = λ path. ap (unmet_of path) (c.in_ok-unmet.ensures.ok ∙ ap file_text made.obstacles) ∙ unmet-back tree kernel c.requires.tree path;
+    }

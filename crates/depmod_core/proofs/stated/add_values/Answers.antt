@@ -1,5 +1,5 @@
-use Rattle.std.proofs.Common.{◌≡◌, List, ℕ, Bor, Option, Some, None, sym, ap, ◌∙◌, subst, [], ◌∷◌, option_map, get_or}
-use Rattle.std.specs.List.{filter_map, cons_option}
+use Rattle.std.proofs.Common.{List, ℕ, Bor, Option, sym, ap, ◌∙◌, subst, [], option_map}
+use Rattle.std.specs.List.{cons_option}
 use Rattle.index_format.specs.Map.{IsKey, with_value}
 use Rattle.index_format.specs.Listing.{KeyValue}
 use Rattle.depmod_core.specs.Maps.{with_values}

@@ -1,4 +1,4 @@
-use Rattle.std.proofs.Common.{◌≡◌, ◌++◌, ◌∷◌, [], List, ℕ, Bor, sym, ap, ◌∙◌, get_or, length, map, flat_map, arith}
+use Rattle.std.proofs.Common.{◌++◌, ◌∷◌, [], List, ℕ, Bor, sym, ap, ◌∙◌, get_or, length, map, flat_map, arith}
 use Rattle.std.proofs.lemmas.Simd.{map-map}
 use Rattle.module_facts.specs.declared.facts.Facts.{Facts}
 use Rattle.depmod_core.specs.Lines.{ended, lines_text}

@@ -1,15 +1,13 @@
-use Rattle.std.proofs.Common.{◌≡◌, List, ℕ, Bor, All, Some, sym, ap, ◌∙◌, subst, get_or, length, map, flat_map, take, arith}
+use Rattle.std.proofs.Common.{◌≡◌, List, ℕ, Bor, Some, ap, ◌∙◌, get_or, length, map, flat_map, arith}
 use Rattle.std.specs.List.{slice_get, enumerate_from}
-use Rattle.std.specs.Option.{IfSome}
 use Rattle.std.specs.FinMap.{empty}
 use Rattle.std.proofs.lemmas.List.{take_all}
 use Rattle.std.proofs.lemmas.List.FromFn.{length-enumerate_from}
 use Rattle.std.proofs.lemmas.Option.{slice_get_read}
-use Rattle.index_format.specs.Map.{IsKey}
 use Rattle.module_facts.specs.declared.facts.Facts.{Facts}
 use Rattle.provider_rel.specs.Tree.{IsTreeModule}
 use Rattle.depmod_core.specs.Maps.{with_values, map_of}
-use Rattle.depmod_core.specs.Kinds.{key_of, texts_of, values_by, values_with}
+use Rattle.depmod_core.specs.Kinds.{values_by, values_with}
 use Rattle.depmod_core.proofs.MapSteps.{values-found, placed}
 use Rattle.depmod_core.proofs.LineSteps.{seen-keys, tree-module, kind-map}
 use Rattle.depmod_core.proofs.stated.stated_map.Goals as goal

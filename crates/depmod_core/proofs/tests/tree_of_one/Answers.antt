@@ -1,5 +1,5 @@
 use Rattle.std.proofs.Common.{◌++◌, ◌∷◌, [], ap, ◌∙◌}
-use Rattle.depmod_core.proofs.TreeSteps.{one-tree}
+use Rattle.provider_rel.proofs.TreeSteps.{one-tree}
 use Rattle.depmod_core.proofs.tests.tree_of_one.Goals as goal
 
 pub returns : goal.returns

@@ -1,4 +1,4 @@
-use Rattle.std.proofs.Common.{◌≡◌, ◌≤◌, length, get_or, sym, ap, ◌∙◌, arith}
+use Rattle.std.proofs.Common.{length, get_or, sym, ap, ◌∙◌, arith}
 use Rattle.unmet_file.specs.Line.{line_text}
 use Rattle.unmet_file.specs.Unmet.{file_text}
 use Rattle.depmod_core.specs.Lines.{ended}

@@ -23,6 +23,12 @@ returns-in-Modinfo g c =
     (sym (c.in-Some.is ∙ ap Some c.in-Modinfo.is))
     c.modinfo.ensures
 
+pub returns-in-Modprobe : goal.returns-in-Modprobe
+returns-in-Modprobe g c =
+    subst (λ named. Carries (course_named named c.args.words.now) (world (g.F.Reads.seen c.args.files.now) (g.O.Out.seen c.args.out.now) (g.E.Out.seen c.args.err.now)) (world (g.F.Reads.seen c.modprobe.new.files) (g.O.Out.seen c.modprobe.new.out) (g.E.Out.seen c.modprobe.new.err)) c.modprobe.result)
+    (sym (c.in-Some.is ∙ ap Some c.in-Modprobe.is))
+    c.modprobe.ensures
+
 pub returns-in-None : goal.returns-in-None
 returns-in-None g c =
     let old = world (g.F.Reads.seen c.args.files.now) (g.O.Out.seen c.args.out.now) (g.E.Out.seen c.args.err.now) in

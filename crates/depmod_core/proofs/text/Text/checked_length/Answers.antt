@@ -1,4 +1,3 @@
-use Rattle.std.proofs.Common.{◌≡◌, ℕ, List, length, Some, None, refl, ap, sym, ◌∙◌, arith}
 use Rattle.depmod_core.proofs.TextSteps.{measured-length, too-long, not-too-long}
 use Rattle.depmod_core.proofs.text.Text.checked_length.Goals as goal
 

@@ -1,0 +1,47 @@
+ghost use Rattle.std.specs.Prelude.{⊤};
+ghost use Rattle.km_outside.specs.OutSeen.{OutSeen};
+ghost use Rattle.km_course.specs.World.{world};
+ghost use Rattle.km_course.specs.Follows.{Follows};
+ghost use Rattle.command_modprobe.specs.Modprobe.{modprobe_course, modprobe_in_mode};
+
+use crate::resolve_alias::resolve_alias;
+use km_course::{End, Stop};
+use km_names::Word;
+use km_outside::{Out, Writes};
+use kmod_words::{Mode, ModprobeWords, read_modprobe};
+use std::alloc::Global;
+
+/// Does what the words after `modprobe` ask for. modprobe(8).
+pub fn modprobe<F: Writes, O: Out>(
+    alloc: Global,
+    words: &[Word],
+    files: &mut F,
+    out: &mut O,
+) -> Result<(), Stop>
+    ensures { (err : OutSeen) → Follows (λ x. x) (modprobe_course words.now)
+        (world (F.seen files.old) (O.seen out.old) err) (world (F.seen files.new) (O.seen out.new) err) result }
+{
+    match read_modprobe(alloc, words)? {
+        Some(asked) => in_mode(alloc, asked.mode, asked, files, out),
+        None => Err(Stop::from(End::NotUnderstood)),
+    }
+}
+
+/// Does what is asked for in this mode. Those but `-R` have no course yet.
+fn in_mode<F: Writes, O: Out>(
+    alloc: Global,
+    mode: Mode,
+    asked: ModprobeWords,
+    files: &mut F,
+    out: &mut O,
+) -> Result<(), Stop>
+    ensures { (err : OutSeen) → Follows (λ x. x) (modprobe_in_mode mode asked)
+        (world (F.seen files.old) (O.seen out.old) err) (world (F.seen files.new) (O.seen out.new) err) result }
+{
+    match mode {
+        Mode::ResolveAlias => resolve_alias(alloc, asked, files, out),
+        Mode::Load => Err(Stop::from(End::NotUnderstood)),
+        Mode::DryRun => Err(Stop::from(End::NotUnderstood)),
+        Mode::ShowDepends => Err(Stop::from(End::NotUnderstood)),
+    }
+}

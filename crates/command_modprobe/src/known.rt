@@ -1,0 +1,188 @@
+// What modprobe knows before it looks a name up.
+ghost use Rattle.std.specs.Prelude.{◌≡◌, ◌≤◌, ◌∷◌, ◌++◌, [], length, All, IfOk};
+ghost use Rattle.km_names.specs.Limit.{file_limit};
+ghost use Rattle.km_outside.specs.OutSeen.{OutSeen};
+ghost use Rattle.km_course.specs.World.{world};
+ghost use Rattle.km_course.specs.Follows.{Answers, Follows};
+ghost use Rattle.modprobe_conf.specs.Rules.{rules_of};
+ghost use Rattle.unmet_file.specs.Unmet.{unmet_of};
+ghost use Rattle.command_files.specs.Configuration.{stated_outcome};
+ghost use Rattle.command_modprobe.specs.Known.{reads_index_in, reads_indexes, reads_rules, reads_unmet, reads_loaded, reads_lists, reads_known};
+
+use command_files::{Tool, read_configuration, read_index, stop_of_fault};
+use index_read::Index;
+use km_course::{Stop, read_needed, read_optional};
+use km_names::{Blob, ConfFile, ConfFiles, PathText, join};
+use km_outside::Reads;
+use loaded_list::Loaded;
+use modprobe_conf::{Rules, parse};
+use name_lookup::Indexes;
+use std::alloc::{AllocError, Global};
+use unmet_file::Unmet;
+
+/// What modprobe knows before it looks a name up.
+#[derive(Drop)]
+pub(crate) struct Known {
+    /// The rules of the configuration and of modules.softdep.
+    pub(crate) rules: Rules,
+    /// What names are looked up in.
+    pub(crate) indexes: Indexes,
+    /// What stands in the way of loading modules.
+    pub(crate) unmet: Unmet,
+    /// The modules that are loaded, the newest first.
+    pub(crate) loaded: Loaded,
+}
+
+/// Reads what modprobe has to know: the configuration, which is understood before another file is read, the index files
+/// of the folder, its modules.softdep and modules.unmet, and the list of loaded modules. modprobe(8), modules.dep(5).
+pub(crate) fn read_known<F: Reads>(
+    alloc: Global,
+    config: Option<PathText>,
+    folder: &PathText,
+    loaded: Option<PathText>,
+    files: &mut F,
+) -> Result<Known, Stop>
+    ensures { (out err : OutSeen) → Follows (λ x. x) (reads_known config folder.now loaded)
+        (world (F.seen files.old) out err) (world (F.seen files.new) out err) result }
+{
+    let configuration = read_configuration(alloc, Tool::Modprobe, config, files)?;
+    rules_in(alloc, &configuration)?;
+    let indexes = read_indexes(alloc, folder, files)?;
+    read_lists(alloc, configuration, folder, indexes, loaded, files)
+}
+
+/// The rules that configuration files state.
+fn rules_in(alloc: Global, files: &ConfFiles) -> Result<Rules, Stop>
+    requires { All (λ file. length file.bytes ≤ file_limit) files.now }
+    ensures { Answers (λ x. x) (stated_outcome (rules_of files.now)) result }
+{
+    match parse(alloc, files) {
+        Ok(rules) => Ok(rules),
+        Err(fault) => Err(stop_of_fault(fault)),
+    }
+}
+
+/// The four index files of a folder, each checked before the next is read.
+fn read_indexes<F: Reads>(alloc: Global, folder: &PathText, files: &mut F) -> Result<Indexes, Stop>
+    ensures { (out err : OutSeen) → Follows (λ x. x) (reads_indexes folder.now)
+        (world (F.seen files.old) out err) (world (F.seen files.new) out err) result }
+{
+    let dep = read_index_in(alloc, folder, b"modules.dep.bin", files)?;
+    let alias = read_index_in(alloc, folder, b"modules.alias.bin", files)?;
+    let symbols = read_index_in(alloc, folder, b"modules.symbols.bin", files)?;
+    let builtin = read_index_in(alloc, folder, b"modules.builtin.bin", files)?;
+    Ok(Indexes {
+        dep,
+        alias,
+        symbols,
+        builtin,
+    })
+}
+
+/// The index in the file of this name in a folder.
+fn read_index_in<F: Reads>(
+    alloc: Global,
+    folder: &PathText,
+    name: &[u8],
+    files: &mut F,
+) -> Result<Index, Stop>
+    ensures { (out err : OutSeen) → Follows (λ x. x) (reads_index_in folder.now name.now)
+        (world (F.seen files.old) out err) (world (F.seen files.new) out err) result }
+{
+    let path = join(alloc, folder, name)?;
+    read_index(alloc, path, files)
+}
+
+/// What modprobe knows, where the configuration and the indexes were read.
+fn read_lists<F: Reads>(
+    alloc: Global,
+    configuration: ConfFiles,
+    folder: &PathText,
+    indexes: Indexes,
+    loaded: Option<PathText>,
+    files: &mut F,
+) -> Result<Known, Stop>
+    requires { All (λ file. length file.bytes ≤ file_limit) configuration }
+    ensures { (out err : OutSeen) → Follows (λ x. x) (reads_lists configuration folder.now indexes loaded)
+        (world (F.seen files.old) out err) (world (F.seen files.new) out err) result }
+{
+    let rules = read_rules(alloc, configuration, folder, files)?;
+    let unmet = read_unmet(alloc, folder, files)?;
+    let listed = read_loaded(alloc, loaded, files)?;
+    Ok(Known {
+        rules,
+        indexes,
+        unmet,
+        loaded: listed,
+    })
+}
+
+/// The rules of the configuration, and of modules.softdep as one file more.
+fn read_rules<F: Reads>(
+    alloc: Global,
+    configuration: ConfFiles,
+    folder: &PathText,
+    files: &mut F,
+) -> Result<Rules, Stop>
+    requires { All (λ file. length file.bytes ≤ file_limit) configuration }
+    ensures { (out err : OutSeen) → Follows (λ x. x) (reads_rules configuration folder.now)
+        (world (F.seen files.old) out err) (world (F.seen files.new) out err) result }
+{
+    let path = join(alloc, folder, b"modules.softdep")?;
+    let named = PathText::from_slice(alloc, path.as_bytes())?;
+    let softdep = read_optional(alloc, files, named)?;
+    let all = with_file(configuration, path, softdep)?;
+    rules_in(alloc, &all)
+}
+
+/// The files, and one more.
+fn with_file(mut files: ConfFiles, path: PathText, bytes: Blob) -> Result<ConfFiles, AllocError>
+    requires all { All (λ file. length file.bytes ≤ file_limit) files }
+    requires one { length bytes ≤ file_limit }
+    ensures files { IfOk result (λ more. more ≡ files ++ record { path = path; bytes = bytes } ∷ []) }
+    ensures limit { IfOk result (λ more. All (λ file. length file.bytes ≤ file_limit) more) }
+{
+    files.push(ConfFile { path, bytes })?;
+    Ok(files)
+}
+
+/// The lines of the folder's modules.unmet.
+fn read_unmet<F: Reads>(alloc: Global, folder: &PathText, files: &mut F) -> Result<Unmet, Stop>
+    ensures { (out err : OutSeen) → Follows (λ x. x) (reads_unmet folder.now)
+        (world (F.seen files.old) out err) (world (F.seen files.new) out err) result }
+{
+    let path = join(alloc, folder, b"modules.unmet")?;
+    let named = PathText::from_slice(alloc, path.as_bytes())?;
+    let bytes = read_optional(alloc, files, named)?;
+    unmet_in(alloc, &path, bytes.as_bytes())
+}
+
+/// The lines that a modules.unmet states.
+fn unmet_in(alloc: Global, file: &PathText, bytes: &[u8]) -> Result<Unmet, Stop>
+    requires { length bytes.now ≤ file_limit }
+    ensures { Answers (λ x. x) (stated_outcome (unmet_of file.now bytes.now)) result }
+{
+    match Unmet::read(alloc, file, bytes) {
+        Ok(unmet) => Ok(unmet),
+        Err(fault) => Err(stop_of_fault(fault)),
+    }
+}
+
+/// The loaded modules that the file at the path lists, or none without one.
+fn read_loaded<F: Reads>(
+    alloc: Global,
+    path: Option<PathText>,
+    files: &mut F,
+) -> Result<Loaded, Stop>
+    ensures { (out err : OutSeen) → Follows (λ x. x) (reads_loaded path)
+        (world (F.seen files.old) out err) (world (F.seen files.new) out err) result }
+{
+    match path {
+        Some(path) => {
+            let bytes = read_needed(alloc, files, path)?;
+            let loaded = Loaded::read(alloc, bytes.as_bytes())?;
+            Ok(loaded)
+        }
+        None => Ok(Loaded::new(alloc)),
+    }
+}

@@ -1,0 +1,8 @@
+pub mod IndexLemmas
+pub mod MapLemmas
+pub mod HoldLemmas
+pub mod BindingLemmas
+pub mod UnmetTextLemmas
+pub mod NamedLemmas
+pub mod IndexedLemmas
+pub mod FolderLemmas

@@ -1,0 +1,4 @@
+pub mod Index
+pub mod Binding
+pub mod Indexed
+pub mod Folder

@@ -1,0 +1,12 @@
+pub mod ListLemmas
+pub mod NeedLemmas
+pub mod ProviderLemmas
+pub mod UnmetLemmas
+pub mod NameLemmas
+pub mod OneExporter
+pub mod PlanLemmas
+pub mod LineLemmas
+pub mod LoadLemmas
+pub mod BindingLemmas
+pub mod InstanceLemmas
+pub mod AddressLemmas

@@ -1,0 +1,69 @@
+ghost use Rattle.std.specs.Prelude.{◌≡◌, ◌≤◌, ◌<◌, ◌+◌, ℕ, IfOk};
+ghost use Rattle.tree_gen.specs.Trial.{start_of, module_path as path_of, module_file as file_of_module, kernel_contents, unused, trial_files};
+
+use crate::draws::Draws;
+use crate::object_file::object;
+use crate::trial_sheet::{four_digits, module_sheet};
+use km_names::{Blob, PathText};
+use km_outside::MemFiles;
+use std::alloc::{AllocError, Global};
+
+/// The kernel's exports, as `Module.symvers` lists them.
+const SYMVERS: &[u8] = b"0x11111111\tprintk\tvmlinux\tEXPORT_SYMBOL\n";
+
+/// The kernel's addresses, as `System.map` lists them.
+const SYSTEM_MAP: &[u8] = b"ffffffff81000000 T printk\n";
+
+/// The path of the module of this number.
+#[tactic(auto, unfolding(crate::specs::Trial::module_path))]
+fn module_path(alloc: Global, number: u32) -> Result<PathText, AllocError>
+    ensures { IfOk result (λ path. path ≡ path_of number) }
+{
+    let mut path = PathText::from_slice(alloc, b"/t/lib/modules/trial/kernel/m")?;
+    path.extend(&four_digits(number))?;
+    path.extend(b".ko")?;
+    Ok(path)
+}
+
+/// The object file of the module of this number, which draws the modules that it needs.
+#[tactic(auto, using(crate::proofs::TrialLemmas::is_sheet_made), unfolding(crate::specs::Trial::module_file))]
+fn module_file(alloc: Global, number: u32, draws: &mut Draws) -> Result<Blob, AllocError>
+    requires { number < 10000 }
+    ensures file { IfOk result (λ bytes. (seed : ℕ) → draws.old.last ≡ start_of seed number → bytes ≡ file_of_module seed number) }
+    ensures next { IfOk result (λ _. (seed : ℕ) → draws.old.last ≡ start_of seed number → draws.new.last ≡ start_of seed (number + 1)) }
+{
+    let modules = draws.modules(alloc, number)?;
+    let sheet = module_sheet(alloc, number, &modules)?;
+    object(alloc, &sheet)
+}
+
+/// The two files of the kernel.
+#[tactic(auto, unfolding(crate::specs::Trial::kernel_contents))]
+fn kernel_files(alloc: Global) -> Result<MemFiles, AllocError>
+    ensures { IfOk result (λ files. files ≡ unused kernel_contents) }
+{
+    let symvers = PathText::from_slice(alloc, b"/t/Module.symvers")?;
+    let system_map = PathText::from_slice(alloc, b"/t/System.map")?;
+    let mut files = MemFiles::new(alloc);
+    files.put(&symvers, SYMVERS)?;
+    files.put(&system_map, SYSTEM_MAP)?;
+    Ok(files)
+}
+
+/// The made tree of a trial, below `/t`: `count` modules of the kernel `trial`, 1 to 2000, each of which needs the kernel's
+/// `printk` and the symbols of one or two modules before it that are drawn from the seed, and the kernel's `Module.symvers`
+/// and `System.map`. No call of the files fails. Only memory can be wanting.
+#[tactic(auto, unfolding(crate::specs::Trial::trial_contents))]
+pub fn generate(alloc: Global, seed: u64, count: u32) -> Result<MemFiles, AllocError>
+    requires { (1 ≤ count) × (count ≤ 2000) }
+    ensures { IfOk result (λ files. files ≡ trial_files seed count) }
+{
+    let mut files = kernel_files(alloc)?;
+    let mut draws = Draws::new(seed);
+    for number in 0..count {
+        let path = module_path(alloc, number)?;
+        let bytes = module_file(alloc, number, &mut draws)?;
+        files.put(&path, bytes.as_bytes())?;
+    }
+    Ok(files)
+}

@@ -1,0 +1,149 @@
+// The sheets of a trial's modules.
+ghost use Rattle.std.specs.Prelude.{◌≡◌, [], ◌∷◌, map, IfOk};
+ghost use Rattle.tree_gen.specs.Trial.{digit as last_digit, four_digits as digits_of, symbol_name as name_of_symbol, exported as exported_by, printk as printk_of_kernel, needed as needed_of, stated, strong, address, texts as texts_of, module_sheet as sheet_of};
+
+use crate::sheet::{
+    Sheet, SheetExport, SheetExports, SheetNeed, SheetNeeds, SheetPlace, SheetPlaces, SheetVersion,
+    SheetVersions,
+};
+use elf_format::R_X86_64_64;
+use km_names::{Blob, Name, Texts};
+use std::alloc::{AllocError, Global};
+
+/// The version of the kernel's `printk`.
+const PRINTK_VERSION: u64 = 0x1111_1111;
+
+/// The version of the symbol of module 0.
+const FIRST_VERSION: u64 = 0x2000_0000;
+
+/// The last decimal digit of a number.
+fn digit(number: u32) -> u8
+    ensures { result ≡ last_digit number }
+{
+    b'0' + (number % 10) as u8
+}
+
+/// The last four decimal digits of a number.
+pub(crate) fn four_digits(number: u32) -> [u8; 4]
+    ensures { result ≡ digits_of number }
+{
+    [
+        digit(number / 1000),
+        digit(number / 100),
+        digit(number / 10),
+        digit(number),
+    ]
+}
+
+/// The name of the symbol that the module of this number exports.
+#[tactic(auto, unfolding(crate::specs::Trial::symbol_name))]
+fn symbol_name(alloc: Global, number: u32) -> Result<Name, AllocError>
+    ensures { IfOk result (λ name. name ≡ name_of_symbol number) }
+{
+    let mut name = Name::from_slice(alloc, b"s")?;
+    name.extend(&four_digits(number))?;
+    Ok(name)
+}
+
+/// The symbol that the module of this number exports, with its version.
+fn exported(alloc: Global, number: u32) -> Result<SheetVersion, AllocError>
+    ensures { IfOk result (λ version. version ≡ exported_by number) }
+{
+    let name = symbol_name(alloc, number)?;
+    let crc = FIRST_VERSION + u64::from(number);
+    Ok(SheetVersion { name, crc })
+}
+
+/// The symbol of the kernel that each module needs, with its version.
+fn printk(alloc: Global) -> Result<SheetVersion, AllocError>
+    ensures { IfOk result (λ version. version ≡ printk_of_kernel) }
+{
+    let name = Name::from_slice(alloc, b"printk")?;
+    Ok(SheetVersion {
+        name,
+        crc: PRINTK_VERSION,
+    })
+}
+
+/// The symbols that a module needs which draws these modules, with their versions.
+fn needed(alloc: Global, modules: &[u32]) -> Result<SheetVersions, AllocError>
+    ensures { IfOk result (λ versions. versions ≡ needed_of modules.now) }
+{
+    let mut versions = SheetVersions::new(alloc);
+    versions.push(printk(alloc)?)?;
+    for drawn in modules {
+        versions.push(exported(alloc, *drawn)?)?;
+    }
+    Ok(versions)
+}
+
+/// The symbol of the module of this number as its one export.
+fn exports(alloc: Global, number: u32) -> Result<SheetExports, AllocError>
+    ensures { IfOk result (λ exports. exports ≡ stated (exported_by number) ∷ []) }
+{
+    let SheetVersion { name, crc } = exported(alloc, number)?;
+    let mut exports = SheetExports::new(alloc);
+    exports.push(SheetExport {
+        name,
+        crc: Some(crc),
+    })?;
+    Ok(exports)
+}
+
+/// Needs of these symbols, none of them weak.
+fn needs(alloc: Global, needed: &[SheetVersion]) -> Result<SheetNeeds, AllocError>
+    ensures { IfOk result (λ needs. needs ≡ map strong needed.now) }
+{
+    let mut needs = SheetNeeds::new(alloc);
+    for version in needed {
+        let name = Name::from_slice(alloc, version.name.as_bytes())?;
+        needs.push(SheetNeed { name, weak: false })?;
+    }
+    Ok(needs)
+}
+
+/// A word for the address of each of these symbols.
+fn places(alloc: Global, needed: &[SheetVersion]) -> Result<SheetPlaces, AllocError>
+    ensures { IfOk result (λ places. places ≡ map address needed.now) }
+{
+    let mut places = SheetPlaces::new(alloc);
+    for version in needed {
+        let symbol = Name::from_slice(alloc, version.name.as_bytes())?;
+        places.push(SheetPlace {
+            kind: R_X86_64_64,
+            symbol,
+            addend: 0,
+        })?;
+    }
+    Ok(places)
+}
+
+/// The texts of the module of this number.
+fn texts(alloc: Global, number: u32) -> Result<Texts, AllocError>
+    ensures { IfOk result (λ texts. texts ≡ texts_of number) }
+{
+    let license = Blob::from_slice(alloc, b"license=GPL")?;
+    let mut alias = Blob::from_slice(alloc, b"alias=trial:m")?;
+    alias.extend(&four_digits(number))?;
+    let mut texts = Texts::new(alloc);
+    texts.push(license)?;
+    texts.push(alias)?;
+    Ok(texts)
+}
+
+/// The sheet of the module of this number, which draws these modules.
+#[tactic(auto, unfolding(crate::specs::Trial::module_sheet))]
+pub(crate) fn module_sheet(alloc: Global, number: u32, modules: &[u32]) -> Result<Sheet, AllocError>
+    ensures { IfOk result (λ sheet. sheet ≡ sheet_of number modules.now) }
+{
+    let versions = needed(alloc, modules)?;
+    let needs = needs(alloc, versions.as_slice())?;
+    let places = places(alloc, versions.as_slice())?;
+    Ok(Sheet {
+        texts: texts(alloc, number)?,
+        versions,
+        exports: exports(alloc, number)?,
+        needs,
+        places,
+    })
+}
