@@ -1,14 +1,12 @@
 -- The stages of the modules of a tree.
 use Rattle.std.proofs.Common.{◌≡◌, ℕ, ◌+◌, ◌<◌, ◌≤◌, List, [], ◌∷◌, ◌++◌, length, take, get_or, refl, sym, ap, subst, ◌∙◌, inl, inr, arith}
-use Rattle.std.specs.Prelude.{Option, Some, None, ◌⊎◌, ◌==◌, map, All, AllPairs, IsTrue, not}
+use Rattle.std.specs.Prelude.{Option, Some, None, ◌⊎◌, ◌==◌, map, All, IsTrue, not}
 use Rattle.std.specs.List.{list_any}
 use Rattle.std.proofs.lemmas.List.{map_push, take_more, take_all, length-map, get_or-map}
 use Rattle.std.proofs.lemmas.List.Elements.{All-push}
 use Rattle.km_names.specs.Ascii.{is_graphic}
-use Rattle.km_names.specs.Path.{path_below, module_name}
+use Rattle.km_names.specs.Path.{module_name}
 use Rattle.elf_object.specs.Object.{FileObject}
-use Rattle.module_facts.specs.declared.facts.Export.{Export}
-use Rattle.module_facts.specs.declared.facts.Need.{Need}
 use Rattle.module_facts.specs.declared.facts.Facts.{Facts}
 use Rattle.module_facts.specs.declared.fault.ModuleFault.{ModuleFault}
 use Rattle.module_facts.specs.declared.fault.ModuleFault.TheVariants.{Memory}
@@ -16,13 +14,13 @@ use Rattle.module_facts.specs.Facts.{facts_of, object_facts}
 use Rattle.module_facts.specs.Faults.{fact_fault}
 use Rattle.module_facts.specs.FaultText.{module_fault_text}
 use Rattle.module_facts.specs.Module.{IsSound}
-use Rattle.provider_rel.specs.Tree.{IsTree, IsTreeModule}
-use Rattle.km_course.specs.Course.{Stage, ◌>>=◌, given, gives, each_from, reads}
+use Rattle.provider_rel.specs.Tree.{IsTree}
+use Rattle.km_course.specs.Course.{Stage, given, gives, each_from}
 use Rattle.km_course.specs.Course.Outcome.{value, end}
 use Rattle.km_course.specs.declared.end.End.TheVariants.{Refused}
 use Rattle.km_course.specs.declared.refusal.Refusal.TheVariants.{BadModule}
 use Rattle.command_depmod.specs.Tree.{AreTreePaths}
-use Rattle.command_depmod.specs.Modules.{facts_outcome, reads_facts, adds_facts, AreFactsAt}
+use Rattle.command_depmod.specs.Modules.{facts_outcome, adds_facts, AreFactsAt}
 
 -- the stage after a module was read
 abbrev pub checked : List ℕ → List ℕ → Stage Facts

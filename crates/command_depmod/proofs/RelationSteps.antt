@@ -1,5 +1,5 @@
 -- The relation of a tree, or why it has none.
-use Rattle.std.proofs.Common.{◌≡◌, refl, sym, ap, subst, ◌∙◌, inl, inr}
+use Rattle.std.proofs.Common.{◌≡◌, sym, ap, subst, inl, inr}
 use Rattle.std.specs.Prelude.{Some, None, Err, ◌⊎◌}
 use Rattle.provider_rel.specs.Faces.{modules_of}
 use Rattle.provider_rel.specs.Relation.{relation_fault}
@@ -8,7 +8,6 @@ use Rattle.provider_rel.specs.declared.fault.RelationFault.TheVariants.{Cycle, T
 use Rattle.km_course.specs.Course.Outcome.{value}
 use Rattle.km_course.specs.Follows.{Answers}
 use Rattle.km_course.specs.declared.stop.Stop.{Stop}
-use Rattle.command_depmod.specs.declared.relation.RelatedTree.{RelatedTree}
 use Rattle.command_depmod.specs.Relation.{Tree, tree_unless, relation_outcome, relation_stop}
 use Rattle.command_depmod.specs.Related.{seen_tree}
 

@@ -1,5 +1,5 @@
 -- The acts of `depmod` that put files come last.
-use Rattle.std.proofs.Common.{◌≡◌, ℕ, suc, ◌+◌, ◌<◌, ◌≤◌, Bool, true, false, List, [], ◌∷◌, ◌++◌, length, take, refl, sym, ap, subst, ◌∙◌, inl, inr, arith, append_assoc, append-nil}
+use Rattle.std.proofs.Common.{◌≡◌, ℕ, suc, ◌≤◌, Bool, true, false, List, [], ◌∷◌, ◌++◌, take, refl, sym, ap, subst, ◌∙◌, inl, inr, arith, append_assoc, append-nil}
 use Rattle.std.specs.Prelude.{Option, Some, None, is_some, ◌⊎◌, ⊤, map}
 use Rattle.km_names.specs.Path.{path_below}
 use Rattle.km_outside.specs.Contents.{Contents}
@@ -11,11 +11,10 @@ use Rattle.depmod_core.specs.declared.files.OutputFiles.{OutputFiles}
 use Rattle.depmod_core.specs.Files.{file_name, content}
 use Rattle.kmod_words.specs.declared.depmod.DepmodWords.{DepmodWords}
 use Rattle.kmod_words.specs.Depmod.{depmod_request}
-use Rattle.km_course.specs.Course.{Act, Outcome, Run, Stage, after, file_done, continued, ◌>>=◌, given, act_with, each_from, reads_or, lists_or, says_any, puts, warns, when◌then◌else◌}
+use Rattle.km_course.specs.Course.{Act, Outcome, Run, Stage, after, file_done, continued, ◌>>=◌, given, act_with, each_from, says_any, puts, when◌then◌else◌}
 use Rattle.km_course.specs.Course.Act.{read, list, say, warn, put}
 use Rattle.km_course.specs.Course.Outcome.{value, end}
-use Rattle.km_course.specs.World.{World, Shown, Tells, act_done, act_begun, done, begun}
-use Rattle.km_course.specs.Follows.{next_act}
+use Rattle.km_course.specs.World.{World, Shown, Tells, done, begun}
 use Rattle.km_course.specs.Carries.{Carries, CutShort, closing_acts, whole_acts, outcome_status}
 use Rattle.km_course.specs.declared.end.End.TheVariants.{Refused, NotUnderstood, NoFile, TooLarge, Inner}
 use Rattle.std.proofs.lemmas.Bool.{cases_lt, cases_eq}
@@ -25,12 +24,12 @@ use Rattle.command_files.specs.KernelTable.{reads_kernel}
 use Rattle.command_files.specs.declared.configuration.Tool.TheVariants.{Depmod}
 use Rattle.command_depmod.specs.Search.{reads_search}
 use Rattle.command_depmod.specs.Tree.{reads_tree}
-use Rattle.command_depmod.specs.Modules.{reads_facts, adds_facts, reads_modules_facts}
+use Rattle.command_depmod.specs.Modules.{adds_facts, reads_modules_facts}
 use Rattle.command_depmod.specs.Relation.{Tree}
-use Rattle.command_depmod.specs.Outputs.{makes_outputs, puts_each, puts_file, says_each, says_file, hands_out, all_files, text_files}
-use Rattle.command_depmod.specs.Warnings.{warning_line, warns_any, warns_each, warns_unmet}
-use Rattle.command_depmod.specs.Depmod.{modules_of_request, target_of_request, reads_related, indexes, depmod_asked_for, depmod_course}
-use Rattle.command_depmod.specs.Replaced.{replacements, replaced, LeavesFiles}
+use Rattle.command_depmod.specs.Outputs.{makes_outputs, puts_each, says_each, hands_out, all_files, text_files}
+use Rattle.command_depmod.specs.Warnings.{warning_line, warns_any, warns_unmet}
+use Rattle.command_depmod.specs.Depmod.{target_of_request, reads_related, indexes, depmod_asked_for, depmod_course}
+use Rattle.command_depmod.specs.Replaced.{replacements, LeavesFiles}
 
 -- ---- acts that put no file
 

@@ -1,6 +1,6 @@
 -- What is known of the paths of a tree, by its definition.
 use Rattle.std.proofs.Common.{◌≡◌, ℕ, ◌≤◌, Bool, true, false, cond, List, [], ◌∷◌, length, Option, Some, None, Ok, Err, refl, sym, ap, subst, ◌∙◌, inl, inr, arith, Ordering}
-use Rattle.std.specs.Prelude.{◌==◌, not, ◌&&◌, ◌||◌, nat_lt, map, filter, Result, AllPairs, is_some}
+use Rattle.std.specs.Prelude.{◌==◌, not, ◌&&◌, ◌||◌, nat_lt, map, filter, AllPairs, is_some}
 use Rattle.std.specs.List.{AllByRecursion, IsDistinct, list_any, list_all, position_or_len}
 use Rattle.std.specs.Str.{bytes_eq}
 use Rattle.std.specs.Char.{is_ascii_graphic}
@@ -15,7 +15,6 @@ use Rattle.std.proofs.lemmas.Bool.{cases_Bool, true≢false, false_from_ne_true,
 use Rattle.std.proofs.lemmas.List.{length-map}
 use Rattle.std.proofs.lemmas.List.Elements.{All-from_recursion}
 use Rattle.std.proofs.lemmas.List.Kept.{AllPairs-cons}
-use Rattle.std.proofs.lemmas.Map.Keys.{IsDistinct-cons}
 use Rattle.std.proofs.lemmas.Map.Made.{length-le_from_is_member}
 use Rattle.std.proofs.lemmas.Slice.Eq.{bytes_eq-Decides}
 use Rattle.km_names.specs.Ascii.{is_graphic}
@@ -262,9 +261,9 @@ known words lines listed clear few =
           omega (arith, within, length-map tree module_name, ltb-false 10000 (length (in_order bytes_cmp (map module_name ms))) few);
       distinct = both.0;
       graphic = All-from_recursion (λ p. is_graphic p ≡ true) tree (weaker (λ q. has q ms ≡ true) (λ p. is_graphic p ≡ true) tree (λ q h.
-      graphic q (and_parts _ _ (sym (any-filter is_module_path q listed) ∙ h)).1 (good q h)) there);
+          graphic q (and_parts _ _ (sym (any-filter is_module_path q listed) ∙ h)).1 (good q h)) there);
       colon = All-from_recursion (λ p. not (list_any (λ b. b == 58) p) ≡ true) tree (weaker (λ q. has q ms ≡ true) (λ p. not (list_any (λ b. b == 58) p) ≡ true) tree (λ q h.
-      ap not (clean q (good q h)).1) there);
+          ap not (clean q (good q h)).1) there);
     }
 
 pub tree-paths : (listed : List (List ℕ)) (order : List ℕ) (search paths : List (List ℕ)) → tree_of listed order search ≡ Ok paths → AreTreePaths paths

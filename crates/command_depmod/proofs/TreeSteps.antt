@@ -1,5 +1,5 @@
 -- The stages of the tree.
-use Rattle.std.proofs.Common.{◌≡◌, ℕ, List, refl, sym, ap, subst, ◌∙◌, inl, inr}
+use Rattle.std.proofs.Common.{◌≡◌, ℕ, List, sym, ap, subst, inl, inr}
 use Rattle.std.specs.Prelude.{Result, Ok, Err, codes, ◌⊎◌}
 use Rattle.km_names.specs.Path.{path_below}
 use Rattle.mod_tree.specs.Tree.{tree_of}

@@ -1,6 +1,5 @@
 -- The course of `depmod`. depmod(8).
-use Rattle.std.specs.Prelude.{ℕ, List, codes, Option, Some, None, is_some, Result, Ok, Err, ⊤}
-use Rattle.mod_tree.specs.Search.{search_of}
+use Rattle.std.specs.Prelude.{ℕ, List, Option, Some, None, is_some, ⊤}
 use Rattle.symbol_binding.specs.Unmet.{unmet}
 use Rattle.provider_rel.specs.Faces.{modules_of}
 use Rattle.kmod_words.specs.declared.depmod.DepmodWords.{DepmodWords}

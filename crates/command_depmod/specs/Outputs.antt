@@ -1,5 +1,5 @@
 -- The files that `depmod` makes, and what it does with them. depmod(8), modules.dep(5).
-use Rattle.std.specs.Prelude.{ℕ, Bool, List, [], ◌∷◌, map, codes, Result, Ok, Err, ⊤}
+use Rattle.std.specs.Prelude.{ℕ, Bool, List, [], ◌∷◌, codes, Result, Ok, Err, ⊤}
 use Rattle.km_names.specs.Path.{path_below}
 use Rattle.depmod_core.specs.declared.fault.OutputFault.{OutputFault}
 use Rattle.depmod_core.specs.declared.fault.OutputFault.TheVariants as faults
@@ -7,8 +7,7 @@ use Rattle.depmod_core.specs.declared.file.OutputFile.{OutputFile}
 use Rattle.depmod_core.specs.declared.file.OutputFile.TheVariants.{Dep, DepBin, Alias, AliasBin, Softdep, Symbols, SymbolsBin, BuiltinBin, Unmet}
 use Rattle.depmod_core.specs.declared.files.OutputFiles.{OutputFiles}
 use Rattle.depmod_core.specs.Files.{file_name, content, outputs_of}
-use Rattle.km_course.specs.Course.{Act, Outcome, Stage, ◌>>=◌, given, reads_any, puts, says_any, each_from, when◌then◌else◌}
-use Rattle.km_course.specs.Course.Act.{put}
+use Rattle.km_course.specs.Course.{Outcome, Stage, ◌>>=◌, given, reads_any, puts, says_any, each_from, when◌then◌else◌}
 use Rattle.km_course.specs.Course.Outcome.{value, end}
 use Rattle.km_course.specs.declared.end.End.TheVariants.{Refused}
 use Rattle.km_course.specs.declared.refusal.Refusal.{Refusal}

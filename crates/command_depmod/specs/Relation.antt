@@ -1,6 +1,5 @@
 -- The relation of a tree over a kernel, or what keeps it from having one. modules.dep(5), depmod(8).
-use Rattle.std.specs.Prelude.{ℕ, List, codes, Option, Some, None}
-use Rattle.km_names.specs.Path.{path_below}
+use Rattle.std.specs.Prelude.{List, Option, Some, None}
 use Rattle.module_facts.specs.declared.facts.Facts.{Facts}
 use Rattle.symbol_binding.specs.Symbols.{Kernel}
 use Rattle.provider_rel.specs.Faces.{modules_of}

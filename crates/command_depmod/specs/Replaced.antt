@@ -1,9 +1,8 @@
 -- Which files a `depmod` replaces, and that each is whole. depmod(8).
-use Rattle.std.specs.Prelude.{◌≡◌, ◌⊎◌, ℕ, Bool, true, false, List, map, take, Option, Some}
+use Rattle.std.specs.Prelude.{◌≡◌, ◌⊎◌, ℕ, true, false, List, map, take, Option, Some}
 use Rattle.km_names.specs.Path.{path_below}
 use Rattle.km_outside.specs.Contents.{Contents}
 use Rattle.depmod_core.specs.declared.files.OutputFiles.{OutputFiles}
-use Rattle.depmod_core.specs.declared.file.OutputFile.{OutputFile}
 use Rattle.depmod_core.specs.Files.{file_name, content}
 use Rattle.kmod_words.specs.declared.depmod.DepmodWords.{DepmodWords}
 use Rattle.kmod_words.specs.Depmod.{depmod_request}

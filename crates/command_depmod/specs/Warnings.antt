@@ -2,7 +2,7 @@
 use Rattle.std.specs.Prelude.{ℕ, Bool, List, ◌++◌, codes, Option, Some, None, if◌then◌else◌, ⊤}
 use Rattle.symbol_binding.specs.declared.unbound.Unbound.{Unbound}
 use Rattle.symbol_binding.specs.declared.unbound.Unbound.TheVariants.{Missing, Gpl, Version, Namespace, Double}
-use Rattle.km_course.specs.Course.{Stage, ◌>>=◌, gives, warns, each_from, when◌then◌else◌}
+use Rattle.km_course.specs.Course.{Stage, gives, warns, each_from, when◌then◌else◌}
 use Rattle.km_course.specs.Lines.{line}
 
 -- The line that warns of an obstacle: one of a symbol that nothing exports, and one of a version that differs, where

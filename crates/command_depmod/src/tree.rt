@@ -31,12 +31,7 @@ pub(crate) fn read_tree<F: Files>(
 }
 
 /// The tree of the listed paths, for what modules.order has.
-fn choose_tree(
-    alloc: Global,
-    listed: &Paths,
-    order: &Blob,
-    search: &Search,
-) -> Result<Tree, Stop>
+fn choose_tree(alloc: Global, listed: &Paths, order: &Blob, search: &Search) -> Result<Tree, Stop>
     ensures answers { Answers (λ x. x) (tree_outcome (tree_of listed.now order.now search.now)) result }
     ensures paths { IfOk result (λ tree. AreTreePaths tree) }
 {

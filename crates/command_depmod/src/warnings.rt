@@ -63,11 +63,7 @@ fn warn_of<E: Out>(
 }
 
 /// The line that warns of an obstacle, if it is one to warn of.
-fn warning(
-    alloc: Global,
-    versions: bool,
-    obstacle: &Unbound,
-) -> Result<Option<Blob>, AllocError>
+fn warning(alloc: Global, versions: bool, obstacle: &Unbound) -> Result<Option<Blob>, AllocError>
     ensures { IfOk result (λ text. text ≡ warning_line versions obstacle.now) }
 {
     match obstacle {

@@ -1,9 +1,8 @@
 use Rattle.std.proofs.Common.{refl, sym, subst, ◌∙◌}
 use Rattle.std.specs.Prelude.{Err, ⊤}
 use Rattle.std.proofs.lemmas.Result.{err_from_is_err_and}
-use Rattle.km_course.specs.World.{world}
 use Rattle.km_course.specs.Course.Outcome.{end}
-use Rattle.km_course.specs.Follows.{Answers, Follows}
+use Rattle.km_course.specs.Follows.{Answers}
 use Rattle.km_course.specs.declared.end.End.TheVariants.{NotUnderstood}
 use Rattle.km_course.proofs.Steps.{wants, answered}
 use Rattle.command_depmod.specs.Depmod.{depmod_asked_for}

@@ -1,9 +1,7 @@
 use Rattle.std.proofs.Common.{◌+◌, List, [], ◌∷◌, ◌++◌, drop, sym, subst}
-use Rattle.std.specs.Prelude.{Ok}
 use Rattle.std.proofs.lemmas.Result.{err_from_is_err_and}
 use Rattle.module_facts.specs.declared.facts.Facts.{Facts}
 use Rattle.km_course.specs.World.{world}
-use Rattle.km_course.specs.Follows.{Follows}
 use Rattle.km_course.proofs.Steps.{LeadsTo, next, exits, stops, gave, no_memory, leads-start, leads-on}
 use Rattle.command_depmod.specs.Modules.{adds_facts, reads_modules_facts}
 use Rattle.command_depmod.proofs.Following.{leads-item, leads-done}

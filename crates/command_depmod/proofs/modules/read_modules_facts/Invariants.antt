@@ -11,8 +11,8 @@ use Rattle.command_depmod.proofs.modules.read_modules_facts.Given as goal
 abbrev pub invariant-loop-path : goal.invariant-loop-path
 invariant-loop-path g l = record {
   leads : (out err : OutSeen) → LeadsTo (λ (x : List Facts). x) (reads_modules_facts l.folder l.paths)
-  (world (g.F.Reads.seen l.fn.files) out err)
-  (the_others l.folder (drop l.path-index l.paths) l.tree)
-  (world (g.F.Reads.seen l.files) out err);
+      (world (g.F.Reads.seen l.fn.files) out err)
+      (the_others l.folder (drop l.path-index l.paths) l.tree)
+      (world (g.F.Reads.seen l.files) out err);
   facts : AreFactsOf l.paths l.path-index l.tree;
 }

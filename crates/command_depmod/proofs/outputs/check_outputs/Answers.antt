@@ -1,4 +1,4 @@
-use Rattle.std.proofs.Common.{ap, sym, subst, ◌∙◌, ◌≡◌, inl, inr}
+use Rattle.std.proofs.Common.{ap, sym, subst, ◌∙◌}
 use Rattle.std.specs.Prelude.{Err}
 use Rattle.provider_rel.specs.Faces.{kernel_of}
 use Rattle.depmod_core.specs.declared.files.OutputFiles.{OutputFiles}

@@ -1,5 +1,5 @@
 use Rattle.std.proofs.Common.{sym}
-use Rattle.std.specs.Prelude.{⊤, true, false}
+use Rattle.std.specs.Prelude.{⊤}
 use Rattle.km_course.proofs.Steps.{chosen, passed_over}
 use Rattle.command_depmod.proofs.outputs.hand_out.Goals as goal
 

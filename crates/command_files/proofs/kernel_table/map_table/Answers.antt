@@ -1,5 +1,5 @@
-use Rattle.std.proofs.Common.{◌≡◌, ap, subst, sym, ◌∙◌}
-use Rattle.std.specs.Prelude.{Ok, Err}
+use Rattle.std.proofs.Common.{ap, subst, sym, ◌∙◌}
+use Rattle.std.specs.Prelude.{Err}
 use Rattle.provider_rel.specs.KernelTable.{exports_of_map}
 use Rattle.km_course.specs.Follows.{Answers}
 use Rattle.command_files.specs.KernelTable.{table_of, table_outcome}

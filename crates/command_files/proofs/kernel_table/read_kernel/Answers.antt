@@ -1,8 +1,3 @@
-use Rattle.std.proofs.Common.{sym, subst, ap, ◌∙◌}
-use Rattle.std.specs.Prelude.{Ok}
-use Rattle.km_course.specs.World.{world}
-use Rattle.km_course.specs.Follows.{Follows}
-use Rattle.command_files.specs.KernelTable.{reads_kernel, table_of}
 use Rattle.command_files.proofs.TableSteps.{by_map, by_symvers, by_neither}
 use Rattle.command_files.proofs.kernel_table.read_kernel.Goals as goal
 

@@ -1,4 +1,4 @@
-use Rattle.std.proofs.Common.{◌≡◌, refl, sym, subst, ◌∙◌, ap}
+use Rattle.std.proofs.Common.{refl, sym, subst, ◌∙◌, ap}
 use Rattle.std.specs.Prelude.{Some, Err, ⊤}
 use Rattle.km_course.specs.World.{world}
 use Rattle.km_course.specs.Course.{ends}
