@@ -1,17 +1,16 @@
 -- The stages of the course of `depmod`, joined.
 use Rattle.std.proofs.Common.{ℕ, List}
-use Rattle.std.specs.Prelude.{Option, Bool, ⊤}
+use Rattle.std.specs.Prelude.{Option, ⊤}
 use Rattle.module_facts.specs.declared.facts.Facts.{Facts}
-use Rattle.symbol_binding.specs.Unmet.{unmet}
-use Rattle.provider_rel.specs.Faces.{modules_of}
 use Rattle.depmod_core.specs.declared.files.OutputFiles.{OutputFiles}
 use Rattle.km_course.specs.Course.{Stage, ◌>>=◌, given}
 use Rattle.command_files.specs.KernelTable.{Table, reads_kernel, seen_kernel}
 use Rattle.command_depmod.specs.Tree.{reads_tree}
 use Rattle.command_depmod.specs.Modules.{reads_modules_facts}
 use Rattle.command_depmod.specs.Relation.{Tree, relation_outcome}
-use Rattle.command_depmod.specs.Outputs.{makes_outputs, hands_out}
-use Rattle.command_depmod.specs.Warnings.{warns_unmet}
+use Rattle.command_depmod.specs.Outputs.{hands_out}
+use Rattle.command_depmod.specs.declared.course.Wanted.{Wanted}
+use Rattle.command_depmod.specs.Depmod.{warns_of_tree, indexes_tree}
 
 -- the stages after the search list, the tree, the kernel's table and the facts were read
 abbrev pub related : Table → List Facts → Stage Tree
@@ -27,13 +26,11 @@ abbrev pub with_search : List ℕ → Option (List ℕ) → Option (List ℕ) �
 with_search folder map symvers search = reads_tree folder search >>= λ paths. with_paths folder map symvers paths
 
 -- the stages after the warnings, the files and the tree
-abbrev pub warned : Bool → List ℕ → OutputFiles → ⊤ → Stage ⊤
-warned dry_run target made _ = hands_out dry_run target made
+abbrev pub warned : Wanted → List ℕ → OutputFiles → ⊤ → Stage ⊤
+warned wanted target made _ = hands_out wanted.dry_run target made
 
-abbrev pub made : Bool → Bool → Bool → List ℕ → Tree → OutputFiles → Stage ⊤
-made errsyms versions dry_run target tree files =
-    warns_unmet errsyms versions (unmet (modules_of tree.facts) tree.kernel) >>= λ w. warned dry_run target files w
+abbrev pub made : Wanted → List ℕ → Tree → OutputFiles → Stage ⊤
+made wanted target tree files = warns_of_tree wanted tree >>= λ w. warned wanted target files w
 
-abbrev pub indexed : Bool → Bool → Bool → List ℕ → List ℕ → Tree → Stage ⊤
-indexed errsyms versions dry_run folder target tree =
-    makes_outputs folder tree >>= λ files. made errsyms versions dry_run target tree files
+abbrev pub indexed : Wanted → List ℕ → List ℕ → Tree → Stage ⊤
+indexed wanted folder target tree = indexes_tree wanted folder target tree

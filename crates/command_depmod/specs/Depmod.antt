@@ -8,6 +8,7 @@ use Rattle.km_course.specs.Course.{Stage, ◌>>=◌, given, ends}
 use Rattle.km_course.specs.declared.end.End.TheVariants.{NotUnderstood}
 use Rattle.command_files.specs.KernelModules.{modules_folder}
 use Rattle.command_files.specs.KernelTable.{reads_kernel, seen_kernel}
+use Rattle.command_depmod.specs.declared.course.Wanted.{Wanted}
 use Rattle.command_depmod.specs.Search.{reads_search}
 use Rattle.command_depmod.specs.Tree.{reads_tree}
 use Rattle.command_depmod.specs.Modules.{reads_modules_facts}
@@ -32,14 +33,27 @@ reads_related folder config map symvers = do
   facts ← reads_modules_facts folder paths
   given (relation_outcome (record { facts = facts; kernel = seen_kernel kernel }))
 
--- The course of a request: the tree is read, its files are made, and only then is anything written: the warnings first,
--- and then the files.
+-- what a request wants besides the index itself
+abbrev pub wanted_of : DepmodWords → Wanted
+wanted_of asked = record { dry_run = asked.dry_run; errsyms = asked.errsyms; versions = is_some asked.symvers }
+
+-- The warnings of a tree, where they are wanted.
+abbrev pub warns_of_tree : Wanted → Tree → Stage ⊤
+warns_of_tree wanted tree = warns_unmet wanted.errsyms wanted.versions (unmet (modules_of tree.facts) tree.kernel)
+
+-- The course of a tree in a folder that was read: its files are made, and only then is anything written, the warnings
+-- first, and then the files into the target.
+abbrev pub indexes_tree : Wanted → List ℕ → List ℕ → Tree → Stage ⊤
+indexes_tree wanted folder target tree = do
+  made ← makes_outputs folder tree
+  warned ← warns_of_tree wanted tree
+  hands_out wanted.dry_run target made
+
+-- The course of a request: the tree is read, and then it is indexed.
 abbrev pub indexes : DepmodWords → Stage ⊤
 indexes asked = do
   tree ← reads_related (modules_of_request asked) asked.config asked.filesyms asked.symvers
-  made ← makes_outputs (modules_of_request asked) tree
-  warned ← warns_unmet asked.errsyms (is_some asked.symvers) (unmet (modules_of tree.facts) tree.kernel)
-  hands_out asked.dry_run (target_of_request asked) made
+  indexes_tree (wanted_of asked) (modules_of_request asked) (target_of_request asked) tree
 
 -- the course of what the words ask for
 abbrev pub depmod_asked_for : Option DepmodWords → Stage ⊤

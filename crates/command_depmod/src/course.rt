@@ -1,10 +1,11 @@
 // The course of depmod.
 ghost use Rattle.std.specs.Prelude.{IfOk, ⊤};
+ghost use Rattle.km_outside.specs.FilesSeen.{FilesSeen};
 ghost use Rattle.km_outside.specs.OutSeen.{OutSeen};
 ghost use Rattle.km_course.specs.World.{world};
 ghost use Rattle.km_course.specs.Follows.{Follows};
 ghost use Rattle.command_depmod.specs.Related.{IsRelated, seen_tree};
-ghost use Rattle.command_depmod.specs.Depmod.{depmod_course, indexes, reads_related};
+ghost use Rattle.command_depmod.specs.Depmod.{depmod_course, indexes, indexes_tree, reads_related, warns_of_tree};
 
 use crate::modules::read_modules_facts;
 use crate::outputs::{hand_out, make_outputs};
@@ -18,6 +19,17 @@ use km_names::{PathText, Word};
 use km_outside::{Files, Out};
 use kmod_words::{DepmodWords, read_depmod};
 use std::alloc::Global;
+
+/// What is wanted besides the index itself.
+#[derive(Clone, Copy)]
+pub(crate) struct Wanted {
+    /// Whether the text files are to be printed, and nothing to be replaced.
+    dry_run: bool,
+    /// Whether to warn of obstacles.
+    errsyms: bool,
+    /// Whether the kernel's versions are known, so that those that differ are warned of.
+    versions: bool,
+}
 
 /// Does what the words after `depmod` ask for. depmod(8).
 pub fn depmod<F: Files, O: Out, E: Out>(
@@ -59,19 +71,52 @@ fn index<F: Files, O: Out, E: Out>(
         symvers,
         version,
     } = asked;
-    let versions = symvers.is_some();
+    let wanted = Wanted {
+        dry_run,
+        errsyms,
+        versions: symvers.is_some(),
+    };
     let folder = modules_folder(alloc, &basedir, &version)?;
     let target = modules_folder(alloc, &outdir, &version)?;
     let tree = read_related(alloc, &folder, config, filesyms, symvers, files)?;
-    let made = make_outputs(alloc, &folder, &tree, files)?;
-    warn_unmet(
-        alloc,
-        errsyms,
-        versions,
-        tree.relation.obstacles().as_slice(),
-        err,
-    )?;
-    hand_out(alloc, dry_run, &target, &made, files, out)
+    index_tree(alloc, wanted, &folder, &target, &tree, files, out, err)
+}
+
+/// Indexes a tree whose modules stand in the folder, into the target: its files are made, and only then is anything
+/// written, the warnings first.
+fn index_tree<F: Files, O: Out, E: Out>(
+    alloc: Global,
+    wanted: Wanted,
+    folder: &PathText,
+    target: &PathText,
+    tree: &RelatedTree,
+    files: &mut F,
+    out: &mut O,
+    err: &mut E,
+) -> Result<(), Stop>
+    requires { IsRelated tree.now }
+    ensures { Follows (λ x. x) (indexes_tree wanted folder.now target.now (seen_tree tree.now))
+        (world (F.seen files.old) (O.seen out.old) (E.seen err.old))
+        (world (F.seen files.new) (O.seen out.new) (E.seen err.new)) result }
+{
+    let made = make_outputs(alloc, folder, tree, files)?;
+    warn_of_tree(alloc, wanted, tree, err)?;
+    hand_out(alloc, wanted.dry_run, target, &made, files, out)
+}
+
+/// The warnings of a tree, where they are wanted.
+fn warn_of_tree<E: Out>(
+    alloc: Global,
+    wanted: Wanted,
+    tree: &RelatedTree,
+    err: &mut E,
+) -> Result<(), Stop>
+    requires { IsRelated tree.now }
+    ensures { (files : FilesSeen) (out : OutSeen) → Follows (λ x. x) (warns_of_tree wanted (seen_tree tree.now))
+        (world files out (E.seen err.old)) (world files out (E.seen err.new)) result }
+{
+    let obstacles = tree.relation.obstacles().as_slice();
+    warn_unmet(alloc, wanted.errsyms, wanted.versions, obstacles, err)
 }
 
 /// The tree in the folder, with its relation.

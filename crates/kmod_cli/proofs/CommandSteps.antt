@@ -1,5 +1,11 @@
 -- The words of a command line: a name, and the words after it.
-use Rattle.std.proofs.Common.{◌≡◌, ℕ, ◌<◌, ◌≤◌, List, [], ◌∷◌, length, drop, get_or, refl, arith}
+use Rattle.std.proofs.Common.{◌≡◌, ℕ, ◌<◌, ◌≤◌, List, [], ◌∷◌, length, drop, get_or, refl, subst, arith}
+use Rattle.std.specs.Prelude.{codes}
+use Rattle.km_course.specs.World.{World, Shown, Tells}
+use Rattle.km_course.specs.Carries.{Carries}
+use Rattle.command_depmod.specs.Replaced.{LeavesFiles}
+use Rattle.command_depmod.proofs.ReplaceLaw.{leaves}
+use Rattle.kmod_cli.specs.Program.{command_named, course}
 
 pub no-words : (words : List (List ℕ)) → length words < 1 → words ≡ []
 no-words [] h = refl
@@ -8,3 +14,9 @@ no-words (word ∷ words) h = absurd (omega arith)
 pub name-first : (words rest : List (List ℕ)) (name : List ℕ) → 1 ≤ length words → name ≡ get_or words 0 name → rest ≡ drop 1 words → words ≡ name ∷ rest
 name-first [] rest name h is after = absurd (omega arith)
 name-first (word ∷ words) rest name h is after = cc
+
+-- what is left of files where the first word is `depmod`
+pub depmod-leaves : (words : List (List ℕ)) (old new : World) (status : ℕ) → Carries (course words) old new status → (rest : List (List ℕ)) → words ≡ codes "depmod" ∷ rest → (shown : Shown) → Tells old shown → LeavesFiles rest shown.files new.files.contents status
+unfolding command_named
+depmod-leaves words old new status c rest is =
+    leaves rest old new status (subst (λ w. Carries (course w) old new status) is c)

@@ -1,3 +1,4 @@
+ghost use Rattle.std.specs.Prelude.{◌≡◌, ◌∷◌, ℕ, List, codes};
 ghost use Rattle.km_course.specs.World.{Shown, Tells, world};
 ghost use Rattle.km_course.specs.Carries.{Carries};
 ghost use Rattle.command_depmod.specs.Depmod.{depmod_course};
@@ -15,7 +16,7 @@ use std::alloc::Global;
 /// Does all that the program does: carries out the course of the words, which are those after the
 /// program's name, and answers the exit status. Status 0 is done, 1 refused, 2 not understood, 3 a failed
 /// call on files, `out` or `err`, and 4 want of memory; all but 0 have a line on `err`. The first word names
-/// the command.
+/// the command. Where it is `depmod`, files are left as [`depmod`] leaves them.
 pub fn run<F: Files, O: Out, E: Out>(
     alloc: Global,
     words: &[Word],
@@ -23,9 +24,12 @@ pub fn run<F: Files, O: Out, E: Out>(
     out: &mut O,
     err: &mut E,
 ) -> u8
-    ensures { Carries (course words.now)
+    ensures carries { Carries (course words.now)
         (world (F.seen files.old) (O.seen out.old) (E.seen err.old))
         (world (F.seen files.new) (O.seen out.new) (E.seen err.new)) result }
+    ensures replaces { (rest : List (List ℕ)) → words.now ≡ codes "depmod" ∷ rest → (shown : Shown) →
+        Tells (world (F.seen files.old) (O.seen out.old) (E.seen err.old)) shown →
+        LeavesFiles rest shown.files (F.seen files.new).contents result }
 {
     match words {
         [] => command(alloc, None, words, files, out, err),
