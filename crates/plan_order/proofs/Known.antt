@@ -1,5 +1,5 @@
 -- What is planned by lists that have only what is planned is planned by the needs that they were made of.
-use Rattle.std.proofs.Common.{◌≡◌, ℕ, suc, ◌<◌, Bool, true, List, [], ◌∷◌, length, take, sym, ap, ◌∙◌, subst, inl, inr}
+use Rattle.std.proofs.Common.{◌≡◌, ℕ, zero, suc, ◌<◌, true, List, [], ◌∷◌, length, take, sym, ap, ◌∙◌, subst, inl, inr}
 use Rattle.std.specs.Prelude.{nat_eq}
 use Rattle.std.specs.List.{IsDistinct}
 use Rattle.std.proofs.lemmas.Bool.{true≢false, or_cases, or_left, or_right}
@@ -21,13 +21,13 @@ use Rattle.plan_order.proofs.QueueLaws.{queue-plans}
 use Rattle.plan_order.proofs.Same.{Alike, alike-back, planned-same, plan-same, groups-same, cycle-same, least-same}
 
 requested-front : (requests : List (List ℕ)) (n y : ℕ) → requested (take n requests) y ≡ true → requested requests y ≡ true
-requested-front [] 0 y h = h
+requested-front [] zero y h = h
 requested-front [] (suc n) y h = h
-requested-front (r ∷ rs) 0 y h = absurd (true≢false (sym h))
+requested-front (r ∷ rs) zero y h = absurd (true≢false (sym h))
 requested-front (r ∷ rs) (suc n) y h =
-    elim (or_cases _ _ h) [
-      | inl m ↦ or_left _ _ m
-      | inr m ↦ or_right _ _ (requested-front rs n y m)
+    elim (or_cases (has r y) (requested (take n rs) y) h) [
+      | inl m ↦ or_left (has r y) (requested rs y) m
+      | inr m ↦ or_right (has r y) (requested rs y) (requested-front rs n y m)
     ]
 
 module _ (count : ℕ) (before : ℕ → List ℕ) (set : List ℕ) (after : ℕ → List ℕ) (requests : List (List ℕ)) (p : Planned) (k : IsPlanned count before set after requests p) where

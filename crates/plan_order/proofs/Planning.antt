@@ -1,13 +1,13 @@
 -- How what is planned is found.
-use Rattle.std.proofs.Common.{◌≡◌, ℕ, zero, suc, ◌+◌, ◌<◌, ◌≤◌, Bool, true, false, eqb, List, [], ◌∷◌, length, take, set, get_or, sym, refl, ap, ◌∙◌, inl, inr, arith}
-use Rattle.std.specs.Prelude.{◌||◌, ◌&&◌, ◌⊎◌, filter, slice_index_or}
+use Rattle.std.proofs.Common.{◌≡◌, ℕ, zero, suc, ◌+◌, ◌<◌, ◌≤◌, Bool, true, false, eqb, List, [], ◌∷◌, length, take, set, get_or, sym, refl, ap, ◌∙◌, subst, inl, inr, arith}
+use Rattle.std.specs.Prelude.{All, ◌||◌, ◌&&◌, ◌⊎◌, filter, slice_index_or}
 use Rattle.std.specs.Global.{Vec}
 use Rattle.std.proofs.lemmas.Bool.{true≢false, and_parts, and_from, or_cases, or_left, or_right, eqb-true, cases_eq}
-use Rattle.std.proofs.lemmas.List.{take_all}
+use Rattle.std.proofs.lemmas.List.{take_all, length-set, get_or-set_same, get_or-set_other}
 use Rattle.std.proofs.lemmas.List.Folds.{list_any_more}
 use Rattle.std.proofs.lemmas.List.Sums.{count_by-le-length}
 use Rattle.relation_order.specs.Sets.{has, marked, below}
-use Rattle.relation_order.specs.Search.{with_items, Marks}
+use Rattle.relation_order.specs.Search.{with_items, Marks, Inside}
 use Rattle.relation_order.proofs.Lists.{has-at, has-marked, seen-inside}
 use Rattle.relation_order.proofs.Saturation.{has-filter, filter-same, filter-within}
 use Rattle.relation_order.proofs.SpreadLaws.{spread-first, spread-further, spread-only, spread-within, spread-members}
@@ -207,3 +207,17 @@ front-stays free bs fs found middle found' n made made' l =
     let a = front-items found (filter (λ y. slice_index_or free y false) bs) n l in
     let k : n ≤ length middle = let a' = a.1 in omega (arith, ap length made) in
     ap (take n) made' ∙ (front-items middle (filter (λ y. slice_index_or free y false) fs) n k).0 ∙ ap (take n) made ∙ a.0
+
+pub inside-set : (n : ℕ) (lists : List (Vec ℕ)) (x : ℕ) (v : Vec ℕ) → Inside n lists → All (λ y. y < n) v.items → Inside n (set lists x v)
+inside-set n lists x v old new k d l =
+    elim (cases_eq k x) [
+      | inl s ↦
+          let e : get_or (set lists x v) k d ≡ v = ap (λ m. get_or (set lists x v) m d) s ∙ get_or-set_same lists x v d (omega (arith, length-set lists x v)) in
+          subst (λ (u : Vec ℕ). All (λ y. y < n) u.items) (sym e) new
+      | inr ne ↦ subst (λ (u : Vec ℕ). All (λ y. y < n) u.items) (sym (get_or-set_other lists x k v d ne)) (old k d (omega (arith, length-set lists x v)))
+    ]
+
+-- all that is planned was found, and has its lists
+pub planned-follows : (count : ℕ) (free : List Bool) (before after needed : ℕ → List ℕ) (requests : List (Vec ℕ)) (next : ℕ) (found : List ℕ) (seen : List Bool) (lists : List (Vec ℕ)) → Progress count free before after requests next found seen → length found ≤ next → Follows needed (take next found) lists → Follows needed (planned (among before) (marked free) after (items_of requests)) lists
+planned-follows count free before after needed requests next found seen lists p l old x h =
+    old x (ap (λ xs. has xs x) (take_all next found l) ∙ all-found count free before after requests next found seen p l x h)
