@@ -1,5 +1,1 @@
-pub mod Named
-pub mod FileSteps
-pub mod SourceSteps
 pub mod CommandSteps
-pub mod FieldSteps

@@ -5,7 +5,7 @@ use Rattle.km_course.specs.Course.{Stage, ends}
 use Rattle.km_course.specs.declared.end.End.TheVariants.{NotUnderstood}
 use Rattle.kmod_cli.specs.declared.command.Command.{Command}
 use Rattle.kmod_cli.specs.declared.command.Command.TheVariants.{Modinfo}
-use Rattle.kmod_cli.specs.Modinfo.{modinfo_course}
+use Rattle.command_modinfo.specs.Modinfo.{modinfo_course}
 
 -- The command of this name, if there is one.
 unfoldable pub command_named : List ℕ → Option Command

@@ -5,7 +5,7 @@ ghost use Rattle.km_course.specs.Carries.{Carries};
 ghost use Rattle.kmod_cli.specs.Program.{course, course_named};
 
 use crate::command::{Command, command_named};
-use crate::modinfo::modinfo;
+use command_modinfo::modinfo;
 use km_course::{End, Stop, conclude};
 use km_names::Word;
 use km_outside::{Files, Out};

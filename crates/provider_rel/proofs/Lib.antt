@@ -12,3 +12,4 @@ pub mod DoubleLaw
 pub mod MakeSteps
 pub mod TreeSteps
 pub mod Laws
+pub mod ClosedLaw

@@ -1,0 +1,3 @@
+pub mod ModuleFile
+pub mod IndexFile
+pub mod KernelModules

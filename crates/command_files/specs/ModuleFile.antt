@@ -1,0 +1,28 @@
+-- The file of a module, as the commands read it: its sections. gABI 4, "Sections".
+use Rattle.std.specs.Prelude.{ℕ, List, [], codes, Option, Some, None}
+use Rattle.std.specs.List.{find}
+use Rattle.std.specs.Str.{bytes_eq}
+use Rattle.km_names.specs.Path.{is_compressed}
+use Rattle.elf_object.specs.declared.fault.SectionFault.{SectionFault}
+use Rattle.elf_object.specs.declared.section.Section.{Section}
+use Rattle.elf_object.specs.FaultText.{section_fault_text}
+use Rattle.elf_object.specs.Shape.{shape_fault}
+use Rattle.elf_object.specs.Sections.{FileSections, file_sections, bytes_of}
+use Rattle.modinfo_fields.specs.declared.piece.Field.{Field}
+use Rattle.modinfo_fields.specs.Fields.{fields_of}
+use Rattle.km_course.specs.Course.{Outcome, Stage, ◌>>=◌, given, ends, when◌then◌else◌, reads}
+use Rattle.km_course.specs.Course.Outcome.{value, end}
+use Rattle.km_course.specs.declared.end.End.TheVariants.{Refused}
+use Rattle.km_course.specs.declared.refusal.Refusal.TheVariants.{BadModule, Compressed}
+
+-- what a file with this first failing test comes to: its sections, or the refusal of the module
+unfoldable pub sections_outcome : List ℕ → List ℕ → Option SectionFault → Outcome FileSections
+sections_outcome path bytes None = value (file_sections bytes)
+sections_outcome path bytes (Some fault) = end (Refused (BadModule path (section_fault_text fault)))
+
+-- The sections of the module at the path. A compressed one is refused unread.
+abbrev pub reads_sections : List ℕ → Stage FileSections
+reads_sections path =
+    when is_compressed path then ends (Refused (Compressed path)) else (do
+      bytes ← reads path
+      given (sections_outcome path bytes (shape_fault bytes)))

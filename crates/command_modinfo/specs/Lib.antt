@@ -1,0 +1,3 @@
+pub mod ModuleInfo
+pub mod PlainKeys
+pub mod Modinfo

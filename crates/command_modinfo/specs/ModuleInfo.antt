@@ -1,0 +1,20 @@
+-- What a module says of itself, by its sections. gABI 4, "Sections"; modinfo(8).
+use Rattle.std.specs.Prelude.{ℕ, List, [], codes, Option, Some, None}
+use Rattle.std.specs.List.{find}
+use Rattle.std.specs.Str.{bytes_eq}
+use Rattle.elf_object.specs.declared.section.Section.{Section}
+use Rattle.elf_object.specs.Sections.{FileSections, bytes_of}
+use Rattle.modinfo_fields.specs.declared.piece.Field.{Field}
+use Rattle.modinfo_fields.specs.Fields.{fields_of}
+
+-- the bytes of the first section of this name, or none where there is no such section
+abbrev pub bytes_if_any : List ℕ → Option Section → List ℕ
+bytes_if_any file None = []
+bytes_if_any file (Some section) = bytes_of file section
+
+unfoldable pub bytes_named : List ℕ → FileSections → List ℕ
+bytes_named name sections = bytes_if_any sections.file (find (λ s. bytes_eq s.name name) sections.list)
+
+-- What the module says of itself: the fields of its first `.modinfo` section.
+abbrev pub module_fields : FileSections → List Field
+module_fields sections = fields_of (bytes_named (codes ".modinfo") sections)
