@@ -1,0 +1,10 @@
+//! The list of loaded modules, in the form of /proc/modules: a line a module, which begins with the module's name.
+//!
+//! It stands on `km_names` for lines and words.
+#![tactic(auto)]
+
+mod loaded;
+#[cfg(test)]
+mod tests;
+
+pub use loaded::Loaded;

@@ -1,0 +1,4 @@
+pub mod FormSteps
+pub mod LineSteps
+pub mod WordSteps
+pub mod WrittenSteps

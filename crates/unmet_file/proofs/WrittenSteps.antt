@@ -1,0 +1,225 @@
+-- A file's text, line by line, and what is read of it.
+use Rattle.std.proofs.Common.{◌≡◌, ℕ, ◌+◌, ◌<◌, Bool, true, false, ◌&&◌, List, [], ◌∷◌, ◌++◌, length, eqb, cond, Option, Some, None, option_map, refl, sym, ap, subst, ◌∙◌, append_assoc, length-append, arith}
+use Rattle.std.specs.Prelude.{codes, All, not, if◌then◌else◌}
+use Rattle.std.specs.List.{list_all, slice_split, onto_first, filter_map, cons_option}
+use Rattle.std.specs.Char.{is_ascii_graphic}
+use Rattle.std.specs.Str.{bytes_eq}
+use Rattle.std.proofs.lemmas.List.Folds.{list_all-append}
+use Rattle.std.proofs.lemmas.List.Elements.{All-head, All-tail}
+use Rattle.std.proofs.lemmas.Slice.Eq.{bytes_eq-Decides}
+use Rattle.km_names.specs.Ascii.{is_graphic}
+use Rattle.km_names.specs.Lines.{lines_of, without_empty_last}
+use Rattle.symbol_binding.specs.declared.unbound.Unbound.{Unbound}
+use Rattle.symbol_binding.specs.declared.unbound.Unbound.TheVariants.{Missing, Gpl, Version, Namespace, Double}
+use Rattle.unmet_file.specs.Line.{front, rest, two_words, three_words, three_text, line_text, is_line, unmet_line}
+use Rattle.unmet_file.specs.Unmet.{file_text, stated_lines, AreReadBack, IsReadAsWritten}
+use Rattle.unmet_file.proofs.WordSteps.{both_hold, not-byte, graphic-all, two-back, three-back, joined, two-written, three-written}
+use Rattle.unmet_file.proofs.LineSteps.{fault_at, fault-begins, fault-none, fault-passed, all-read}
+
+-- the words of a line, one by one
+two-names : (a b : List ℕ) → (is_graphic a && (is_graphic b && true)) ≡ true → (is_graphic a ≡ true) × (is_graphic b ≡ true)
+two-names a b h =
+    let p = both_hold (is_graphic a) (is_graphic b && true) h in
+    (p.0, (both_hold (is_graphic b) true p.1).0)
+
+three-names : (a b c : List ℕ) → (is_graphic a && (is_graphic b && (is_graphic c && true))) ≡ true → (is_graphic a ≡ true) × (is_graphic b ≡ true) × (is_graphic c ≡ true)
+three-names a b c h =
+    let p = both_hold (is_graphic a) (is_graphic b && (is_graphic c && true)) h in
+    let q = two-names b c p.1 in
+    (p.0, q.0, q.1)
+
+-- a line is read back
+pub line-back : (line : Unbound) → is_line line ≡ true → unmet_line (line_text line) ≡ Some line
+unfolding is_line line_text unmet_line
+line-back (Missing path symbol) h =
+    let p = two-names path symbol h in
+    ap (option_map (λ w. Missing w.0 w.1)) (two-back path symbol p.0 p.1)
+line-back (Gpl path symbol provider) h =
+    let p = three-names path symbol provider h in
+    ap (option_map (λ w. Gpl w.0 w.1 w.2)) (three-back path symbol provider p.0 p.1 p.2)
+line-back (Version path symbol provider) h =
+    let p = three-names path symbol provider h in
+    ap (option_map (λ w. Version w.0 w.1 w.2)) (three-back path symbol provider p.0 p.1 p.2)
+line-back (Namespace path symbol provider) h =
+    let p = three-names path symbol provider h in
+    ap (option_map (λ w. Namespace w.0 w.1 w.2)) (three-back path symbol provider p.0 p.1 p.2)
+line-back (Double symbol first second) h =
+    let p = three-names symbol first second h in
+    ap (option_map (λ w. Double w.0 w.1 w.2)) (three-back symbol first second p.0 p.1 p.2)
+
+-- the text has no line end
+is_one_line : List ℕ → Bool
+is_one_line text = list_all (λ b. not (eqb b 10)) text
+
+one-joined : (a b : List ℕ) → is_one_line a ≡ true → is_one_line b ≡ true → is_one_line (a ++ b) ≡ true
+unfolding is_one_line
+one-joined a b h k = rw (list_all-append, h, k) refl
+
+one-shown : (text : List ℕ) → list_all is_ascii_graphic text ≡ true → is_one_line text ≡ true
+unfolding is_one_line
+one-shown [] h = refl
+one-shown (b ∷ bs) h =
+    let p = both_hold (is_ascii_graphic b) (list_all is_ascii_graphic bs) h in
+    ap (λ v. not v && list_all (λ c. not (eqb c 10)) bs) (not-byte b 10 refl p.0) ∙ one-shown bs p.1
+
+one-word : (text : List ℕ) → is_graphic text ≡ true → is_one_line text ≡ true
+one-word text h = one-shown text (graphic-all text h)
+
+one-two : (a b : List ℕ) → is_graphic a ≡ true → is_graphic b ≡ true → is_one_line (a ++ (codes " " ++ b)) ≡ true
+unfolding is_one_line
+one-two a b h k = one-joined a (codes " " ++ b) (one-word a h) (one-word b k)
+
+one-three : (a b c : List ℕ) → is_graphic a ≡ true → is_graphic b ≡ true → is_graphic c ≡ true → is_one_line (three_text a b c) ≡ true
+unfolding is_one_line
+one-three a b c h k l = one-joined a (codes " " ++ (b ++ (codes " " ++ c))) (one-word a h) (one-two b c k l)
+
+one-text : (line : Unbound) → is_line line ≡ true → is_one_line (line_text line) ≡ true
+unfolding is_line line_text is_one_line
+one-text (Missing path symbol) h = let p = two-names path symbol h in one-two path symbol p.0 p.1
+one-text (Gpl path symbol provider) h = let p = three-names path symbol provider h in one-three path symbol provider p.0 p.1 p.2
+one-text (Version path symbol provider) h = let p = three-names path symbol provider h in one-three path symbol provider p.0 p.1 p.2
+one-text (Namespace path symbol provider) h = let p = three-names path symbol provider h in one-three path symbol provider p.0 p.1 p.2
+one-text (Double symbol first second) h = let p = three-names symbol first second h in one-three symbol first second p.0 p.1 p.2
+
+-- such a text with its line end is cut off as it is
+cut-off : (text others : List ℕ) → is_one_line text ≡ true → slice_split (λ b. eqb b 10) (text ++ 10 ∷ others) ≡ text ∷ slice_split (λ b. eqb b 10) others
+unfolding is_one_line
+cut-off [] others h = refl
+cut-off (b ∷ bs) others h =
+    let p = both_hold (not (eqb b 10)) (list_all (λ c. not (eqb c 10)) bs) h in
+    let pieces = slice_split (λ c. eqb c 10) (bs ++ 10 ∷ others) in
+    ap (λ v. cond v ([] ∷ pieces) (onto_first b pieces)) (isnt (eqb b 10) p.0) ∙ ap (onto_first b) (cut-off bs others p.1)
+  where
+    isnt : (v : Bool) → not v ≡ true → v ≡ false
+    isnt true e = absurd (cc)
+    isnt false e = refl
+
+-- what stands before other pieces is kept
+kept-first : (piece : List ℕ) (others : List ℕ) → without_empty_last (piece ∷ slice_split (λ b. eqb b 10) others) ≡ piece ∷ without_empty_last (slice_split (λ b. eqb b 10) others)
+kept-first piece others =
+    let more = nonempty others in
+    ap (λ ps. without_empty_last (piece ∷ ps)) more.2 ∙ before piece more.0 more.1 ∙ ap (λ ps. piece ∷ without_empty_last ps) (sym more.2)
+  where
+    nonempty : (text : List ℕ) → (p : List ℕ) × (ps : List (List ℕ)) × (slice_split (λ b. eqb b 10) text ≡ p ∷ ps)
+    nonempty [] = ([], [], refl)
+    nonempty (b ∷ bs) =
+        let ih = nonempty bs in
+        elim (eqb b 10) as (λ v. (p : List ℕ) × (ps : List (List ℕ)) × (cond v ([] ∷ slice_split (λ c. eqb c 10) bs) (onto_first b (slice_split (λ c. eqb c 10) bs)) ≡ p ∷ ps)) [
+          | true ↦ ([], slice_split (λ c. eqb c 10) bs, refl)
+          | false ↦ (b ∷ ih.0, ih.1, ap (onto_first b) ih.2)
+        ]
+
+    before : (p q : List ℕ) (qs : List (List ℕ)) → without_empty_last (p ∷ q ∷ qs) ≡ p ∷ without_empty_last (q ∷ qs)
+    before [] q qs = refl
+    before (b ∷ bs) q qs = refl
+
+-- the first line of a text that begins with one
+line-first : (text others : List ℕ) → is_one_line text ≡ true → lines_of (text ++ 10 ∷ others) ≡ text ∷ lines_of others
+unfolding lines_of
+line-first text others h = ap without_empty_last (cut-off text others h) ∙ kept-first text others
+
+-- the lines are words of visible characters, one by one
+all-lines : (line : Unbound) (lines : List Unbound) → All (λ l. is_line l ≡ true) (line ∷ lines) → (is_line line ≡ true) × All (λ l. is_line l ≡ true) lines
+all-lines line lines h = (All-head (λ l. is_line l ≡ true) line lines h, All-tail (λ l. is_line l ≡ true) line lines h)
+
+-- the lines of a file's text
+lines-first : (line : Unbound) (lines : List Unbound) → is_line line ≡ true → lines_of (file_text (line ∷ lines)) ≡ line_text line ∷ lines_of (file_text lines)
+unfolding file_text
+lines-first line lines h =
+    ap lines_of (append_assoc (line_text line) (10 ∷ []) (file_text lines)) ∙ line-first (line_text line) (file_text lines) (one-text line h)
+
+no-text : lines_of (file_text []) ≡ []
+unfolding file_text lines_of
+no-text = refl
+
+-- they state what they were written of
+stated-back : (lines : List Unbound) → All (λ l. is_line l ≡ true) lines → filter_map unmet_line (lines_of (file_text lines)) ≡ lines
+stated-back [] h = ap (filter_map unmet_line) no-text
+stated-back (line ∷ lines) h =
+    let p = all-lines line lines h in
+    ap (filter_map unmet_line) (lines-first line lines p.0)
+    ∙ ap (λ o. cons_option o (filter_map unmet_line (lines_of (file_text lines)))) (line-back line p.0)
+    ∙ ap (λ ls. line ∷ ls) (stated-back lines p.1)
+
+-- and none of them is bad
+none-bad : (file : List ℕ) (number : ℕ) (lines : List Unbound) → All (λ l. is_line l ≡ true) lines → fault_at file number (lines_of (file_text lines)) ≡ None
+none-bad file number [] h = ap (fault_at file number) no-text ∙ fault-none file number
+none-bad file number (line ∷ lines) h =
+    let p = all-lines line lines h in
+    ap (fault_at file number) (lines-first line lines p.0)
+    ∙ fault-passed file number (line_text line) (lines_of (file_text lines)) line (sym (line-back line p.0))
+    ∙ none-bad file (number + 1) lines p.1
+
+pub all-back : AreReadBack
+unfolding stated_lines
+all-back file lines h =
+    all-read file (file_text lines) lines (sym (fault-begins file (file_text lines)) ∙ none-bad file 1 lines h) (stated-back lines h)
+
+-- the first word of a line, before the others
+named-first : (text name others : List ℕ) → bytes_eq (front text) name ≡ true → others ≡ rest text → 0 < length (rest text) → name ++ 32 ∷ others ≡ text
+named-first text name others is are some =
+    ap (λ xs. xs ++ 32 ∷ others) (sym ((bytes_eq-Decides (front text) name).0 is))
+    ∙ ap (λ xs. front text ++ 32 ∷ xs) are
+    ∙ joined text some
+
+some-text : (a b text : List ℕ) → a ++ 32 ∷ b ≡ text → 0 < length text
+some-text a b text is = subst (λ xs. 0 < length xs) is (omega (arith, length-append a (32 ∷ b)))
+
+-- a line of two names, and one of three
+of-two : (text name : List ℕ) (make : List ℕ → List ℕ → Unbound) (line : Unbound) → bytes_eq (front text) name ≡ true → option_map (λ w. make w.0 w.1) (two_words (rest text)) ≡ Some line → (w : List ℕ × List ℕ) × (make w.0 w.1 ≡ line) × (name ++ 32 ∷ (w.0 ++ (codes " " ++ w.1)) ≡ text) × (is_graphic w.0 ≡ true) × (is_graphic w.1 ≡ true)
+of-two text name make line is stated = go (two_words (rest text)) refl stated
+  where
+    go : (o : Option (List ℕ × List ℕ)) → two_words (rest text) ≡ o → option_map (λ w. make w.0 w.1) o ≡ Some line → (w : List ℕ × List ℕ) × (make w.0 w.1 ≡ line) × (name ++ 32 ∷ (w.0 ++ (codes " " ++ w.1)) ≡ text) × (is_graphic w.0 ≡ true) × (is_graphic w.1 ≡ true)
+    go None e h = absurd (cc)
+    go (Some w) e h =
+        let two = two-written (rest text) w e in
+        (w, cc, named-first text name (w.0 ++ (codes " " ++ w.1)) is two.text_is (some-text w.0 w.1 (rest text) two.text_is), two.first, two.second)
+
+of-three : (text name : List ℕ) (make : List ℕ → List ℕ → List ℕ → Unbound) (line : Unbound) → bytes_eq (front text) name ≡ true → option_map (λ w. make w.0 w.1 w.2) (three_words (rest text)) ≡ Some line → (w : List ℕ × List ℕ × List ℕ) × (make w.0 w.1 w.2 ≡ line) × (name ++ 32 ∷ three_text w.0 w.1 w.2 ≡ text) × (is_graphic w.0 ≡ true) × (is_graphic w.1 ≡ true) × (is_graphic w.2 ≡ true)
+of-three text name make line is stated = go (three_words (rest text)) refl stated
+  where
+    go : (o : Option (List ℕ × List ℕ × List ℕ)) → three_words (rest text) ≡ o → option_map (λ w. make w.0 w.1 w.2) o ≡ Some line → (w : List ℕ × List ℕ × List ℕ) × (make w.0 w.1 w.2 ≡ line) × (name ++ 32 ∷ three_text w.0 w.1 w.2 ≡ text) × (is_graphic w.0 ≡ true) × (is_graphic w.1 ≡ true) × (is_graphic w.2 ≡ true)
+    go None e h = absurd (cc)
+    go (Some w) e h =
+        let three = three-written (rest text) w e in
+        (w, cc, named-first text name (three_text w.0 w.1 w.2) is three.text_is (some-text w.0 (w.1 ++ (codes " " ++ w.2)) (rest text) three.text_is), three.first, three.second, three.third)
+
+-- what was read is what was written
+abbrev WasWritten : List ℕ → Unbound → Type 0
+WasWritten text line = (line_text line ≡ text) × (is_line line ≡ true)
+
+two-shown : (a b : List ℕ) → is_graphic a ≡ true → is_graphic b ≡ true → (is_graphic a && (is_graphic b && true)) ≡ true
+two-shown a b h k = rw (h, k) refl
+
+three-shown : (a b c : List ℕ) → is_graphic a ≡ true → is_graphic b ≡ true → is_graphic c ≡ true → (is_graphic a && (is_graphic b && (is_graphic c && true))) ≡ true
+three-shown a b c h k l = rw (h, k, l) refl
+
+pub as-written : IsReadAsWritten
+unfolding unmet_line line_text is_line
+as-written text line h =
+    go (bytes_eq (front text) (codes "missing")) (bytes_eq (front text) (codes "gpl")) (bytes_eq (front text) (codes "version"))
+    (bytes_eq (front text) (codes "namespace")) (bytes_eq (front text) (codes "double")) refl refl refl refl refl h
+  where
+    go : (a b c d e : Bool) → bytes_eq (front text) (codes "missing") ≡ a → bytes_eq (front text) (codes "gpl") ≡ b → bytes_eq (front text) (codes "version") ≡ c → bytes_eq (front text) (codes "namespace") ≡ d → bytes_eq (front text) (codes "double") ≡ e
+        → (if a then option_map (λ w. Missing w.0 w.1) (two_words (rest text))
+        else if b then option_map (λ w. Gpl w.0 w.1 w.2) (three_words (rest text))
+        else if c then option_map (λ w. Version w.0 w.1 w.2) (three_words (rest text))
+        else if d then option_map (λ w. Namespace w.0 w.1 w.2) (three_words (rest text))
+        else if e then option_map (λ w. Double w.0 w.1 w.2) (three_words (rest text))
+        else None) ≡ Some line → WasWritten text line
+    go true b c d e p q r s t is =
+        let w = of-two text (codes "missing") Missing line p is in
+        subst (WasWritten text) w.1 (w.2, two-shown w.0.0 w.0.1 w.3 w.4)
+    go false true c d e p q r s t is =
+        let w = of-three text (codes "gpl") Gpl line q is in
+        subst (WasWritten text) w.1 (w.2, three-shown w.0.0 w.0.1 w.0.2 w.3 w.4 w.5)
+    go false false true d e p q r s t is =
+        let w = of-three text (codes "version") Version line r is in
+        subst (WasWritten text) w.1 (w.2, three-shown w.0.0 w.0.1 w.0.2 w.3 w.4 w.5)
+    go false false false true e p q r s t is =
+        let w = of-three text (codes "namespace") Namespace line s is in
+        subst (WasWritten text) w.1 (w.2, three-shown w.0.0 w.0.1 w.0.2 w.3 w.4 w.5)
+    go false false false false true p q r s t is =
+        let w = of-three text (codes "double") Double line t is in
+        subst (WasWritten text) w.1 (w.2, three-shown w.0.0 w.0.1 w.0.2 w.3 w.4 w.5)
+    go false false false false false p q r s t is = absurd (cc)

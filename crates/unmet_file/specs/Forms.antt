@@ -1,0 +1,41 @@
+-- A line's form, and what it states by its form. No public meaning rests on these definitions.
+use Rattle.std.specs.Prelude.{ℕ, List, codes, Option, Some, None, option_map, if◌then◌else◌}
+use Rattle.std.specs.Str.{bytes_eq}
+use Rattle.symbol_binding.specs.declared.unbound.Unbound.{Unbound}
+use Rattle.symbol_binding.specs.declared.unbound.Unbound.TheVariants as unbound
+use Rattle.unmet_file.specs.declared.line.Form.{Form}
+use Rattle.unmet_file.specs.declared.line.Form.TheVariants.{Missing, Provided, Double}
+use Rattle.unmet_file.specs.declared.line.Kind.{Kind}
+use Rattle.unmet_file.specs.declared.line.Kind.TheVariants.{Gpl, Version, Namespace}
+use Rattle.unmet_file.specs.Line.{two_words, three_words}
+
+-- the form whose first word this is
+unfoldable pub form_named : List ℕ → Option Form
+form_named word =
+    if bytes_eq word (codes "missing") then Some Missing
+    else if bytes_eq word (codes "gpl") then Some (Provided Gpl)
+    else if bytes_eq word (codes "version") then Some (Provided Version)
+    else if bytes_eq word (codes "namespace") then Some (Provided Namespace)
+    else if bytes_eq word (codes "double") then Some Double
+    else None
+
+-- what the words after the first state
+abbrev pub missing_of : List ℕ → Option Unbound
+missing_of words = option_map (λ w. unbound.Missing w.0 w.1) (two_words words)
+
+abbrev pub double_of : List ℕ → Option Unbound
+double_of words = option_map (λ w. unbound.Double w.0 w.1 w.2) (three_words words)
+
+abbrev pub line_of_kind : Kind → List ℕ → List ℕ → List ℕ → Unbound
+line_of_kind Gpl path symbol provider = unbound.Gpl path symbol provider
+line_of_kind Version path symbol provider = unbound.Version path symbol provider
+line_of_kind Namespace path symbol provider = unbound.Namespace path symbol provider
+
+abbrev pub provided_of : Kind → List ℕ → Option Unbound
+provided_of kind words = option_map (λ w. line_of_kind kind w.0 w.1 w.2) (three_words words)
+
+-- what the words after the first state in a line of this form
+abbrev pub stated : Form → List ℕ → Option Unbound
+stated Missing words = missing_of words
+stated (Provided kind) words = provided_of kind words
+stated Double words = double_of words

@@ -1,0 +1,22 @@
+// What is written is read back, and the bytes of a line of each form.
+ghost use Rattle.std.specs.Prelude.{◌≡◌, ◌∷◌, [], true, false, Some, None, codes};
+ghost use Rattle.unmet_file.specs.Line.{line_text, is_line, unmet_line};
+ghost use Rattle.unmet_file.specs.Unmet.{file_text, AreReadBack, IsReadAsWritten};
+ghost use Rattle.symbol_binding.specs.declared.unbound.Unbound.TheVariants.{Missing, Gpl, Version, Namespace, Double};
+
+/// The file that lists lines of visible words is read back as them. And a line states just what it is the text of: what
+/// is read of it has visible words, and its text is the line.
+pub fn lines_are_read_back()
+    ensures read_back { AreReadBack }
+    ensures as_written { IsReadAsWritten }
+{}
+
+/// The texts of a line of each form, and lines that state nothing.
+#[tactic(auto, unfolding(crate::specs::Line::line_text))]
+pub fn texts_of_lines()
+    ensures missing { line_text (Missing (codes "kernel/n.ko") (codes "nosuch")) ≡ codes "missing kernel/n.ko nosuch" }
+    ensures gpl { line_text (Gpl (codes "kernel/b.ko") (codes "fa") (codes "kernel/a.ko")) ≡ codes "gpl kernel/b.ko fa kernel/a.ko" }
+    ensures version { line_text (Version (codes "kernel/w.ko") (codes "maybe") (codes "vmlinux")) ≡ codes "version kernel/w.ko maybe vmlinux" }
+    ensures namespace { line_text (Namespace (codes "kernel/b.ko") (codes "fa") (codes "kernel/a.ko")) ≡ codes "namespace kernel/b.ko fa kernel/a.ko" }
+    ensures double { line_text (Double (codes "x") (codes "kernel/a.ko") (codes "kernel/b.ko")) ≡ codes "double x kernel/a.ko kernel/b.ko" }
+{}

@@ -1,0 +1,15 @@
+//! The file modules.unmet: what stands in the way of loading modules of a tree, a line each. `depmod` writes it, and
+//! `modprobe` reads it.
+//!
+//! The text of a line is defined once, for the writer and the reader, and what is written is read back. The crate stands
+//! on `symbol_binding`, which says what the lines are, and on `km_names` for lines and words.
+#![tactic(auto)]
+
+mod laws;
+mod line;
+#[cfg(test)]
+mod tests;
+mod unmet;
+
+pub use laws::{lines_are_read_back, texts_of_lines};
+pub use unmet::Unmet;

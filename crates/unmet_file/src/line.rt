@@ -1,0 +1,150 @@
+// A line of modules.unmet.
+ghost use Rattle.std.specs.Prelude.{◌≡◌, IfOk, option_map};
+ghost use Rattle.std.specs.List.{before_first, after_first};
+ghost use Rattle.unmet_file.specs.Line.{unmet_line, two_words as two_words_of, three_words as three_words_of};
+ghost use Rattle.unmet_file.specs.Forms.{form_named as form_of, missing_of, double_of, provided_of, stated as stated_by};
+
+use km_names::{Name, PathText, is_graphic, split_at_byte};
+use std::alloc::{AllocError, Global};
+use symbol_binding::Unbound;
+
+/// The forms of lines, by their first words.
+#[derive(Clone, Copy)]
+pub(crate) enum Form {
+    /// `missing PATH SYMBOL`
+    Missing,
+    /// `gpl`, `version` or `namespace`, and `PATH SYMBOL PROVIDER`
+    Provided(Kind),
+    /// `double SYMBOL FIRST SECOND`
+    Double,
+}
+
+/// The kinds of lines that name a provider.
+#[derive(Clone, Copy)]
+pub(crate) enum Kind {
+    Gpl,
+    Version,
+    Namespace,
+}
+
+/// What a line states, or none where it isn't one of the forms.
+pub(crate) fn read_line(alloc: Global, line: &[u8]) -> Result<Option<Unbound>, AllocError>
+    ensures { IfOk result (λ unbound. unbound ≡ unmet_line line.now) }
+{
+    let (word, words) = split_at_byte(line, b' ');
+    match form_named(word) {
+        Some(form) => stated(alloc, form, words),
+        None => Ok(None),
+    }
+}
+
+/// The form whose first word this is.
+#[tactic(auto, unfolding(crate::specs::Forms::form_named))]
+fn form_named(word: &[u8]) -> Option<Form>
+    ensures { result ≡ form_of word.now }
+{
+    if word == b"missing".as_slice() {
+        Some(Form::Missing)
+    } else if word == b"gpl".as_slice() {
+        Some(Form::Provided(Kind::Gpl))
+    } else if word == b"version".as_slice() {
+        Some(Form::Provided(Kind::Version))
+    } else if word == b"namespace".as_slice() {
+        Some(Form::Provided(Kind::Namespace))
+    } else if word == b"double".as_slice() {
+        Some(Form::Double)
+    } else {
+        None
+    }
+}
+
+/// What a line of this form states, by the words after the first.
+fn stated(alloc: Global, form: Form, words: &[u8]) -> Result<Option<Unbound>, AllocError>
+    ensures { IfOk result (λ unbound. unbound ≡ stated_by form words.now) }
+{
+    match form {
+        Form::Missing => missing(alloc, words),
+        Form::Provided(kind) => provided(alloc, kind, words),
+        Form::Double => double(alloc, words),
+    }
+}
+
+fn missing(alloc: Global, words: &[u8]) -> Result<Option<Unbound>, AllocError>
+    ensures { IfOk result (λ unbound. unbound ≡ missing_of words.now) }
+{
+    match two_words(words) {
+        Some((path, symbol)) => Ok(Some(Unbound::Missing {
+            path: PathText::from_slice(alloc, path)?,
+            symbol: Name::from_slice(alloc, symbol)?,
+        })),
+        None => Ok(None),
+    }
+}
+
+fn double(alloc: Global, words: &[u8]) -> Result<Option<Unbound>, AllocError>
+    ensures { IfOk result (λ unbound. unbound ≡ double_of words.now) }
+{
+    match three_words(words) {
+        Some((symbol, first, second)) => Ok(Some(Unbound::Double {
+            symbol: Name::from_slice(alloc, symbol)?,
+            first: PathText::from_slice(alloc, first)?,
+            second: PathText::from_slice(alloc, second)?,
+        })),
+        None => Ok(None),
+    }
+}
+
+fn provided(alloc: Global, kind: Kind, words: &[u8]) -> Result<Option<Unbound>, AllocError>
+    ensures { IfOk result (λ unbound. unbound ≡ provided_of kind words.now) }
+{
+    match three_words(words) {
+        Some((path, symbol, provider)) => {
+            let path = PathText::from_slice(alloc, path)?;
+            let symbol = Name::from_slice(alloc, symbol)?;
+            let provider = PathText::from_slice(alloc, provider)?;
+            Ok(Some(match kind {
+                Kind::Gpl => Unbound::Gpl {
+                    path,
+                    symbol,
+                    provider,
+                },
+                Kind::Version => Unbound::Version {
+                    path,
+                    symbol,
+                    provider,
+                },
+                Kind::Namespace => Unbound::Namespace {
+                    path,
+                    symbol,
+                    provider,
+                },
+            }))
+        }
+        None => Ok(None),
+    }
+}
+
+/// The two words of a text.
+fn two_words(text: &[u8]) -> Option<(&[u8], &[u8])>
+    ensures { option_map (λ w. (w.0.now, w.1.now)) result ≡ two_words_of text.now }
+{
+    let (first, second) = split_at_byte(text, b' ');
+    if !is_graphic(first) || !is_graphic(second) {
+        return None;
+    }
+    Some((first, second))
+}
+
+/// The three words of a text.
+fn three_words(text: &[u8]) -> Option<(&[u8], &[u8], &[u8])>
+    ensures { option_map (λ w. (w.0.now, w.1.now, w.2.now)) result ≡ three_words_of text.now }
+{
+    let (first, others) = split_at_byte(text, b' ');
+    if !is_graphic(first) {
+        return None;
+    }
+    match two_words(others) {
+        Some((second, third)) => Some((first, second, third)),
+        None => None,
+    }
+}

@@ -1,0 +1,96 @@
+ghost use Rattle.std.specs.Prelude.{◌≡◌, ◌≤◌, ◌⊎◌, ◌↔◌, [], ◌∷◌, ◌++◌, Ok, Err, length, IsNone, IfOk, IfErr, OnOk, OnErr, slice_get, option_copied};
+ghost use Rattle.km_names.specs.Limit.{file_limit};
+ghost use Rattle.unmet_file.specs.Unmet.{unmet_of};
+
+use crate::line::read_line;
+use km_names::{ConfFault, PathText, first_line};
+use std::alloc::{AllocError, Global};
+use std::marker::Model;
+use symbol_binding::{Obstacles, Unbound};
+
+/// What stands in the way of loading modules of a tree, as modules.unmet lists it. Contracts see it as the list of its
+/// lines. This file of `depmod` is this project's own; missing symbols and versions are what depmod(8) warns of with `-e`.
+#[derive(Debug, Drop)]
+pub struct Unmet {
+    lines: Obstacles,
+}
+
+impl Model for Unmet {
+    ghost use Rattle.std.specs.Prelude.{List};
+    ghost use Rattle.symbol_binding.specs.declared.unbound.Unbound.{Unbound};
+
+    ghost Value = { List Unbound };
+
+    ghost view = { λ u. u.lines };
+}
+
+impl Unmet {
+    /// No line. It takes no memory.
+    pub fn new(alloc: Global) -> Unmet
+        ensures { result ≡ [] }
+    {
+        Unmet {
+            lines: Obstacles::new(alloc),
+        }
+    }
+
+    /// The lines of a modules.unmet, whose path is `file`. Each is one of `missing PATH SYMBOL`,
+    /// `gpl PATH SYMBOL PROVIDER`, `version PATH SYMBOL PROVIDER`, `namespace PATH SYMBOL PROVIDER` and
+    /// `double SYMBOL FIRST SECOND`, with one space between words that aren't empty and whose bytes are 33 to 126.
+    /// `BadLine` comes exactly at the first line that is none of them; a blank line is one.
+    pub fn read(alloc: Global, file: &PathText, bytes: &[u8]) -> Result<Unmet, ConfFault>
+        requires { length bytes.now ≤ file_limit }
+        ensures ok { IfOk result (λ unmet. unmet_of file.now bytes.now ≡ Ok unmet) }
+        ensures err { IfErr result (λ fault.
+            (fault ≡ ConfFault.Memory) ⊎ (unmet_of file.now bytes.now ≡ Err fault)) }
+    {
+        let mut lines = Obstacles::new(alloc);
+        let mut rest = bytes;
+        let mut number = 1;
+        while !rest.is_empty() {
+            let (line, next) = first_line(rest);
+            match read_line(alloc, line)? {
+                Some(unbound) => lines.push(unbound)?,
+                None => {
+                    return Err(ConfFault::BadLine {
+                        file: PathText::from_slice(alloc, file.as_bytes())?,
+                        line: number,
+                    });
+                }
+            }
+            rest = next;
+            number += 1;
+        }
+        Ok(Unmet { lines })
+    }
+
+    /// Puts a line at the end. A refused line is dropped, and the list is as before.
+    pub fn push(&mut self, line: Unbound) -> Result<(), AllocError>
+        ensures ok { OnOk result (self.new ≡ self.old ++ line ∷ []) }
+        ensures err { OnErr result (self.new ≡ self.old) }
+    {
+        self.lines.push(line)
+    }
+
+    /// The line at place `i`, from 0.
+    pub fn get(&self, i: usize) -> Option<&Unbound>
+        ensures item { option_copied result ≡ slice_get self.now i }
+        ensures past_end { IsNone result ↔ (length self.now ≤ i) }
+    {
+        self.lines.get(i)
+    }
+
+    /// How many lines there are.
+    pub fn len(&self) -> usize
+        ensures { result ≡ length self.now }
+    {
+        self.lines.len()
+    }
+
+    /// The lines as a slice.
+    pub fn as_slice(&self) -> &[Unbound]
+        ensures { result.now ≡ self.now }
+    {
+        self.lines.as_slice()
+    }
+}
