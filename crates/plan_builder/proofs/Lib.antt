@@ -1,0 +1,4 @@
+pub mod ByNumber
+pub mod Lines
+pub mod Named
+pub mod Sorting

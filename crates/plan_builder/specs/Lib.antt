@@ -1,0 +1,9 @@
+pub mod Modules
+pub mod Pairs
+pub mod Tables
+pub mod Needs
+pub mod Planner
+pub mod Members
+pub mod Steps
+pub mod Obstacles
+pub mod Closed

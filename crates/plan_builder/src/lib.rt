@@ -1,0 +1,14 @@
+//! Plans.
+#![tactic(auto)]
+
+mod line;
+mod modules;
+mod needs;
+mod obstacle;
+mod request;
+mod step;
+
+pub use line::well_formed;
+pub use obstacle::Obstacle;
+pub use request::Request;
+pub use step::{PlanStep, PlanSteps};
