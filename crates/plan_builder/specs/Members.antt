@@ -15,9 +15,13 @@ use Rattle.plan_builder.specs.declared.request.Request.{Request}
 use Rattle.plan_builder.specs.Modules.{place_of, places_of}
 use Rattle.plan_builder.specs.Needs.{Sources, modules, before, after, unloaded}
 
+-- What is found for each of some names.
+abbrev pub founds_of : Sources → List (List ℕ) → List Found
+founds_of s names = map (found s.rules s.maps s.use_blacklist) names
+
 -- What is found for each requested name.
 abbrev pub found_for : Sources → Request → List Found
-found_for s request = map (found s.rules s.maps s.use_blacklist) request.names
+found_for s request = founds_of s request.names
 
 -- The modules of each requested name, by their places.
 abbrev pub requests : Sources → Request → List (List ℕ)
@@ -27,9 +31,13 @@ requests s request = map (λ f. places_of (modules s) f.names) (found_for s requ
 abbrev pub planned : Sources → Request → List ℕ
 planned s request = planned_for (among (before s)) (unloaded s) (after s) (requests s request)
 
+-- One of what was found has this name.
+abbrev pub is_member_of : List Found → List ℕ → Bool
+is_member_of founds name = list_any (λ f. is_among f.names name) founds
+
 -- A requested name stands for this one.
 abbrev pub is_member : Sources → Request → List ℕ → Bool
-is_member s request name = list_any (λ f. is_among f.names name) (found_for s request)
+is_member s request name = is_member_of (found_for s request) name
 
 -- The command that a rule has for loading the module of this name.
 abbrev pub command_of : List ℕ → Rule → Option (List ℕ)

@@ -3,6 +3,7 @@
 
 mod line;
 mod modules;
+mod members;
 mod needs;
 mod obstacle;
 mod request;

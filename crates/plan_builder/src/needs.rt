@@ -6,12 +6,12 @@ ghost use Rattle.std.specs.Str.{bytes_eq};
 ghost use Rattle.symbol_binding.specs.Unmet.{belongs};
 ghost use Rattle.name_lookup.specs.Found.{found};
 ghost use Rattle.name_table.specs.FirstSeen.{is_among};
-ghost use Rattle.name_lookup.specs.Maps.{maps_of};
+ghost use Rattle.name_lookup.specs.Maps.{maps_of, has_value};
 ghost use Rattle.plan_builder.specs.Modules.{modules_of, place_of, places_of, path_at, name_at};
 ghost use Rattle.plan_builder.specs.Needs.{modules as modules_in, is_troubled, is_available as can_load, line_places as places_in_line, soft_places as places_for, found_names, before as needs_before, after as needs_after};
 ghost use Rattle.plan_builder.specs.Planner.{sources_of, names_on, names_of_side, texts};
 
-use crate::line::needed_names;
+use crate::line::{Known, needed_names};
 use crate::modules::Modules;
 use km_names::{Name, Names};
 use modprobe_conf::{Rule, Rules};
@@ -178,6 +178,41 @@ impl<'a> Planner<'a> {
             modules,
             troubled,
         })
+    }
+
+    /// The modules, by their numbers in the tree.
+    pub(crate) fn modules(&self) -> &Modules<'a>
+        ensures { result.now ≡ modules_in (sources_of self.now) }
+    {
+        &self.modules
+    }
+
+    /// The names of loaded modules.
+    pub(crate) fn loaded(&self) -> &'a [Name]
+        ensures { result.now ≡ self.now.loaded }
+    {
+        self.loaded
+    }
+
+    /// The lines of modules.unmet.
+    pub(crate) fn unmet(&self) -> &'a [Unbound]
+        ensures { result.now ≡ self.now.unmet }
+    {
+        self.unmet
+    }
+
+    /// The rules of the configuration.
+    pub(crate) fn rules(&self) -> &'a Rules
+        ensures { result.now ≡ self.now.rules }
+    {
+        self.rules
+    }
+
+    /// Whether a built-in module has this name.
+    pub(crate) fn is_builtin(&self, name: &[u8]) -> bool
+        ensures { result ≡ has_value (sources_of self.now).maps.builtin name.now }
+    {
+        self.indexes.builtin.has(name)
     }
 
     /// What a name stands for.

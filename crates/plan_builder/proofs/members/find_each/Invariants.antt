@@ -1,0 +1,7 @@
+use Rattle.std.proofs.Common.{◌≡◌, take}
+use Rattle.plan_builder.specs.Members.{founds_of}
+use Rattle.plan_builder.specs.Planner.{sources_of}
+use Rattle.plan_builder.proofs.members.find_each.Given as goal
+
+abbrev pub invariant-loop-name : goal.invariant-loop-name
+invariant-loop-name l = l.founds.items ≡ founds_of (sources_of l.planner) (take l.name-index l.names)
