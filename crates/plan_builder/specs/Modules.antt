@@ -70,6 +70,10 @@ abbrev pub is_well_formed : KeyValues → List ℕ → Bool
 is_well_formed dep name =
     option_map_or (λ (v : Value). is_line_of (has_value dep) name v.1) (slice_get (values_of dep name) 0) false
 
--- The first name, by bytes, whose value isn't so.
+-- The first of some modules, by the bytes of their names, whose value isn't so.
+abbrev pub bad_among : (List ℕ → Bool) → List KeyValue → Option (List ℕ)
+bad_among has ms = option_map (λ m. m.0) (find (λ m. not (is_line_of has m.0 m.1.1)) ms)
+
+-- The first name whose value isn't so.
 abbrev pub bad_name : KeyValues → Option (List ℕ)
-bad_name dep = option_map (λ m. m.0) (find (λ m. not (is_line_of (has_value dep) m.0 m.1.1)) (first_values dep))
+bad_name dep = bad_among (has_value dep) (first_values dep)

@@ -1,16 +1,20 @@
--- What keeps a request from having a plan: the first of nine tests that fails. The first line of modules.unmet of each
--- kind counts, missing symbols first. modprobe(8).
-use Rattle.std.specs.Prelude.{ℕ, ◌==◌, ◌&&◌, ◌||◌, Bool, true, false, List, [], ◌∷◌, ◌++◌, codes, length, map, Option, Some, None, unwrap_or, if◌then◌else◌, option_map, option_and_then}
+-- What keeps a request from having a plan: the first test that fails. The first line of modules.unmet of each kind
+-- counts, those on missing symbols first. modprobe(8).
+use Rattle.std.specs.Prelude.{ℕ, ◌==◌, ◌&&◌, ◌||◌, not, Bool, true, false, List, [], ◌∷◌, map, is_some, Option, Some, None, unwrap_or, if◌then◌else◌, option_map}
 use Rattle.std.specs.List.{find, list_any, flat_map}
-use Rattle.std.specs.Option.{option_map_or}
 use Rattle.std.specs.Str.{bytes_eq}
 use Rattle.km_names.specs.First.{first}
 use Rattle.km_names.specs.AliasForm.{normal_alias}
+use Rattle.index_format.specs.Listing.{KeyValue}
 use Rattle.symbol_binding.specs.declared.unbound.Unbound.{Unbound}
 use Rattle.symbol_binding.specs.declared.unbound.Unbound.TheVariants as lines
 use Rattle.symbol_binding.specs.Unmet.{vmlinux}
+use Rattle.name_lookup.specs.declared.found.Found.{Found}
+use Rattle.name_lookup.specs.Found.{found}
 use Rattle.relation_order.specs.Cycle.{cycle}
 use Rattle.plan_order.specs.Lists.{among}
+use Rattle.plan_builder.specs.declared.check.LineKind.{LineKind}
+use Rattle.plan_builder.specs.declared.check.LineKind.TheVariants as kinds
 use Rattle.plan_builder.specs.declared.request.Request.{Request}
 use Rattle.plan_builder.specs.declared.obstacle.Obstacle.{Obstacle}
 use Rattle.plan_builder.specs.declared.obstacle.Obstacle.TheVariants.{BadDepLine, NotFound, Missing, Gpl, Version, Namespace, Cycle, Double}
@@ -22,74 +26,79 @@ use Rattle.plan_builder.specs.Members.{found_for, planned, Kind, loadable, insta
 abbrev pub shown_name : List ℕ → List ℕ
 shown_name name = unwrap_or (normal_alias name) name
 
--- The first requested name for which all lists are empty.
-abbrev pub unfound : Sources → Request → Option (List ℕ)
-unfound s request =
-    find (λ name. (Rattle.name_lookup.specs.Found.found s.rules s.maps s.use_blacklist name).list == 0) request.names
+-- A name that isn't found.
+abbrev pub not_found : List ℕ → Obstacle
+not_found name = NotFound (shown_name name)
 
-abbrev pub is_unknown : Kind → Bool
-is_unknown unknown = true
-is_unknown _ = false
+-- All lists of a name are empty.
+abbrev pub is_unfound : Sources → List ℕ → Bool
+is_unfound s name = (found s.rules s.maps s.use_blacklist name).list == 0
 
--- The first member that is nothing that is known.
-abbrev pub unknown_member : Sources → Request → Option (List ℕ)
-unknown_member s request =
-    find (λ name. is_unknown (kind_of s request.ignore_install name)) (flat_map (λ f. f.names) (found_for s request))
+-- A member is nothing that is known.
+abbrev pub is_unknown_kind : Kind → Bool
+is_unknown_kind (loadable place) = false
+is_unknown_kind (installed command) = false
+is_unknown_kind inside = false
+is_unknown_kind unknown = true
+
+abbrev pub is_unknown : Sources → Bool → List ℕ → Bool
+is_unknown s ignored name = is_unknown_kind (kind_of s ignored name)
+
+-- The names of all that was found.
+abbrev pub all_names : List Found → List (List ℕ)
+all_names founds = flat_map (λ f. f.names) founds
 
 -- One of some modules has this path.
-abbrev pub is_path_of : Sources → List ℕ → List ℕ → Bool
-is_path_of s places path = list_any (λ x. bytes_eq (path_at (modules s) x) path) places
-
--- The first line of a kind that is on a need of a planned module.
-abbrev pub line_on : (Unbound → Option (List ℕ × Obstacle)) → Sources → Request → Option Obstacle
-line_on kind s request =
-    first (map (λ line. option_and_then (λ (on : List ℕ × Obstacle). if is_path_of s (planned s request) on.0 then Some on.1 else None) (kind line)) s.unmet)
-
--- The path that a line of each kind is on, with the obstacle.
-abbrev pub missing : Unbound → Option (List ℕ × Obstacle)
-missing (lines.Missing path symbol) = Some (path, Missing path symbol)
-missing _ = None
-
-abbrev pub gpl : Unbound → Option (List ℕ × Obstacle)
-gpl (lines.Gpl path symbol provider) = Some (path, Gpl path symbol provider)
-gpl _ = None
-
-abbrev pub version : Unbound → Option (List ℕ × Obstacle)
-version (lines.Version path symbol provider) = Some (path, Version path symbol provider)
-version _ = None
-
-abbrev pub namespace : Unbound → Option (List ℕ × Obstacle)
-namespace (lines.Namespace path symbol provider) = Some (path, Namespace path symbol provider)
-namespace _ = None
+abbrev pub is_path_of : List KeyValue → List ℕ → List ℕ → Bool
+is_path_of ms places path = list_any (λ x. bytes_eq (path_at ms x) path) places
 
 -- A side of a double line is there before the plan: the kernel, or a loaded module.
 abbrev pub stands : Sources → List ℕ → Bool
-stands s path = bytes_eq path vmlinux || is_path_of s (places_of (modules s) s.loaded) path
+stands s path = bytes_eq path vmlinux || is_path_of (modules s) (places_of (modules s) s.loaded) path
 
--- Both sides of a double line are planned or there, and one at least is planned.
-abbrev pub is_met : Sources → List ℕ → List ℕ → List ℕ → Bool
-is_met s places a b =
-    (is_path_of s places a && (is_path_of s places b || stands s b)) || (stands s a && is_path_of s places b)
+-- Both sides of a double line are planned or there before, and one at least is planned.
+abbrev pub is_met : (List ℕ → Bool) → (List ℕ → Bool) → List ℕ → List ℕ → Bool
+is_met in_plan there a b = (in_plan a && (in_plan b || there b)) || (there a && in_plan b)
 
-abbrev pub double : Sources → List ℕ → Unbound → Option Obstacle
-double s places (lines.Double symbol a b) = if is_met s places a b then Some (Double symbol a b) else None
-double s places _ = None
+-- A line is an obstacle of a kind: it is on a need of a planned module, or it is a double line that is met.
+abbrev pub is_obstacle : LineKind → (List ℕ → Bool) → (List ℕ → Bool) → Unbound → Bool
+is_obstacle kinds.Missing in_plan there (lines.Missing path symbol) = in_plan path
+is_obstacle kinds.Gpl in_plan there (lines.Gpl path symbol by) = in_plan path
+is_obstacle kinds.Version in_plan there (lines.Version path symbol by) = in_plan path
+is_obstacle kinds.Namespace in_plan there (lines.Namespace path symbol by) = in_plan path
+is_obstacle kinds.Double in_plan there (lines.Double symbol a b) = is_met in_plan there a b
+is_obstacle kind in_plan there line = false
 
--- The cycle among what is planned.
-abbrev pub cycle_if_any : List (List ℕ) → Option Obstacle
-cycle_if_any [] = None
-cycle_if_any (name ∷ names) = Some (Cycle (name ∷ names))
+-- A line as an obstacle.
+abbrev pub as_obstacle : Unbound → Obstacle
+as_obstacle (lines.Missing path symbol) = Missing path symbol
+as_obstacle (lines.Gpl path symbol by) = Gpl path symbol by
+as_obstacle (lines.Version path symbol by) = Version path symbol by
+as_obstacle (lines.Namespace path symbol by) = Namespace path symbol by
+as_obstacle (lines.Double symbol a b) = Double symbol a b
+
+-- The first line of a kind that is an obstacle.
+abbrev pub first_line : LineKind → (List ℕ → Bool) → (List ℕ → Bool) → List Unbound → Option Obstacle
+first_line kind in_plan there unmet = option_map as_obstacle (find (is_obstacle kind in_plan there) unmet)
+
+abbrev pub line_of : Sources → Request → LineKind → Option Obstacle
+line_of s request kind = first_line kind (is_path_of (modules s) (planned s request)) (stands s) s.unmet
+
+-- The cycle of some modules, where there is any.
+abbrev pub cycle_obstacle : List (List ℕ) → Option Obstacle
+cycle_obstacle [] = None
+cycle_obstacle (name ∷ names) = Some (Cycle (name ∷ names))
 
 -- The first obstacle of a request.
 unfoldable pub obstacle_of : Sources → Request → Option Obstacle
 obstacle_of s request = first (
     option_map BadDepLine (bad_name s.maps.dep)
-    ∷ option_map (λ name. NotFound (shown_name name)) (unfound s request)
-    ∷ option_map (λ name. NotFound (shown_name name)) (unknown_member s request)
-    ∷ line_on missing s request
-    ∷ line_on gpl s request
-    ∷ line_on version s request
-    ∷ line_on namespace s request
-    ∷ cycle_if_any (map (name_at (modules s)) (cycle (among (before s)) (planned s request)))
-    ∷ first (map (double s (planned s request)) s.unmet)
+    ∷ option_map not_found (find (is_unfound s) request.names)
+    ∷ option_map not_found (find (is_unknown s request.ignore_install) (all_names (found_for s request)))
+    ∷ line_of s request kinds.Missing
+    ∷ line_of s request kinds.Gpl
+    ∷ line_of s request kinds.Version
+    ∷ line_of s request kinds.Namespace
+    ∷ cycle_obstacle (map (name_at (modules s)) (cycle (among (before s)) (planned s request)))
+    ∷ line_of s request kinds.Double
     ∷ [])

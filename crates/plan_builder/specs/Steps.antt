@@ -16,9 +16,7 @@ use Rattle.plan_builder.specs.Members.{found_for, requests, is_member, Kind, loa
 
 -- Texts with a space between each and the next.
 abbrev pub spaced : List (List ℕ) → List ℕ
-spaced [] = []
-spaced (text ∷ []) = text
-spaced (text ∷ texts) = text ++ 32 ∷ spaced texts
+spaced texts = drop 1 (flat_map (λ text. 32 ∷ text) texts)
 
 -- The parameters that a rule has for the module of this name.
 abbrev pub rule_options : List ℕ → Rule → List (List ℕ)

@@ -13,3 +13,7 @@ shown pairs = map (λ p. pair_of p.now) pairs
 -- A table has the names of modules.
 abbrev pub IsNamed : Table → List KeyValue → Type 0
 IsNamed names modules = IsTableOf names (map (λ m. Some m.0) modules)
+
+-- References to texts, as the texts.
+abbrev pub byte_texts : List (Bor (List ℕ)) → List (List ℕ)
+byte_texts texts = map (λ t. t.now) texts

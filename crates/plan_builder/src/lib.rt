@@ -1,6 +1,7 @@
 //! Plans.
 #![tactic(auto)]
 
+mod check;
 mod line;
 mod modules;
 mod members;
@@ -8,6 +9,7 @@ mod needs;
 mod obstacle;
 mod request;
 mod step;
+mod steps;
 
 pub use line::well_formed;
 pub use obstacle::Obstacle;

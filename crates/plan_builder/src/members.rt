@@ -1,35 +1,92 @@
 // What the names of a request stand for.
-ghost use Rattle.std.specs.Prelude.{◌≡◌, ◌<◌, ◌||◌, ℕ, List, map, length, All, IfOk, OnOk, option_map};
-ghost use Rattle.relation_order.specs.Sets.{marked as marks_places};
+ghost use Rattle.std.specs.Prelude.{◌≡◌, ◌<◌, ◌||◌, ◌⊎◌, not, ℕ, List, map, length, All, Some, None, IfOk, IfErr, OnOk, option_map};
+ghost use Rattle.std.specs.List.{find};
+ghost use Rattle.relation_order.specs.Sets.{below, marked as marks_places};
 ghost use Rattle.relation_order.specs.Search.{Inside};
 ghost use Rattle.plan_order.specs.Lists.{items_of};
 ghost use Rattle.name_table.specs.FirstSeen.{is_among};
-ghost use Rattle.plan_builder.specs.Modules.{places_of};
+ghost use Rattle.plan_builder.specs.Modules.{places_of, name_at};
 ghost use Rattle.plan_builder.specs.Needs.{modules as modules_in, unloaded};
-ghost use Rattle.plan_builder.specs.Planner.{sources_of};
-ghost use Rattle.plan_builder.specs.Members.{founds_of, is_member_of, chosen_command as chosen_command_of, install_command as install_command_of, command_of, kind_of};
-ghost use Rattle.plan_builder.specs.Obstacles.{is_unknown as is_unknown_kind};
+ghost use Rattle.plan_builder.specs.Planner.{sources_of, texts};
+ghost use Rattle.plan_builder.specs.Members.{founds_of, is_member_of, chosen_command as chosen_command_of, install_command as install_command_of, command_of};
+ghost use Rattle.plan_builder.specs.Obstacles.{is_unfound, is_unknown as is_unknown_of, all_names, not_found as not_found_of, shown_name as shown_name_of};
 
-use crate::needs::{Planner, push_places};
-use km_names::{Name, Names};
+use crate::modules::Modules;
+use crate::needs::{Planner, push_all, push_places};
+use crate::obstacle::Obstacle;
+use km_names::{Name, Names, normal_alias};
 use modprobe_conf::{Rule, Rules};
 use name_lookup::Found;
 use name_table::NameSet;
 use std::alloc::{AllocError, Global};
 
-/// What is found for each name.
+/// What is found for each name, or the first name that nothing is found for.
 pub(crate) fn find_each(
     alloc: Global,
     planner: &Planner<'_>,
     names: &Names,
-) -> Result<Vec<Found>, AllocError>
-    ensures { IfOk result (λ founds. founds.items ≡ founds_of (sources_of planner.now) names.now) }
+) -> Result<Vec<Found>, Obstacle>
+    ensures found { IfOk result (λ founds. founds.items ≡ founds_of (sources_of planner.now) names.now) }
+    ensures passed { OnOk result (find (is_unfound (sources_of planner.now)) names.now ≡ None) }
+    ensures err { IfErr result (λ o. (o ≡ Obstacle.Memory) ⊎ (option_map not_found_of (find (is_unfound (sources_of planner.now)) names.now) ≡ Some o)) }
 {
     let mut founds = Vec::new(alloc);
     for name in names.as_slice() {
-        founds.push(planner.found(alloc, name)?)?;
+        let found = planner.found(alloc, name)?;
+        if found.list == 0 {
+            return Err(not_found(alloc, name)?);
+        }
+        founds.push(found)?;
     }
     Ok(founds)
+}
+
+/// The name that isn't found, in its normal form where it has one.
+fn not_found(alloc: Global, name: &Name) -> Result<Obstacle, AllocError>
+    ensures { IfOk result (λ o. o ≡ not_found_of name.now) }
+{
+    Ok(Obstacle::NotFound {
+        name: shown_name(alloc, name)?,
+    })
+}
+
+fn shown_name(alloc: Global, name: &Name) -> Result<Name, AllocError>
+    ensures { IfOk result (λ shown. shown ≡ shown_name_of name.now) }
+{
+    match normal_alias(alloc, name.as_bytes())? {
+        Some(normal) => Name::from_slice(alloc, normal.as_bytes()),
+        None => Name::from_slice(alloc, name.as_bytes()),
+    }
+}
+
+/// Tests that all that was found is known.
+pub(crate) fn check_known(
+    alloc: Global,
+    planner: &Planner<'_>,
+    ignored: bool,
+    founds: &[Found],
+) -> Result<(), Obstacle>
+    ensures passed { OnOk result (find (is_unknown_of (sources_of planner.now) ignored) (all_names founds.now) ≡ None) }
+    ensures err { IfErr result (λ o. (o ≡ Obstacle.Memory) ⊎ (option_map not_found_of (find (is_unknown_of (sources_of planner.now) ignored) (all_names founds.now)) ≡ Some o)) }
+{
+    let names = names_in(alloc, founds)?;
+    for name in &names {
+        if is_unknown(planner, ignored, name.as_bytes()) {
+            return Err(not_found(alloc, name)?);
+        }
+    }
+    Ok(())
+}
+
+/// The names of all that was found.
+fn names_in<'a>(alloc: Global, founds: &'a [Found]) -> Result<Vec<&'a Name>, AllocError>
+    ensures { IfOk result (λ names. texts names.items ≡ all_names founds.now) }
+{
+    let mut names = Vec::new(alloc);
+    for found in founds {
+        push_all(&mut names, &found.names)?;
+    }
+    Ok(names)
 }
 
 /// The modules of what was found for each name, by their places.
@@ -91,22 +148,34 @@ pub(crate) fn free_marks(alloc: Global, planner: &Planner<'_>) -> Result<Vec<boo
     ensures long { IfOk result (λ free. length free.items ≡ length (modules_in (sources_of planner.now))) }
     ensures marks { IfOk result (λ free. marks_places free.items ≡ unloaded (sources_of planner.now)) }
 {
-    let mut loaded = NameSet::new(alloc);
-    insert_names(&mut loaded, planner.loaded())?;
-    let mut free = Vec::new(alloc);
-    for place in 0..planner.modules().len() {
-        free.push(!loaded.contains(planner.modules().name(place)))?;
-    }
-    Ok(free)
+    let loaded = name_set(alloc, planner.loaded())?;
+    marks_but(alloc, planner.modules(), &loaded)
 }
 
-fn insert_names<'a>(names: &mut NameSet<'a>, more: &'a [Name]) -> Result<(), AllocError>
-    ensures { OnOk result ((name : List ℕ) → is_among names.new name ≡ (is_among names.old name || is_among more.now name)) }
+/// A mark for each module whose name isn't among some.
+fn marks_but(
+    alloc: Global,
+    modules: &Modules<'_>,
+    names: &NameSet<'_>,
+) -> Result<Vec<bool>, AllocError>
+    ensures { IfOk result (λ marks. marks.items ≡ map (λ x. not (is_among names.now (name_at modules.now x))) (below (length modules.now))) }
 {
-    for name in more {
-        names.insert(name.as_bytes())?;
+    let mut marks = Vec::new(alloc);
+    for place in 0..modules.len() {
+        marks.push(!names.contains(modules.name(place)))?;
     }
-    Ok(())
+    Ok(marks)
+}
+
+/// Names as a set.
+fn name_set<'a>(alloc: Global, names: &'a [Name]) -> Result<NameSet<'a>, AllocError>
+    ensures { IfOk result (λ set. (name : List ℕ) → is_among set name ≡ is_among names.now name) }
+{
+    let mut set = NameSet::new(alloc);
+    for name in names {
+        set.insert(name.as_bytes())?;
+    }
+    Ok(set)
 }
 
 /// The first command that a rule has for loading the module of this name.
@@ -147,7 +216,7 @@ pub(crate) fn chosen_command<'a>(
 
 /// Whether a member is nothing that is known.
 fn is_unknown(planner: &Planner<'_>, ignored: bool, name: &[u8]) -> bool
-    ensures { result ≡ is_unknown_kind (kind_of (sources_of planner.now) ignored name.now) }
+    ensures { result ≡ is_unknown_of (sources_of planner.now) ignored name.now }
 {
     if planner.modules().place(name).is_some() {
         return false;

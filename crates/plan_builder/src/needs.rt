@@ -91,7 +91,8 @@ pub(crate) fn push_places(
     Ok(())
 }
 
-fn push_place(
+/// Adds the place of a name that is a module.
+pub(crate) fn push_place(
     places: &mut Vec<usize>,
     modules: &Modules<'_>,
     name: &[u8],
@@ -145,7 +146,8 @@ fn on_side<'a>(side: Side, pre: &'a Names, post: &'a Names) -> &'a Names
     }
 }
 
-fn push_all<'a>(names: &mut Vec<&'a Name>, more: &'a Names) -> Result<(), AllocError>
+/// Adds names.
+pub(crate) fn push_all<'a>(names: &mut Vec<&'a Name>, more: &'a Names) -> Result<(), AllocError>
     ensures { OnOk result (texts names.new.items ≡ texts names.old.items ++ more.now) }
 {
     for name in more.as_slice() {
