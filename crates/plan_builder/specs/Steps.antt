@@ -1,10 +1,11 @@
 -- The steps of a plan. modprobe(8), modprobe.d(5).
-use Rattle.std.specs.Prelude.{ℕ, ◌==◌, ◌&&◌, not, Bool, false, List, [], ◌∷◌, ◌++◌, map, filter, length, drop, Option, Some, None, if◌then◌else◌}
+use Rattle.std.specs.Prelude.{ℕ, ◌==◌, ◌&&◌, not, Bool, false, List, [], ◌∷◌, ◌++◌, map, length, drop, Option, Some, None, if◌then◌else◌}
 use Rattle.std.specs.List.{flat_map}
 use Rattle.std.specs.Str.{bytes_eq}
 use Rattle.modprobe_conf.specs.declared.rule.Rule.{Rule}
 use Rattle.modprobe_conf.specs.declared.rule.Rule.TheVariants.{Options}
 use Rattle.name_table.specs.FirstSeen.{is_among}
+use Rattle.name_lookup.specs.declared.found.Found.{Found}
 use Rattle.plan_order.specs.Plan.{plan as plan_for, with_group, with_groups, group}
 use Rattle.plan_order.specs.Lists.{among}
 use Rattle.plan_builder.specs.declared.request.Request.{Request}
@@ -53,18 +54,20 @@ abbrev pub own_step : Sources → Request → List ℕ → List PlanStep
 own_step s request name = step_of_kind (kind_of s request.ignore_install name) name
 
 -- The steps of those members of a list that are no modules and aren't among earlier names.
+abbrev pub own_step_unless : Sources → Request → List (List ℕ) → List ℕ → List PlanStep
+own_step_unless s request earlier name = if is_among earlier name then [] else own_step s request name
+
 abbrev pub own_steps : Sources → Request → List (List ℕ) → List (List ℕ) → List PlanStep
-own_steps s request earlier names =
-    flat_map (own_step s request) (filter (λ name. not (is_among earlier name)) names)
+own_steps s request earlier names = flat_map (own_step_unless s request earlier) names
 
 -- The steps of some requested names, after the names and modules of those before them: for each the members that are no
 -- modules, in the order in which they were found, and then the modules of its group.
-abbrev pub steps_from : Sources → Request → List (List ℕ) → List ℕ → List (List (List ℕ)) → List PlanStep
+abbrev pub steps_from : Sources → Request → List (List ℕ) → List ℕ → List Found → List PlanStep
 steps_from s request earlier done [] = []
-steps_from s request earlier done (names ∷ more) =
-    own_steps s request earlier names
-    ++ map (module_step s request) (group (among (before s)) (unloaded s) done (places_of (modules s) names))
-    ++ steps_from s request (earlier ++ names) (with_group (among (before s)) (unloaded s) done (places_of (modules s) names)) more
+steps_from s request earlier done (f ∷ more) =
+    own_steps s request earlier f.names
+    ++ (map (module_step s request) (group (among (before s)) (unloaded s) done (places_of (modules s) f.names))
+    ++ steps_from s request (earlier ++ f.names) (with_group (among (before s)) (unloaded s) done (places_of (modules s) f.names)) more)
 
 -- The modules that are planned after the groups of the requested names: what is wanted after other modules.
 abbrev pub later : Sources → Request → List ℕ
@@ -75,4 +78,4 @@ later s request =
 -- The plan: the steps of the requested names, and then those of what is wanted after modules of the plan.
 unfoldable pub plan_steps : Sources → Request → List PlanStep
 plan_steps s request =
-    steps_from s request [] [] (map (λ f. f.names) (found_for s request)) ++ map (module_step s request) (later s request)
+    steps_from s request [] [] (found_for s request) ++ map (module_step s request) (later s request)

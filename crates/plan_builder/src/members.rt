@@ -149,7 +149,8 @@ pub(crate) fn free_marks(alloc: Global, planner: &Planner<'_>) -> Result<Vec<boo
     ensures marks { IfOk result (λ free. marks_places free.items ≡ unloaded (sources_of planner.now)) }
 {
     let loaded = name_set(alloc, planner.loaded())?;
-    marks_but(alloc, planner.modules(), &loaded)
+    let marks = marks_but(alloc, planner.modules(), &loaded)?;
+    Ok(marks)
 }
 
 /// A mark for each module whose name isn't among some.

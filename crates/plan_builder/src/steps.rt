@@ -1,20 +1,23 @@
 // The steps of a plan.
-ghost use Rattle.std.specs.Prelude.{◌≡◌, ◌<◌, ◌++◌, ℕ, List, map, length, All, IfOk, OnOk};
+ghost use Rattle.std.specs.Prelude.{◌≡◌, ◌<◌, ◌++◌, [], ℕ, List, map, length, All, IfOk, OnOk};
 ghost use Rattle.std.specs.List.{flat_map};
 ghost use Rattle.name_table.specs.FirstSeen.{is_among};
 ghost use Rattle.plan_builder.specs.Needs.{modules as modules_in};
-ghost use Rattle.plan_builder.specs.Members.{is_member};
+ghost use Rattle.plan_builder.specs.Members.{found_for, is_member};
 ghost use Rattle.plan_builder.specs.Planner.{sources_of};
 ghost use Rattle.plan_builder.specs.Tables.{byte_texts};
-ghost use Rattle.plan_builder.specs.Steps.{spaced as spaced_of, rule_options, options_of as options_for, module_step as module_step_of, own_step as own_step_of, own_steps as own_steps_of};
+ghost use Rattle.plan_builder.specs.Steps.{spaced as spaced_of, rule_options, options_of as options_for, module_step as module_step_of, own_step as own_step_of, own_step_unless, own_steps as own_steps_of};
+ghost use Rattle.plan_builder.specs.Ends.{RisingEnds, steps_by};
 
-use crate::members::chosen_command;
+use crate::members::{chosen_command, insert_all, member_names};
 use crate::needs::Planner;
 use crate::request::Request;
 use crate::step::{PlanStep, PlanSteps};
 use km_names::{Blob, Name, Names, PathText};
 use modprobe_conf::{Rule, Rules};
+use name_lookup::Found;
 use name_table::NameSet;
+use plan_order::GroupedOrder;
 use std::alloc::{AllocError, Global};
 
 /// Texts with a space between each and the next.
@@ -165,9 +168,53 @@ fn push_own_steps(
     ensures { OnOk result (steps.new ≡ steps.old ++ own_steps_of (sources_of planner.now) request.now earlier.now names.now) }
 {
     for name in names.as_slice() {
-        if !earlier.contains(name.as_bytes()) {
-            push_own_step(alloc, steps, planner, request, name.as_bytes())?;
-        }
+        push_unless(alloc, steps, planner, request, earlier, name.as_bytes())?;
     }
     Ok(())
+}
+
+fn push_unless(
+    alloc: Global,
+    steps: &mut PlanSteps,
+    planner: &Planner<'_>,
+    request: &Request,
+    earlier: &NameSet<'_>,
+    name: &[u8],
+) -> Result<(), AllocError>
+    ensures { OnOk result (steps.new ≡ steps.old ++ own_step_unless (sources_of planner.now) request.now earlier.now name.now) }
+{
+    if earlier.contains(name) {
+        return Ok(());
+    }
+    push_own_step(alloc, steps, planner, request, name)
+}
+
+/// The steps of requested names, whose groups end at some places of an order, and then those of the rest of the order.
+pub(crate) fn all_steps(
+    alloc: Global,
+    planner: &Planner<'_>,
+    request: &Request,
+    founds: &[Found],
+    plan: &GroupedOrder,
+) -> Result<PlanSteps, AllocError>
+    requires long { length plan.now.ends.items ≡ length founds.now }
+    requires ends { RisingEnds plan.now.ends.items (length plan.now.order.items) }
+    requires order { All (λ y. y < length (modules_in (sources_of planner.now))) plan.now.order.items }
+    requires founds { founds.now ≡ found_for (sources_of planner.now) request.now }
+    ensures { IfOk result (λ steps. steps ≡ steps_by (sources_of planner.now) request.now [] 0 founds.now plan.now.ends.items plan.now.order.items) }
+{
+    let members = member_names(alloc, founds)?;
+    let mut steps = PlanSteps::new(alloc);
+    let mut earlier = NameSet::new(alloc);
+    let mut start = 0;
+    for k in 0..founds.len() {
+        let end = plan.ends[k];
+        let names = &founds[k].names;
+        push_own_steps(alloc, &mut steps, planner, request, &earlier, names)?;
+        push_modules(alloc, &mut steps, planner, request, &members, &plan.order[start..end])?;
+        insert_all(&mut earlier, names)?;
+        start = end;
+    }
+    push_modules(alloc, &mut steps, planner, request, &members, &plan.order[start..])?;
+    Ok(steps)
 }
