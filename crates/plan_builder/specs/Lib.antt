@@ -8,4 +8,5 @@ pub mod Members
 pub mod Steps
 pub mod Ends
 pub mod Obstacles
+pub mod Answers
 pub mod Closed

@@ -23,13 +23,13 @@ founds_of s names = map (found s.rules s.maps s.use_blacklist) names
 abbrev pub found_for : Sources → Request → List Found
 found_for s request = founds_of s request.names
 
--- The modules of each requested name, by their places.
-abbrev pub requests : Sources → Request → List (List ℕ)
-requests s request = map (λ f. places_of (modules s) f.names) (found_for s request)
+-- The modules of what was found for each name, by their places.
+abbrev pub asked : Sources → List Found → List (List ℕ)
+asked s founds = map (λ f. places_of (modules s) f.names) founds
 
 -- All that is planned.
-abbrev pub planned : Sources → Request → List ℕ
-planned s request = planned_for (among (before s)) (unloaded s) (after s) (requests s request)
+abbrev pub planned : Sources → List Found → List ℕ
+planned s founds = planned_for (among (before s)) (unloaded s) (after s) (asked s founds)
 
 -- One of what was found has this name.
 abbrev pub is_member_of : List Found → List ℕ → Bool

@@ -81,13 +81,24 @@ as_obstacle (lines.Double symbol a b) = Double symbol a b
 abbrev pub first_line : LineKind → (List ℕ → Bool) → (List ℕ → Bool) → List Unbound → Option Obstacle
 first_line kind in_plan there unmet = option_map as_obstacle (find (is_obstacle kind in_plan there) unmet)
 
-abbrev pub line_of : Sources → Request → LineKind → Option Obstacle
-line_of s request kind = first_line kind (is_path_of (modules s) (planned s request)) (stands s) s.unmet
+abbrev pub line_of : Sources → List Found → LineKind → Option Obstacle
+line_of s founds kind = first_line kind (is_path_of (modules s) (planned s founds)) (stands s) s.unmet
 
 -- The cycle of some modules, where there is any.
 abbrev pub cycle_obstacle : List (List ℕ) → Option Obstacle
 cycle_obstacle [] = None
 cycle_obstacle (name ∷ names) = Some (Cycle (name ∷ names))
+
+-- The tests of what is planned.
+abbrev pub plan_tests : Sources → List Found → List (Option Obstacle)
+plan_tests s founds =
+    line_of s founds kinds.Missing
+    ∷ line_of s founds kinds.Gpl
+    ∷ line_of s founds kinds.Version
+    ∷ line_of s founds kinds.Namespace
+    ∷ cycle_obstacle (map (name_at (modules s)) (cycle (among (before s)) (planned s founds)))
+    ∷ line_of s founds kinds.Double
+    ∷ []
 
 -- The first obstacle of a request.
 unfoldable pub obstacle_of : Sources → Request → Option Obstacle
@@ -95,10 +106,4 @@ obstacle_of s request = first (
     option_map BadDepLine (bad_name s.maps.dep)
     ∷ option_map not_found (find (is_unfound s) request.names)
     ∷ option_map not_found (find (is_unknown s request.ignore_install) (all_names (found_for s request)))
-    ∷ line_of s request kinds.Missing
-    ∷ line_of s request kinds.Gpl
-    ∷ line_of s request kinds.Version
-    ∷ line_of s request kinds.Namespace
-    ∷ cycle_obstacle (map (name_at (modules s)) (cycle (among (before s)) (planned s request)))
-    ∷ line_of s request kinds.Double
-    ∷ [])
+    ∷ plan_tests s (found_for s request))

@@ -13,7 +13,7 @@ use Rattle.plan_builder.specs.declared.step.PlanStep.{PlanStep}
 use Rattle.plan_builder.specs.declared.step.PlanStep.TheVariants.{Insert, Install, Builtin}
 use Rattle.plan_builder.specs.Modules.{name_at, path_at, places_of}
 use Rattle.plan_builder.specs.Needs.{Sources, modules, before, after, unloaded}
-use Rattle.plan_builder.specs.Members.{found_for, requests, is_member, Kind, loadable, installed, inside, unknown, kind_of, chosen_command}
+use Rattle.plan_builder.specs.Members.{found_for, asked, is_member, Kind, loadable, installed, inside, unknown, kind_of, chosen_command}
 
 -- Texts with a space between each and the next.
 abbrev pub spaced : List (List ℕ) → List ℕ
@@ -70,12 +70,12 @@ steps_from s request earlier done (f ∷ more) =
     ++ steps_from s request (earlier ++ f.names) (with_group (among (before s)) (unloaded s) done (places_of (modules s) f.names)) more)
 
 -- The modules that are planned after the groups of the requested names: what is wanted after other modules.
-abbrev pub later : Sources → Request → List ℕ
-later s request =
-    drop (length (with_groups (among (before s)) (unloaded s) [] (requests s request)))
-    (plan_for (among (before s)) (unloaded s) (after s) (requests s request))
+abbrev pub later : Sources → List Found → List ℕ
+later s founds =
+    drop (length (with_groups (among (before s)) (unloaded s) [] (asked s founds)))
+    (plan_for (among (before s)) (unloaded s) (after s) (asked s founds))
 
 -- The plan: the steps of the requested names, and then those of what is wanted after modules of the plan.
 unfoldable pub plan_steps : Sources → Request → List PlanStep
 plan_steps s request =
-    steps_from s request [] [] (found_for s request) ++ map (module_step s request) (later s request)
+    steps_from s request [] [] (found_for s request) ++ map (module_step s request) (later s (found_for s request))

@@ -1,7 +1,8 @@
 // The steps of a plan.
-ghost use Rattle.std.specs.Prelude.{◌≡◌, ◌<◌, ◌++◌, [], ℕ, List, map, length, All, IfOk, OnOk};
+ghost use Rattle.std.specs.Prelude.{◌≡◌, ◌<◌, ◌&&◌, ◌++◌, [], ℕ, List, map, length, All, IfOk, OnOk};
 ghost use Rattle.std.specs.List.{flat_map};
 ghost use Rattle.name_table.specs.FirstSeen.{is_among};
+ghost use Rattle.plan_builder.specs.Modules.{name_at, path_at};
 ghost use Rattle.plan_builder.specs.Needs.{modules as modules_in};
 ghost use Rattle.plan_builder.specs.Members.{found_for, is_member};
 ghost use Rattle.plan_builder.specs.Planner.{sources_of};
@@ -83,6 +84,13 @@ fn options_of(
     spaced(alloc, &texts)
 }
 
+/// Whether commands are ignored for the module of this name.
+fn is_ignored(request: &Request, members: &NameSet<'_>, name: &[u8]) -> bool
+    ensures { result ≡ (request.now.ignore_install && is_among members.now name.now) }
+{
+    request.ignore_install && members.contains(name)
+}
+
 /// The step of a module.
 fn module_step(
     alloc: Global,
@@ -96,18 +104,41 @@ fn module_step(
     ensures { IfOk result (λ step. step ≡ module_step_of (sources_of planner.now) request.now place) }
 {
     let name = planner.modules().name(place);
-    let ignored = request.ignore_install && members.contains(name);
+    let ignored = is_ignored(request, members, name);
     match chosen_command(planner.rules(), ignored, name) {
-        Some(command) => Ok(PlanStep::Install {
-            name: Name::from_slice(alloc, name)?,
-            command: Blob::from_slice(alloc, command)?,
-        }),
-        None => Ok(PlanStep::Insert {
-            name: Name::from_slice(alloc, name)?,
-            path: PathText::from_slice(alloc, planner.modules().path(place))?,
-            options: options_of(alloc, planner, request, members, name)?,
-        }),
+        Some(command) => command_step(alloc, name, command),
+        None => insert_step(alloc, planner, request, members, place),
     }
+}
+
+/// The step of a command.
+fn command_step(alloc: Global, name: &[u8], command: &[u8]) -> Result<PlanStep, AllocError>
+    ensures { IfOk result (λ step. step ≡ PlanStep.Install name.now command.now) }
+{
+    Ok(PlanStep::Install {
+        name: Name::from_slice(alloc, name)?,
+        command: Blob::from_slice(alloc, command)?,
+    })
+}
+
+/// The step that loads a module.
+fn insert_step(
+    alloc: Global,
+    planner: &Planner<'_>,
+    request: &Request,
+    members: &NameSet<'_>,
+    place: usize,
+) -> Result<PlanStep, AllocError>
+    requires members { (other : List ℕ) → is_among members.now other ≡ is_member (sources_of planner.now) request.now other }
+    requires place { place < length (modules_in (sources_of planner.now)) }
+    ensures { IfOk result (λ step. step ≡ PlanStep.Insert (name_at (modules_in (sources_of planner.now)) place) (path_at (modules_in (sources_of planner.now)) place) (options_for (sources_of planner.now) request.now (name_at (modules_in (sources_of planner.now)) place))) }
+{
+    let name = planner.modules().name(place);
+    Ok(PlanStep::Insert {
+        name: Name::from_slice(alloc, name)?,
+        path: PathText::from_slice(alloc, planner.modules().path(place))?,
+        options: options_of(alloc, planner, request, members, name)?,
+    })
 }
 
 /// Adds the steps of some modules.
