@@ -193,7 +193,7 @@ any-by p [] = refl
 any-by p (m ∷ ms) = any-insert p m (by_number ms) ∙ ap (λ b. p m || b) (any-by p ms)
 
 some-position : {X : Type 0} (p : X → Bool) (xs : List X) → is_some (position p xs) ≡ list_any p xs
-some-position p xs = whole (nat_lt (position_or_len p xs) (length xs)) ∙ less-any xs
+some-position {X = X} p xs = whole (nat_lt (position_or_len p xs) (length xs)) ∙ less-any xs
   where
     whole : (b : Bool) → is_some (cond b (Some (position_or_len p xs)) None) ≡ b
     whole true = refl
@@ -225,3 +225,7 @@ has-modules dep name =
 
 pub has-same : (dep : KeyValues) → (λ name. is_some (place_of (modules_of dep) name)) ≡ has_value dep
 has-same dep = fun_ext (has-modules dep)
+
+pub modules-are : (dep : KeyValues) → by_number (first_values dep) ≡ modules_of dep
+unfolding modules_of
+modules-are dep = refl

@@ -6,6 +6,7 @@ pub mod Inside
 pub mod Lines
 pub mod Marks
 pub mod Named
+pub mod Obstacles
 pub mod Sorting
 pub mod StepLaws
 pub mod Troubled
