@@ -1,6 +1,7 @@
 pub mod Modules
 pub mod Pairs
 pub mod Tables
+pub mod Text
 pub mod Needs
 pub mod Sources
 pub mod Planner
@@ -9,4 +10,3 @@ pub mod Steps
 pub mod Ends
 pub mod Obstacles
 pub mod Answers
-pub mod Closed

@@ -22,7 +22,7 @@ use plan_order::GroupedOrder;
 use std::alloc::{AllocError, Global};
 
 /// Texts with a space between each and the next.
-fn spaced(alloc: Global, texts: &[&[u8]]) -> Result<Blob, AllocError>
+pub(crate) fn spaced(alloc: Global, texts: &[&[u8]]) -> Result<Blob, AllocError>
     ensures { IfOk result (λ text. text ≡ spaced_of (byte_texts texts.now)) }
 {
     let mut text = Blob::new(alloc);
