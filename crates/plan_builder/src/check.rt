@@ -37,7 +37,12 @@ pub(crate) fn check_lines<K: Known>(
     ensures err { IfErr result (λ o. (o ≡ Obstacle.Memory) ⊎ (option_map Obstacle.BadDepLine (bad_among (K.has known.now) (shown pairs.now)) ≡ Some o)) }
 {
     for pair in pairs {
-        if !is_line(alloc, known, pair.key.as_bytes(), pair.value.text.as_bytes())? {
+        if !is_line(
+            alloc,
+            known,
+            pair.key.as_bytes(),
+            pair.value.text.as_bytes(),
+        )? {
             return Err(Obstacle::BadDepLine {
                 name: Name::from_slice(alloc, pair.key.as_bytes())?,
             });
@@ -110,12 +115,7 @@ pub(crate) fn check_unmet(
 }
 
 /// Whether a line is an obstacle of a kind.
-fn is_obstacle(
-    kind: LineKind,
-    line: &Unbound,
-    planned: &NameSet<'_>,
-    there: &NameSet<'_>,
-) -> bool
+fn is_obstacle(kind: LineKind, line: &Unbound, planned: &NameSet<'_>, there: &NameSet<'_>) -> bool
     ensures { result ≡ is_obstacle_of kind (is_among planned.now) (is_among there.now) line.now }
 {
     match (kind, line) {

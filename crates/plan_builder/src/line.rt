@@ -118,7 +118,10 @@ fn all_known<K: Known>(alloc: Global, known: &K, line: &[u8]) -> Result<bool, Al
 fn are_known<K: Known>(known: &K, names: &Names) -> bool
     ensures { result ≡ list_all (K.has known.now) names.now }
 {
-    names.as_slice().iter().all(|name| known.has(name.as_bytes()))
+    names
+        .as_slice()
+        .iter()
+        .all(|name| known.has(name.as_bytes()))
 }
 
 /// The names of the modules that a dependency line needs.

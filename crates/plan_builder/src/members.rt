@@ -106,11 +106,7 @@ pub(crate) fn requests_of(
 }
 
 /// The places of those names that are modules.
-fn request_of(
-    alloc: Global,
-    planner: &Planner<'_>,
-    names: &Names,
-) -> Result<Vec<usize>, AllocError>
+fn request_of(alloc: Global, planner: &Planner<'_>, names: &Names) -> Result<Vec<usize>, AllocError>
     ensures items { IfOk result (λ places. places.items ≡ places_of (modules_in (sources_of planner.now)) names.now) }
     ensures inside { IfOk result (λ places. All (λ y. y < length (modules_in (sources_of planner.now))) places.items) }
 {
@@ -201,11 +197,7 @@ fn command_in<'a>(rule: &'a Rule, wanted: &[u8]) -> Option<&'a [u8]>
 }
 
 /// The command that is run in place of loading the module of this name, unless commands are ignored.
-pub(crate) fn chosen_command<'a>(
-    rules: &'a Rules,
-    ignored: bool,
-    name: &[u8],
-) -> Option<&'a [u8]>
+pub(crate) fn chosen_command<'a>(rules: &'a Rules, ignored: bool, name: &[u8]) -> Option<&'a [u8]>
     ensures { option_map (λ command. command.now) result ≡ chosen_command_of rules.now ignored name.now }
 {
     if ignored {

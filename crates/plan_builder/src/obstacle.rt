@@ -7,11 +7,18 @@ use std::alloc::{AllocError, AllocFailed};
 #[derive(Debug, Drop)]
 pub enum Obstacle {
     /// The first name in modules.dep.bin whose value isn't its dependency line.
-    BadDepLine { name: Name },
+    BadDepLine {
+        name: Name,
+    },
     /// The first name that nothing is found for, or else the first that was found and is nothing that is known.
-    NotFound { name: Name },
+    NotFound {
+        name: Name,
+    },
     /// A planned module needs a symbol that nobody exports.
-    Missing { path: PathText, symbol: Name },
+    Missing {
+        path: PathText,
+        symbol: Name,
+    },
     /// A planned module needs a symbol that is exported for GPL-compatible modules alone, and it isn't one.
     Gpl {
         path: PathText,
@@ -31,7 +38,9 @@ pub enum Obstacle {
         provider: PathText,
     },
     /// Planned modules of which each comes after the next, and the last after the first.
-    Cycle { names: Names },
+    Cycle {
+        names: Names,
+    },
     /// Two export a symbol, of which one at least is planned, and the other planned, loaded or the kernel.
     Double {
         symbol: Name,

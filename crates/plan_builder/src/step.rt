@@ -10,9 +10,14 @@ pub enum PlanStep {
         options: Blob,
     },
     /// The command is run in place of loading what the name stands for.
-    Install { name: Name, command: Blob },
+    Install {
+        name: Name,
+        command: Blob,
+    },
     /// The module is built into the kernel.
-    Builtin { name: Name },
+    Builtin {
+        name: Name,
+    },
 }
 
 /// The steps of a plan, in order.

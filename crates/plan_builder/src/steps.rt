@@ -36,11 +36,7 @@ pub(crate) fn spaced(alloc: Global, texts: &[&[u8]]) -> Result<Blob, AllocError>
 }
 
 /// The parameters that rules have for the module of this name.
-fn rule_texts<'a>(
-    alloc: Global,
-    rules: &'a Rules,
-    name: &[u8],
-) -> Result<Vec<&'a [u8]>, AllocError>
+fn rule_texts<'a>(alloc: Global, rules: &'a Rules, name: &[u8]) -> Result<Vec<&'a [u8]>, AllocError>
     ensures { IfOk result (λ texts. byte_texts texts.items ≡ flat_map (rule_options name.now) rules.now) }
 {
     let mut texts = Vec::new(alloc);
@@ -50,11 +46,7 @@ fn rule_texts<'a>(
     Ok(texts)
 }
 
-fn push_text<'a>(
-    texts: &mut Vec<&'a [u8]>,
-    rule: &'a Rule,
-    wanted: &[u8],
-) -> Result<(), AllocError>
+fn push_text<'a>(texts: &mut Vec<&'a [u8]>, rule: &'a Rule, wanted: &[u8]) -> Result<(), AllocError>
     ensures { OnOk result (byte_texts texts.new.items ≡ byte_texts texts.old.items ++ rule_options wanted.now rule.now) }
 {
     match rule {
@@ -242,10 +234,24 @@ pub(crate) fn all_steps(
         let end = plan.ends[k];
         let names = &founds[k].names;
         push_own_steps(alloc, &mut steps, planner, request, &earlier, names)?;
-        push_modules(alloc, &mut steps, planner, request, &members, &plan.order[start..end])?;
+        push_modules(
+            alloc,
+            &mut steps,
+            planner,
+            request,
+            &members,
+            &plan.order[start..end],
+        )?;
         insert_all(&mut earlier, names)?;
         start = end;
     }
-    push_modules(alloc, &mut steps, planner, request, &members, &plan.order[start..])?;
+    push_modules(
+        alloc,
+        &mut steps,
+        planner,
+        request,
+        &members,
+        &plan.order[start..],
+    )?;
     Ok(steps)
 }

@@ -88,7 +88,12 @@ fn a_module_is_planned_unless_it_is_loaded(rt: HostRuntime) -> Result<(), Fail> 
         (b"tty", b"kernel/f.ko:", b"", b"=tty"),
         (b"g", b"kernel/f.ko:", b"", b"not found g"),
         (b"f", b"kernel/g.ko:", b"", b"bad dependency line f"),
-        (b"f", b"kernel/f.ko: kernel/g.ko", b"", b"bad dependency line f"),
+        (
+            b"f",
+            b"kernel/f.ko: kernel/g.ko",
+            b"",
+            b"bad dependency line f",
+        ),
     ] {
         assert_eq!(rt; written(alloc, name, line, loaded)?.as_bytes(), want);
     }

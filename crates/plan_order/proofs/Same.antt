@@ -40,8 +40,8 @@ module _ (r q : Relation) (set part : List ℕ) (start : ℕ → Bool) (same : A
       spread-only q set start (λ y. (has part y ≡ true) × (has (spread r set start) y ≡ true))
       (λ y m t. (first y m t, spread-first r set start y t m))
       (λ x y w m t.
-          let t' : r x y ≡ true = ap (λ f. f y) (same x w.0) ∙ t in
-          (closed x y w.0 m t', spread-further r set start x y w.1 t' m))
+      let t' : r x y ≡ true = ap (λ f. f y) (same x w.0) ∙ t in
+      (closed x y w.0 m t', spread-further r set start x y w.1 t' m))
 
   pub spread-same : spread r set start ≡ spread q set start
   spread-same =

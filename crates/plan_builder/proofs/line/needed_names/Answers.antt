@@ -13,8 +13,6 @@ loop-after-init c =
 
 pub loop-after-preserved : goal.loop-after-preserved
 loop-after-preserved c =
-
-
     let w = c.in-Some.ensures in
     let next = others-next (λ b. b == 32) c.loop-after.rest.now w.0 ∙ ap (λ ys. before_first (λ b. b == 32) ys ∷ needed_paths (slice_split (λ b. b == 32) ys)) (sym w.1) in
     let name = c.in_ok-name_of.ensures ∙ ap module_name c.split_at_byte-in-Some.ensures.before in

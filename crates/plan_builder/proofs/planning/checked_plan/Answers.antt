@@ -46,11 +46,11 @@ returns-in_err-order-clause-err c =
     let p = err_from_is_err_and c.from_residual-in_err-order.result c.from_residual-in_err-order.ensures.1 in
     rw (p.1, p.2)
     (right (λ e.
-        first-none (need_tests (is_path_of (modules s) (planned s founds)) (stands s) s.unmet)
-        (cycle_obstacle (map (name_at (modules s)) (cycle (among (before s)) (planned s founds))) ∷ line_of s founds kinds.Double ∷ [])
-        ((λ i. first (need_tests (sym in_plan i) (sym there i) (sym c.unmet.ensures i))) ∙ c.in_ok-check_needs.ensures.passed)
-        ∙ ap (λ x. first (x ∷ line_of s founds kinds.Double ∷ []))
-        (cycle-answer (modules s) (among (before s)) (unloaded s) (after s) (asked s founds) c.in_ok-marks.field-0.answer c.in_err-order.field-0.0 c.in_ok-marks.ensures.answer e))
+    first-none (need_tests (is_path_of (modules s) (planned s founds)) (stands s) s.unmet)
+    (cycle_obstacle (map (name_at (modules s)) (cycle (among (before s)) (planned s founds))) ∷ line_of s founds kinds.Double ∷ [])
+    ((λ i. first (need_tests (sym in_plan i) (sym there i) (sym c.unmet.ensures i))) ∙ c.in_ok-check_needs.ensures.passed)
+    ∙ ap (λ x. first (x ∷ line_of s founds kinds.Double ∷ []))
+    (cycle-answer (modules s) (among (before s)) (unloaded s) (after s) (asked s founds) c.in_ok-marks.field-0.answer c.in_err-order.field-0.0 c.in_ok-marks.ensures.answer e))
     c.in_err-order.ensures.err)
 
 pub returns-in_err-check_unmet-clause-err : goal.returns-in_err-check_unmet-clause-err
@@ -63,12 +63,12 @@ returns-in_err-check_unmet-clause-err c =
     let p = err_from_is_err_and c.from_residual-in_err-check_unmet.result c.from_residual-in_err-check_unmet.ensures.1 in
     rw (p.1, p.2)
     (right (λ e.
-        first-none (need_tests (is_path_of (modules s) (planned s founds)) (stands s) s.unmet)
-        (cycle_obstacle (map (name_at (modules s)) (cycle (among (before s)) (planned s founds))) ∷ line_of s founds kinds.Double ∷ [])
-        ((λ i. first (need_tests (sym in_plan i) (sym there i) (sym c.unmet.ensures i))) ∙ c.in_ok-check_needs.ensures.passed)
-        ∙ ap (λ x. first (x ∷ line_of s founds kinds.Double ∷ []))
-        (plan-answer (modules s) (among (before s)) (unloaded s) (after s) (asked s founds) c.in_ok-marks.field-0.answer c.in_ok-order.order c.in_ok-marks.ensures.answer c.in_ok-order.ensures.order)
-        ∙ ap (λ x. first (x ∷ [])) ((λ i. first_line kinds.Double (sym in_plan i) (sym there i) (sym c.unmet-2.ensures i)) ∙ e))
+    first-none (need_tests (is_path_of (modules s) (planned s founds)) (stands s) s.unmet)
+    (cycle_obstacle (map (name_at (modules s)) (cycle (among (before s)) (planned s founds))) ∷ line_of s founds kinds.Double ∷ [])
+    ((λ i. first (need_tests (sym in_plan i) (sym there i) (sym c.unmet.ensures i))) ∙ c.in_ok-check_needs.ensures.passed)
+    ∙ ap (λ x. first (x ∷ line_of s founds kinds.Double ∷ []))
+    (plan-answer (modules s) (among (before s)) (unloaded s) (after s) (asked s founds) c.in_ok-marks.field-0.answer c.in_ok-order.order c.in_ok-marks.ensures.answer c.in_ok-order.ensures.order)
+    ∙ ap (λ x. first (x ∷ [])) ((λ i. first_line kinds.Double (sym in_plan i) (sym there i) (sym c.unmet-2.ensures i)) ∙ e))
     c.in_err-check_unmet.ensures.err)
 
 pub returns-clause-passed : goal.returns-clause-passed

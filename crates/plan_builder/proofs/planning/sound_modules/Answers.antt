@@ -27,8 +27,8 @@ returns-in_err-check_lines-clause-err c =
     let p = err_from_is_err_and c.from_residual-in_err-check_lines.result c.from_residual-in_err-check_lines.ensures.1 in
     rw (p.1, p.2)
     (right (λ e dep is.
-        let mods = c.in_ok-modules.ensures ∙ ap by_number (ap shown c.deref.ensures.value ∙ c.in_ok-firsts.ensures ∙ firsts-are dep (shown_pairs c.args.pairs.now) is) ∙ modules-are dep in
-        let has = ap (λ ms name. is_some (place_of ms name)) mods ∙ has-same dep in
-        let firsts = ap shown c.deref-2.ensures.value ∙ c.in_ok-firsts.ensures ∙ firsts-are dep (shown_pairs c.args.pairs.now) is in
-        sym (λ i. option_map BadDepLine (bad_among (has i) (firsts i))) ∙ e)
+    let mods = c.in_ok-modules.ensures ∙ ap by_number (ap shown c.deref.ensures.value ∙ c.in_ok-firsts.ensures ∙ firsts-are dep (shown_pairs c.args.pairs.now) is) ∙ modules-are dep in
+    let has = ap (λ ms name. is_some (place_of ms name)) mods ∙ has-same dep in
+    let firsts = ap shown c.deref-2.ensures.value ∙ c.in_ok-firsts.ensures ∙ firsts-are dep (shown_pairs c.args.pairs.now) is in
+    sym (λ i. option_map BadDepLine (bad_among (has i) (firsts i))) ∙ e)
     c.in_err-check_lines.ensures.err)

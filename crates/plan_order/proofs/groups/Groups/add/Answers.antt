@@ -19,9 +19,9 @@ order_among-requires-clause-inside c =
     let e = new-slice c.args.self.now.found.items f.more.0 c.deref.result.now c.len-start.result (length c.deref.result.now) (c.deref.ensures.value ∙ f.more.1) s refl in
     subst (λ xs. All (λ y. y < length c.args.lists.now) xs) (sym c.deref-2.ensures.value)
     (all-within (length c.args.lists.now) c.in_ok-members.members.items (λ y h.
-        let h' = ap (λ xs. has xs y) (sym e) ∙ sym (c.in_ok-members.ensures.items y) ∙ h in
-        let l = seen-inside c.find_group.new.seen.items y (c.in_ok-find_group.ensures.marks.same y ∙ ap (λ xs. has xs y) f.more.1 ∙ has-append c.args.self.now.found.items f.more.0 y ∙ or_right _ _ h') in
-        omega (arith, l, c.in_ok-find_group.ensures.long, c.requires.whole.long)))
+    let h' = ap (λ xs. has xs y) (sym e) ∙ sym (c.in_ok-members.ensures.items y) ∙ h in
+    let l = seen-inside c.find_group.new.seen.items y (c.in_ok-find_group.ensures.marks.same y ∙ ap (λ xs. has xs y) f.more.1 ∙ has-append c.args.self.now.found.items f.more.0 y ∙ or_right _ _ h') in
+    omega (arith, l, c.in_ok-find_group.ensures.long, c.requires.whole.long)))
 
 pub returns-clause-order : goal.returns-clause-order
 returns-clause-order c =
