@@ -1,0 +1,12 @@
+pub mod Answering
+pub mod ByNumber
+pub mod Finds
+pub mod Firsts
+pub mod Inside
+pub mod Lines
+pub mod Marks
+pub mod Named
+pub mod Obstacles
+pub mod Sorting
+pub mod StepLaws
+pub mod Troubled

@@ -1,0 +1,59 @@
+-- The first obstacle of a request, test by test, and the steps of its plan.
+use Rattle.std.proofs.Common.{◌≡◌, ◌<◌, subst, ℕ, List, [], ◌∷◌, ◌++◌, length, map, drop, Option, Some, None, sym, ap, ◌∙◌}
+use Rattle.std.specs.List.{find}
+use Rattle.std.specs.Option.{option_map}
+use Rattle.std.proofs.lemmas.List.{length-map}
+use Rattle.std.proofs.Math.Seq.{drop-append_seam}
+use Rattle.km_names.specs.First.{first}
+use Rattle.name_lookup.specs.declared.found.Found.{Found}
+use Rattle.plan_order.specs.Lists.{among}
+use Rattle.plan_order.specs.Plan.{plan, with_groups}
+use Rattle.plan_order.specs.Answer.{IsPlan}
+use Rattle.plan_order.specs.declared.plan.GroupedOrder.{GroupedOrder}
+use Rattle.plan_builder.specs.declared.request.Request.{Request}
+use Rattle.plan_builder.specs.declared.obstacle.Obstacle.{Obstacle}
+use Rattle.plan_builder.specs.declared.obstacle.Obstacle.TheVariants.{BadDepLine}
+use Rattle.plan_builder.specs.Modules.{bad_name, places_of}
+use Rattle.plan_builder.specs.Needs.{Sources, modules, before, after, unloaded}
+use Rattle.plan_builder.specs.Members.{found_for, asked}
+use Rattle.plan_builder.specs.Steps.{module_step, steps_from, later, plan_steps}
+use Rattle.plan_builder.specs.Ends.{steps_by}
+use Rattle.plan_builder.specs.Obstacles.{is_unfound, is_unknown, all_names, not_found, plan_tests, obstacle_of}
+use Rattle.plan_builder.proofs.StepLaws.{steps-groups, plan-front}
+
+module _ (s : Sources) (request : Request) where
+  pub when-bad : (o : Obstacle) → option_map BadDepLine (bad_name s.maps.dep) ≡ Some o → obstacle_of s request ≡ Some o
+  unfolding obstacle_of
+  when-bad o e =
+      ap (λ x. first (x ∷ option_map not_found (find (is_unfound s) request.names) ∷ option_map not_found (find (is_unknown s request.ignore_install) (all_names (found_for s request))) ∷ plan_tests s (found_for s request))) e
+
+  module _ (sound : bad_name s.maps.dep ≡ None) where
+    pub when-unfound : (o : Obstacle) → option_map not_found (find (is_unfound s) request.names) ≡ Some o → obstacle_of s request ≡ Some o
+    unfolding obstacle_of
+    when-unfound o e =
+        ap (λ x. first (option_map BadDepLine x ∷ option_map not_found (find (is_unfound s) request.names) ∷ option_map not_found (find (is_unknown s request.ignore_install) (all_names (found_for s request))) ∷ plan_tests s (found_for s request))) sound
+        ∙ ap (λ x. first (x ∷ option_map not_found (find (is_unknown s request.ignore_install) (all_names (found_for s request))) ∷ plan_tests s (found_for s request))) e
+
+    module _ (found : find (is_unfound s) request.names ≡ None) where
+      pub when-unknown : (o : Obstacle) → option_map not_found (find (is_unknown s request.ignore_install) (all_names (found_for s request))) ≡ Some o → obstacle_of s request ≡ Some o
+      unfolding obstacle_of
+      when-unknown o e =
+          ap (λ x. first (option_map BadDepLine x ∷ option_map not_found (find (is_unfound s) request.names) ∷ option_map not_found (find (is_unknown s request.ignore_install) (all_names (found_for s request))) ∷ plan_tests s (found_for s request))) sound
+          ∙ ap (λ x. first (option_map not_found x ∷ option_map not_found (find (is_unknown s request.ignore_install) (all_names (found_for s request))) ∷ plan_tests s (found_for s request))) found
+          ∙ ap (λ x. first (x ∷ plan_tests s (found_for s request))) e
+
+      pub when-known : find (is_unknown s request.ignore_install) (all_names (found_for s request)) ≡ None → (x : Option Obstacle) → first (plan_tests s (found_for s request)) ≡ x → obstacle_of s request ≡ x
+      unfolding obstacle_of
+      when-known known x e =
+          ap (λ x. first (option_map BadDepLine x ∷ option_map not_found (find (is_unfound s) request.names) ∷ option_map not_found (find (is_unknown s request.ignore_install) (all_names (found_for s request))) ∷ plan_tests s (found_for s request))) sound
+          ∙ ap (λ x. first (option_map not_found x ∷ option_map not_found (find (is_unknown s request.ignore_install) (all_names (found_for s request))) ∷ plan_tests s (found_for s request))) found
+          ∙ ap (λ x. first (option_map not_found x ∷ plan_tests s (found_for s request))) known
+          ∙ e
+
+  pub steps-are : (fs : List Found) (p : GroupedOrder) → fs ≡ found_for s request → IsPlan (among (before s)) (unloaded s) (after s) (asked s fs) p → steps_by s request [] 0 fs p.ends.items p.order.items ≡ plan_steps s request
+  unfolding plan_steps
+  steps-are fs p are is =
+      let front = plan-front (among (before s)) (unloaded s) (after s) (asked s fs) in
+      steps-groups s request [] [] fs p.ends.items p.order.items front.0 (is.order ∙ front.1) (is.ends_long ∙ length-map fs (λ (f : Found). places_of (modules s) f.names)) (λ k l. is.ends k (subst (λ n. k < n) (sym (length-map fs (λ (f : Found). places_of (modules s) f.names))) l))
+      ∙ ap (λ xs. steps_from s request [] [] fs ++ map (module_step s request) xs) (sym (ap (drop (length (with_groups (among (before s)) (unloaded s) [] (asked s fs)))) front.1 ∙ drop-append_seam (with_groups (among (before s)) (unloaded s) [] (asked s fs)) front.0))
+      ∙ ap (λ gs. steps_from s request [] [] gs ++ map (module_step s request) (later s gs)) are

@@ -1,0 +1,12 @@
+use Rattle.std.proofs.Common.{◌≡◌, ◌++◌, ◌==◌, length, map}
+use Rattle.std.specs.List.{slice_split}
+use Rattle.km_names.specs.Path.{module_name}
+use Rattle.mod_tree.specs.DependencyLine.{needed_paths}
+use Rattle.plan_builder.specs.Modules.{needed_names}
+use Rattle.plan_builder.proofs.line.needed_names.Given as goal
+
+abbrev pub invariant-loop-after : goal.invariant-loop-after
+invariant-loop-after l = l.names ++ map module_name (needed_paths (slice_split (λ b. b == 32) l.rest)) ≡ needed_names l.fn.line
+
+abbrev pub decreases-loop-after : goal.decreases-loop-after
+decreases-loop-after l = length l.rest

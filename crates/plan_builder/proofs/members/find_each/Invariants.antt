@@ -1,0 +1,13 @@
+use Rattle.std.proofs.Common.{◌≡◌, take, None}
+use Rattle.std.specs.List.{find}
+use Rattle.plan_builder.specs.Members.{founds_of}
+use Rattle.plan_builder.specs.Obstacles.{is_unfound}
+use Rattle.plan_builder.specs.Planner.{sources_of}
+use Rattle.plan_builder.proofs.members.find_each.Given as goal
+
+abbrev pub invariant-loop-name : goal.invariant-loop-name
+invariant-loop-name l =
+    record {
+      founds : l.founds.items ≡ founds_of (sources_of l.planner) (take l.name-index l.names);
+      passed : find (is_unfound (sources_of l.planner)) (take l.name-index l.names) ≡ None;
+    }

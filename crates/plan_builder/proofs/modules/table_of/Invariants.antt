@@ -1,0 +1,11 @@
+use Rattle.std.proofs.Common.{◌≡◌, take, length, map, Some}
+use Rattle.name_table.specs.NameTable.{IsTableOf}
+use Rattle.plan_builder.specs.Tables.{shown, IsNamed}
+use Rattle.plan_builder.proofs.modules.table_of.Given as goal
+
+abbrev pub invariant-loop-pair : goal.invariant-loop-pair
+invariant-loop-pair l =
+    record {
+      named : IsNamed l.names (shown (take l.pair-index l.pairs));
+      count : l.names.count ≡ l.pair-index;
+    }

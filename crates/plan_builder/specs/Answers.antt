@@ -1,0 +1,30 @@
+-- What `plan` learns on its way.
+use Rattle.std.specs.Prelude.{◌≡◌, ◌<◌, ℕ, Bool, List, [], ◌∷◌, map, All, Option}
+use Rattle.index_format.specs.Listing.{KeyValue}
+use Rattle.symbol_binding.specs.declared.unbound.Unbound.{Unbound}
+use Rattle.plan_order.specs.declared.plan.PlanOrCycle.{PlanOrCycle}
+use Rattle.plan_order.specs.declared.plan.PlanOrCycle.TheVariants as answers
+use Rattle.plan_builder.specs.declared.check.LineKind.TheVariants as kinds
+use Rattle.plan_builder.specs.declared.obstacle.Obstacle.{Obstacle}
+use Rattle.plan_builder.specs.declared.obstacle.Obstacle.TheVariants.{Cycle}
+use Rattle.plan_builder.specs.Modules.{name_at}
+use Rattle.plan_builder.specs.Obstacles.{first_line}
+
+-- The tests of the lines on needs.
+abbrev pub need_tests : (List ℕ → Bool) → (List ℕ → Bool) → List Unbound → List (Option Obstacle)
+need_tests in_plan there unmet =
+    first_line kinds.Missing in_plan there unmet
+    ∷ first_line kinds.Gpl in_plan there unmet
+    ∷ first_line kinds.Version in_plan there unmet
+    ∷ first_line kinds.Namespace in_plan there unmet
+    ∷ []
+
+-- A cycle is of modules below a number.
+abbrev pub ShortCycle : ℕ → PlanOrCycle → Type 0
+ShortCycle n (answers.Plan order) = Unit {0}
+ShortCycle n (answers.Cycle found) = All (λ y. y < n) found.items
+
+-- The answer is a cycle, of which the obstacle has the names.
+abbrev pub IsCycleOf : List KeyValue → PlanOrCycle → Obstacle → Type 0
+IsCycleOf ms (answers.Plan order) o = ⊥
+IsCycleOf ms (answers.Cycle found) o = o ≡ Cycle (map (name_at ms) found.items)

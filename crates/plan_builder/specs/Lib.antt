@@ -1,0 +1,12 @@
+pub mod Modules
+pub mod Pairs
+pub mod Tables
+pub mod Text
+pub mod Needs
+pub mod Sources
+pub mod Planner
+pub mod Members
+pub mod Steps
+pub mod Ends
+pub mod Obstacles
+pub mod Answers

@@ -1,0 +1,70 @@
+-- What the names of a request stand for. modprobe(8).
+use Rattle.std.specs.Prelude.{ℕ, ◌&&◌, Bool, false, List, [], map, Option, Some, None, if◌then◌else◌, is_some}
+use Rattle.std.specs.List.{list_any}
+use Rattle.std.specs.Str.{bytes_eq}
+use Rattle.km_names.specs.First.{first}
+use Rattle.modprobe_conf.specs.declared.rule.Rule.{Rule}
+use Rattle.modprobe_conf.specs.declared.rule.Rule.TheVariants.{Install}
+use Rattle.name_table.specs.FirstSeen.{is_among}
+use Rattle.name_lookup.specs.declared.found.Found.{Found}
+use Rattle.name_lookup.specs.Maps.{has_value}
+use Rattle.name_lookup.specs.Found.{found}
+use Rattle.plan_order.specs.Plan.{planned as planned_for}
+use Rattle.plan_order.specs.Lists.{among}
+use Rattle.plan_builder.specs.declared.request.Request.{Request}
+use Rattle.plan_builder.specs.Modules.{place_of, places_of}
+use Rattle.plan_builder.specs.Needs.{Sources, modules, before, after, unloaded}
+
+-- What is found for each of some names.
+abbrev pub founds_of : Sources → List (List ℕ) → List Found
+founds_of s names = map (found s.rules s.maps s.use_blacklist) names
+
+-- What is found for each requested name.
+abbrev pub found_for : Sources → Request → List Found
+found_for s request = founds_of s request.names
+
+-- The modules of what was found for each name, by their places.
+abbrev pub asked : Sources → List Found → List (List ℕ)
+asked s founds = map (λ f. places_of (modules s) f.names) founds
+
+-- All that is planned.
+abbrev pub planned : Sources → List Found → List ℕ
+planned s founds = planned_for (among (before s)) (unloaded s) (after s) (asked s founds)
+
+-- One of what was found has this name.
+abbrev pub is_member_of : List Found → List ℕ → Bool
+is_member_of founds name = list_any (λ f. is_among f.names name) founds
+
+-- A requested name stands for this one.
+abbrev pub is_member : Sources → Request → List ℕ → Bool
+is_member s request name = is_member_of (found_for s request) name
+
+-- The command that a rule has for loading the module of this name.
+abbrev pub command_of : List ℕ → Rule → Option (List ℕ)
+command_of name (Install owner command) = if bytes_eq owner name then Some command else None
+command_of name _ = None
+
+-- The first such command.
+abbrev pub install_command : List Rule → List ℕ → Option (List ℕ)
+install_command rules name = first (map (command_of name) rules)
+
+-- The command that is run in place of loading the module of this name, unless commands are ignored.
+abbrev pub chosen_command : List Rule → Bool → List ℕ → Option (List ℕ)
+chosen_command rules ignored name = if ignored then None else install_command rules name
+
+-- What a member of what was found for a requested name is: a module, a name for which a command is run, a built-in
+-- module, or nothing that is known.
+pub data Kind : Type 0 where
+  loadable : ℕ → Kind
+  installed : List ℕ → Kind
+  inside : Kind
+  unknown : Kind
+
+abbrev pub kind_unless : Option ℕ → Option (List ℕ) → Bool → Kind
+kind_unless (Some place) command builtin = loadable place
+kind_unless None (Some command) builtin = installed command
+kind_unless None None builtin = if builtin then inside else unknown
+
+abbrev pub kind_of : Sources → Bool → List ℕ → Kind
+kind_of s ignored name =
+    kind_unless (place_of (modules s) name) (chosen_command s.rules ignored name) (has_value s.maps.builtin name)

@@ -1,0 +1,109 @@
+-- What keeps a request from having a plan: the first test that fails. The first line of modules.unmet of each kind
+-- counts, those on missing symbols first. modprobe(8).
+use Rattle.std.specs.Prelude.{ℕ, ◌==◌, ◌&&◌, ◌||◌, not, Bool, true, false, List, [], ◌∷◌, map, is_some, Option, Some, None, unwrap_or, if◌then◌else◌, option_map}
+use Rattle.std.specs.List.{find, list_any, flat_map}
+use Rattle.std.specs.Str.{bytes_eq}
+use Rattle.km_names.specs.First.{first}
+use Rattle.km_names.specs.AliasForm.{normal_alias}
+use Rattle.index_format.specs.Listing.{KeyValue}
+use Rattle.symbol_binding.specs.declared.unbound.Unbound.{Unbound}
+use Rattle.symbol_binding.specs.declared.unbound.Unbound.TheVariants as lines
+use Rattle.symbol_binding.specs.Unmet.{vmlinux}
+use Rattle.name_lookup.specs.declared.found.Found.{Found}
+use Rattle.name_lookup.specs.Found.{found}
+use Rattle.relation_order.specs.Cycle.{cycle}
+use Rattle.plan_order.specs.Lists.{among}
+use Rattle.plan_builder.specs.declared.check.LineKind.{LineKind}
+use Rattle.plan_builder.specs.declared.check.LineKind.TheVariants as kinds
+use Rattle.plan_builder.specs.declared.request.Request.{Request}
+use Rattle.plan_builder.specs.declared.obstacle.Obstacle.{Obstacle}
+use Rattle.plan_builder.specs.declared.obstacle.Obstacle.TheVariants.{BadDepLine, NotFound, Missing, Gpl, Version, Namespace, Cycle, Double}
+use Rattle.plan_builder.specs.Modules.{bad_name, name_at, path_at, places_of}
+use Rattle.plan_builder.specs.Needs.{Sources, modules, before}
+use Rattle.plan_builder.specs.Members.{found_for, planned, Kind, loadable, installed, inside, unknown, kind_of}
+
+-- A name in its normal form, where it has one.
+abbrev pub shown_name : List ℕ → List ℕ
+shown_name name = unwrap_or (normal_alias name) name
+
+-- A name that isn't found.
+abbrev pub not_found : List ℕ → Obstacle
+not_found name = NotFound (shown_name name)
+
+-- All lists of a name are empty.
+abbrev pub is_unfound : Sources → List ℕ → Bool
+is_unfound s name = (found s.rules s.maps s.use_blacklist name).list == 0
+
+-- A member is nothing that is known.
+abbrev pub is_unknown_kind : Kind → Bool
+is_unknown_kind (loadable place) = false
+is_unknown_kind (installed command) = false
+is_unknown_kind inside = false
+is_unknown_kind unknown = true
+
+abbrev pub is_unknown : Sources → Bool → List ℕ → Bool
+is_unknown s ignored name = is_unknown_kind (kind_of s ignored name)
+
+-- The names of all that was found.
+abbrev pub all_names : List Found → List (List ℕ)
+all_names founds = flat_map (λ f. f.names) founds
+
+-- One of some modules has this path.
+abbrev pub is_path_of : List KeyValue → List ℕ → List ℕ → Bool
+is_path_of ms places path = list_any (λ x. bytes_eq (path_at ms x) path) places
+
+-- A side of a double line is there before the plan: the kernel, or a loaded module.
+abbrev pub stands : Sources → List ℕ → Bool
+stands s path = bytes_eq path vmlinux || is_path_of (modules s) (places_of (modules s) s.loaded) path
+
+-- Both sides of a double line are planned or there before, and one at least is planned.
+abbrev pub is_met : (List ℕ → Bool) → (List ℕ → Bool) → List ℕ → List ℕ → Bool
+is_met in_plan there a b = (in_plan a && (in_plan b || there b)) || (there a && in_plan b)
+
+-- A line is an obstacle of a kind: it is on a need of a planned module, or it is a double line that is met.
+abbrev pub is_obstacle : LineKind → (List ℕ → Bool) → (List ℕ → Bool) → Unbound → Bool
+is_obstacle kinds.Missing in_plan there (lines.Missing path symbol) = in_plan path
+is_obstacle kinds.Gpl in_plan there (lines.Gpl path symbol by) = in_plan path
+is_obstacle kinds.Version in_plan there (lines.Version path symbol by) = in_plan path
+is_obstacle kinds.Namespace in_plan there (lines.Namespace path symbol by) = in_plan path
+is_obstacle kinds.Double in_plan there (lines.Double symbol a b) = is_met in_plan there a b
+is_obstacle kind in_plan there line = false
+
+-- A line as an obstacle.
+abbrev pub as_obstacle : Unbound → Obstacle
+as_obstacle (lines.Missing path symbol) = Missing path symbol
+as_obstacle (lines.Gpl path symbol by) = Gpl path symbol by
+as_obstacle (lines.Version path symbol by) = Version path symbol by
+as_obstacle (lines.Namespace path symbol by) = Namespace path symbol by
+as_obstacle (lines.Double symbol a b) = Double symbol a b
+
+-- The first line of a kind that is an obstacle.
+abbrev pub first_line : LineKind → (List ℕ → Bool) → (List ℕ → Bool) → List Unbound → Option Obstacle
+first_line kind in_plan there unmet = option_map as_obstacle (find (is_obstacle kind in_plan there) unmet)
+
+abbrev pub line_of : Sources → List Found → LineKind → Option Obstacle
+line_of s founds kind = first_line kind (is_path_of (modules s) (planned s founds)) (stands s) s.unmet
+
+-- The cycle of some modules, where there is any.
+abbrev pub cycle_obstacle : List (List ℕ) → Option Obstacle
+cycle_obstacle [] = None
+cycle_obstacle (name ∷ names) = Some (Cycle (name ∷ names))
+
+-- The tests of what is planned.
+abbrev pub plan_tests : Sources → List Found → List (Option Obstacle)
+plan_tests s founds =
+    line_of s founds kinds.Missing
+    ∷ line_of s founds kinds.Gpl
+    ∷ line_of s founds kinds.Version
+    ∷ line_of s founds kinds.Namespace
+    ∷ cycle_obstacle (map (name_at (modules s)) (cycle (among (before s)) (planned s founds)))
+    ∷ line_of s founds kinds.Double
+    ∷ []
+
+-- The first obstacle of a request.
+unfoldable pub obstacle_of : Sources → Request → Option Obstacle
+obstacle_of s request = first (
+    option_map BadDepLine (bad_name s.maps.dep)
+    ∷ option_map not_found (find (is_unfound s) request.names)
+    ∷ option_map not_found (find (is_unknown s request.ignore_install) (all_names (found_for s request)))
+    ∷ plan_tests s (found_for s request))

@@ -1,0 +1,203 @@
+// What keeps a request from having a plan.
+ghost use Rattle.std.specs.Prelude.{◌≡◌, ◌<◌, ◌⊎◌, ℕ, List, length, All, Some, None, IfOk, IfErr, OnOk, option_map};
+ghost use Rattle.name_table.specs.FirstSeen.{is_among};
+ghost use Rattle.plan_builder.specs.Modules.{bad_among, places_of};
+ghost use Rattle.plan_builder.specs.Needs.{modules as modules_in};
+ghost use Rattle.plan_builder.specs.Obstacles.{is_path_of, is_met as are_met, is_obstacle as is_obstacle_of, as_obstacle as obstacle_of_line, first_line as first_line_of, stands};
+ghost use Rattle.plan_builder.specs.Planner.{sources_of};
+ghost use Rattle.plan_builder.specs.Tables.{shown};
+
+use crate::line::{Known, is_line};
+use crate::modules::Modules;
+use crate::needs::{Planner, push_place};
+use crate::obstacle::Obstacle;
+use index_read::Pair;
+use km_names::{Name, PathText};
+use name_table::NameSet;
+use std::alloc::{AllocError, Global};
+use symbol_binding::Unbound;
+
+/// The kinds of lines of modules.unmet.
+#[derive(Clone, Copy)]
+pub(crate) enum LineKind {
+    Missing,
+    Gpl,
+    Version,
+    Namespace,
+    Double,
+}
+
+/// Tests that each pair's value is the dependency line of its module.
+pub(crate) fn check_lines<K: Known>(
+    alloc: Global,
+    known: &K,
+    pairs: &[&Pair],
+) -> Result<(), Obstacle>
+    ensures passed { OnOk result (bad_among (K.has known.now) (shown pairs.now) ≡ None) }
+    ensures err { IfErr result (λ o. (o ≡ Obstacle.Memory) ⊎ (option_map Obstacle.BadDepLine (bad_among (K.has known.now) (shown pairs.now)) ≡ Some o)) }
+{
+    for pair in pairs {
+        if !is_line(
+            alloc,
+            known,
+            pair.key.as_bytes(),
+            pair.value.text.as_bytes(),
+        )? {
+            return Err(Obstacle::BadDepLine {
+                name: Name::from_slice(alloc, pair.key.as_bytes())?,
+            });
+        }
+    }
+    Ok(())
+}
+
+/// The paths of some modules.
+pub(crate) fn paths_of<'a>(
+    alloc: Global,
+    modules: &Modules<'a>,
+    places: &[usize],
+) -> Result<NameSet<'a>, AllocError>
+    requires { All (λ y. y < length modules.now) places.now }
+    ensures { IfOk result (λ paths. (path : List ℕ) → is_among paths path ≡ is_path_of modules.now places.now path) }
+{
+    let mut paths = NameSet::new(alloc);
+    for place in places {
+        paths.insert(modules.path(*place))?;
+    }
+    Ok(paths)
+}
+
+/// The places of those names that are modules.
+fn places_named(
+    alloc: Global,
+    modules: &Modules<'_>,
+    names: &[Name],
+) -> Result<Vec<usize>, AllocError>
+    ensures { IfOk result (λ places. places.items ≡ places_of modules.now names.now) }
+{
+    let mut places = Vec::new(alloc);
+    for name in names {
+        push_place(&mut places, modules, name.as_bytes())?;
+    }
+    Ok(places)
+}
+
+/// The paths of loaded modules, and the kernel's.
+pub(crate) fn standing_paths<'a>(
+    alloc: Global,
+    planner: &Planner<'a>,
+) -> Result<NameSet<'a>, AllocError>
+    ensures { IfOk result (λ paths. (path : List ℕ) → is_among paths path ≡ stands (sources_of planner.now) path) }
+{
+    let places = places_named(alloc, planner.modules(), planner.loaded())?;
+    let mut paths = paths_of(alloc, planner.modules(), &places)?;
+    paths.insert(b"vmlinux".as_slice())?;
+    Ok(paths)
+}
+
+/// Tests that no line of a kind is an obstacle, over the paths of planned modules and of those that are there before.
+pub(crate) fn check_unmet(
+    alloc: Global,
+    kind: LineKind,
+    unmet: &[Unbound],
+    planned: &NameSet<'_>,
+    there: &NameSet<'_>,
+) -> Result<(), Obstacle>
+    ensures passed { OnOk result (first_line_of kind (is_among planned.now) (is_among there.now) unmet.now ≡ None) }
+    ensures err { IfErr result (λ o. (o ≡ Obstacle.Memory) ⊎ (first_line_of kind (is_among planned.now) (is_among there.now) unmet.now ≡ Some o)) }
+{
+    for line in unmet {
+        if is_obstacle(kind, line, planned, there) {
+            return Err(as_obstacle(alloc, line)?);
+        }
+    }
+    Ok(())
+}
+
+/// Whether a line is an obstacle of a kind.
+fn is_obstacle(kind: LineKind, line: &Unbound, planned: &NameSet<'_>, there: &NameSet<'_>) -> bool
+    ensures { result ≡ is_obstacle_of kind (is_among planned.now) (is_among there.now) line.now }
+{
+    match (kind, line) {
+        (LineKind::Missing, Unbound::Missing { path, .. })
+        | (LineKind::Gpl, Unbound::Gpl { path, .. })
+        | (LineKind::Version, Unbound::Version { path, .. })
+        | (LineKind::Namespace, Unbound::Namespace { path, .. }) => {
+            planned.contains(path.as_bytes())
+        }
+        (LineKind::Double, Unbound::Double { first, second, .. }) => {
+            is_met(planned, there, first.as_bytes(), second.as_bytes())
+        }
+        _ => false,
+    }
+}
+
+/// Whether both sides of a double line are planned or there before, and one at least is planned.
+fn is_met(planned: &NameSet<'_>, there: &NameSet<'_>, first: &[u8], second: &[u8]) -> bool
+    ensures { result ≡ are_met (is_among planned.now) (is_among there.now) first.now second.now }
+{
+    if planned.contains(first) && (planned.contains(second) || there.contains(second)) {
+        return true;
+    }
+    there.contains(first) && planned.contains(second)
+}
+
+/// A line as an obstacle.
+fn as_obstacle(alloc: Global, line: &Unbound) -> Result<Obstacle, AllocError>
+    ensures { IfOk result (λ obstacle. obstacle ≡ obstacle_of_line line.now) }
+{
+    match line {
+        Unbound::Missing { path, symbol } => Ok(Obstacle::Missing {
+            path: path_copy(alloc, path)?,
+            symbol: name_copy(alloc, symbol)?,
+        }),
+        Unbound::Gpl {
+            path,
+            symbol,
+            provider,
+        } => Ok(Obstacle::Gpl {
+            path: path_copy(alloc, path)?,
+            symbol: name_copy(alloc, symbol)?,
+            provider: path_copy(alloc, provider)?,
+        }),
+        Unbound::Version {
+            path,
+            symbol,
+            provider,
+        } => Ok(Obstacle::Version {
+            path: path_copy(alloc, path)?,
+            symbol: name_copy(alloc, symbol)?,
+            provider: path_copy(alloc, provider)?,
+        }),
+        Unbound::Namespace {
+            path,
+            symbol,
+            provider,
+        } => Ok(Obstacle::Namespace {
+            path: path_copy(alloc, path)?,
+            symbol: name_copy(alloc, symbol)?,
+            provider: path_copy(alloc, provider)?,
+        }),
+        Unbound::Double {
+            symbol,
+            first,
+            second,
+        } => Ok(Obstacle::Double {
+            symbol: name_copy(alloc, symbol)?,
+            first: path_copy(alloc, first)?,
+            second: path_copy(alloc, second)?,
+        }),
+    }
+}
+
+fn path_copy(alloc: Global, path: &PathText) -> Result<PathText, AllocError>
+    ensures { IfOk result (λ copy. copy ≡ path.now) }
+{
+    PathText::from_slice(alloc, path.as_bytes())
+}
+
+fn name_copy(alloc: Global, name: &Name) -> Result<Name, AllocError>
+    ensures { IfOk result (λ copy. copy ≡ name.now) }
+{
+    Name::from_slice(alloc, name.as_bytes())
+}

@@ -1,0 +1,28 @@
+//! Plans: which modules are loaded for some names, in which order, with which parameters, and what is done in place of
+//! loading them; or what keeps the names from having a plan. modprobe(8), modprobe.d(5), modules.dep(5).
+//!
+//! The definitions speak of the maps that a folder's index files stand for, of the rules of the configuration, of the
+//! lines of modules.unmet and of the list of loaded modules. The crate stands on `name_lookup` for what a name stands
+//! for, on `mod_tree` for dependency lines, and on `plan_order` for the order of modules by their places in the tree. A
+//! plan looks once at each dependency line of the folder, and asks only planned modules for what they need.
+#![tactic(auto)]
+
+mod check;
+mod line;
+mod members;
+mod modules;
+mod needs;
+mod obstacle;
+mod planning;
+mod request;
+mod step;
+mod steps;
+#[cfg(test)]
+mod tests;
+mod text;
+
+pub use line::well_formed;
+pub use obstacle::Obstacle;
+pub use planning::plan;
+pub use request::Request;
+pub use step::{PlanStep, PlanSteps};

@@ -1,0 +1,221 @@
+// What the names of a request stand for.
+ghost use Rattle.std.specs.Prelude.{◌≡◌, ◌<◌, ◌||◌, ◌⊎◌, not, ℕ, List, map, length, All, Some, None, IfOk, IfErr, OnOk, option_map};
+ghost use Rattle.std.specs.List.{find};
+ghost use Rattle.relation_order.specs.Sets.{below, marked as marks_places};
+ghost use Rattle.relation_order.specs.Search.{Inside};
+ghost use Rattle.plan_order.specs.Lists.{items_of};
+ghost use Rattle.name_table.specs.FirstSeen.{is_among};
+ghost use Rattle.plan_builder.specs.Modules.{places_of, name_at};
+ghost use Rattle.plan_builder.specs.Needs.{modules as modules_in, unloaded};
+ghost use Rattle.plan_builder.specs.Planner.{sources_of, texts};
+ghost use Rattle.plan_builder.specs.Members.{founds_of, is_member_of, chosen_command as chosen_command_of, install_command as install_command_of, command_of};
+ghost use Rattle.plan_builder.specs.Obstacles.{is_unfound, is_unknown as is_unknown_of, all_names, not_found as not_found_of, shown_name as shown_name_of};
+
+use crate::modules::Modules;
+use crate::needs::{Planner, push_all, push_places};
+use crate::obstacle::Obstacle;
+use km_names::{Name, Names, normal_alias};
+use modprobe_conf::{Rule, Rules};
+use name_lookup::Found;
+use name_table::NameSet;
+use std::alloc::{AllocError, Global};
+
+/// What is found for each name, or the first name that nothing is found for.
+pub(crate) fn find_each(
+    alloc: Global,
+    planner: &Planner<'_>,
+    names: &Names,
+) -> Result<Vec<Found>, Obstacle>
+    ensures found { IfOk result (λ founds. founds.items ≡ founds_of (sources_of planner.now) names.now) }
+    ensures passed { OnOk result (find (is_unfound (sources_of planner.now)) names.now ≡ None) }
+    ensures err { IfErr result (λ o. (o ≡ Obstacle.Memory) ⊎ (option_map not_found_of (find (is_unfound (sources_of planner.now)) names.now) ≡ Some o)) }
+{
+    let mut founds = Vec::new(alloc);
+    for name in names.as_slice() {
+        let found = planner.found(alloc, name)?;
+        if found.list == 0 {
+            return Err(not_found(alloc, name)?);
+        }
+        founds.push(found)?;
+    }
+    Ok(founds)
+}
+
+/// The name that isn't found, in its normal form where it has one.
+fn not_found(alloc: Global, name: &Name) -> Result<Obstacle, AllocError>
+    ensures { IfOk result (λ o. o ≡ not_found_of name.now) }
+{
+    Ok(Obstacle::NotFound {
+        name: shown_name(alloc, name)?,
+    })
+}
+
+fn shown_name(alloc: Global, name: &Name) -> Result<Name, AllocError>
+    ensures { IfOk result (λ shown. shown ≡ shown_name_of name.now) }
+{
+    match normal_alias(alloc, name.as_bytes())? {
+        Some(normal) => Name::from_slice(alloc, normal.as_bytes()),
+        None => Name::from_slice(alloc, name.as_bytes()),
+    }
+}
+
+/// Tests that all that was found is known.
+pub(crate) fn check_known(
+    alloc: Global,
+    planner: &Planner<'_>,
+    ignored: bool,
+    founds: &[Found],
+) -> Result<(), Obstacle>
+    ensures passed { OnOk result (find (is_unknown_of (sources_of planner.now) ignored) (all_names founds.now) ≡ None) }
+    ensures err { IfErr result (λ o. (o ≡ Obstacle.Memory) ⊎ (option_map not_found_of (find (is_unknown_of (sources_of planner.now) ignored) (all_names founds.now)) ≡ Some o)) }
+{
+    let names = names_in(alloc, founds)?;
+    for name in &names {
+        if is_unknown(planner, ignored, name.as_bytes()) {
+            return Err(not_found(alloc, name)?);
+        }
+    }
+    Ok(())
+}
+
+/// The names of all that was found.
+fn names_in<'a>(alloc: Global, founds: &'a [Found]) -> Result<Vec<&'a Name>, AllocError>
+    ensures { IfOk result (λ names. texts names.items ≡ all_names founds.now) }
+{
+    let mut names = Vec::new(alloc);
+    for found in founds {
+        push_all(&mut names, &found.names)?;
+    }
+    Ok(names)
+}
+
+/// The modules of what was found for each name, by their places.
+pub(crate) fn requests_of(
+    alloc: Global,
+    planner: &Planner<'_>,
+    founds: &[Found],
+) -> Result<Vec<Vec<usize>>, AllocError>
+    ensures items { IfOk result (λ requests. items_of requests.items ≡ map (λ f. places_of (modules_in (sources_of planner.now)) f.names) founds.now) }
+    ensures inside { IfOk result (λ requests. Inside (length (modules_in (sources_of planner.now))) requests.items) }
+{
+    let mut requests = Vec::new(alloc);
+    for found in founds {
+        requests.push(request_of(alloc, planner, &found.names)?)?;
+    }
+    Ok(requests)
+}
+
+/// The places of those names that are modules.
+fn request_of(alloc: Global, planner: &Planner<'_>, names: &Names) -> Result<Vec<usize>, AllocError>
+    ensures items { IfOk result (λ places. places.items ≡ places_of (modules_in (sources_of planner.now)) names.now) }
+    ensures inside { IfOk result (λ places. All (λ y. y < length (modules_in (sources_of planner.now))) places.items) }
+{
+    let mut places = Vec::new(alloc);
+    push_places(&mut places, planner.modules(), names)?;
+    Ok(places)
+}
+
+/// All names that were found.
+pub(crate) fn member_names<'a>(
+    alloc: Global,
+    founds: &'a [Found],
+) -> Result<NameSet<'a>, AllocError>
+    ensures { IfOk result (λ names. (name : List ℕ) → is_among names name ≡ is_member_of founds.now name) }
+{
+    let mut names = NameSet::new(alloc);
+    for found in founds {
+        insert_all(&mut names, &found.names)?;
+    }
+    Ok(names)
+}
+
+/// Puts names into a set.
+pub(crate) fn insert_all<'a>(names: &mut NameSet<'a>, more: &'a Names) -> Result<(), AllocError>
+    ensures { OnOk result ((name : List ℕ) → is_among names.new name ≡ (is_among names.old name || is_among more.now name)) }
+{
+    for name in more.as_slice() {
+        names.insert(name.as_bytes())?;
+    }
+    Ok(())
+}
+
+/// A mark for each module that isn't loaded.
+pub(crate) fn free_marks(alloc: Global, planner: &Planner<'_>) -> Result<Vec<bool>, AllocError>
+    ensures long { IfOk result (λ free. length free.items ≡ length (modules_in (sources_of planner.now))) }
+    ensures marks { IfOk result (λ free. marks_places free.items ≡ unloaded (sources_of planner.now)) }
+{
+    let loaded = name_set(alloc, planner.loaded())?;
+    let marks = marks_but(alloc, planner.modules(), &loaded)?;
+    Ok(marks)
+}
+
+/// A mark for each module whose name isn't among some.
+fn marks_but(
+    alloc: Global,
+    modules: &Modules<'_>,
+    names: &NameSet<'_>,
+) -> Result<Vec<bool>, AllocError>
+    ensures { IfOk result (λ marks. marks.items ≡ map (λ x. not (is_among names.now (name_at modules.now x))) (below (length modules.now))) }
+{
+    let mut marks = Vec::new(alloc);
+    for place in 0..modules.len() {
+        marks.push(!names.contains(modules.name(place)))?;
+    }
+    Ok(marks)
+}
+
+/// Names as a set.
+fn name_set<'a>(alloc: Global, names: &'a [Name]) -> Result<NameSet<'a>, AllocError>
+    ensures { IfOk result (λ set. (name : List ℕ) → is_among set name ≡ is_among names.now name) }
+{
+    let mut set = NameSet::new(alloc);
+    for name in names {
+        set.insert(name.as_bytes())?;
+    }
+    Ok(set)
+}
+
+/// The first command that a rule has for loading the module of this name.
+fn install_command<'a>(rules: &'a Rules, name: &[u8]) -> Option<&'a [u8]>
+    ensures { option_map (λ command. command.now) result ≡ install_command_of rules.now name.now }
+{
+    for rule in rules.as_slice() {
+        if let Some(command) = command_in(rule, name) {
+            return Some(command);
+        }
+    }
+    None
+}
+
+fn command_in<'a>(rule: &'a Rule, wanted: &[u8]) -> Option<&'a [u8]>
+    ensures { option_map (λ command. command.now) result ≡ command_of wanted.now rule.now }
+{
+    match rule {
+        Rule::Install { name, command } if name.as_bytes() == wanted => Some(command.as_bytes()),
+        _ => None,
+    }
+}
+
+/// The command that is run in place of loading the module of this name, unless commands are ignored.
+pub(crate) fn chosen_command<'a>(rules: &'a Rules, ignored: bool, name: &[u8]) -> Option<&'a [u8]>
+    ensures { option_map (λ command. command.now) result ≡ chosen_command_of rules.now ignored name.now }
+{
+    if ignored {
+        None
+    } else {
+        install_command(rules, name)
+    }
+}
+
+/// Whether a member is nothing that is known.
+fn is_unknown(planner: &Planner<'_>, ignored: bool, name: &[u8]) -> bool
+    ensures { result ≡ is_unknown_of (sources_of planner.now) ignored name.now }
+{
+    if planner.modules().place(name).is_some() {
+        return false;
+    }
+    if chosen_command(planner.rules(), ignored, name).is_some() {
+        return false;
+    }
+    !planner.is_builtin(name)
+}

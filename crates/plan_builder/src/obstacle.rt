@@ -1,0 +1,72 @@
+ghost use Rattle.std.specs.Prelude.{◌≡◌};
+
+use km_names::{Name, Names, PathText};
+use std::alloc::{AllocError, AllocFailed};
+
+/// What keeps a request from having a plan. Paths are those of modules.dep; the kernel is written `vmlinux`.
+#[derive(Debug, Drop)]
+pub enum Obstacle {
+    /// The first name in modules.dep.bin whose value isn't its dependency line.
+    BadDepLine {
+        name: Name,
+    },
+    /// The first name that nothing is found for, or else the first that was found and is nothing that is known.
+    NotFound {
+        name: Name,
+    },
+    /// A planned module needs a symbol that nobody exports.
+    Missing {
+        path: PathText,
+        symbol: Name,
+    },
+    /// A planned module needs a symbol that is exported for GPL-compatible modules alone, and it isn't one.
+    Gpl {
+        path: PathText,
+        symbol: Name,
+        provider: PathText,
+    },
+    /// A planned module needs a symbol in another version.
+    Version {
+        path: PathText,
+        symbol: Name,
+        provider: PathText,
+    },
+    /// A planned module needs a symbol in a namespace that it doesn't import.
+    Namespace {
+        path: PathText,
+        symbol: Name,
+        provider: PathText,
+    },
+    /// Planned modules of which each comes after the next, and the last after the first.
+    Cycle {
+        names: Names,
+    },
+    /// Two export a symbol, of which one at least is planned, and the other planned, loaded or the kernel.
+    Double {
+        symbol: Name,
+        first: PathText,
+        second: PathText,
+    },
+    /// Memory ran out.
+    Memory,
+}
+
+impl From<AllocError> for Obstacle {
+    ghost use Rattle.plan_builder.specs.declared.obstacle.Obstacle.TheVariants.{Memory};
+
+    ghost from_gives = { λ _ obstacle. obstacle ≡ Memory };
+
+    fn from(_error: AllocError) -> Obstacle {
+        Obstacle::Memory
+    }
+}
+
+impl<T: Drop> From<AllocFailed<T>> for Obstacle {
+    ghost use Rattle.plan_builder.specs.declared.obstacle.Obstacle.TheVariants.{Memory};
+
+    ghost from_gives = { λ _ obstacle. obstacle ≡ Memory };
+
+    fn from(_failed: AllocFailed<T>) -> Obstacle {
+        Obstacle::Memory
+    }
+}

@@ -1,0 +1,199 @@
+ghost use Rattle.std.specs.Prelude.{◌≡◌, ◌<◌, ◌⊎◌, ℕ, List, Some, None, map, length, All, IfOk, IfErr, OnOk, option_map};
+ghost use Rattle.km_names.specs.First.{first};
+ghost use Rattle.index_format.specs.Map.{KeyValues, values_of};
+ghost use Rattle.index_format.specs.Listing.{IsListing};
+ghost use Rattle.index_read.specs.Values.{shown_pairs};
+ghost use Rattle.name_table.specs.FirstSeen.{is_among};
+ghost use Rattle.relation_order.specs.Sets.{marked as marks_places};
+ghost use Rattle.plan_order.specs.Lists.{among};
+ghost use Rattle.plan_order.specs.Answer.{IsPlan, IsAnswer};
+ghost use Rattle.plan_builder.specs.Modules.{name_at, bad_name, modules_of};
+ghost use Rattle.plan_builder.specs.Needs.{modules as modules_in, before, after, unloaded};
+ghost use Rattle.plan_builder.specs.Members.{asked, planned as planned_for};
+ghost use Rattle.plan_builder.specs.Steps.{plan_steps};
+ghost use Rattle.plan_builder.specs.Obstacles.{is_path_of, plan_tests, obstacle_of};
+ghost use Rattle.plan_builder.specs.Answers.{need_tests, ShortCycle, IsCycleOf};
+ghost use Rattle.plan_builder.specs.Sources.{sources};
+ghost use Rattle.plan_builder.specs.Planner.{sources_of};
+
+use crate::check::{LineKind, check_lines, check_unmet, paths_of, standing_paths};
+use crate::members::{check_known, find_each, free_marks, requests_of};
+use crate::modules::{Modules, all_pairs, first_pairs};
+use crate::needs::Planner;
+use crate::obstacle::Obstacle;
+use crate::request::Request;
+use crate::step::PlanSteps;
+use crate::steps::all_steps;
+use index_read::Pairs;
+use km_names::{Name, Names};
+use loaded_list::Loaded;
+use modprobe_conf::Rules;
+use name_lookup::{Found, Indexes};
+use name_table::NameSet;
+use plan_order::{GroupedOrder, PlanOrCycle, Planned, find_planned, plan_or_cycle};
+use relation_order::marked;
+use std::alloc::{AllocError, Global};
+use symbol_binding::Unbound;
+use unmet_file::Unmet;
+
+/// The plan for a request: what is done for its names, in order, each module after those that it needs and that aren't
+/// loaded; or exactly the first obstacle. modprobe(8), modules.dep(5), modprobe.d(5).
+///
+/// A name stands for what `name_lookup::resolve` finds. A module is planned after the modules of its dependency line and
+/// after those that its soft dependencies name before it; those that they name after it are planned last. A module that a
+/// soft dependency names is left out where modules.unmet has a line on a need of it or of a module of its dependency line.
+/// What is loaded is left out everywhere. A member that is no module has a step of its own before the modules of its
+/// name: its command, or that it is built in.
+///
+/// # Errors
+///
+/// In this order: `BadDepLine` exactly where a value of modules.dep.bin isn't the dependency line of its module over names
+/// that the file has; `NotFound` where a name is found nowhere, or where a member is neither a module, nor named by an
+/// install rule that isn't ignored, nor built in; `Missing`, `Gpl`, `Version`, `Namespace` where modules.unmet has such a
+/// line on a planned module; `Cycle` where a planned module comes before itself; `Double` where both sides of a double line
+/// are planned, loaded or the kernel, and one is planned. `Memory` for want of memory.
+pub fn plan(
+    alloc: Global,
+    request: &Request,
+    rules: &Rules,
+    indexes: &Indexes,
+    unmet: &Unmet,
+    loaded: &Loaded,
+) -> Result<PlanSteps, Obstacle>
+    ensures plan { IfOk result (λ steps. steps ≡ plan_steps (sources rules.now indexes.now unmet.now loaded.now request.now) request.now) }
+    ensures passed { OnOk result (obstacle_of (sources rules.now indexes.now unmet.now loaded.now request.now) request.now ≡ None) }
+    ensures err { IfErr result (λ o. (o ≡ Obstacle.Memory) ⊎ (obstacle_of (sources rules.now indexes.now unmet.now loaded.now request.now) request.now ≡ Some o)) }
+{
+    let pairs = all_pairs(alloc, &indexes.dep)?;
+    let modules = sound_modules(alloc, &pairs)?;
+    let planner = Planner::new(
+        alloc,
+        rules,
+        indexes,
+        unmet.as_slice(),
+        loaded.as_slice(),
+        request.use_blacklist,
+        modules,
+    )?;
+    let founds = find_each(alloc, &planner, &request.names)?;
+    check_known(alloc, &planner, request.ignore_install, &founds)?;
+    let plan = checked_plan(alloc, &planner, &founds)?;
+    let steps = all_steps(alloc, &planner, request, &founds, &plan)?;
+    Ok(steps)
+}
+
+/// The modules of an index by its pairs, or the first name whose value isn't the dependency line of its module.
+fn sound_modules<'a>(alloc: Global, pairs: &'a Pairs) -> Result<Modules<'a>, Obstacle>
+    ensures modules { IfOk result (λ modules. (dep : KeyValues) → IsListing (values_of dep) (shown_pairs pairs.now) → modules ≡ modules_of dep) }
+    ensures passed { OnOk result ((dep : KeyValues) → IsListing (values_of dep) (shown_pairs pairs.now) → bad_name dep ≡ None) }
+    ensures err { IfErr result (λ o. (o ≡ Obstacle.Memory) ⊎ ((dep : KeyValues) → IsListing (values_of dep) (shown_pairs pairs.now) → option_map Obstacle.BadDepLine (bad_name dep) ≡ Some o)) }
+{
+    let firsts = first_pairs(alloc, pairs)?;
+    let modules = Modules::new(alloc, &firsts)?;
+    check_lines(alloc, &modules, &firsts)?;
+    Ok(modules)
+}
+
+/// What is planned, with a mark for each module, and the order of it, or a cycle.
+#[derive(Drop)]
+struct Planning {
+    marks: Vec<bool>,
+    answer: PlanOrCycle,
+}
+
+/// What is planned for what was found.
+fn planned_answer(
+    alloc: Global,
+    planner: &Planner<'_>,
+    founds: &[Found],
+) -> Result<Planning, AllocError>
+    ensures marks { IfOk result (λ p. marks_places p.marks.items ≡ planned_for (sources_of planner.now) founds.now) }
+    ensures long { IfOk result (λ p. length p.marks.items ≡ length (modules_in (sources_of planner.now))) }
+    ensures answer { IfOk result (λ p. IsAnswer (among (before (sources_of planner.now))) (unloaded (sources_of planner.now)) (after (sources_of planner.now)) (asked (sources_of planner.now) founds.now) p.answer) }
+{
+    let requests = requests_of(alloc, planner, founds)?;
+    let free = free_marks(alloc, planner)?;
+    let planned = find_planned(alloc, planner, &free, &requests)?;
+    let answer = plan_or_cycle(alloc, &planned, &free, &requests)?;
+    let Planned { marks, .. } = planned;
+    Ok(Planning { marks, answer })
+}
+
+/// The paths of the marked modules.
+fn marked_paths<'a>(
+    alloc: Global,
+    planner: &Planner<'a>,
+    marks: &[bool],
+) -> Result<NameSet<'a>, AllocError>
+    requires { length marks.now ≡ length (modules_in (sources_of planner.now)) }
+    ensures { IfOk result (λ paths. (path : List ℕ) → is_among paths path ≡ is_path_of (modules_in (sources_of planner.now)) (marks_places marks.now) path) }
+{
+    let places = marked(alloc, marks)?;
+    let paths = paths_of(alloc, planner.modules(), &places)?;
+    Ok(paths)
+}
+
+/// Tests that no line is on a need of a planned module.
+fn check_needs(
+    alloc: Global,
+    unmet: &[Unbound],
+    planned: &NameSet<'_>,
+    there: &NameSet<'_>,
+) -> Result<(), Obstacle>
+    ensures passed { OnOk result (first (need_tests (is_among planned.now) (is_among there.now) unmet.now) ≡ None) }
+    ensures err { IfErr result (λ o. (o ≡ Obstacle.Memory) ⊎ (first (need_tests (is_among planned.now) (is_among there.now) unmet.now) ≡ Some o)) }
+{
+    check_unmet(alloc, LineKind::Missing, unmet, planned, there)?;
+    check_unmet(alloc, LineKind::Gpl, unmet, planned, there)?;
+    check_unmet(alloc, LineKind::Version, unmet, planned, there)?;
+    check_unmet(alloc, LineKind::Namespace, unmet, planned, there)
+}
+
+/// The order, unless there is a cycle.
+fn order_of(
+    alloc: Global,
+    planner: &Planner<'_>,
+    answer: PlanOrCycle,
+) -> Result<GroupedOrder, Obstacle>
+    requires { ShortCycle (length (modules_in (sources_of planner.now))) answer }
+    ensures order { IfOk result (λ order. answer ≡ PlanOrCycle.Plan order) }
+    ensures err { IfErr result (λ o. (o ≡ Obstacle.Memory) ⊎ IsCycleOf (modules_in (sources_of planner.now)) answer o) }
+{
+    match answer {
+        PlanOrCycle::Plan(order) => Ok(order),
+        PlanOrCycle::Cycle(found) => Err(Obstacle::Cycle {
+            names: names_at(alloc, planner.modules(), &found)?,
+        }),
+    }
+}
+
+/// The names of the modules at some places.
+fn names_at(alloc: Global, modules: &Modules<'_>, places: &[usize]) -> Result<Names, AllocError>
+    requires { All (λ y. y < length modules.now) places.now }
+    ensures { IfOk result (λ names. names ≡ map (name_at modules.now) places.now) }
+{
+    let mut names = Names::new(alloc);
+    for place in places {
+        names.push(Name::from_slice(alloc, modules.name(*place))?)?;
+    }
+    Ok(names)
+}
+
+/// The order of the plan for what was found, or the first obstacle of what is planned.
+fn checked_plan(
+    alloc: Global,
+    planner: &Planner<'_>,
+    founds: &[Found],
+) -> Result<GroupedOrder, Obstacle>
+    ensures plan { IfOk result (IsPlan (among (before (sources_of planner.now))) (unloaded (sources_of planner.now)) (after (sources_of planner.now)) (asked (sources_of planner.now) founds.now)) }
+    ensures passed { OnOk result (first (plan_tests (sources_of planner.now) founds.now) ≡ None) }
+    ensures err { IfErr result (λ o. (o ≡ Obstacle.Memory) ⊎ (first (plan_tests (sources_of planner.now) founds.now) ≡ Some o)) }
+{
+    let Planning { marks, answer } = planned_answer(alloc, planner, founds)?;
+    let planned = marked_paths(alloc, planner, &marks)?;
+    let there = standing_paths(alloc, planner)?;
+    check_needs(alloc, planner.unmet(), &planned, &there)?;
+    let order = order_of(alloc, planner, answer)?;
+    check_unmet(alloc, LineKind::Double, planner.unmet(), &planned, &there)?;
+    Ok(order)
+}

@@ -1,0 +1,14 @@
+use km_names::{Blob, Names};
+
+/// What is to be planned. modprobe(8).
+#[derive(Drop)]
+pub struct Request {
+    /// The names that are looked up, in order.
+    pub names: Names,
+    /// Parameters for the modules that the names stand for, none where it is empty.
+    pub options: Blob,
+    /// Blacklisted names are dropped from whatever is found, and not from modules' own aliases alone.
+    pub use_blacklist: bool,
+    /// Commands of install rules aren't run for the modules that the names stand for.
+    pub ignore_install: bool,
+}

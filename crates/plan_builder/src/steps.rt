@@ -1,0 +1,257 @@
+// The steps of a plan.
+ghost use Rattle.std.specs.Prelude.{◌≡◌, ◌<◌, ◌&&◌, ◌++◌, [], ℕ, List, map, length, All, IfOk, OnOk};
+ghost use Rattle.std.specs.List.{flat_map};
+ghost use Rattle.name_table.specs.FirstSeen.{is_among};
+ghost use Rattle.plan_builder.specs.Modules.{name_at, path_at};
+ghost use Rattle.plan_builder.specs.Needs.{modules as modules_in};
+ghost use Rattle.plan_builder.specs.Members.{found_for, is_member};
+ghost use Rattle.plan_builder.specs.Planner.{sources_of};
+ghost use Rattle.plan_builder.specs.Tables.{byte_texts};
+ghost use Rattle.plan_builder.specs.Steps.{spaced as spaced_of, rule_options, options_of as options_for, module_step as module_step_of, own_step as own_step_of, own_step_unless, own_steps as own_steps_of};
+ghost use Rattle.plan_builder.specs.Ends.{RisingEnds, steps_by};
+
+use crate::members::{chosen_command, insert_all, member_names};
+use crate::needs::Planner;
+use crate::request::Request;
+use crate::step::{PlanStep, PlanSteps};
+use km_names::{Blob, Name, Names, PathText};
+use modprobe_conf::{Rule, Rules};
+use name_lookup::Found;
+use name_table::NameSet;
+use plan_order::GroupedOrder;
+use std::alloc::{AllocError, Global};
+
+/// Texts with a space between each and the next.
+pub(crate) fn spaced(alloc: Global, texts: &[&[u8]]) -> Result<Blob, AllocError>
+    ensures { IfOk result (λ text. text ≡ spaced_of (byte_texts texts.now)) }
+{
+    let mut text = Blob::new(alloc);
+    for i in 0..texts.len() {
+        if i > 0 {
+            text.push(b' ')?;
+        }
+        text.extend(texts[i])?;
+    }
+    Ok(text)
+}
+
+/// The parameters that rules have for the module of this name.
+fn rule_texts<'a>(alloc: Global, rules: &'a Rules, name: &[u8]) -> Result<Vec<&'a [u8]>, AllocError>
+    ensures { IfOk result (λ texts. byte_texts texts.items ≡ flat_map (rule_options name.now) rules.now) }
+{
+    let mut texts = Vec::new(alloc);
+    for rule in rules.as_slice() {
+        push_text(&mut texts, rule, name)?;
+    }
+    Ok(texts)
+}
+
+fn push_text<'a>(texts: &mut Vec<&'a [u8]>, rule: &'a Rule, wanted: &[u8]) -> Result<(), AllocError>
+    ensures { OnOk result (byte_texts texts.new.items ≡ byte_texts texts.old.items ++ rule_options wanted.now rule.now) }
+{
+    match rule {
+        Rule::Options { name, text } if name.as_bytes() == wanted => {
+            texts.push(text.as_bytes())?;
+            Ok(())
+        }
+        _ => Ok(()),
+    }
+}
+
+/// The parameters that a module is loaded with.
+fn options_of(
+    alloc: Global,
+    planner: &Planner<'_>,
+    request: &Request,
+    members: &NameSet<'_>,
+    name: &[u8],
+) -> Result<Blob, AllocError>
+    requires { (other : List ℕ) → is_among members.now other ≡ is_member (sources_of planner.now) request.now other }
+    ensures { IfOk result (λ options. options ≡ options_for (sources_of planner.now) request.now name.now) }
+{
+    let mut texts = rule_texts(alloc, planner.rules(), name)?;
+    if !request.options.is_empty() && members.contains(name) {
+        texts.push(request.options.as_bytes())?;
+    }
+    spaced(alloc, &texts)
+}
+
+/// Whether commands are ignored for the module of this name.
+fn is_ignored(request: &Request, members: &NameSet<'_>, name: &[u8]) -> bool
+    ensures { result ≡ (request.now.ignore_install && is_among members.now name.now) }
+{
+    request.ignore_install && members.contains(name)
+}
+
+/// The step of a module.
+fn module_step(
+    alloc: Global,
+    planner: &Planner<'_>,
+    request: &Request,
+    members: &NameSet<'_>,
+    place: usize,
+) -> Result<PlanStep, AllocError>
+    requires members { (other : List ℕ) → is_among members.now other ≡ is_member (sources_of planner.now) request.now other }
+    requires place { place < length (modules_in (sources_of planner.now)) }
+    ensures { IfOk result (λ step. step ≡ module_step_of (sources_of planner.now) request.now place) }
+{
+    let name = planner.modules().name(place);
+    let ignored = is_ignored(request, members, name);
+    match chosen_command(planner.rules(), ignored, name) {
+        Some(command) => command_step(alloc, name, command),
+        None => insert_step(alloc, planner, request, members, place),
+    }
+}
+
+/// The step of a command.
+fn command_step(alloc: Global, name: &[u8], command: &[u8]) -> Result<PlanStep, AllocError>
+    ensures { IfOk result (λ step. step ≡ PlanStep.Install name.now command.now) }
+{
+    Ok(PlanStep::Install {
+        name: Name::from_slice(alloc, name)?,
+        command: Blob::from_slice(alloc, command)?,
+    })
+}
+
+/// The step that loads a module.
+fn insert_step(
+    alloc: Global,
+    planner: &Planner<'_>,
+    request: &Request,
+    members: &NameSet<'_>,
+    place: usize,
+) -> Result<PlanStep, AllocError>
+    requires members { (other : List ℕ) → is_among members.now other ≡ is_member (sources_of planner.now) request.now other }
+    requires place { place < length (modules_in (sources_of planner.now)) }
+    ensures { IfOk result (λ step. step ≡ PlanStep.Insert (name_at (modules_in (sources_of planner.now)) place) (path_at (modules_in (sources_of planner.now)) place) (options_for (sources_of planner.now) request.now (name_at (modules_in (sources_of planner.now)) place))) }
+{
+    let name = planner.modules().name(place);
+    Ok(PlanStep::Insert {
+        name: Name::from_slice(alloc, name)?,
+        path: PathText::from_slice(alloc, planner.modules().path(place))?,
+        options: options_of(alloc, planner, request, members, name)?,
+    })
+}
+
+/// Adds the steps of some modules.
+fn push_modules(
+    alloc: Global,
+    steps: &mut PlanSteps,
+    planner: &Planner<'_>,
+    request: &Request,
+    members: &NameSet<'_>,
+    places: &[usize],
+) -> Result<(), AllocError>
+    requires members { (other : List ℕ) → is_among members.now other ≡ is_member (sources_of planner.now) request.now other }
+    requires places { All (λ y. y < length (modules_in (sources_of planner.now))) places.now }
+    ensures { OnOk result (steps.new ≡ steps.old ++ map (module_step_of (sources_of planner.now) request.now) places.now) }
+{
+    for place in places {
+        steps.push(module_step(alloc, planner, request, members, *place)?)?;
+    }
+    Ok(())
+}
+
+/// Adds the step of a member that is no module.
+fn push_own_step(
+    alloc: Global,
+    steps: &mut PlanSteps,
+    planner: &Planner<'_>,
+    request: &Request,
+    name: &[u8],
+) -> Result<(), AllocError>
+    ensures { OnOk result (steps.new ≡ steps.old ++ own_step_of (sources_of planner.now) request.now name.now) }
+{
+    if planner.modules().place(name).is_some() {
+        return Ok(());
+    }
+    if let Some(command) = chosen_command(planner.rules(), request.ignore_install, name) {
+        return steps.push(PlanStep::Install {
+            name: Name::from_slice(alloc, name)?,
+            command: Blob::from_slice(alloc, command)?,
+        });
+    }
+    if planner.is_builtin(name) {
+        return steps.push(PlanStep::Builtin {
+            name: Name::from_slice(alloc, name)?,
+        });
+    }
+    Ok(())
+}
+
+/// Adds the steps of those members of a list that are no modules and aren't among earlier names.
+fn push_own_steps(
+    alloc: Global,
+    steps: &mut PlanSteps,
+    planner: &Planner<'_>,
+    request: &Request,
+    earlier: &NameSet<'_>,
+    names: &Names,
+) -> Result<(), AllocError>
+    ensures { OnOk result (steps.new ≡ steps.old ++ own_steps_of (sources_of planner.now) request.now earlier.now names.now) }
+{
+    for name in names.as_slice() {
+        push_unless(alloc, steps, planner, request, earlier, name.as_bytes())?;
+    }
+    Ok(())
+}
+
+fn push_unless(
+    alloc: Global,
+    steps: &mut PlanSteps,
+    planner: &Planner<'_>,
+    request: &Request,
+    earlier: &NameSet<'_>,
+    name: &[u8],
+) -> Result<(), AllocError>
+    ensures { OnOk result (steps.new ≡ steps.old ++ own_step_unless (sources_of planner.now) request.now earlier.now name.now) }
+{
+    if earlier.contains(name) {
+        return Ok(());
+    }
+    push_own_step(alloc, steps, planner, request, name)
+}
+
+/// The steps of requested names, whose groups end at some places of an order, and then those of the rest of the order.
+pub(crate) fn all_steps(
+    alloc: Global,
+    planner: &Planner<'_>,
+    request: &Request,
+    founds: &[Found],
+    plan: &GroupedOrder,
+) -> Result<PlanSteps, AllocError>
+    requires long { length plan.now.ends.items ≡ length founds.now }
+    requires ends { RisingEnds plan.now.ends.items (length plan.now.order.items) }
+    requires order { All (λ y. y < length (modules_in (sources_of planner.now))) plan.now.order.items }
+    requires founds { founds.now ≡ found_for (sources_of planner.now) request.now }
+    ensures { IfOk result (λ steps. steps ≡ steps_by (sources_of planner.now) request.now [] 0 founds.now plan.now.ends.items plan.now.order.items) }
+{
+    let members = member_names(alloc, founds)?;
+    let mut steps = PlanSteps::new(alloc);
+    let mut earlier = NameSet::new(alloc);
+    let mut start = 0;
+    for k in 0..founds.len() {
+        let end = plan.ends[k];
+        let names = &founds[k].names;
+        push_own_steps(alloc, &mut steps, planner, request, &earlier, names)?;
+        push_modules(
+            alloc,
+            &mut steps,
+            planner,
+            request,
+            &members,
+            &plan.order[start..end],
+        )?;
+        insert_all(&mut earlier, names)?;
+        start = end;
+    }
+    push_modules(
+        alloc,
+        &mut steps,
+        planner,
+        request,
+        &members,
+        &plan.order[start..],
+    )?;
+    Ok(steps)
+}

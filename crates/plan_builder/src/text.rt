@@ -1,0 +1,125 @@
+// The texts of obstacles.
+ghost use Rattle.std.specs.Prelude.{◌≡◌, ◌∷◌, ◌++◌, [], codes, take, IfOk, OnOk};
+ghost use Rattle.std.specs.List.{flat_map};
+ghost use Rattle.plan_builder.specs.Steps.{spaced as spaced_of};
+ghost use Rattle.plan_builder.specs.Tables.{byte_texts};
+ghost use Rattle.plan_builder.specs.Text.{obstacle_text, round};
+
+use crate::obstacle::Obstacle;
+use crate::steps::spaced;
+use km_names::{Blob, Name, Names, PathText};
+use std::alloc::{AllocError, Global};
+
+impl Obstacle {
+    ghost use Rattle.plan_builder.specs.Text.{obstacle_text};
+
+    /// The text of the obstacle, as it stands in a line on standard error. That of a line of modules.unmet is the line.
+    pub fn text(&self, alloc: Global) -> Result<Blob, AllocError>
+        ensures { IfOk result (λ text. text ≡ obstacle_text self.now) }
+    {
+        match self {
+            Obstacle::BadDepLine { name } => two(alloc, b"bad dependency line", name.as_bytes()),
+            Obstacle::NotFound { name } => two(alloc, b"not found", name.as_bytes()),
+            Obstacle::Missing { path, symbol } => {
+                three(alloc, b"missing", path.as_bytes(), symbol.as_bytes())
+            }
+            Obstacle::Gpl {
+                path,
+                symbol,
+                provider,
+            } => provided(alloc, b"gpl", path, symbol, provider),
+            Obstacle::Version {
+                path,
+                symbol,
+                provider,
+            } => provided(alloc, b"version", path, symbol, provider),
+            Obstacle::Namespace {
+                path,
+                symbol,
+                provider,
+            } => provided(alloc, b"namespace", path, symbol, provider),
+            Obstacle::Cycle { names } => cycle_text(alloc, names),
+            Obstacle::Double {
+                symbol,
+                first,
+                second,
+            } => four(
+                alloc,
+                b"double",
+                symbol.as_bytes(),
+                first.as_bytes(),
+                second.as_bytes(),
+            ),
+            Obstacle::Memory => Blob::from_slice(alloc, b"out of memory"),
+        }
+    }
+}
+
+fn two(alloc: Global, word: &[u8], a: &[u8]) -> Result<Blob, AllocError>
+    ensures { IfOk result (λ text. text ≡ spaced_of (word.now ∷ a.now ∷ [])) }
+{
+    spaced(alloc, &[word, a])
+}
+
+fn three(alloc: Global, word: &[u8], a: &[u8], b: &[u8]) -> Result<Blob, AllocError>
+    ensures { IfOk result (λ text. text ≡ spaced_of (word.now ∷ a.now ∷ b.now ∷ [])) }
+{
+    spaced(alloc, &[word, a, b])
+}
+
+fn four(alloc: Global, word: &[u8], a: &[u8], b: &[u8], c: &[u8]) -> Result<Blob, AllocError>
+    ensures { IfOk result (λ text. text ≡ spaced_of (word.now ∷ a.now ∷ b.now ∷ c.now ∷ [])) }
+{
+    spaced(alloc, &[word, a, b, c])
+}
+
+/// The text of a line that names a provider.
+fn provided(
+    alloc: Global,
+    word: &[u8],
+    path: &PathText,
+    symbol: &Name,
+    provider: &PathText,
+) -> Result<Blob, AllocError>
+    ensures { IfOk result (λ text. text ≡ spaced_of (word.now ∷ path.now ∷ symbol.now ∷ provider.now ∷ [])) }
+{
+    four(
+        alloc,
+        word,
+        path.as_bytes(),
+        symbol.as_bytes(),
+        provider.as_bytes(),
+    )
+}
+
+/// The text of a cycle: its names, and the first again.
+fn cycle_text(alloc: Global, names: &Names) -> Result<Blob, AllocError>
+    ensures { IfOk result (λ text. text ≡ spaced_of (codes "cycle" ∷ round names.now)) }
+{
+    let mut texts = Vec::new(alloc);
+    texts.push(b"cycle".as_slice())?;
+    push_arrows(&mut texts, names)?;
+    push_first(&mut texts, names)?;
+    spaced(alloc, &texts)
+}
+
+/// Adds names, with an arrow after each.
+fn push_arrows<'a>(texts: &mut Vec<&'a [u8]>, names: &'a Names) -> Result<(), AllocError>
+    ensures { OnOk result (byte_texts texts.new.items ≡ byte_texts texts.old.items ++ flat_map (λ name. name ∷ codes "->" ∷ []) names.now) }
+{
+    for name in names.as_slice() {
+        texts.push(name.as_bytes())?;
+        texts.push(b"->".as_slice())?;
+    }
+    Ok(())
+}
+
+/// Adds the first of some names, where there is one.
+fn push_first<'a>(texts: &mut Vec<&'a [u8]>, names: &'a Names) -> Result<(), AllocError>
+    ensures { OnOk result (byte_texts texts.new.items ≡ byte_texts texts.old.items ++ take 1 names.now) }
+{
+    if let Some(name) = names.get(0) {
+        texts.push(name.as_bytes())?;
+    }
+    Ok(())
+}

@@ -1,0 +1,13 @@
+pub mod Complete
+pub mod Examples
+pub mod GroupFinding
+pub mod GroupSteps
+pub mod PlanKeeps
+pub mod PlanLaws
+pub mod Planning
+pub mod Places
+pub mod Known
+pub mod Lists
+pub mod QueueLaws
+pub mod Requests
+pub mod Same

@@ -1,0 +1,19 @@
+use Rattle.std.proofs.Common.{◌≡◌, ◌-◌, length, take}
+use Rattle.relation_order.specs.Search.{Inside}
+use Rattle.plan_order.proofs.Planning.{Progress, Follows}
+use Rattle.plan_order.proofs.needs.find_planned.Given as goal
+
+abbrev pub invariant-loop-next : goal.invariant-loop-next
+invariant-loop-next g l =
+    record {
+      progress : Progress (length l.free) l.free (g.N.Needs.before l.needs) (g.N.Needs.after l.needs) l.requests l.next l.found.items l.marks.items;
+      before : Follows (g.N.Needs.before l.needs) (take l.next l.found.items) l.before.items;
+      after : Follows (g.N.Needs.after l.needs) (take l.next l.found.items) l.after.items;
+      before_long : length l.before.items ≡ length l.free;
+      after_long : length l.after.items ≡ length l.free;
+      before_inside : Inside (length l.free) l.before.items;
+      after_inside : Inside (length l.free) l.after.items;
+    }
+
+abbrev pub decreases-loop-next : goal.decreases-loop-next
+decreases-loop-next g l = length l.free - l.next

@@ -1,0 +1,27 @@
+-- A plan for some requests, or the cycle that keeps them from having one.
+use Rattle.std.specs.Prelude.{ℕ, suc, List, [], true, ◌≡◌, ◌<◌, ◌≤◌, length, take, nat_eq, slice_index}
+use Rattle.std.specs.List.{IsDistinct}
+use Rattle.relation_order.specs.Sets.{Relation, has}
+use Rattle.relation_order.specs.Cycle.{cycle}
+use Rattle.relation_order.specs.Answer.{After, Closes}
+use Rattle.plan_order.specs.Plan.{plan, planned, with_groups}
+use Rattle.plan_order.specs.Queue.{queued}
+use Rattle.plan_order.specs.declared.plan.GroupedOrder.{GroupedOrder}
+use Rattle.plan_order.specs.declared.plan.PlanOrCycle.{PlanOrCycle}
+use Rattle.plan_order.specs.declared.plan.PlanOrCycle.TheVariants.{Plan, Cycle}
+
+-- The order is the plan, which a queue of the requests makes too; it has just what is planned, each module once and
+-- after those that come before it. The group of each request ends where the groups up to it end.
+pub record IsPlan (r : Relation) (set : List ℕ) (post : ℕ → List ℕ) (requests : List (List ℕ)) (p : GroupedOrder) : Type 0 where
+  pub order : p.order.items ≡ plan r set post requests
+  pub queue : (m : ℕ) × ((n : ℕ) → m ≤ n → queued r set post n [] requests ≡ p.order.items)
+  pub distinct : IsDistinct nat_eq p.order.items
+  pub members : (x : ℕ) → has p.order.items x ≡ has (planned r set post requests) x
+  pub after : After r set p.order.items
+  pub ends_long : length p.ends.items ≡ length requests
+  pub ends : (k : ℕ) → k < length requests → slice_index p.ends.items k ≡ length (with_groups r set [] (take (suc k) requests))
+
+-- The answer is the plan, where nothing planned comes before itself; else the named cycle of what is planned.
+abbrev pub IsAnswer : Relation → List ℕ → (ℕ → List ℕ) → List (List ℕ) → PlanOrCycle → Type 0
+IsAnswer r set post requests (Plan p) = (cycle r (planned r set post requests) ≡ []) × IsPlan r set post requests p
+IsAnswer r set post requests (Cycle found) = (found.items ≡ cycle r (planned r set post requests)) × Closes r found.items

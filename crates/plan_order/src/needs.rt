@@ -1,0 +1,114 @@
+// What is planned, and what each planned module needs.
+ghost use Rattle.std.specs.Prelude.{◌≡◌, ◌<◌, [], ℕ, List, length, All, IfOk, OnOk};
+ghost use Rattle.relation_order.specs.Sets.{marked as marks_places};
+ghost use Rattle.relation_order.specs.Search.{Inside, Marks};
+ghost use Rattle.plan_order.specs.Finding.{Asked};
+ghost use Rattle.plan_order.specs.Lists.{items_of, IsPlanned};
+
+use relation_order::{find_all, unmarked};
+use std::alloc::{AllocError, Global};
+
+/// What a module needs.
+#[derive(Drop)]
+pub struct Needed {
+    /// The modules that come before it.
+    pub before: Vec<usize>,
+    /// The modules that are wanted after it.
+    pub after: Vec<usize>,
+}
+
+/// Who knows what each of some modules needs. Each module that is planned is asked for once, and no other.
+pub trait Needs {
+    /// How many modules there are.
+    ghost count: { Self → ℕ };
+
+    /// The modules that come before one.
+    ghost before: { Self → ℕ → List ℕ };
+
+    /// The modules that are wanted after one.
+    ghost after: { Self → ℕ → List ℕ };
+
+    /// What a module needs.
+    fn needed(&self, alloc: Global, place: usize) -> Result<Needed, AllocError>
+        requires { place < count self.now }
+        ensures before { IfOk result (λ n. n.before.items ≡ before self.now place) }
+        ensures after { IfOk result (λ n. n.after.items ≡ after self.now place) }
+        ensures before_inside { IfOk result (λ n. All (λ y. y < count self.now) n.before.items) }
+        ensures after_inside { IfOk result (λ n. All (λ y. y < count self.now) n.after.items) };
+}
+
+/// Which modules are planned, and for each of them what it needs; the lists of the others are empty.
+#[derive(Drop)]
+pub struct Planned {
+    /// A mark for each module that is planned.
+    pub marks: Vec<bool>,
+    /// For each module those that come before it.
+    pub before: Vec<Vec<usize>>,
+    /// For each module those that are wanted after it.
+    pub after: Vec<Vec<usize>>,
+}
+
+/// What is planned for some requests: the least set that has the requested modules, and with each member all that it
+/// needs. Only those that are marked as free can be planned. `needs` says what each module needs.
+pub fn find_planned<N: Needs>(
+    alloc: Global,
+    needs: &N,
+    free: &[bool],
+    requests: &[Vec<usize>],
+) -> Result<Planned, AllocError>
+    requires free { length free.now ≡ N.count needs.now }
+    requires requests { Inside (N.count needs.now) requests.now }
+    ensures { IfOk result (IsPlanned (N.count needs.now) (N.before needs.now) (marks_places free.now) (N.after needs.now) (items_of requests.now)) }
+{
+    let mut marks = unmarked(alloc, free.len())?;
+    let mut before = empty_lists(alloc, free.len())?;
+    let mut after = empty_lists(alloc, free.len())?;
+    let mut found = Vec::new(alloc);
+    find_requested(&mut marks, &mut found, free, requests)?;
+    let mut next = 0;
+    while next < found.len() {
+        let place = found[next];
+        let needed = needs.needed(alloc, place)?;
+        find_all(&mut marks, &mut found, free, &needed.before)?;
+        find_all(&mut marks, &mut found, free, &needed.after)?;
+        before[place] = needed.before;
+        after[place] = needed.after;
+        next += 1;
+    }
+    Ok(Planned {
+        marks,
+        before,
+        after,
+    })
+}
+
+// Finds the requested modules that are free.
+fn find_requested(
+    marks: &mut Vec<bool>,
+    found: &mut Vec<usize>,
+    free: &[bool],
+    requests: &[Vec<usize>],
+) -> Result<(), AllocError>
+    requires long { length marks.old.items ≡ length free.now }
+    requires marks { Marks [] marks.old.items }
+    requires found { found.old.items ≡ [] }
+    requires requests { Inside (length free.now) requests.now }
+    ensures asked { OnOk result (Asked (length free.now) free.now requests.now (length requests.now) found.new.items marks.new.items) }
+{
+    for request in requests {
+        find_all(marks, found, free, request)?;
+    }
+    Ok(())
+}
+
+// A number of empty lists.
+fn empty_lists(alloc: Global, count: usize) -> Result<Vec<Vec<usize>>, AllocError>
+    ensures long { IfOk result (λ lists. length lists.items ≡ count) }
+    ensures inside { IfOk result (λ lists. Inside count lists.items) }
+{
+    let mut lists = Vec::new(alloc);
+    for _ in 0..count {
+        lists.push(Vec::new(alloc))?;
+    }
+    Ok(lists)
+}

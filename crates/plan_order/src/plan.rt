@@ -1,0 +1,81 @@
+ghost use Rattle.std.specs.Prelude.{◌≡◌, [], ℕ, List, length, IfOk};
+ghost use Rattle.relation_order.specs.Sets.{goes, marked as marks_places, successors};
+ghost use Rattle.relation_order.specs.Search.{Inside};
+ghost use Rattle.relation_order.specs.Cycle.{cycle};
+ghost use Rattle.plan_order.specs.Plan.{planned as planned_of};
+ghost use Rattle.plan_order.specs.Lists.{items_of, among, IsPlanned, AreKnown};
+ghost use Rattle.plan_order.specs.Answer.{IsPlan, IsAnswer};
+
+use crate::groups::Groups;
+use crate::needs::Planned;
+use relation_order::{OrderOrCycle, order_or_cycle};
+use std::alloc::{AllocError, Global};
+
+/// The order of a plan.
+#[derive(Drop)]
+pub struct GroupedOrder {
+    /// All that is planned, each module after those that come before it.
+    pub order: Vec<usize>,
+    /// For each request where its group ends in the order.
+    pub ends: Vec<usize>,
+}
+
+/// A plan, or the cycle that keeps the requests from having one.
+#[derive(Drop)]
+pub enum PlanOrCycle {
+    /// All that is planned, in order.
+    Plan(GroupedOrder),
+    /// Modules of which each comes after the next, and the last after the first.
+    Cycle(Vec<usize>),
+}
+
+/// The plan for some requests, of which `planned` says what is planned; or the named cycle, exactly where something
+/// planned comes before itself.
+pub fn plan_or_cycle(
+    alloc: Global,
+    planned: &Planned,
+    free: &[bool],
+    requests: &[Vec<usize>],
+) -> Result<PlanOrCycle, AllocError>
+    requires known { AreKnown (length free.now) (marks_places free.now) (items_of requests.now) planned.now }
+    requires requests { Inside (length free.now) requests.now }
+    ensures { IfOk result (λ answer. (before after : ℕ → List ℕ) →
+        IsPlanned (length free.now) before (marks_places free.now) after (items_of requests.now) planned.now →
+        IsAnswer (among before) (marks_places free.now) after (items_of requests.now) answer) }
+{
+    match order_or_cycle(alloc, &planned.before, &planned.marks)? {
+        OrderOrCycle::Order(_) => {
+            let plan = plan_without_cycle(alloc, &planned.before, &planned.after, free, requests)?;
+            Ok(PlanOrCycle::Plan(plan))
+        }
+        OrderOrCycle::Cycle(found) => Ok(PlanOrCycle::Cycle(found)),
+    }
+}
+
+// The plan, where nothing planned comes before itself.
+fn plan_without_cycle(
+    alloc: Global,
+    before: &[Vec<usize>],
+    post: &[Vec<usize>],
+    free: &[bool],
+    requests: &[Vec<usize>],
+) -> Result<GroupedOrder, AllocError>
+    requires long { length free.now ≡ length before.now }
+    requires post_long { length post.now ≡ length before.now }
+    requires inside { Inside (length before.now) before.now }
+    requires post { Inside (length before.now) post.now }
+    requires requests { Inside (length before.now) requests.now }
+    requires cycle { cycle (goes before.now) (planned_of (goes before.now) (marks_places free.now) (successors post.now) (items_of requests.now)) ≡ [] }
+    ensures { IfOk result (IsPlan (goes before.now) (marks_places free.now) (successors post.now) (items_of requests.now)) }
+{
+    let mut groups = Groups::new(alloc, before.len())?;
+    let ends = groups.add_all(alloc, before, free, requests)?;
+    let mut next = 0;
+    while next < groups.order.len() {
+        let place = groups.order[next];
+        groups.add_each(alloc, before, free, &post[place])?;
+        next += 1;
+    }
+    let Groups { order, .. } = groups;
+    Ok(GroupedOrder { order, ends })
+}
