@@ -1,6 +1,6 @@
 -- The stages of a load, and what the machine after it has.
-use Rattle.std.proofs.Common.{◌≡◌, ℕ, zero, suc, ◌<◌, ◌-◌, Bool, true, false, List, [], ◌∷◌, ◌++◌, length, cond, refl, sym, ap, subst, ◌∙◌, arith, length-append, inl, inr}
-use Rattle.std.specs.Prelude.{Option, Some, None, Result, Ok, Err, ◌⊎◌, find, slice_get, option_map, ⊤}
+use Rattle.std.proofs.Common.{◌≡◌, ℕ, zero, suc, ◌<◌, ◌-◌, Bool, true, false, ◌||◌, List, [], ◌∷◌, ◌++◌, length, cond, Bor, refl, sym, ap, subst, ◌∙◌, arith, length-append, inl, inr}
+use Rattle.std.specs.Prelude.{Option, Some, None, Result, Ok, Err, ◌⊎◌, find, slice_get, option_copied, option_map, ⊤}
 use Rattle.std.specs.List.{list_any}
 use Rattle.std.specs.Option.{option_map_or}
 use Rattle.std.specs.Str.{bytes_eq}
@@ -89,7 +89,7 @@ unnamed machine m passed =
     sym (named-is machine machine.entries m.facts.name refl)
     ∙ not-failed (is_named (faces machine) m.facts.name) AlreadyLoaded _ (refusal-split machine m passed).0
 
-either-false : (a b : Bool) → cond a true b ≡ false → (a ≡ false) × (b ≡ false)
+either-false : (a b : Bool) → (a || b) ≡ false → (a ≡ false) × (b ≡ false)
 either-false true b is = cc
 either-false false b is = (refl, is)
 
@@ -128,7 +128,11 @@ last-loaded machine e loaded i is at found =
     let here : option_map (λ (x : Entry). x.loaded) (slice_get machine.entries (length machine.entries - 1)) ≡ Some loaded = ap (λ k. option_map (λ (x : Entry). x.loaded) (slice_get machine.entries k)) (sym at) ∙ found in
     cc
 
-pub last-image : (machine : Machine) (e : Entry) (name : List ℕ) → IsNewest machine e → name ≡ e.loaded.name → option_map (λ (x : Entry). x.image) (find (λ (x : Entry). bytes_eq x.loaded.name name) machine.entries) ≡ Some e.image
-last-image machine e name is same =
-    ap (λ n. option_map (λ (x : Entry). x.image) (find (λ (x : Entry). bytes_eq x.loaded.name n) machine.entries)) same
-    ∙ ap (option_map (λ (x : Entry). x.image)) is.alone
+pub last-image : (machine : Machine) (e : Entry) (name : List ℕ) (found : Option (Bor (List ℕ))) (image : Bor (List ℕ)) → IsNewest machine e → name ≡ e.loaded.name → option_copied found ≡ option_map (λ (x : Entry). x.image) (find (λ (x : Entry). bytes_eq x.loaded.name name) machine.entries) → found ≡ Some image → image.now ≡ e.image
+last-image machine e name found image is same answered one =
+    let there : option_copied found ≡ Some e.image =
+    answered
+    ∙ ap (λ n. option_map (λ (x : Entry). x.image) (find (λ (x : Entry). bytes_eq x.loaded.name n) machine.entries)) same
+    ∙ ap (option_map (λ (x : Entry). x.image)) is.alone in
+    let here : option_copied found ≡ Some image.now = ap option_copied one in
+    cc
