@@ -15,11 +15,11 @@ use Rattle.km_course.specs.Course.{Stage, given}
 use Rattle.km_course.specs.Course.Outcome.{value, end}
 use Rattle.km_course.specs.declared.end.End.TheVariants.{Refused}
 use Rattle.km_course.specs.declared.refusal.Refusal.TheVariants.{BadModule}
-use Rattle.command_loads.specs.Modules.{module_at, module_outcome}
+use Rattle.command_loads.specs.Modules.{file_outcome, module_at, module_outcome}
 
 -- the stage after the file of a module was read
 abbrev pub checked : List ℕ → List ℕ → List ℕ → Stage Module
-checked file path bytes = given (module_outcome file path bytes (fact_fault path bytes) refl)
+checked file path bytes = given (file_outcome file path bytes)
 
 IsModule-prop : (o : FileObject) (f : Facts) → IsProp (IsModule o f)
 IsModule-prop o f = Prim.hlevel props

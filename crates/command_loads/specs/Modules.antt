@@ -42,9 +42,13 @@ unfoldable pub module_outcome : List ℕ → (path bytes : List ℕ) (fault : Op
 module_outcome file path bytes None passed = value (module_at path bytes passed)
 module_outcome file path bytes (Some fault) first = end (Refused (BadModule file (module_fault_text fault)))
 
+-- What the file of these bytes comes to.
+abbrev pub file_outcome : List ℕ → List ℕ → List ℕ → Outcome Module
+file_outcome file path bytes = module_outcome file path bytes (fact_fault path bytes) refl
+
 -- The module at a path of the tree in the folder. A compressed one is refused unread. Refusals name the whole path.
 abbrev pub reads_module : List ℕ → List ℕ → Stage Module
 reads_module folder path =
     when is_compressed path then ends (Refused (Compressed (path_below folder path))) else (do
       bytes ← reads (path_below folder path)
-      given (module_outcome (path_below folder path) path bytes (fact_fault path bytes) refl))
+      given (file_outcome (path_below folder path) path bytes))

@@ -13,5 +13,5 @@ mod module;
 mod shown;
 
 pub use listed::load_listed;
-pub use load::{load_all, load_one};
+pub use load::load_all;
 pub use machine::read_machine;

@@ -46,7 +46,7 @@ pub fn load_all<F: Writes, O: Out>(
 }
 
 /// Loads the module at a path of the tree in the folder, and gives the machine after it.
-pub fn load_one<F: Writes, O: Out>(
+fn load_one<F: Writes, O: Out>(
     alloc: Global,
     folder: &PathText,
     images: Option<&PathText>,

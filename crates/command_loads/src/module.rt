@@ -1,12 +1,10 @@
 // The modules that are to be loaded.
 ghost use Rattle.std.specs.Prelude.{◌≤◌, length};
-ghost use Rattle.std.proofs.Common.{refl};
 ghost use Rattle.km_names.specs.Limit.{file_limit};
 ghost use Rattle.km_outside.specs.OutSeen.{OutSeen};
 ghost use Rattle.km_course.specs.World.{world};
 ghost use Rattle.km_course.specs.Follows.{Answers, Follows};
-ghost use Rattle.module_facts.specs.Faults.{fact_fault};
-ghost use Rattle.command_loads.specs.Modules.{module_outcome, reads_module};
+ghost use Rattle.command_loads.specs.Modules.{file_outcome, reads_module};
 
 use km_course::{Refusal, Stop, read_needed};
 use km_names::{Blob, PathText, is_compressed, join};
@@ -42,7 +40,7 @@ fn check_module(
     bytes: Blob,
 ) -> Result<Module, Stop>
     requires { length bytes ≤ file_limit }
-    ensures { Answers (λ x. x) (module_outcome file path.now bytes (fact_fault path.now bytes) refl) result }
+    ensures { Answers (λ x. x) (file_outcome file path.now bytes) result }
 {
     match read_module(alloc, path, bytes) {
         Ok(module) => Ok(module),

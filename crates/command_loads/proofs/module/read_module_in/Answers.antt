@@ -3,7 +3,6 @@ use Rattle.std.specs.Prelude.{Err}
 use Rattle.std.proofs.lemmas.Result.{err_from_is_err_and}
 use Rattle.km_names.specs.Path.{path_below, is_compressed}
 use Rattle.module_facts.specs.declared.module.Module.{Module}
-use Rattle.module_facts.specs.Faults.{fact_fault}
 use Rattle.km_course.specs.Course.{◌>>=◌, ends, reads}
 use Rattle.km_course.specs.Course.Outcome.{end}
 use Rattle.km_course.specs.Follows.{Answers}
@@ -11,7 +10,7 @@ use Rattle.km_course.specs.declared.end.End.TheVariants.{Refused}
 use Rattle.km_course.specs.declared.refusal.Refusal.TheVariants.{Compressed}
 use Rattle.km_course.specs.declared.stop.Stop.TheVariants.{Ended}
 use Rattle.km_course.proofs.Steps.{next, exits, wants, answered, chosen, passed_over}
-use Rattle.command_loads.specs.Modules.{module_outcome}
+use Rattle.command_loads.specs.Modules.{file_outcome}
 use Rattle.command_loads.proofs.Following.{along}
 use Rattle.command_loads.proofs.ModuleSteps.{checked}
 use Rattle.command_loads.proofs.module.read_module_in.Goals as goal
@@ -53,5 +52,5 @@ returns g c = λ out err.
     passed_over _ _ _ _ _ _ _ c.if-is_compressed.ensures
     (along (λ file. reads file >>= checked whole path) _ _ at
     (next (checked whole path) (c.in_ok-bytes.ensures.follows out err)
-    (answered (λ (x : Module). x) (module_outcome whole path bytes (fact_fault path bytes) refl) _ c.check_module.result
-    (subst (λ file. Answers (λ (x : Module). x) (module_outcome file path bytes (fact_fault path bytes) refl) c.check_module.result) (c.in_ok-named.ensures ∙ c.as_bytes-2.ensures ∙ at) c.check_module.ensures))))
+    (answered (λ (x : Module). x) (file_outcome whole path bytes) _ c.check_module.result
+    (subst (λ file. Answers (λ (x : Module). x) (file_outcome file path bytes) c.check_module.result) (c.in_ok-named.ensures ∙ c.as_bytes-2.ensures ∙ at) c.check_module.ensures))))
