@@ -60,8 +60,9 @@ pub fn path_of_name(alloc: Global, modules: &KernelModules, name: &[u8]) -> Resu
     }
 }
 
-/// The path in the folder of the module of this name, by its dependency line.
-fn path_listed<'a>(index: &'a Index, name: &[u8]) -> Option<&'a [u8]>
+/// The path in the folder of the module of this name, by its dependency line. There is none where the name isn't listed,
+/// or its value is no dependency line. modules.dep(5).
+pub fn path_listed<'a>(index: &'a Index, name: &[u8]) -> Option<&'a [u8]>
     ensures { option_copied result ≡ path_listed index.now name.now }
 {
     match first_text(index, name) {

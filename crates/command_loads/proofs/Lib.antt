@@ -1,0 +1,5 @@
+pub mod Following
+pub mod TableSteps
+pub mod ModuleSteps
+pub mod LoadSteps
+pub mod ListedSteps

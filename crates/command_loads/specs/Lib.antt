@@ -1,0 +1,4 @@
+pub mod Tables
+pub mod Modules
+pub mod Loads
+pub mod Listed
