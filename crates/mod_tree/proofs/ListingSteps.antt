@@ -17,7 +17,8 @@ use Rattle.km_names.specs.Lines.{lines_of}
 use Rattle.mod_tree.specs.Order.{bytes_cmp}
 use Rattle.mod_tree.specs.Places.{IsPlacesOf}
 use Rattle.mod_tree.specs.Tree.{listing_cmp, is_chosen, is_module_path, tree_paths, tree_of, tree_unless, bad_path, name_count}
-use Rattle.mod_tree.specs.Listing.{Listing, IsListing, listed_path}
+use Rattle.mod_tree.specs.declared.listing.Listing.{Listing}
+use Rattle.mod_tree.specs.Listing.{IsListing, listed_path}
 use Rattle.mod_tree.specs.Chosen.{HasChosen}
 use Rattle.mod_tree.specs.declared.places.Places.{Places}
 use Rattle.mod_tree.specs.declared.tree.TreeFault.TheVariants.{BadPath, TooManyModules}
@@ -25,10 +26,10 @@ use Rattle.mod_tree.proofs.Ascending.{Ascends, ascends-sorted, ascends-map, stri
 use Rattle.mod_tree.proofs.Heads.{bytes_same}
 
 abbrev pub place_cmp : Listing → Listing → Ordering
-place_cmp c d = ordering_then (nat_cmp c.0 d.0) (bytes_cmp c.1.now d.1.now)
+place_cmp c d = ordering_then (nat_cmp c.place d.place) (bytes_cmp c.path.now d.path.now)
 
 place_total : IsTotalOrder place_cmp
-place_total = then_total (on_total (λ (c : Listing). c.0) nat_cmp_total) (on_total (λ (c : Listing). c.1.now) nat_list_cmp_total)
+place_total = then_total (on_total (λ (c : Listing). c.place) nat_cmp_total) (on_total (λ (c : Listing). c.path.now) nat_list_cmp_total)
 
 listing_total : (lines : List (List ℕ)) → IsTotalOrder (listing_cmp lines)
 listing_total lines = then_total (on_total (λ p. position_or_len (bytes_eq p) lines) nat_cmp_total) nat_list_cmp_total
@@ -43,8 +44,8 @@ listing_same lines p q e = bytes_same p q (then-equal (nat_cmp (position_or_len 
 
 same-order : (lines : List (List ℕ)) (x y : Listing) → IsListing lines x → IsListing lines y → is_lt (listing_cmp lines (listed_path y) (listed_path x)) ≡ is_lt (place_cmp y x)
 same-order lines x y a b =
-    let z = bytes_cmp y.1.now x.1.now in
-    sym (ap (λ n. is_lt (ordering_then (nat_cmp n x.0) z)) b.place ∙ ap (λ n. is_lt (ordering_then (nat_cmp (position_or_len (bytes_eq y.1.now) lines) n) z)) a.place)
+    let z = bytes_cmp y.path.now x.path.now in
+    sym (ap (λ n. is_lt (ordering_then (nat_cmp n x.place) z)) b.place ∙ ap (λ n. is_lt (ordering_then (nat_cmp (position_or_len (bytes_eq y.path.now) lines) n) z)) a.place)
 
 -- sorted listings of the chosen paths are the tree
 pub sorted-tree : (lines search ms chosen : List (List ℕ)) (made list : List Listing) → HasChosen search ms chosen → map listed_path made ≡ chosen → All (IsListing lines) made → IsPermutation made list → IsSorted place_cmp list → map listed_path list ≡ tree_paths search lines ms

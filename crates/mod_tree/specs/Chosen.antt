@@ -1,23 +1,20 @@
--- The choice among paths of one module name, as it is made: paths in order, and the first of each name.
+-- The choice among paths of one module name, as it is made: paths in order, and the first of each name. No public meaning
+-- rests on these definitions.
 use Rattle.std.specs.Prelude.{◌≡◌, ℕ, ◌≤◌, List, [], ◌∷◌, Bool, false, if◌then◌else◌, Option, Some, None, length, filter}
-use Rattle.std.specs.Borrow.{Bor}
-use Rattle.std.specs.Global.{Vec}
 use Rattle.std.specs.List.{list_any, count_by}
 use Rattle.std.specs.Str.{bytes_eq}
 use Rattle.km_names.specs.Path.{module_name}
+use Rattle.mod_tree.specs.declared.chosen.Candidate.{Candidate}
 use Rattle.mod_tree.specs.Tree.{rank, is_chosen, name_count}
 
--- A module name, a rank and a path, as they are compared.
-abbrev pub Candidate : Type 0
-Candidate = Vec ℕ × ℕ × Bor (List ℕ)
-
+-- The path that is compared.
 abbrev pub path_of : Candidate → List ℕ
-path_of c = c.2.now
+path_of c = c.path.now
 
 -- The name and the rank are those of the path.
 pub record IsCandidate (search : List (List ℕ)) (c : Candidate) : Type 0 where
-  pub name : c.0.items ≡ module_name c.2.now
-  pub rank_is : c.1 ≡ rank search c.2.now
+  pub name : c.name.items ≡ module_name c.path.now
+  pub rank_is : c.rank ≡ rank search c.path.now
 
 -- Whether a name is the one before.
 abbrev pub is_name : Option (List ℕ) → List ℕ → Bool

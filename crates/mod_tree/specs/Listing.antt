@@ -1,16 +1,14 @@
--- Paths with their places among the lines of modules.order, as they are compared.
+-- Paths with their places among the lines of modules.order, as they are compared. No public meaning rests on these
+-- definitions.
 use Rattle.std.specs.Prelude.{◌≡◌, ℕ, List}
-use Rattle.std.specs.Borrow.{Bor}
 use Rattle.std.specs.List.{position_or_len}
 use Rattle.std.specs.Str.{bytes_eq}
+use Rattle.mod_tree.specs.declared.listing.Listing.{Listing}
 
--- A place and a path.
-abbrev pub Listing : Type 0
-Listing = ℕ × Bor (List ℕ)
-
+-- The path that is compared.
 abbrev pub listed_path : Listing → List ℕ
-listed_path e = e.1.now
+listed_path e = e.path.now
 
 -- The place is that of the path's first line, or the number of lines.
 pub record IsListing (lines : List (List ℕ)) (e : Listing) : Type 0 where
-  pub place : e.0 ≡ position_or_len (bytes_eq e.1.now) lines
+  pub place : e.place ≡ position_or_len (bytes_eq e.path.now) lines

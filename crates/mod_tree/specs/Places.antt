@@ -1,4 +1,4 @@
--- The first places of byte lists in a list of them.
+-- The first places of byte lists in a list of them. No public meaning rests on this definition.
 use Rattle.std.specs.Prelude.{◌≡◌, ℕ, List, length}
 use Rattle.std.specs.Ordering.{nat_cmp}
 use Rattle.std.specs.Borrow.{Bor}

@@ -1,4 +1,4 @@
--- What references show.
+-- What references show. No public meaning rests on this definition.
 use Rattle.std.specs.Prelude.{List, ℕ, map}
 use Rattle.std.specs.Borrow.{Bor}
 

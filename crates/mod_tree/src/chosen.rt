@@ -10,8 +10,13 @@ use crate::places::Places;
 use km_names::{PathText, module_name};
 use std::alloc::{AllocError, Global};
 
-/// A path of a module as it is compared with others: its module name, its rank, and the path.
-type Candidate<'a> = (Vec<u8>, usize, &'a [u8]);
+/// A path of a module as it is compared with others: by its module name, then by its rank, and then by itself.
+#[derive(PartialEq, Eq, PartialOrd, Ord, Drop)]
+pub(crate) struct Candidate<'a> {
+    name: Vec<u8>,
+    rank: usize,
+    path: &'a [u8],
+}
 
 /// The chosen ones among paths of modules, one for each module name.
 pub(crate) fn chosen_paths<'a>(
@@ -26,6 +31,7 @@ pub(crate) fn chosen_paths<'a>(
     first_of_each(alloc, list.as_slice())
 }
 
+/// The paths as they are compared, in their order.
 fn candidates<'a>(
     alloc: Global,
     modules: &[&'a PathText],
@@ -39,7 +45,11 @@ fn candidates<'a>(
     for path in modules {
         let name = module_name(alloc, path)?.into_vec();
         let bytes = path.as_bytes();
-        list.push((name, rank(&places, bytes), bytes))?;
+        list.push(Candidate {
+            name,
+            rank: rank(&places, bytes),
+            path: bytes,
+        })?;
     }
     Ok(list)
 }
@@ -89,9 +99,9 @@ fn first_of_each<'a>(alloc: Global, list: &[Candidate<'a>]) -> Result<Vec<&'a [u
     let mut chosen = Vec::new(alloc);
     let mut previous: Option<&[u8]> = None;
     for candidate in list {
-        let name = candidate.0.as_slice();
+        let name = candidate.name.as_slice();
         if previous != Some(name) {
-            chosen.push(candidate.2)?;
+            chosen.push(candidate.path)?;
         }
         previous = Some(name);
     }

@@ -10,9 +10,13 @@ use crate::places::Places;
 use km_names::{PathText, Paths, first_line};
 use std::alloc::{AllocError, Global};
 
-/// A path as it is compared with others: the place of its first line in modules.order, or the number of
-// lines where it has none, and the path.
-type Listing<'a> = (usize, &'a [u8]);
+/// A path as it is compared with others: by the place of its first line in modules.order, or the number of lines where it
+/// has none, and then by itself.
+#[derive(PartialEq, Eq, PartialOrd, Ord, Drop)]
+pub(crate) struct Listing<'a> {
+    place: usize,
+    path: &'a [u8],
+}
 
 /// The chosen paths in the order of the tree.
 pub(crate) fn tree_in_order(
@@ -43,6 +47,7 @@ fn line_places(alloc: Global, text: &[u8]) -> Result<Places<'_>, AllocError>
     Ok(places)
 }
 
+/// The paths as they are compared, in their order.
 fn listings<'a>(
     alloc: Global,
     chosen: &[&'a [u8]],
@@ -53,17 +58,21 @@ fn listings<'a>(
 {
     let mut list = Vec::new(alloc);
     for path in chosen {
-        list.push((places.first_place(path), *path))?;
+        list.push(Listing {
+            place: places.first_place(path),
+            path: *path,
+        })?;
     }
     Ok(list)
 }
 
+/// The paths that were compared, in their order.
 fn listed_paths(alloc: Global, list: &[Listing<'_>]) -> Result<Paths, AllocError>
     ensures { IfOk result (λ paths. paths ≡ map listed_path list.now) }
 {
     let mut paths = Paths::new(alloc);
     for listing in list {
-        paths.push(PathText::from_slice(alloc, listing.1)?)?;
+        paths.push(PathText::from_slice(alloc, listing.path)?)?;
     }
     Ok(paths)
 }

@@ -95,6 +95,7 @@ pub(crate) struct Named {
     pub(crate) text: Blob,
 }
 
+/// The rule of `options NAME TEXT`.
 fn options_rule(named: Named) -> Rule
     ensures { result ≡ Rule.Options named.name named.text }
 {
@@ -102,6 +103,7 @@ fn options_rule(named: Named) -> Rule
     Rule::Options { name, text }
 }
 
+/// The rule of `install NAME COMMAND`.
 fn install_rule(named: Named) -> Rule
     ensures { result ≡ Rule.Install named.name named.text }
 {
@@ -112,6 +114,7 @@ fn install_rule(named: Named) -> Rule
     }
 }
 
+/// The rule of `remove NAME COMMAND`.
 fn remove_rule(named: Named) -> Rule
     ensures { result ≡ Rule.Remove named.name named.text }
 {
@@ -122,6 +125,7 @@ fn remove_rule(named: Named) -> Rule
     }
 }
 
+/// The rule of `alias PATTERN NAME`, from what follows the command. Further words are passed over.
 fn alias_rule(alloc: Global, rest: &[u8]) -> Result<Option<Rule>, AllocError>
     ensures { IfOk result (λ rule. rule ≡ alias_of rest.now) }
 {
@@ -139,6 +143,7 @@ fn alias_rule(alloc: Global, rest: &[u8]) -> Result<Option<Rule>, AllocError>
     }
 }
 
+/// The rule of `blacklist NAME`, from what follows the command. Further words are passed over.
 fn blacklist_rule(alloc: Global, rest: &[u8]) -> Result<Option<Rule>, AllocError>
     ensures { IfOk result (λ rule. rule ≡ blacklist_of rest.now) }
 {
@@ -165,6 +170,7 @@ fn name_with_rest(alloc: Global, rest: &[u8]) -> Result<Option<Named>, AllocErro
     }))
 }
 
+/// The rule of `softdep NAME pre: NAMES post: NAMES`, from what follows the command.
 fn softdep_rule(alloc: Global, rest: &[u8]) -> Result<Option<Rule>, AllocError>
     ensures { IfOk result (λ rule. rule ≡ softdep_of rest.now) }
 {
