@@ -11,6 +11,8 @@ mod load;
 mod machine;
 mod module;
 mod shown;
+#[cfg(test)]
+mod tests;
 
 pub use listed::load_listed;
 pub use load::load_all;

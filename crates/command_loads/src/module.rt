@@ -33,12 +33,7 @@ pub(crate) fn read_module_in<F: Reads>(
 }
 
 /// The module of these bytes at a path of the tree, or the refusal of the file.
-fn check_module(
-    alloc: Global,
-    file: PathText,
-    path: &PathText,
-    bytes: Blob,
-) -> Result<Module, Stop>
+fn check_module(alloc: Global, file: PathText, path: &PathText, bytes: Blob) -> Result<Module, Stop>
     requires { length bytes ≤ file_limit }
     ensures { Answers (λ x. x) (file_outcome file path.now bytes) result }
 {

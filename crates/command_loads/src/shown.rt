@@ -66,7 +66,11 @@ fn image_path(alloc: Global, folder: &PathText, name: &Name) -> Result<PathText,
 
 /// The line of the load of a module with this image.
 #[tactic(auto, unfolding(crate::specs::Loads::loaded_line))]
-fn load_line(alloc: Global, loaded: &LoadedModule, image: &[u8]) -> Result<Blob, AllocError>
+pub(crate) fn load_line(
+    alloc: Global,
+    loaded: &LoadedModule,
+    image: &[u8],
+) -> Result<Blob, AllocError>
     ensures { IfOk result (λ line. line ≡ loaded_line loaded.now image.now) }
 {
     let base = hex::encode(alloc, loaded.base.to_be_bytes().as_slice())?;

@@ -12,9 +12,9 @@ use Rattle.command_loads.proofs.listed.load_listed.Given as goal
 abbrev pub invariant-loop-left : goal.invariant-loop-left
 invariant-loop-left g l = record {
   leads : (out err : OutSeen) → LeadsTo (λ (x : Machine). x) (loads_listed l.folder l.index l.fn.machine l.names)
-  (world (g.F.Reads.seen l.fn.files) out err)
-  (loads_listed l.folder l.index l.machine (take l.left l.names))
-  (world (g.F.Reads.seen l.files) out err);
+      (world (g.F.Reads.seen l.fn.files) out err)
+      (loads_listed l.folder l.index l.machine (take l.left l.names))
+      (world (g.F.Reads.seen l.files) out err);
   within : l.left ≤ length l.names;
 }
 
