@@ -1,6 +1,6 @@
 -- The kernel of a table that was read: its exports are those of the table.
-use Rattle.std.proofs.Common.{◌≡◌, ℕ, List, refl, sym, ap, subst, ◌∙◌}
-use Rattle.std.specs.Prelude.{Option, Some, None, Result, Ok, map}
+use Rattle.std.proofs.Common.{◌≡◌, ℕ, List, ap, subst}
+use Rattle.std.specs.Prelude.{Option, Some, None, Ok, map}
 use Rattle.std.specs.List.{filter_map}
 use Rattle.km_names.specs.Statements.{unless_fault}
 use Rattle.provider_rel.specs.declared.fault.KernelFault.{KernelFault}
