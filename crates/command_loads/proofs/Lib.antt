@@ -1,5 +1,6 @@
 pub mod Following
 pub mod TableSteps
+pub mod KernelLemmas
 pub mod ModuleSteps
 pub mod LoadSteps
 pub mod ListedSteps

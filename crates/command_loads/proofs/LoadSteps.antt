@@ -1,5 +1,5 @@
 -- The stages of a load, and what the machine after it has.
-use Rattle.std.proofs.Common.{◌≡◌, ℕ, zero, suc, ◌<◌, ◌-◌, Bool, true, false, ◌||◌, List, [], ◌∷◌, ◌++◌, length, cond, Bor, refl, sym, ap, subst, ◌∙◌, arith, length-append, inl, inr}
+use Rattle.std.proofs.Common.{◌≡◌, ℕ, ◌-◌, Bool, true, false, ◌||◌, List, [], ◌∷◌, ◌++◌, length, cond, Bor, refl, sym, ap, subst, ◌∙◌, arith, length-append, inl, inr}
 use Rattle.std.specs.Prelude.{Option, Some, None, Result, Ok, Err, ◌⊎◌, find, slice_get, option_copied, option_map, ⊤}
 use Rattle.std.specs.List.{list_any}
 use Rattle.std.specs.Option.{option_map_or}
@@ -14,10 +14,10 @@ use Rattle.model_loader.specs.declared.fault.LoadFault.{LoadFault}
 use Rattle.model_loader.specs.declared.fault.LoadFault.TheVariants.{AlreadyLoaded, Memory}
 use Rattle.model_loader.specs.FaultText.{load_fault_text}
 use Rattle.model_loader.specs.Machine.{Machine, faces}
-use Rattle.model_loader.specs.Step.{entry_at, fault_if, name_tests, refusal, step, with_entry}
+use Rattle.model_loader.specs.Step.{entry_at, fault_if, refusal, step, with_entry}
 use Rattle.model_loader.proofs.NameLemmas.{named-is}
 use Rattle.model_loader.proofs.StepLemmas.{refusal-split}
-use Rattle.km_course.specs.Course.{Outcome, Stage, ◌>>=◌, gives, says}
+use Rattle.km_course.specs.Course.{Stage, ◌>>=◌, gives, says}
 use Rattle.km_course.specs.Course.Outcome.{value, end}
 use Rattle.km_course.specs.declared.end.End.TheVariants.{Refused}
 use Rattle.km_course.specs.declared.refusal.Refusal.{Refusal}

@@ -1,5 +1,5 @@
 -- The stages of a module that is to be loaded.
-use Rattle.std.proofs.Common.{◌≡◌, ℕ, List, refl, sym, ap, subst, ◌∙◌, inl, inr}
+use Rattle.std.proofs.Common.{◌≡◌, ℕ, List, sym, ap, subst, ◌∙◌, inl, inr}
 use Rattle.std.proofs.Props.{props}
 use Rattle.std.specs.Prelude.{Option, Some, None, ◌⊎◌}
 use Rattle.elf_object.specs.Object.{FileObject, file_object}

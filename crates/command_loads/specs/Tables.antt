@@ -1,15 +1,15 @@
 -- The machine that a kernel's tables make: its exports at their addresses, and no module. nm(1); the kernel's
 -- Documentation/kbuild/modules.rst, "Module.symvers".
-use Rattle.std.specs.Prelude.{◌≡◌, ℕ, true, not, Bool, List, [], ◌∷◌, All, AllPairs, filter, Option, Some, None, Result, Ok, Err}
+use Rattle.std.specs.Prelude.{◌≡◌, ℕ, true, not, Bool, List, [], ◌∷◌, AllPairs, filter, Option, Some, None, Result, Ok, Err}
 use Rattle.std.specs.Str.{bytes_eq}
-use Rattle.std.proofs.Common.{false, get_or, ap, sym, ◌∙◌, arith}
+use Rattle.std.proofs.Common.{get_or, ap, sym, ◌∙◌, arith}
 use Rattle.std.proofs.lemmas.Bool.{false≢true}
 use Rattle.std.proofs.lemmas.List.Elements.{filter_passes}
 use Rattle.std.proofs.lemmas.List.Kept.{AllPairs-cons, AllPairs-filter}
 use Rattle.provider_rel.specs.declared.fault.KernelFault.{KernelFault}
 use Rattle.provider_rel.specs.declared.kernel.Kernel.{Kernel}
 use Rattle.provider_rel.specs.declared.kernel.KernelExport.{KernelExport}
-use Rattle.provider_rel.specs.KernelTable.{IsTable, first_of_each, exports_of_map, exports_with_addresses}
+use Rattle.provider_rel.specs.KernelTable.{first_of_each, exports_of_map, exports_with_addresses}
 use Rattle.provider_rel.proofs.NameSteps.{bytes-refl}
 use Rattle.model_loader.specs.declared.region.Region.{Region}
 use Rattle.model_loader.specs.declared.fault.MachineFault.{MachineFault}

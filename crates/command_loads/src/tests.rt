@@ -20,8 +20,9 @@ struct LineRow {
 fn expect_line(rt: &impl Abort, alloc: Global, row: &LineRow) -> Result<(), Fail> {
     let mut image = vec![in alloc; 0_u8; row.size]?;
     for (i, byte) in row.word.to_le_bytes().iter().enumerate() {
-        assert!(rt; row.at < row.size - i);
-        image[row.at + i] = *byte;
+        let at = row.at.checked_add(i).expect(rt, "a place");
+        assert!(rt; at < image.len());
+        image[at] = *byte;
     }
     let loaded = LoadedModule {
         name: Name::from_slice(alloc, row.name)?,

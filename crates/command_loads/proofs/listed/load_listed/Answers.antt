@@ -1,10 +1,10 @@
-use Rattle.std.proofs.Common.{◌≡◌, ◌+◌, ◌-◌, ◌∷◌, ℕ, List, [], take, length, sym, ap, subst, ◌∙◌, arith}
-use Rattle.std.specs.Prelude.{Ok, reverse}
+use Rattle.std.proofs.Common.{◌-◌, take, length, sym, subst, arith}
+use Rattle.std.specs.Prelude.{reverse}
 use Rattle.std.proofs.lemmas.Result.{err_from_is_err_and}
 use Rattle.std.proofs.lemmas.List.{take_all}
 use Rattle.model_loader.specs.Machine.{Machine}
 use Rattle.km_course.specs.World.{world}
-use Rattle.km_course.proofs.Steps.{LeadsTo, exits, leads-on, leads-end, leads-start}
+use Rattle.km_course.proofs.Steps.{LeadsTo, exits, leads-on, leads-start}
 use Rattle.command_loads.specs.Listed.{loads_listed, loads_listed_one}
 use Rattle.command_loads.proofs.ListedSteps.{leads-oldest, listed_others, leads-none}
 use Rattle.command_loads.proofs.listed.load_listed.Goals as goal

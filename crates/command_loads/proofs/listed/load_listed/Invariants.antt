@@ -1,11 +1,9 @@
 use Rattle.std.proofs.Common.{◌≤◌, take, length}
-use Rattle.std.specs.Prelude.{reverse}
 use Rattle.km_outside.specs.OutSeen.{OutSeen}
 use Rattle.model_loader.specs.Machine.{Machine}
-use Rattle.km_course.specs.Course.{each_from}
 use Rattle.km_course.specs.World.{world}
 use Rattle.km_course.proofs.Steps.{LeadsTo}
-use Rattle.command_loads.specs.Listed.{loads_listed, loads_listed_one}
+use Rattle.command_loads.specs.Listed.{loads_listed}
 use Rattle.command_loads.proofs.listed.load_listed.Given as goal
 
 -- Whatever loads the newer modules from here loads all from the start.

@@ -1,4 +1,4 @@
-use Rattle.std.proofs.Common.{ℕ, List, subst, ◌≡◌, ◌∙◌}
+use Rattle.std.proofs.Common.{subst, ◌≡◌, ◌∙◌}
 use Rattle.std.specs.Prelude.{Ok, Err}
 use Rattle.std.proofs.lemmas.Result.{err_from_is_err_and}
 use Rattle.provider_rel.specs.KernelTable.{exports_of_map, exports_with_addresses}
