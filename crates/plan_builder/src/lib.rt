@@ -17,8 +17,6 @@ mod planning;
 mod request;
 mod step;
 mod steps;
-#[cfg(test)]
-mod tests;
 mod text;
 
 pub use line::well_formed;
