@@ -20,6 +20,7 @@ use Rattle.command_depmod.specs.Warnings.{warns_unmet}
 abbrev pub modules_of_request : DepmodWords → List ℕ
 modules_of_request asked = modules_folder asked.basedir asked.version
 
+-- the folder into which files are put
 abbrev pub target_of_request : DepmodWords → List ℕ
 target_of_request asked = modules_folder asked.outdir asked.version
 

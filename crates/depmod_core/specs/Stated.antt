@@ -30,9 +30,11 @@ is_usable_softdep text =
 abbrev pub aliases_of : Facts → List (List ℕ)
 aliases_of f = filter is_usable_alias f.aliases
 
+-- The texts of soft dependencies that can be used.
 abbrev pub softdeps_of : Facts → List (List ℕ)
 softdeps_of f = filter is_usable_softdep f.softdeps
 
+-- The names of what a module exports.
 abbrev pub symbols_of : Facts → List (List ℕ)
 symbols_of f = map (λ (e : Export). e.name) f.exports
 
@@ -41,9 +43,11 @@ symbols_of f = map (λ (e : Export). e.name) f.exports
 abbrev pub alias_lines : Facts → List (List ℕ)
 alias_lines f = map (λ alias. codes "alias " ++ (alias ++ (codes " " ++ f.name))) (aliases_of f)
 
+-- A line `softdep NAME TEXT` for each text. modprobe.d(5).
 abbrev pub softdep_lines : Facts → List (List ℕ)
 softdep_lines f = map (λ text. codes "softdep " ++ (f.name ++ (codes " " ++ text))) (softdeps_of f)
 
+-- A line `alias symbol:SYMBOL NAME` for each symbol.
 abbrev pub symbol_lines : Facts → List (List ℕ)
 symbol_lines f = map (λ symbol. codes "alias symbol:" ++ (symbol ++ (codes " " ++ f.name))) (symbols_of f)
 
@@ -52,9 +56,11 @@ symbol_lines f = map (λ symbol. codes "alias symbol:" ++ (symbol ++ (codes " " 
 unfoldable pub alias_text : List Facts → List ℕ
 alias_text tree = lines_text (codes "# Aliases extracted from modules themselves." ∷ flat_map alias_lines tree)
 
+-- The text of modules.softdep.
 unfoldable pub softdep_text : List Facts → List ℕ
 softdep_text tree = lines_text (codes "# Soft dependencies extracted from modules themselves." ∷ flat_map softdep_lines tree)
 
+-- The text of modules.symbols.
 unfoldable pub symbols_text : List Facts → List ℕ
 symbols_text tree = lines_text (codes "# Aliases for symbols, used by symbol_request()." ∷ flat_map symbol_lines tree)
 
@@ -63,6 +69,7 @@ symbols_text tree = lines_text (codes "# Aliases for symbols, used by symbol_req
 abbrev pub alias_values : ℕ × Facts → List KeyValue
 alias_values (place, f) = filter_map (λ alias. option_map (λ key. (key, (place, f.name))) (normal_alias alias)) (aliases_of f)
 
+-- The name of the module at a place under `symbol:SYMBOL` for each symbol; the priority is the place.
 abbrev pub symbol_values : ℕ × Facts → List KeyValue
 symbol_values (place, f) = map (λ symbol. (codes "symbol:" ++ symbol, (place, f.name))) (symbols_of f)
 
@@ -70,5 +77,6 @@ symbol_values (place, f) = map (λ symbol. (codes "symbol:" ++ symbol, (place, f
 unfoldable pub alias_map : List Facts → KeyValues
 alias_map tree = map_of (flat_map alias_values (enumerate_from 0 tree))
 
+-- The map of modules.symbols.bin. modules.dep(5).
 unfoldable pub symbols_map : List Facts → KeyValues
 symbols_map tree = map_of (flat_map symbol_values (enumerate_from 0 tree))

@@ -42,9 +42,11 @@ module_at modules x = slice_index_or modules x ([], (0, []))
 abbrev pub name_at : List KeyValue → ℕ → List ℕ
 name_at modules x = (module_at modules x).0
 
+-- Its dependency line.
 abbrev pub line_at : List KeyValue → ℕ → List ℕ
 line_at modules x = (module_at modules x).1.1
 
+-- Its path, the first of its dependency line.
 abbrev pub path_at : List KeyValue → ℕ → List ℕ
 path_at modules x = own_path (line_at modules x)
 

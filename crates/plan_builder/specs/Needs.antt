@@ -45,6 +45,7 @@ abbrev pub names_before : List ℕ → Rule → List (List ℕ)
 names_before name (Softdep owner pre post) = if bytes_eq owner name then pre else []
 names_before name _ = []
 
+-- The names that a rule has after a module. modprobe.d(5), "softdep".
 abbrev pub names_after : List ℕ → Rule → List (List ℕ)
 names_after name (Softdep owner pre post) = if bytes_eq owner name then post else []
 names_after name _ = []

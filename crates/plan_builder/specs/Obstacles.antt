@@ -41,6 +41,7 @@ is_unknown_kind (installed command) = false
 is_unknown_kind inside = false
 is_unknown_kind unknown = true
 
+-- The member of this name is nothing that is known.
 abbrev pub is_unknown : Sources → Bool → List ℕ → Bool
 is_unknown s ignored name = is_unknown_kind (kind_of s ignored name)
 
@@ -81,6 +82,7 @@ as_obstacle (lines.Double symbol a b) = Double symbol a b
 abbrev pub first_line : LineKind → (List ℕ → Bool) → (List ℕ → Bool) → List Unbound → Option Obstacle
 first_line kind in_plan there unmet = option_map as_obstacle (find (is_obstacle kind in_plan there) unmet)
 
+-- The first line of a kind that is an obstacle to what is planned.
 abbrev pub line_of : Sources → List Found → LineKind → Option Obstacle
 line_of s founds kind = first_line kind (is_path_of (modules s) (planned s founds)) (stands s) s.unmet
 

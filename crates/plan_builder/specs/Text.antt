@@ -9,6 +9,7 @@ use Rattle.plan_builder.specs.Steps.{spaced}
 abbrev pub round : List (List ℕ) → List (List ℕ)
 round names = flat_map (λ name. name ∷ codes "->" ∷ []) names ++ take 1 names
 
+-- The text of an obstacle, as it stands on err.
 abbrev pub obstacle_text : Obstacle → List ℕ
 obstacle_text (BadDepLine name) = spaced (codes "bad dependency line" ∷ name ∷ [])
 obstacle_text (NotFound name) = spaced (codes "not found" ∷ name ∷ [])

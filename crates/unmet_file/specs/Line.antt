@@ -35,6 +35,7 @@ is_line line = list_all is_graphic (names_in line)
 abbrev pub front : List ℕ → List ℕ
 front text = before_first (λ b. b == 32) text
 
+-- What follows the first space of a text.
 abbrev pub rest : List ℕ → List ℕ
 rest text = after_first (λ b. b == 32) text
 
