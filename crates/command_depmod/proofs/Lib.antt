@@ -1,4 +1,3 @@
-pub mod Following
 pub mod SearchSteps
 pub mod TreeSteps
 pub mod TreeLaw

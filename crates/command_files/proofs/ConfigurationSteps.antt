@@ -139,10 +139,6 @@ files_rest paths files = each_from reads_file files paths
 abbrev pub given_listed : List ℕ → List (List ℕ) → Stage (List ConfFile)
 given_listed path names = reads_listed (record { path = path; names = names } ∷ [])
 
--- the files from one on: it, and the files after it
-pub next-item : (items : List (List ℕ)) (i : ℕ) (item : List ℕ) → i < length items → item ≡ get_or items i item → drop i items ≡ item ∷ drop (i + 1) items
-next-item items i item within is = drop_more items i item within ∙ ap (λ x. x ∷ drop (i + 1) items) (sym is)
-
 -- a folder of this name is listed, and then the others
 pub named-folder : (name said root : List ℕ) (listed : List ListedFolder) (f : List ListedFolder → Stage (List ListedFolder)) (old new : World) (r : Result (List ListedFolder) Stop) → said ≡ name → Follows (λ x. x) (lists_folder said listed root >>= f) old new r → Follows (λ x. x) (lists_folder name listed root >>= f) old new r
 named-folder name said root listed f old new r is follows =

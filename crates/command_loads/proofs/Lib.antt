@@ -1,4 +1,3 @@
-pub mod Following
 pub mod TableSteps
 pub mod KernelLemmas
 pub mod ModuleSteps

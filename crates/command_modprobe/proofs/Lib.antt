@@ -1,2 +1,5 @@
+pub mod RegionSteps
 pub mod KnownSteps
 pub mod ResolvedSteps
+pub mod PlanSteps
+pub mod LoadSteps

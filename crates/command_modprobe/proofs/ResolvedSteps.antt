@@ -21,10 +21,6 @@ use Rattle.name_lookup.specs.declared.found.Found.{Found}
 use Rattle.command_modprobe.specs.declared.known.Known.{Known}
 use Rattle.command_modprobe.specs.Resolved.{found_in, is_unknown, found_lines, lines_of_names, normal_or_itself, unless_unknown, resolved, names_asked, resolves_alias}
 
--- the names from one on: it, and the names after it
-pub next-name : (names : List (List ℕ)) (i : ℕ) (name : List ℕ) → i < length names → name ≡ get_or names i name → drop i names ≡ name ∷ drop (i + 1) names
-next-name names i name within is = drop_more names i name within ∙ ap (λ n. n ∷ drop (i + 1) names) (sym is)
-
 -- a name that stands for something
 pub known-name : (known : Known) (everywhere : Bool) (name : List ℕ) (names : List (List ℕ)) → is_unknown known everywhere name ≡ false → find (is_unknown known everywhere) (name ∷ names) ≡ find (is_unknown known everywhere) names
 known-name known everywhere name names is = ap (λ b. cond b (Some name) (find (is_unknown known everywhere) names)) is
@@ -58,14 +54,6 @@ line-more text named ended name names is end_is =
 -- the stage after what is known was read
 abbrev pub after_known : Bool → List (List ℕ) → Known → Stage ⊤
 after_known everywhere names known = given (resolved known everywhere names) >>= λ text. says_any text
-
--- a mode without a course
-pub no-course : (mode given_one : Mode) (asked : ModprobeWords) (w : World) (stop : Stop) → modprobe_in_mode mode asked ≡ ends NotUnderstood → given_one ≡ mode → stop ≡ Ended NotUnderstood → Follows (λ x. x) (modprobe_in_mode given_one asked) w w (Err stop)
-no-course mode given_one asked w stop none is ended =
-    subst (λ m. Follows (λ (x : ⊤). x) (modprobe_in_mode m asked) w w (Err stop)) (sym is)
-    (subst (λ stage. Follows (λ (x : ⊤). x) stage w w (Err stop)) (sym none)
-    (answered (λ (x : ⊤). x) (end NotUnderstood) w (Err stop)
-    (subst (λ s. Answers (λ (x : ⊤). x) (end NotUnderstood) (Err s)) (sym ended) refl)))
 
 -- what is asked for, where its folder and its names are these
 pub at-asked : (asked : ModprobeWords) (folder : List ℕ) (names : List (List ℕ)) (old new : World) (r : Result ⊤ Stop) → folder ≡ modules_folder asked.dirname asked.version → names ≡ names_asked asked.all asked.words → Follows (λ x. x) (reads_known asked.config folder asked.loaded >>= after_known asked.use_blacklist names) old new r → Follows (λ x. x) (resolves_alias asked) old new r

@@ -1,3 +1,5 @@
 pub mod Known
 pub mod Resolved
+pub mod Planned
+pub mod Loaded
 pub mod Modprobe

@@ -7,13 +7,15 @@ use Rattle.kmod_words.specs.Modprobe.{modprobe_request}
 use Rattle.km_course.specs.Course.{Stage, ends}
 use Rattle.km_course.specs.declared.end.End.TheVariants.{NotUnderstood}
 use Rattle.command_modprobe.specs.Resolved.{resolves_alias}
+use Rattle.command_modprobe.specs.Planned.{shows_plan}
+use Rattle.command_modprobe.specs.Loaded.{loads_plan}
 
--- The course of a request in this mode. Those but `-R` aren't understood yet.
+-- The course of a request in this mode.
 abbrev pub modprobe_in_mode : Mode → ModprobeWords → Stage ⊤
 modprobe_in_mode ResolveAlias asked = resolves_alias asked
-modprobe_in_mode Load asked = ends NotUnderstood
-modprobe_in_mode DryRun asked = ends NotUnderstood
-modprobe_in_mode ShowDepends asked = ends NotUnderstood
+modprobe_in_mode Load asked = loads_plan asked
+modprobe_in_mode DryRun asked = shows_plan asked
+modprobe_in_mode ShowDepends asked = shows_plan asked
 
 -- the course of what the words ask for
 abbrev pub modprobe_asked_for : Option ModprobeWords → Stage ⊤

@@ -4,6 +4,8 @@ ghost use Rattle.km_course.specs.World.{world};
 ghost use Rattle.km_course.specs.Follows.{Follows};
 ghost use Rattle.command_modprobe.specs.Modprobe.{modprobe_course, modprobe_in_mode};
 
+use crate::load::load_plan;
+use crate::plan::show_plan;
 use crate::resolve_alias::resolve_alias;
 use km_course::{End, Stop};
 use km_names::Word;
@@ -27,7 +29,7 @@ pub fn modprobe<F: Writes, O: Out>(
     }
 }
 
-/// Does what is asked for in this mode. Those but `-R` have no course yet.
+/// Does what is asked for in this mode.
 fn in_mode<F: Writes, O: Out>(
     alloc: Global,
     mode: Mode,
@@ -40,8 +42,7 @@ fn in_mode<F: Writes, O: Out>(
 {
     match mode {
         Mode::ResolveAlias => resolve_alias(alloc, asked, files, out),
-        Mode::Load => Err(Stop::from(End::NotUnderstood)),
-        Mode::DryRun => Err(Stop::from(End::NotUnderstood)),
-        Mode::ShowDepends => Err(Stop::from(End::NotUnderstood)),
+        Mode::Load => load_plan(alloc, asked, files, out),
+        Mode::DryRun | Mode::ShowDepends => show_plan(alloc, asked, files, out),
     }
 }

@@ -44,7 +44,7 @@ pub(crate) fn resolve_alias<F: Reads, O: Out>(
 }
 
 /// The words that are names: all, or the first.
-fn names_asked(all: bool, words: &[Name]) -> &[Name]
+pub(crate) fn names_asked(all: bool, words: &[Name]) -> &[Name]
     ensures { result.now ≡ names_asked all words.now }
 {
     if all || words.len() <= 1 {

@@ -3,3 +3,4 @@ pub mod Primitives
 pub mod Writes
 pub mod Carried
 pub mod Inside
+pub mod Following

@@ -6,7 +6,7 @@ use Rattle.km_course.specs.Follows.{Answers}
 use Rattle.km_course.specs.declared.end.End.TheVariants.{NotUnderstood}
 use Rattle.km_course.proofs.Steps.{wants, answered}
 use Rattle.command_depmod.specs.Depmod.{depmod_asked_for}
-use Rattle.command_depmod.proofs.Following.{along}
+use Rattle.km_course.proofs.Following.{along}
 use Rattle.command_depmod.proofs.course.depmod.Goals as goal
 
 pub returns-in_err-asked : goal.returns-in_err-asked

@@ -5,7 +5,7 @@ use Rattle.km_course.proofs.Steps.{next, exits, wants}
 use Rattle.command_depmod.specs.declared.course.Wanted.{Wanted}
 use Rattle.command_depmod.specs.Depmod.{modules_of_request, target_of_request, wanted_of, reads_related, indexes_tree}
 use Rattle.command_depmod.specs.Related.{seen_tree}
-use Rattle.command_depmod.proofs.Following.{along}
+use Rattle.km_course.proofs.Following.{along}
 use Rattle.command_depmod.proofs.IndexSteps.{indexed}
 use Rattle.command_depmod.proofs.course.index.Goals as goal
 

@@ -4,7 +4,7 @@ use Rattle.km_course.proofs.Steps.{next, exits, answered}
 use Rattle.command_files.specs.KernelTable.{table_of}
 use Rattle.command_depmod.specs.Related.{seen_tree}
 use Rattle.command_depmod.specs.Relation.{relation_outcome}
-use Rattle.command_depmod.proofs.Following.{along}
+use Rattle.km_course.proofs.Following.{along}
 use Rattle.command_depmod.proofs.IndexSteps.{with_search, with_paths, with_kernel, related}
 use Rattle.command_depmod.proofs.course.read_related.Goals as goal
 

@@ -1,6 +1,6 @@
 use Rattle.std.proofs.Common.{◌∙◌}
 use Rattle.command_depmod.specs.Warnings.{warns_unmet}
-use Rattle.command_depmod.proofs.Following.{along}
+use Rattle.km_course.proofs.Following.{along}
 use Rattle.command_depmod.proofs.course.warn_of_tree.Goals as goal
 
 pub returns : goal.returns

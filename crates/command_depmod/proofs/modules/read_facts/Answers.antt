@@ -12,7 +12,7 @@ use Rattle.km_course.specs.declared.refusal.Refusal.TheVariants.{Compressed}
 use Rattle.km_course.specs.declared.stop.Stop.TheVariants.{Ended}
 use Rattle.km_course.proofs.Steps.{next, exits, wants, answered, chosen, passed_over}
 use Rattle.command_depmod.specs.Modules.{facts_outcome}
-use Rattle.command_depmod.proofs.Following.{along}
+use Rattle.km_course.proofs.Following.{along}
 use Rattle.command_depmod.proofs.ModuleSteps.{checked}
 use Rattle.command_depmod.proofs.modules.read_facts.Goals as goal
 

@@ -4,7 +4,7 @@ use Rattle.module_facts.specs.declared.facts.Facts.{Facts}
 use Rattle.km_course.specs.World.{world}
 use Rattle.km_course.proofs.Steps.{LeadsTo, next, exits, stops, gave, no_memory, leads-start, leads-on}
 use Rattle.command_depmod.specs.Modules.{adds_facts, reads_modules_facts}
-use Rattle.command_depmod.proofs.Following.{leads-item, leads-done}
+use Rattle.km_course.proofs.Following.{leads-item, leads-done}
 use Rattle.command_depmod.proofs.ModuleSteps.{added, the_others, no-facts, facts-more, facts-tree}
 use Rattle.command_depmod.proofs.modules.read_modules_facts.Goals as goal
 

@@ -6,7 +6,7 @@ use Rattle.km_course.specs.Course.{◌>>=◌, reads_any}
 use Rattle.km_course.proofs.Steps.{next, exits, wants, answered}
 use Rattle.command_depmod.specs.Related.{seen_tree}
 use Rattle.command_depmod.specs.Outputs.{outputs_outcome}
-use Rattle.command_depmod.proofs.Following.{along}
+use Rattle.km_course.proofs.Following.{along}
 use Rattle.command_depmod.proofs.OutputSteps.{made_of}
 use Rattle.command_depmod.proofs.outputs.make_outputs.Goals as goal
 

@@ -3,7 +3,7 @@ use Rattle.std.proofs.lemmas.Result.{err_from_is_err_and}
 use Rattle.km_names.specs.Path.{path_below}
 use Rattle.km_course.specs.Course.{puts}
 use Rattle.km_course.proofs.Steps.{wants}
-use Rattle.command_depmod.proofs.Following.{along}
+use Rattle.km_course.proofs.Following.{along}
 use Rattle.command_depmod.proofs.outputs.put_file.Goals as goal
 
 pub returns-in_err-path : goal.returns-in_err-path

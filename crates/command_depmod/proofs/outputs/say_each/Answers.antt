@@ -3,7 +3,7 @@ use Rattle.std.specs.Prelude.{⊤}
 use Rattle.std.proofs.lemmas.Result.{err_from_is_err_and}
 use Rattle.depmod_core.specs.declared.file.OutputFile.TheVariants.{Dep}
 use Rattle.km_course.proofs.Steps.{exits, leads-on}
-use Rattle.command_depmod.proofs.Following.{leads-at, leads-done}
+use Rattle.km_course.proofs.Following.{leads-at, leads-done}
 use Rattle.command_depmod.proofs.OutputSteps.{say_one, say_others}
 use Rattle.command_depmod.proofs.outputs.say_each.Goals as goal
 

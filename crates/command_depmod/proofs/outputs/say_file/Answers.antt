@@ -1,5 +1,5 @@
 use Rattle.km_course.specs.Course.{says_any}
-use Rattle.command_depmod.proofs.Following.{along}
+use Rattle.km_course.proofs.Following.{along}
 use Rattle.command_depmod.proofs.outputs.say_file.Goals as goal
 
 pub returns : goal.returns

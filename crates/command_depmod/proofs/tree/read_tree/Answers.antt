@@ -4,7 +4,7 @@ use Rattle.mod_tree.specs.Tree.{tree_of}
 use Rattle.km_course.specs.Course.{◌>>=◌, lists_tree, reads_any}
 use Rattle.km_course.proofs.Steps.{next, exits, wants, answered}
 use Rattle.command_depmod.specs.Tree.{tree_outcome}
-use Rattle.command_depmod.proofs.Following.{along}
+use Rattle.km_course.proofs.Following.{along}
 use Rattle.command_depmod.proofs.TreeSteps.{listed, ordered}
 use Rattle.command_depmod.proofs.tree.read_tree.Goals as goal
 

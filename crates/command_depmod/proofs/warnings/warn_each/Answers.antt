@@ -2,7 +2,7 @@ use Rattle.std.proofs.Common.{◌+◌, drop}
 use Rattle.std.specs.Prelude.{⊤}
 use Rattle.std.proofs.lemmas.Result.{err_from_is_err_and}
 use Rattle.km_course.proofs.Steps.{exits, leads-on}
-use Rattle.command_depmod.proofs.Following.{leads-item, leads-done}
+use Rattle.km_course.proofs.Following.{leads-item, leads-done}
 use Rattle.command_depmod.proofs.WarningSteps.{warns_of, warns_others}
 use Rattle.command_depmod.proofs.warnings.warn_each.Goals as goal
 

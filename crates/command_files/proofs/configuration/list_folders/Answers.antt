@@ -7,7 +7,8 @@ use Rattle.km_course.specs.Follows.{Follows}
 use Rattle.km_course.proofs.Steps.{next, exits, gave}
 use Rattle.command_files.specs.declared.configuration.ListedFolder.{ListedFolder}
 use Rattle.command_files.specs.Configuration.{folder_name}
-use Rattle.command_files.proofs.ConfigurationSteps.{folders_rest, named-folder, next-item}
+use Rattle.km_course.proofs.Following.{next-item}
+use Rattle.command_files.proofs.ConfigurationSteps.{folders_rest, named-folder}
 use Rattle.command_files.proofs.configuration.list_folders.Goals as goal
 
 pub returns-in_err-listed : goal.returns-in_err-listed

@@ -6,7 +6,8 @@ use Rattle.km_names.specs.declared.conf.ConfFile.{ConfFile}
 use Rattle.km_course.specs.World.{world}
 use Rattle.km_course.specs.Follows.{Follows}
 use Rattle.km_course.proofs.Steps.{next, exits, gave}
-use Rattle.command_files.proofs.ConfigurationSteps.{files_rest, next-item}
+use Rattle.km_course.proofs.Following.{next-item}
+use Rattle.command_files.proofs.ConfigurationSteps.{files_rest}
 use Rattle.command_files.proofs.configuration.read_files.Goals as goal
 
 pub returns-in_err-read-clause-follows : goal.returns-in_err-read-clause-follows

@@ -4,7 +4,7 @@ use Rattle.std.proofs.lemmas.Result.{err_from_is_err_and}
 use Rattle.model_loader.specs.Machine.{Machine}
 use Rattle.km_course.proofs.Steps.{exits, leads-on, leads-start}
 use Rattle.command_loads.specs.Loads.{loads_one}
-use Rattle.command_loads.proofs.Following.{leads-item, leads-done}
+use Rattle.km_course.proofs.Following.{leads-item, leads-done}
 use Rattle.command_loads.proofs.LoadSteps.{loads_others}
 use Rattle.command_loads.proofs.load.load_all.Goals as goal
 

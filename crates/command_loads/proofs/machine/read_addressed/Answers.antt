@@ -1,6 +1,6 @@
 use Rattle.std.proofs.Common.{sym}
 use Rattle.command_loads.specs.Tables.{reads_addressed}
-use Rattle.command_loads.proofs.Following.{along}
+use Rattle.km_course.proofs.Following.{along}
 use Rattle.command_loads.proofs.machine.read_addressed.Goals as goal
 
 pub returns-in-None : goal.returns-in-None

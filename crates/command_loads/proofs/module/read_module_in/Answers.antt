@@ -11,7 +11,7 @@ use Rattle.km_course.specs.declared.refusal.Refusal.TheVariants.{Compressed}
 use Rattle.km_course.specs.declared.stop.Stop.TheVariants.{Ended}
 use Rattle.km_course.proofs.Steps.{next, exits, wants, answered, chosen, passed_over}
 use Rattle.command_loads.specs.Modules.{file_outcome}
-use Rattle.command_loads.proofs.Following.{along}
+use Rattle.km_course.proofs.Following.{along}
 use Rattle.command_loads.proofs.ModuleSteps.{checked}
 use Rattle.command_loads.proofs.module.read_module_in.Goals as goal
 

@@ -4,7 +4,7 @@ use Rattle.std.proofs.lemmas.Result.{err_from_is_err_and}
 use Rattle.km_course.specs.Course.{puts}
 use Rattle.km_course.proofs.Steps.{wants, gave}
 use Rattle.command_loads.specs.Loads.{puts_image}
-use Rattle.command_loads.proofs.Following.{along}
+use Rattle.km_course.proofs.Following.{along}
 use Rattle.command_loads.proofs.shown.put_image.Goals as goal
 
 pub returns-in-None : goal.returns-in-None

@@ -5,7 +5,7 @@ use Rattle.model_loader.specs.declared.entry.LoadedModule.{LoadedModule}
 use Rattle.km_course.specs.Course.{says}
 use Rattle.km_course.proofs.Steps.{next, exits, wants}
 use Rattle.command_loads.specs.Loads.{loaded_line, puts_image}
-use Rattle.command_loads.proofs.Following.{along}
+use Rattle.km_course.proofs.Following.{along}
 use Rattle.command_loads.proofs.LoadSteps.{last-image, last-loaded, line_said}
 use Rattle.command_loads.proofs.shown.show_load.Goals as goal
 

@@ -1,0 +1,78 @@
+-- The stages of a plan that is made and shown, joined.
+use Rattle.std.proofs.Common.{◌≡◌, ℕ, ◌+◌, ◌<◌, ◌≤◌, Bool, true, false, List, [], ◌∷◌, ◌++◌, length, take, drop, get_or, refl, sym, ap, subst, ◌∙◌, inl, inr, arith}
+use Rattle.std.specs.Prelude.{Option, Some, None, Result, Ok, Err, ◌⊎◌, if◌then◌else◌, ⊤}
+use Rattle.std.proofs.lemmas.List.{drop_all}
+use Rattle.kmod_words.specs.declared.modprobe.Mode.{Mode}
+use Rattle.kmod_words.specs.declared.modprobe.ModprobeWords.{ModprobeWords}
+use Rattle.plan_builder.specs.declared.obstacle.Obstacle.{Obstacle}
+use Rattle.plan_builder.specs.declared.obstacle.Obstacle.TheVariants as obstacles
+use Rattle.plan_builder.specs.declared.request.Request.{Request}
+use Rattle.plan_builder.specs.declared.step.PlanStep.{PlanStep}
+use Rattle.plan_builder.specs.Obstacles.{obstacle_of}
+use Rattle.plan_builder.specs.Steps.{plan_steps, spaced}
+use Rattle.km_course.specs.Course.{Stage, ◌>>=◌, given, says_any}
+use Rattle.km_course.specs.Course.Outcome.{value}
+use Rattle.km_course.specs.World.{World}
+use Rattle.km_course.specs.Follows.{Answers, Follows}
+use Rattle.km_course.specs.declared.stop.Stop.{Stop}
+use Rattle.km_course.proofs.Following.{along}
+use Rattle.command_files.specs.KernelModules.{modules_folder}
+use Rattle.command_modprobe.specs.declared.known.Known.{Known}
+use Rattle.command_modprobe.specs.Known.{reads_known}
+use Rattle.command_modprobe.specs.Resolved.{names_asked}
+use Rattle.command_modprobe.specs.Planned.{loaded_in, obstacle_stop, plan_lines, plan_outcome, plan_unless, request_of, shows_plan, sources_with}
+
+-- the stage after a plan was made
+abbrev pub after_plan : List ℕ → List PlanStep → Stage ⊤
+after_plan folder steps = says_any (plan_lines folder steps)
+
+-- the stage after what is known was read
+abbrev pub plans_known : List ℕ → Request → Mode → Known → Stage ⊤
+plans_known folder request mode known = given (plan_outcome known (loaded_in mode known.loaded) request) >>= after_plan folder
+
+-- what is asked for, where its folder and its request are these
+pub shows-asked : (asked : ModprobeWords) (folder : List ℕ) (request : Request) (old new : World) (r : Result ⊤ Stop) → folder ≡ modules_folder asked.dirname asked.version → request ≡ request_of asked → Follows (λ x. x) (reads_known asked.config folder asked.loaded >>= plans_known folder request asked.mode) old new r → Follows (λ x. x) (shows_plan asked) old new r
+shows-asked asked folder request old new r place what f =
+    along (λ p. reads_known asked.config p asked.loaded >>= plans_known p (request_of asked) asked.mode) folder (modules_folder asked.dirname asked.version) place
+    (along (λ q. reads_known asked.config folder asked.loaded >>= plans_known folder q asked.mode) request (request_of asked) what f)
+
+-- the words after those that are names
+pub options-after : (all : Bool) (words : List (List ℕ)) → spaced (drop (length (names_asked all words)) words) ≡ (if all then [] else spaced (drop 1 words))
+options-after true words = ap spaced (drop_all (length words) words (omega arith))
+options-after false [] = refl
+options-after false (word ∷ words) = refl
+
+-- a plan that was made
+pub planned : (known : Known) (loaded : List (List ℕ)) (request : Request) (steps : List PlanStep) → obstacle_of (sources_with known loaded request) request ≡ None → steps ≡ plan_steps (sources_with known loaded request) request → plan_outcome known loaded request ≡ value steps
+unfolding plan_outcome
+planned known loaded request steps passed is =
+    ap (λ o. plan_unless o (plan_steps (sources_with known loaded request) request)) passed ∙ ap value (sym is)
+
+-- what an obstacle that was met comes to
+met : (known : Known) (loaded : List (List ℕ)) (request : Request) (o : Obstacle) → obstacle_of (sources_with known loaded request) request ≡ Some o → plan_outcome known loaded request ≡ plan_unless (Some o) (plan_steps (sources_with known loaded request) request)
+unfolding plan_outcome
+met known loaded request o found = ap (λ f. plan_unless f (plan_steps (sources_with known loaded request) request)) found
+
+-- an obstacle that was met, unless memory was wanting
+by-kind : (known : Known) (loaded : List (List ℕ)) (request : Request) (o : Obstacle) → (o ≡ obstacles.Memory) ⊎ (obstacle_of (sources_with known loaded request) request ≡ Some o) → Answers (λ (x : List PlanStep). x) (plan_outcome known loaded request) (Err (obstacle_stop o))
+by-kind known loaded request (obstacles.BadDepLine name) (inl m) = absurd (cc)
+by-kind known loaded request (obstacles.BadDepLine name) (inr f) = met known loaded request _ f
+by-kind known loaded request (obstacles.NotFound name) (inl m) = absurd (cc)
+by-kind known loaded request (obstacles.NotFound name) (inr f) = met known loaded request _ f
+by-kind known loaded request (obstacles.Missing path symbol) (inl m) = absurd (cc)
+by-kind known loaded request (obstacles.Missing path symbol) (inr f) = met known loaded request _ f
+by-kind known loaded request (obstacles.Gpl path symbol by) (inl m) = absurd (cc)
+by-kind known loaded request (obstacles.Gpl path symbol by) (inr f) = met known loaded request _ f
+by-kind known loaded request (obstacles.Version path symbol by) (inl m) = absurd (cc)
+by-kind known loaded request (obstacles.Version path symbol by) (inr f) = met known loaded request _ f
+by-kind known loaded request (obstacles.Namespace path symbol by) (inl m) = absurd (cc)
+by-kind known loaded request (obstacles.Namespace path symbol by) (inr f) = met known loaded request _ f
+by-kind known loaded request (obstacles.Cycle names) (inl m) = absurd (cc)
+by-kind known loaded request (obstacles.Cycle names) (inr f) = met known loaded request _ f
+by-kind known loaded request (obstacles.Double symbol first second) (inl m) = absurd (cc)
+by-kind known loaded request (obstacles.Double symbol first second) (inr f) = met known loaded request _ f
+by-kind known loaded request obstacles.Memory w = tt
+
+pub not-planned : (known : Known) (loaded : List (List ℕ)) (request : Request) (obstacle : Obstacle) (stop : Stop) → stop ≡ obstacle_stop obstacle → (obstacle ≡ obstacles.Memory) ⊎ (obstacle_of (sources_with known loaded request) request ≡ Some obstacle) → Answers (λ (x : List PlanStep). x) (plan_outcome known loaded request) (Err stop)
+not-planned known loaded request obstacle stop is why =
+    subst (λ s. Answers (λ (x : List PlanStep). x) (plan_outcome known loaded request) (Err s)) (sym is) (by-kind known loaded request obstacle why)

@@ -1,0 +1,105 @@
+-- The plan of what is asked for, and its lines. modprobe(8), `--dry-run` and `--show-depends`.
+use Rattle.std.specs.Prelude.{ℕ, List, [], ◌∷◌, ◌++◌, drop, codes, Option, Some, None, if◌then◌else◌, ⊤}
+use Rattle.std.specs.List.{flat_map}
+use Rattle.km_names.specs.Path.{path_below}
+use Rattle.kmod_words.specs.declared.modprobe.Mode.{Mode}
+use Rattle.kmod_words.specs.declared.modprobe.Mode.TheVariants.{Load, DryRun, ShowDepends, ResolveAlias}
+use Rattle.kmod_words.specs.declared.modprobe.ModprobeWords.{ModprobeWords}
+use Rattle.plan_builder.specs.declared.obstacle.Obstacle.{Obstacle}
+use Rattle.plan_builder.specs.declared.obstacle.Obstacle.TheVariants as obstacles
+use Rattle.plan_builder.specs.declared.request.Request.{Request}
+use Rattle.plan_builder.specs.declared.step.PlanStep.{PlanStep}
+use Rattle.plan_builder.specs.declared.step.PlanStep.TheVariants.{Insert, Install, Builtin}
+use Rattle.plan_builder.specs.Needs.{Sources}
+use Rattle.plan_builder.specs.Obstacles.{obstacle_of}
+use Rattle.plan_builder.specs.Sources.{sources}
+use Rattle.plan_builder.specs.Steps.{plan_steps, spaced}
+use Rattle.km_course.specs.Course.{Outcome, Stage, ◌>>=◌, given, says_any}
+use Rattle.km_course.specs.Course.Outcome.{value, end}
+use Rattle.km_course.specs.declared.end.End.TheVariants.{Refused}
+use Rattle.km_course.specs.declared.stop.Stop.{Stop}
+use Rattle.km_course.specs.declared.stop.Stop.TheVariants.{Ended, Memory}
+use Rattle.km_course.specs.declared.refusal.Refusal.{Refusal}
+use Rattle.km_course.specs.declared.refusal.Refusal.TheVariants as refusals
+use Rattle.command_files.specs.KernelModules.{modules_folder}
+use Rattle.command_modprobe.specs.declared.known.Known.{Known}
+use Rattle.command_modprobe.specs.Known.{reads_known}
+use Rattle.command_modprobe.specs.Resolved.{names_asked}
+
+-- Parameters for the module of the first word: the words after it with a space between each and the next; none where all
+-- words are names.
+abbrev pub options_asked : ModprobeWords → List ℕ
+options_asked asked = if asked.all then [] else spaced (drop 1 asked.words)
+
+-- What is to be planned.
+abbrev pub request_of : ModprobeWords → Request
+request_of asked = record {
+  names = names_asked asked.all asked.words;
+  options = options_asked asked;
+  use_blacklist = asked.use_blacklist;
+  ignore_install = asked.ignore_install;
+}
+
+-- What a plan is made from, where these modules are loaded.
+abbrev pub sources_with : Known → List (List ℕ) → Request → Sources
+sources_with known loaded request = sources known.rules known.indexes known.unmet loaded request
+
+-- The refusal of what keeps a request from having a plan; nothing comes to want of memory.
+abbrev pub obstacle_refusal : Obstacle → Refusal
+obstacle_refusal (obstacles.BadDepLine name) = refusals.BadDependencyLine name
+obstacle_refusal (obstacles.NotFound name) = refusals.NotFound name
+obstacle_refusal (obstacles.Missing path symbol) = refusals.Missing path symbol
+obstacle_refusal (obstacles.Gpl path symbol by) = refusals.Gpl path symbol by
+obstacle_refusal (obstacles.Version path symbol by) = refusals.Version path symbol by
+obstacle_refusal (obstacles.Namespace path symbol by) = refusals.Namespace path symbol by
+obstacle_refusal (obstacles.Cycle names) = refusals.Cycle names
+obstacle_refusal (obstacles.Double symbol first second) = refusals.Double symbol first second
+obstacle_refusal obstacles.Memory = refusals.InnerOutputFull
+
+-- how the code stops for an obstacle
+abbrev pub obstacle_stop : Obstacle → Stop
+obstacle_stop obstacles.Memory = Memory
+obstacle_stop obstacle = Ended (Refused (obstacle_refusal obstacle))
+
+-- What a request with this first obstacle comes to.
+abbrev pub plan_unless : Option Obstacle → List PlanStep → Outcome (List PlanStep)
+plan_unless None steps = value steps
+plan_unless (Some obstacle) steps = end (Refused (obstacle_refusal obstacle))
+
+-- What a request comes to, where these modules are loaded: its plan, or the refusal of its first obstacle.
+unfoldable pub plan_outcome : Known → List (List ℕ) → Request → Outcome (List PlanStep)
+plan_outcome known loaded request =
+    plan_unless (obstacle_of (sources_with known loaded request) request) (plan_steps (sources_with known loaded request) request)
+
+-- What follows a path in its line: the parameters after a space, where there are any.
+abbrev pub after_space : List ℕ → List ℕ
+after_space [] = []
+after_space (b ∷ bs) = 32 ∷ b ∷ bs
+
+-- The line of a module that is loaded, by its whole path and its parameters.
+abbrev pub insert_line : List ℕ → List ℕ → List ℕ → List ℕ
+insert_line folder path options = codes "insmod " ++ (path_below folder path ++ (after_space options ++ 10 ∷ []))
+
+-- The line of a step of a plan for the modules in a folder.
+abbrev pub step_line : List ℕ → PlanStep → List ℕ
+step_line folder (Insert name path options) = insert_line folder path options
+step_line folder (Install name command) = codes "install " ++ (command ++ 10 ∷ [])
+step_line folder (Builtin name) = codes "builtin " ++ (name ++ 10 ∷ [])
+
+-- The lines of a plan, a line for each step.
+abbrev pub plan_lines : List ℕ → List PlanStep → List ℕ
+plan_lines folder steps = flat_map (step_line folder) steps
+
+-- The modules that count as loaded in a mode: `--show-depends` plans as if none were.
+abbrev pub loaded_in : Mode → List (List ℕ) → List (List ℕ)
+loaded_in ShowDepends loaded = []
+loaded_in DryRun loaded = loaded
+loaded_in Load loaded = loaded
+loaded_in ResolveAlias loaded = loaded
+
+-- The course of `modprobe -n` and of `modprobe -D`.
+abbrev pub shows_plan : ModprobeWords → Stage ⊤
+shows_plan asked = do
+  known ← reads_known asked.config (modules_folder asked.dirname asked.version) asked.loaded
+  steps ← given (plan_outcome known (loaded_in asked.mode known.loaded) (request_of asked))
+  says_any (plan_lines (modules_folder asked.dirname asked.version) steps)
