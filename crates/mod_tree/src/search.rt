@@ -2,10 +2,10 @@ ghost use Rattle.std.specs.Prelude.{◌≡◌, ◌≤◌, ◌⊎◌, ◌++◌, L
 ghost use Rattle.km_names.specs.Limit.{file_limit};
 ghost use Rattle.std.specs.List.{flat_map};
 ghost use Rattle.mod_tree.specs.Search.{search_of, words_of_lines};
-ghost use Rattle.km_names.specs.Space.{words as words_of};
 
 use km_names::{
-    ConfFault, ConfFiles, List as Items, Name, Names, Statement, parse_files, split_word, words,
+    ConfFault, ConfFiles, List as Items, Name, Names, Statement, Texts, parse_files, split_word,
+    words,
 };
 use std::alloc::{AllocError, Global};
 
@@ -15,7 +15,7 @@ pub type Search = Names;
 /// A line `search WORDS` of depmod.d(5), with its words, one or more.
 #[derive(Drop)]
 pub struct SearchLine {
-    pub words: Names,
+    pub words: Texts,
 }
 
 impl Statement for SearchLine {
@@ -28,7 +28,7 @@ impl Statement for SearchLine {
         if command != b"search".as_slice() {
             return Ok(None);
         }
-        let words = name_words(alloc, rest)?;
+        let words = words(alloc, rest)?;
         if words.is_empty() {
             return Ok(None);
         }
@@ -65,22 +65,11 @@ fn all_words(alloc: Global, lines: &Items<SearchLine>) -> Result<Search, AllocEr
     Ok(search)
 }
 
-fn push_words(alloc: Global, search: &mut Search, words: &Names) -> Result<(), AllocError>
+fn push_words(alloc: Global, search: &mut Search, words: &Texts) -> Result<(), AllocError>
     ensures { OnOk result (search.new ≡ search.old ++ words.now) }
 {
     for word in words.as_slice() {
         search.push(Name::from_slice(alloc, word.as_bytes())?)?;
     }
     Ok(())
-}
-
-/// The words of a text, as names.
-fn name_words(alloc: Global, text: &[u8]) -> Result<Names, AllocError>
-    ensures { IfOk result (λ names. names ≡ words_of text.now) }
-{
-    let mut names = Names::new(alloc);
-    for word in words(alloc, text)?.as_slice() {
-        names.push(Name::from_slice(alloc, word.as_bytes())?)?;
-    }
-    Ok(names)
 }

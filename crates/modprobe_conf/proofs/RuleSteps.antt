@@ -1,13 +1,14 @@
 -- Texts that are empty or not, and one word more of a line of soft dependencies.
-use Rattle.std.proofs.Common.{◌≡◌, ℕ, ◌+◌, ◌<◌, Bool, true, false, cond, eqb, List, [], ◌∷◌, ◌++◌, length, drop, get_or, Option, None, sym, refl, ap, ◌∙◌, arith}
+use Rattle.std.proofs.Common.{◌≡◌, ℕ, Bool, true, false, cond, eqb, List, [], ◌∷◌, ◌++◌, length, Option, None, sym, refl, ap, ◌∙◌, arith}
 use Rattle.std.specs.Prelude.{not, map}
 use Rattle.std.specs.List.{take_while}
 use Rattle.std.specs.Str.{bytes_eq}
 use Rattle.std.proofs.lemmas.Bool.{true≢false, false_from_ne_true, eqb-true}
-use Rattle.std.proofs.lemmas.List.{at_drop_more, append_assoc, get_or_read}
+use Rattle.std.proofs.lemmas.List.{append_assoc, append-nil}
 use Rattle.std.proofs.lemmas.List.Sums.{take_while-cons}
 use Rattle.std.proofs.lemmas.Slice.Eq.{bytes_eq-Decides}
 use Rattle.km_names.specs.Path.{underscored}
+use Rattle.km_names.specs.Space.{nonempty}
 use Rattle.modprobe_conf.specs.Rules.{unless_empty, is_marker, words_after}
 
 pub empty-at : {X : Type 0} (text cut : List ℕ) (x : Option X) → cut ≡ text → true ≡ eqb (length cut) 0 → None ≡ unless_empty text x
@@ -45,22 +46,37 @@ at-word marker word words mark off belongs = go belongs
     go true = ap (λ front. map underscored (front ++ words_after marker (word ∷ words))) goes ∙ ap (λ ws. map underscored ((word ∷ take_while (λ w. not (is_marker w)) words) ++ ws)) later
     go false = ap (map underscored) later
 
--- one word more, which is a marker
-pub marker-more : (done : List (List ℕ)) (marker word : List ℕ) (items : List (List ℕ)) (i : ℕ) (belongs belongs' : Bool) → i < length items → word ≡ get_or items i word → is_marker word ≡ true → belongs' ≡ bytes_eq word marker → done ++ names_from marker belongs' (drop (i + 1) items) ≡ done ++ names_from marker belongs (drop i items)
-marker-more done marker word items i belongs belongs' l is on next =
-    ap (λ ns. done ++ ns) (sym (at_drop_more (names_from marker belongs) items i word l ∙ ap (λ w. names_from marker belongs (w ∷ drop (i + 1) items)) (sym is) ∙ at-marker marker word (drop (i + 1) items) belongs on ∙ ap (λ b. names_from marker b (drop (i + 1) items)) (sym next)))
+-- one word more, where there is one: it is a marker
+pub marker-more : (marker word : List ℕ) (words : List (List ℕ)) (belongs next : Bool) → is_marker word ≡ true → next ≡ bytes_eq word marker
+    → names_from marker next words ≡ names_from marker belongs (nonempty (word ∷ []) ++ words)
+marker-more marker [] words belongs next on is = absurd (true≢false (sym on))
+marker-more marker (b ∷ bs) words belongs next on is = ap (λ c. names_from marker c words) is ∙ sym (at-marker marker (b ∷ bs) words belongs on)
 
 -- one that belongs
-pub name-more : (done : List (List ℕ)) (marker word name : List ℕ) (items : List (List ℕ)) (i : ℕ) (belongs : Bool) → i < length items → word ≡ get_or items i word → is_marker marker ≡ true → is_marker word ≡ false → belongs ≡ true → name ≡ underscored word → (done ++ name ∷ []) ++ names_from marker belongs (drop (i + 1) items) ≡ done ++ names_from marker belongs (drop i items)
-name-more done marker word name items i belongs l is mark off on copy =
-    append_assoc done (name ∷ []) (names_from marker belongs (drop (i + 1) items))
-    ∙ ap (λ ns. done ++ ns) (ap (λ n. n ∷ names_from marker belongs (drop (i + 1) items)) copy ∙ sym (at_drop_more (names_from marker belongs) items i word l ∙ ap (λ w. names_from marker belongs (w ∷ drop (i + 1) items)) (sym is) ∙ at-word marker word (drop (i + 1) items) mark off belongs ∙ ap (λ b. cond b (underscored word ∷ names_from marker belongs (drop (i + 1) items)) (names_from marker belongs (drop (i + 1) items))) on))
+pub name-more : (done : List (List ℕ)) (marker word : List ℕ) (words : List (List ℕ)) (belongs : Bool) → is_marker marker ≡ true → is_marker word ≡ false → belongs ≡ true
+    → (done ++ map underscored (nonempty (word ∷ []))) ++ names_from marker belongs words ≡ done ++ names_from marker belongs (nonempty (word ∷ []) ++ words)
+name-more done marker [] words belongs mark off on = ap (λ ns. ns ++ names_from marker belongs words) (append-nil done)
+name-more done marker (b ∷ bs) words belongs mark off on =
+    append_assoc done (underscored (b ∷ bs) ∷ []) (names_from marker belongs words)
+    ∙ ap (λ ns. done ++ ns) (sym (at-word marker (b ∷ bs) words mark off belongs ∙ ap (λ c. cond c (underscored (b ∷ bs) ∷ names_from marker belongs words) (names_from marker belongs words)) on))
 
 -- and one that doesn't
-pub other-more : (done : List (List ℕ)) (marker word : List ℕ) (items : List (List ℕ)) (i : ℕ) (belongs : Bool) → i < length items → word ≡ get_or items i word → is_marker marker ≡ true → is_marker word ≡ false → belongs ≡ false → done ++ names_from marker belongs (drop (i + 1) items) ≡ done ++ names_from marker belongs (drop i items)
-other-more done marker word items i belongs l is mark off out =
-    ap (λ ns. done ++ ns) (sym (at_drop_more (names_from marker belongs) items i word l ∙ ap (λ w. names_from marker belongs (w ∷ drop (i + 1) items)) (sym is) ∙ at-word marker word (drop (i + 1) items) mark off belongs ∙ ap (λ b. cond b (underscored word ∷ names_from marker belongs (drop (i + 1) items)) (names_from marker belongs (drop (i + 1) items))) out))
+pub other-more : (marker word : List ℕ) (words : List (List ℕ)) (belongs : Bool) → is_marker marker ≡ true → is_marker word ≡ false → belongs ≡ false
+    → names_from marker belongs words ≡ names_from marker belongs (nonempty (word ∷ []) ++ words)
+other-more marker [] words belongs mark off out = refl
+other-more marker (b ∷ bs) words belongs mark off out =
+    sym (at-word marker (b ∷ bs) words mark off belongs ∙ ap (λ c. cond c (underscored (b ∷ bs) ∷ names_from marker belongs words) (names_from marker belongs words)) out)
 
--- the item at a place, at any default
-pub item-is : (items : List (List ℕ)) (i : ℕ) (item word : List ℕ) → i < length items → item ≡ get_or items i item → word ≡ item → word ≡ get_or items i word
-item-is items i item word l is same = same ∙ get_or_read items i item l is word
+-- a name at the end, where a word isn't empty
+pub word-name : (done : List (List ℕ)) (word name : List ℕ) → false ≡ eqb (length word) 0 → name ≡ underscored word → done ++ name ∷ [] ≡ done ++ map underscored (nonempty (word ∷ []))
+word-name done [] name some is = absurd (true≢false (sym some))
+word-name done (b ∷ bs) name some is = ap (λ n. done ++ n ∷ []) is
+
+pub no-name : (done : List (List ℕ)) (word : List ℕ) → true ≡ eqb (length word) 0 → done ≡ done ++ map underscored (nonempty (word ∷ []))
+no-name done [] none = sym (append-nil done)
+no-name done (b ∷ bs) none = absurd (omega (arith, eqb-true (length (b ∷ bs)) 0 (sym none)))
+
+-- nothing is left where no word is
+pub none-left : (marker : List ℕ) (belongs : Bool) → names_from marker belongs [] ≡ []
+none-left marker true = refl
+none-left marker false = refl

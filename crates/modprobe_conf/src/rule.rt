@@ -1,10 +1,9 @@
-ghost use Rattle.std.specs.Prelude.{◌≡◌, IfOk, IsTrue, map};
+ghost use Rattle.std.specs.Prelude.{◌≡◌, ◌++◌, ◌∷◌, [], IfOk, IsTrue, OnOk, map};
 ghost use Rattle.km_names.specs.Path.{underscored as underscored_bytes};
+ghost use Rattle.km_names.specs.Space.{nonempty, words as words_of};
 ghost use Rattle.modprobe_conf.specs.Rules.{command_of as command_of_word, rule_of_command as rule_of_rest, alias_rule as alias_of, blacklist_rule as blacklist_of, name_with_rest as name_with_rest_of, softdep_rule as softdep_of, is_marker as is_marker_word, words_after};
 
-use km_names::{
-    Alias, Blob, List, Name, Names, Statement, Texts, normal_alias, split_word, underscored, words,
-};
+use km_names::{Alias, Blob, List, Name, Names, Statement, normal_alias, split_word, underscored};
 use std::alloc::{AllocError, Global};
 
 /// What a line of modprobe.d(5) states. Names have `_` for each `-`, and patterns their normal form.
@@ -178,11 +177,10 @@ fn softdep_rule(alloc: Global, rest: &[u8]) -> Result<Option<Rule>, AllocError>
     if list.is_empty() {
         return Ok(None);
     }
-    let words = words(alloc, list)?;
     Ok(Some(Rule::Softdep {
         name: underscored(alloc, name)?,
-        pre: names_after(alloc, &words, b"pre:")?,
-        post: names_after(alloc, &words, b"post:")?,
+        pre: names_after(alloc, list, b"pre:")?,
+        post: names_after(alloc, list, b"post:")?,
     }))
 }
 
@@ -193,20 +191,32 @@ fn is_marker(word: &[u8]) -> bool
     word == b"pre:".as_slice() || word == b"post:".as_slice()
 }
 
-/// The names after each such marker, up to the next marker of either kind.
-fn names_after(alloc: Global, words: &Texts, marker: &[u8]) -> Result<Names, AllocError>
+/// The names after each such marker in a text of words, up to the next marker of either kind.
+fn names_after(alloc: Global, text: &[u8], marker: &[u8]) -> Result<Names, AllocError>
     requires { IsTrue (is_marker_word marker.now) }
-    ensures { IfOk result (λ names. names ≡ map underscored_bytes (words_after marker.now words.now)) }
+    ensures { IfOk result (λ names. names ≡ map underscored_bytes (words_after marker.now (words_of text.now))) }
 {
     let mut names = Names::new(alloc);
     let mut belongs = false;
-    for word in words.as_slice() {
-        let word = word.as_bytes();
+    let mut rest = text;
+    while !rest.is_empty() {
+        let (word, after) = split_word(rest);
         if is_marker(word) {
             belongs = word == marker;
         } else if belongs {
-            names.push(underscored(alloc, word)?)?;
+            push_name(alloc, &mut names, word)?;
         }
+        rest = after;
     }
     Ok(names)
+}
+
+/// Adds the name that a word states. A text that begins with white space has an empty word there, which states none.
+fn push_name(alloc: Global, names: &mut Names, word: &[u8]) -> Result<(), AllocError>
+    ensures { OnOk result (names.new ≡ names.old ++ map underscored_bytes (nonempty (word.now ∷ []))) }
+{
+    if word.is_empty() {
+        return Ok(());
+    }
+    names.push(underscored(alloc, word)?)
 }

@@ -7,6 +7,7 @@ pub mod Lines
 pub mod Marks
 pub mod Named
 pub mod Obstacles
+pub mod RuleLaws
 pub mod Sorting
 pub mod StepLaws
 pub mod Troubled

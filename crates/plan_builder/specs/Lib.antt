@@ -4,6 +4,7 @@ pub mod Tables
 pub mod Text
 pub mod Needs
 pub mod Sources
+pub mod Rules
 pub mod Planner
 pub mod Members
 pub mod Steps

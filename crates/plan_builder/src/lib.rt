@@ -15,6 +15,7 @@ mod needs;
 mod obstacle;
 mod planning;
 mod request;
+mod rule_table;
 mod step;
 mod steps;
 mod text;

@@ -14,8 +14,9 @@ ghost use Rattle.plan_builder.specs.Obstacles.{is_unfound, is_unknown as is_unkn
 use crate::modules::Modules;
 use crate::needs::{Planner, push_all, push_places};
 use crate::obstacle::Obstacle;
+use crate::rule_table::RuleTable;
 use km_names::{Name, Names, normal_alias};
-use modprobe_conf::{Rule, Rules};
+use modprobe_conf::Rule;
 use name_lookup::Found;
 use name_table::NameSet;
 use std::alloc::{AllocError, Global};
@@ -176,11 +177,12 @@ fn name_set<'a>(alloc: Global, names: &'a [Name]) -> Result<NameSet<'a>, AllocEr
 }
 
 /// The first command that a rule has for loading the module of this name.
-fn install_command<'a>(rules: &'a Rules, name: &[u8]) -> Option<&'a [u8]>
+fn install_command<'a>(rules: &'a RuleTable<'_>, name: &[u8]) -> Option<&'a [u8]>
     ensures { option_map (λ command. command.now) result ≡ install_command_of rules.now name.now }
 {
-    for rule in rules.as_slice() {
-        if let Some(command) = command_in(rule, name) {
+    let own = rules.on(name);
+    for rule in own {
+        if let Some(command) = command_in(*rule, name) {
             return Some(command);
         }
     }
@@ -197,7 +199,11 @@ fn command_in<'a>(rule: &'a Rule, wanted: &[u8]) -> Option<&'a [u8]>
 }
 
 /// The command that is run in place of loading the module of this name, unless commands are ignored.
-pub(crate) fn chosen_command<'a>(rules: &'a Rules, ignored: bool, name: &[u8]) -> Option<&'a [u8]>
+pub(crate) fn chosen_command<'a>(
+    rules: &'a RuleTable<'_>,
+    ignored: bool,
+    name: &[u8],
+) -> Option<&'a [u8]>
     ensures { option_map (λ command. command.now) result ≡ chosen_command_of rules.now ignored name.now }
 {
     if ignored {

@@ -13,6 +13,7 @@ ghost use Rattle.plan_builder.specs.Planner.{sources_of, names_on, names_of_side
 
 use crate::line::{Known, needed_names};
 use crate::modules::Modules;
+use crate::rule_table::RuleTable;
 use km_names::{Name, Names};
 use modprobe_conf::{Rule, Rules};
 use name_lookup::{Found, Indexes, resolve};
@@ -32,7 +33,7 @@ pub(crate) enum Side {
 /// What plans are made from. Contracts see the sources.
 #[derive(Drop)]
 pub(crate) struct Planner<'a> {
-    rules: &'a Rules,
+    rules: RuleTable<'a>,
     indexes: &'a Indexes,
     unmet: &'a [Unbound],
     loaded: &'a [Name],
@@ -46,9 +47,9 @@ impl<'a> Model for Planner<'a> {
 
     ghost Value = { Held };
 
-    ghost view = { λ p. record { rules = p.rules.now; indexes = p.indexes.now; unmet = p.unmet.now; loaded = p.loaded.now; use_blacklist = p.use_blacklist } };
+    ghost view = { λ p. record { rules = p.rules; indexes = p.indexes.now; unmet = p.unmet.now; loaded = p.loaded.now; use_blacklist = p.use_blacklist } };
 
-    ghost invariant = { λ p. IsPlanner p.modules p.troubled (record { rules = p.rules.now; indexes = p.indexes.now; unmet = p.unmet.now; loaded = p.loaded.now; use_blacklist = p.use_blacklist }) };
+    ghost invariant = { λ p. IsPlanner p.modules p.troubled (record { rules = p.rules; indexes = p.indexes.now; unmet = p.unmet.now; loaded = p.loaded.now; use_blacklist = p.use_blacklist }) };
 }
 
 /// The paths of modules with a line on a need.
@@ -108,15 +109,16 @@ pub(crate) fn push_place(
 /// The names that soft dependencies have on one side of a module.
 fn soft_names<'a>(
     alloc: Global,
-    rules: &'a Rules,
+    rules: &'a RuleTable<'_>,
     name: &[u8],
     side: Side,
 ) -> Result<Vec<&'a Name>, AllocError>
     ensures { IfOk result (λ names. texts names.items ≡ flat_map (names_on side name.now) rules.now) }
 {
     let mut names = Vec::new(alloc);
-    for rule in rules.as_slice() {
-        push_soft_names(&mut names, rule, name, side)?;
+    let own = rules.on(name);
+    for rule in own {
+        push_soft_names(&mut names, *rule, name, side)?;
     }
     Ok(names)
 }
@@ -170,9 +172,10 @@ impl<'a> Planner<'a> {
         requires { modules ≡ modules_of (maps_of indexes.now).dep }
         ensures { IfOk result (λ planner. planner ≡ record { rules = rules.now; indexes = indexes.now; unmet = unmet.now; loaded = loaded.now; use_blacklist = use_blacklist }) }
     {
+        let table = RuleTable::new(alloc, rules)?;
         let troubled = troubled_paths(alloc, unmet)?;
         Ok(Planner {
-            rules,
+            rules: table,
             indexes,
             unmet,
             loaded,
@@ -204,10 +207,10 @@ impl<'a> Planner<'a> {
     }
 
     /// The rules of the configuration.
-    pub(crate) fn rules(&self) -> &'a Rules
+    pub(crate) fn rules(&self) -> &RuleTable<'a>
         ensures { result.now ≡ self.now.rules }
     {
-        self.rules
+        &self.rules
     }
 
     /// Whether a built-in module has this name.
@@ -221,7 +224,13 @@ impl<'a> Planner<'a> {
     pub(crate) fn found(&self, alloc: Global, name: &Name) -> Result<Found, AllocError>
         ensures { IfOk result (λ f. f ≡ found (sources_of self.now).rules (sources_of self.now).maps (sources_of self.now).use_blacklist name.now) }
     {
-        resolve(alloc, name, self.use_blacklist, self.rules, self.indexes)
+        resolve(
+            alloc,
+            name,
+            self.use_blacklist,
+            self.rules.all(),
+            self.indexes,
+        )
     }
 
     /// The places of the modules that the dependency line of a module names.
@@ -310,7 +319,7 @@ impl<'a> Planner<'a> {
         requires { place < length (modules_in (sources_of self.now)) }
         ensures { IfOk result (λ places. places.items ≡ places_for (sources_of self.now) place (flat_map (names_on side (name_at (modules_in (sources_of self.now)) place)) (sources_of self.now).rules)) }
     {
-        let names = soft_names(alloc, self.rules, self.modules.name(place), side)?;
+        let names = soft_names(alloc, &self.rules, self.modules.name(place), side)?;
         let places = self.found_places(alloc, &names)?;
         self.available_but(alloc, place, &places)
     }

@@ -13,9 +13,10 @@ ghost use Rattle.plan_builder.specs.Ends.{RisingEnds, steps_by};
 use crate::members::{chosen_command, insert_all, member_names};
 use crate::needs::Planner;
 use crate::request::Request;
+use crate::rule_table::RuleTable;
 use crate::step::{PlanStep, PlanSteps};
 use km_names::{Blob, Name, Names, PathText};
-use modprobe_conf::{Rule, Rules};
+use modprobe_conf::Rule;
 use name_lookup::Found;
 use name_table::NameSet;
 use plan_order::GroupedOrder;
@@ -36,12 +37,17 @@ pub(crate) fn spaced(alloc: Global, texts: &[&[u8]]) -> Result<Blob, AllocError>
 }
 
 /// The parameters that rules have for the module of this name.
-fn rule_texts<'a>(alloc: Global, rules: &'a Rules, name: &[u8]) -> Result<Vec<&'a [u8]>, AllocError>
+fn rule_texts<'a>(
+    alloc: Global,
+    rules: &'a RuleTable<'_>,
+    name: &[u8],
+) -> Result<Vec<&'a [u8]>, AllocError>
     ensures { IfOk result (λ texts. byte_texts texts.items ≡ flat_map (rule_options name.now) rules.now) }
 {
     let mut texts = Vec::new(alloc);
-    for rule in rules.as_slice() {
-        push_text(&mut texts, rule, name)?;
+    let own = rules.on(name);
+    for rule in own {
+        push_text(&mut texts, *rule, name)?;
     }
     Ok(texts)
 }

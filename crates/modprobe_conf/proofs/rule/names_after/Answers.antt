@@ -1,30 +1,48 @@
-use Rattle.std.proofs.Common.{◌≡◌, ◌++◌, sym, ap, ◌∙◌, drop, arith, List, ℕ, length, get_or, ◌<◌, ◌+◌, ◌∷◌, []}
-use Rattle.modprobe_conf.proofs.RuleSteps.{names_from, item-is, marker-more, name-more, other-more}
+use Rattle.std.proofs.Common.{◌++◌, sym, ap, ◌∙◌, append-nil}
+use Rattle.km_names.specs.Space.{words}
+use Rattle.modprobe_conf.proofs.RuleSteps.{names_from, marker-more, name-more, other-more, none-left}
+use Rattle.modprobe_conf.proofs.WordSteps.{words-cut, rest-shorter, no-words}
 use Rattle.modprobe_conf.proofs.rule.names_after.Goals as goal
-use Rattle.modprobe_conf.proofs.rule.names_after.Goals.{then-is_marker, else-is_marker+then-belongs+in_ok-underscored+in_ok-push, else-is_marker+else-belongs}
 
-pub loop-word-preserved : goal.loop-word-preserved
-loop-word-preserved c =
-    let l = c.loop-word in
+pub loop-marker-smaller-then-is_marker : goal.loop-marker-smaller-then-is_marker
+loop-marker-smaller-then-is_marker c = rest-shorter c.loop-marker.rest.now _ c.split_word.ensures.rest (sym c.is_empty.ensures ∙ c.loop-marker-test.true)
+
+pub loop-marker-preserved-then-is_marker : goal.loop-marker-preserved-then-is_marker
+loop-marker-preserved-then-is_marker c =
+    let l = c.loop-marker in
     let marker = c.args.marker.now in
-    let items = c.as_slice-word-items.result.now in
-    let word : List ℕ = c.as_bytes-word.result.now in
-    let next : List (List ℕ) = drop (l.word-index + 1) items in
-    let at : l.word-index < length items = omega arith in
-    let is : word ≡ get_or items l.word-index word = item-is items l.word-index c.word-item.result word at c.word-item.is c.as_bytes-word.ensures in
-    elim c.if-is_marker.branch [
-      | then-is_marker w ↦
-          ap (λ names. names ++ names_from marker c.if-is_marker.belongs next) w.names-is
-          ∙ marker-more l.names marker word items l.word-index l.belongs c.if-is_marker.belongs at is (sym c.is_marker.ensures ∙ w.if-is_marker.true) (w.belongs-is ∙ w.eq-belongs.ensures)
-          ∙ l.invariant
-      | else-is_marker+then-belongs+in_ok-underscored+in_ok-push w ↦
-          ap (λ names. names ++ names_from marker c.if-is_marker.belongs next) (w.names-is ∙ w.in_ok-push.ensures.ok)
-          ∙ ap (λ belongs. (l.names ++ w.in_ok-underscored.field-0 ∷ []) ++ names_from marker belongs next) w.belongs-is
-          ∙ name-more l.names marker word w.in_ok-underscored.field-0 items l.word-index l.belongs at is c.requires (sym c.is_marker.ensures ∙ w.if-is_marker.false) w.if-belongs.true w.in_ok-underscored.ensures
-          ∙ l.invariant
-      | else-is_marker+else-belongs w ↦
-          ap (λ names. names ++ names_from marker c.if-is_marker.belongs next) w.names-is
-          ∙ ap (λ belongs. l.names ++ names_from marker belongs next) w.belongs-is
-          ∙ other-more l.names marker word items l.word-index l.belongs at is c.requires (sym c.is_marker.ensures ∙ w.if-is_marker.false) w.if-belongs.false
-          ∙ l.invariant
-    ]
+    let cut = words-cut l.rest.now _ _ c.split_word.ensures.word c.split_word.ensures.rest in
+    ap (λ ns. l.names ++ ns) (marker-more marker c.split_word.result.0.now _ l.belongs _ (sym c.is_marker.ensures ∙ c.if-is_marker.true) c.eq-belongs.ensures ∙ ap (names_from marker l.belongs) cut)
+    ∙ l.invariant
+
+pub loop-marker-smaller-in_ok-push_name : goal.loop-marker-smaller-in_ok-push_name
+loop-marker-smaller-in_ok-push_name c = rest-shorter c.loop-marker.rest.now _ c.split_word.ensures.rest (sym c.is_empty.ensures ∙ c.loop-marker-test.true)
+
+pub loop-marker-preserved-in_ok-push_name : goal.loop-marker-preserved-in_ok-push_name
+loop-marker-preserved-in_ok-push_name c =
+    let l = c.loop-marker in
+    let marker = c.args.marker.now in
+    let after = c.split_word.result.1.now in
+    let cut = words-cut l.rest.now _ _ c.split_word.ensures.word c.split_word.ensures.rest in
+    ap (λ ns. ns ++ names_from marker l.belongs (words after)) c.in_ok-push_name.ensures
+    ∙ name-more l.names marker c.split_word.result.0.now (words after) l.belongs c.requires (sym c.is_marker.ensures ∙ c.if-is_marker.false) c.if-belongs.true
+    ∙ ap (λ ws. l.names ++ names_from marker l.belongs ws) cut
+    ∙ l.invariant
+
+pub loop-marker-smaller : goal.loop-marker-smaller
+loop-marker-smaller c = rest-shorter c.loop-marker.rest.now _ c.split_word.ensures.rest (sym c.is_empty.ensures ∙ c.loop-marker-test.true)
+
+pub loop-marker-preserved : goal.loop-marker-preserved
+loop-marker-preserved c =
+    let l = c.loop-marker in
+    let marker = c.args.marker.now in
+    let cut = words-cut l.rest.now _ _ c.split_word.ensures.word c.split_word.ensures.rest in
+    ap (λ ns. l.names ++ ns) (other-more marker c.split_word.result.0.now _ l.belongs c.requires (sym c.is_marker.ensures ∙ c.if-is_marker.false) c.if-belongs.false ∙ ap (names_from marker l.belongs) cut)
+    ∙ l.invariant
+
+pub returns : goal.returns
+returns c =
+    let l = c.loop-marker in
+    let marker = c.args.marker.now in
+    let none = no-words l.rest.now (sym c.is_empty.ensures ∙ c.loop-marker-test.false) in
+    sym (append-nil l.names) ∙ ap (λ ns. l.names ++ ns) (sym (ap (names_from marker l.belongs) none ∙ none-left marker l.belongs)) ∙ l.invariant

@@ -1,19 +1,29 @@
-use Rattle.std.proofs.Common.{◌≡◌, ap, sym, ◌∙◌}
-use Rattle.plan_builder.specs.Members.{command_of, install_command}
-use Rattle.std.proofs.Common.{take, None, ◌+◌}
+use Rattle.std.proofs.Common.{Bor, ap, sym, ◌∙◌, map, arith}
+use Rattle.std.proofs.lemmas.List.{take_all}
+use Rattle.km_names.specs.First.{first}
+use Rattle.modprobe_conf.specs.declared.rule.Rule.{Rule}
+use Rattle.plan_builder.specs.Members.{command_of}
 use Rattle.plan_builder.proofs.Finds.{first-here, first-more}
+use Rattle.plan_builder.proofs.RuleLaws.{command-of-own}
 use Rattle.plan_builder.proofs.members.install_command.Goals as goal
 
 pub returns-in-Some : goal.returns-in-Some
 returns-in-Some c =
-    let rules = c.as_slice-rule-items.result.now in
-    let none : install_command (take c.loop-rule.rule-index c.as_slice-rule-items.result.now) c.args.name.now ≡ None = ap (λ rs. install_command (take c.loop-rule.rule-index rs) c.args.name.now) c.as_slice-rule-items.ensures ∙ c.loop-rule.invariant in
-    sym (ap (λ rs. install_command rs c.args.name.now) (sym c.as_slice-rule-items.ensures)
-    ∙ first-here (command_of c.args.name.now) rules c.loop-rule.rule-index c.rule-item.result c.in-Some.command.now c.loop-rule-test.true c.rule-item.is none (sym c.in-Some.ensures))
+    let name = c.args.name.now in
+    let own = c.on-own.result.now in
+    sym (sym (command-of-own name c.args.rules.now own c.on-own.ensures)
+    ∙ first-here (λ (r : Bor Rule). command_of name r.now) own c.loop-rule.rule-index c.rule-item.result c.in-Some.command.now c.loop-rule-test.true c.rule-item.is c.loop-rule.invariant (sym c.in-Some.ensures))
 
 pub loop-rule-preserved : goal.loop-rule-preserved
 loop-rule-preserved c =
-    let rules = c.as_slice-rule-items.result.now in
-    let none : install_command (take c.loop-rule.rule-index c.as_slice-rule-items.result.now) c.args.name.now ≡ None = ap (λ rs. install_command (take c.loop-rule.rule-index rs) c.args.name.now) c.as_slice-rule-items.ensures ∙ c.loop-rule.invariant in
-    ap (λ rs. install_command (take (c.loop-rule.rule-index + 1) rs) c.args.name.now) (sym c.as_slice-rule-items.ensures)
-    ∙ first-more (command_of c.args.name.now) rules c.loop-rule.rule-index c.rule-item.result c.loop-rule-test.true c.rule-item.is none (sym c.in_default.ensures)
+    let name = c.args.name.now in
+    let own = c.on-own.result.now in
+    first-more (λ (r : Bor Rule). command_of name r.now) own c.loop-rule.rule-index c.rule-item.result c.loop-rule-test.true c.rule-item.is c.loop-rule.invariant (sym c.in_default.ensures)
+
+pub returns : goal.returns
+returns c =
+    let name = c.args.name.now in
+    let own = c.on-own.result.now in
+    sym (sym (command-of-own name c.args.rules.now own c.on-own.ensures)
+    ∙ ap (λ rs. first (map (λ (r : Bor Rule). command_of name r.now) rs)) (sym (take_all c.loop-rule.rule-index own (omega (arith, c.loop-rule-test.false))))
+    ∙ c.loop-rule.invariant)
