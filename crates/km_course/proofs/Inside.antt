@@ -70,12 +70,9 @@ two-is (ends.TooLarge path) h = absurd (omega (arith, h))
 two-is (ends.Inner line) h = absurd (omega (arith, h))
 
 -- how many calls were made before changes nothing else that is told
-done-calls : (acts : List Act) (shown : Shown) (calls : ℕ) → (n : ℕ) × (done acts (record shown { calls = calls }) ≡ record (done acts shown) { calls = n })
+pub done-calls : (acts : List Act) (shown : Shown) (calls : ℕ) → (n : ℕ) × (done acts (record shown { calls = calls }) ≡ record (done acts shown) { calls = n })
 done-calls [] shown calls = (calls, refl)
-done-calls (act ∷ acts) shown calls = by_act act
-  where
-    by_act : (act : Act) → (n : ℕ) × (done (act ∷ acts) (record shown { calls = calls }) ≡ record (done (act ∷ acts) shown) { calls = n })
-    by_act act = done-calls acts (act_done act shown) (calls_done act calls)
+done-calls (act ∷ acts) shown calls = done-calls acts (act_done act shown) (calls_done act calls)
 
 -- an end with status 1 is handed on by its line
 inner-line : (e : End) → end_status e ≡ 1 → inner_end e ≡ ends.Inner (end_line e)
