@@ -1,0 +1,3 @@
+pub mod InsideSteps
+pub mod LineSteps
+pub mod WordSteps
