@@ -1,5 +1,5 @@
 -- The names of made modules as words.
-use Rattle.std.proofs.Common.{◌≡◌, ℕ, ◌+◌, ◌%◌, ◌<◌, List, [], ◌∷◌, ◌++◌, map, sym, ap, ◌∙◌, arith, append_assoc}
+use Rattle.std.proofs.Common.{◌≡◌, ℕ, ◌+◌, ◌%◌, ◌/◌, List, [], ◌∷◌, ◌++◌, map, codes, sym, ap, ◌∙◌, arith, append_assoc, append-nil}
 use Rattle.std.specs.List.{range_with_len}
 use Rattle.std.specs.Fmt.{decimal}
 use Rattle.std.proofs.lemmas.Fmt.{decimal_digit}
@@ -17,3 +17,12 @@ words-more n =
 -- a digit as `{}` writes it
 pub digit-decimal : (n : ℕ) → decimal (n % 10) ≡ digit n ∷ []
 digit-decimal n = decimal_digit (n % 10) (omega arith)
+
+-- four digits as `{}` writes them, one after the other
+pub digits-decimal : (n : ℕ) → codes "m" ++ (decimal (n / 1000 % 10) ++ (decimal (n / 100 % 10) ++ (decimal (n / 10 % 10) ++ decimal (n % 10)))) ≡ name_of n
+digits-decimal n = simp digit-decimal
+
+-- the words of no module
+pub words-none : modprobe_words 0 ≡ modprobe_options
+unfolding modprobe_words
+words-none = append-nil modprobe_options

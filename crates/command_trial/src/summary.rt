@@ -1,5 +1,6 @@
 // What a trial says.
 ghost use Rattle.std.specs.Prelude.{◌≡◌, ◌++◌, IfOk, OnOk};
+ghost use Rattle.std.specs.Fmt.{decimal};
 ghost use Rattle.sha2.specs.Sha256.{sha256};
 ghost use Rattle.command_trial.specs.Summary.{bytes_at as bytes_of_path, dependencies_left, image_path as path_of_image, images_of, stated, summary as summary_of};
 
@@ -63,8 +64,22 @@ fn push_stated(text: &mut Blob, what: &[u8], shown: &[u8]) -> Result<(), AllocEr
     text.push(b'\n')
 }
 
+/// Puts a line at the end that states a count.
+fn push_count(
+    alloc: Global,
+    text: &mut Blob,
+    what: &[u8],
+    count: usize,
+) -> Result<(), AllocError>
+    ensures { OnOk result (text.new ≡ text.old ++ stated what.now (decimal count)) }
+{
+    let shown = format!(in alloc; "{count}")?;
+    push_stated(text, what, shown.as_bytes())
+}
+
 /// The five lines of a trial of so many modules, with so many dependencies, that left these files and this output of
 /// modprobe.
+#[tactic(auto, unfolding(crate::specs::Summary::summary))]
 pub(crate) fn summary(
     alloc: Global,
     modules: u32,
@@ -78,10 +93,10 @@ pub(crate) fn summary(
     let loaded = rests_of_lines(alloc, output, b"loaded ")?;
     let digest = digest_of_images(alloc, files, loaded.as_slice())?;
     let mut text = Blob::new(alloc);
-    push_stated(&mut text, b"modules", format!(in alloc; "{modules}")?.as_bytes())?;
-    push_stated(&mut text, b"dependencies", format!(in alloc; "{dependencies}")?.as_bytes())?;
-    push_stated(&mut text, b"planned", format!(in alloc; "{planned}")?.as_bytes())?;
-    push_stated(&mut text, b"loaded", format!(in alloc; "{}", loaded.len())?.as_bytes())?;
+    push_count(alloc, &mut text, b"modules", modules as usize)?;
+    push_count(alloc, &mut text, b"dependencies", dependencies)?;
+    push_count(alloc, &mut text, b"planned", planned)?;
+    push_count(alloc, &mut text, b"loaded", loaded.len())?;
     push_stated(&mut text, b"images", hex::encode(alloc, digest.as_slice())?.as_bytes())?;
     Ok(text)
 }
