@@ -5,11 +5,11 @@ use Rattle.std.proofs.lemmas.Bool.{le-ltb, ltb-false}
 use Rattle.km_outside.specs.Contents.{Contents}
 use Rattle.km_outside.specs.OutSeen.{OutSeen, Within}
 use Rattle.km_course.specs.Lines.{end_line, end_status}
-use Rattle.km_course.specs.Course.{Outcome, Run, Stage}
+use Rattle.km_course.specs.Course.{Act, Outcome, Run, Stage}
 use Rattle.km_course.specs.Course.Act.{warn}
 use Rattle.km_course.specs.Course.Outcome.{value, end}
-use Rattle.km_course.specs.World.{World, Shown, Tells, done}
-use Rattle.km_course.specs.Carries.{Carries, HasEnded, HasRoomFor, closing_acts, outcome_status}
+use Rattle.km_course.specs.World.{World, Shown, Tells, act_done, calls_done, done}
+use Rattle.km_course.specs.Carries.{Carries, HasEnded, HasRoomFor, closing_acts, outcome_status, whole_acts}
 use Rattle.km_course.specs.Inner.{Left, bare, inner_told, inner_end, inner_fitting, inner_outcome, InnerCame}
 use Rattle.km_course.specs.declared.end.End.{End}
 use Rattle.km_course.specs.declared.end.End.TheVariants as ends
@@ -17,9 +17,10 @@ use Rattle.km_course.specs.declared.refusal.Refusal.TheVariants.{InnerOutputFull
 use Rattle.km_course.proofs.Steps.{done-append}
 
 -- What a call inside another is handed: files that tell what they hold, of which no call fails, and two empty
--- outputs that tell this room; and no call was made.
+-- outputs that tell this room.
 pub record Handed (room : ℕ) (files : Contents) (old : World) : Type 0 where
-  pub tells : Tells old (bare files)
+  pub calls : ℕ
+  pub tells : Tells old (record (bare files) { calls = calls })
   pub sure : old.files.sure ≡ true
   pub out : old.out.room ≡ Some room
   pub err : old.err.room ≡ Some room
@@ -68,6 +69,19 @@ two-is (ends.NoFile path) h = absurd (omega (arith, h))
 two-is (ends.TooLarge path) h = absurd (omega (arith, h))
 two-is (ends.Inner line) h = absurd (omega (arith, h))
 
+-- how many calls were made before changes nothing else that is told
+pub done-calls : (acts : List Act) (shown : Shown) (calls : ℕ) → (n : ℕ) × (done acts (record shown { calls = calls }) ≡ record (done acts shown) { calls = n })
+done-calls [] shown calls = (calls, refl)
+done-calls (act ∷ acts) shown calls = done-calls acts (act_done act shown) (calls_done act calls)
+
+-- an end with status 1 is handed on by its line
+inner-line : (e : End) → end_status e ≡ 1 → inner_end e ≡ ends.Inner (end_line e)
+inner-line (ends.Refused refusal) h = refl
+inner-line ends.NotUnderstood h = absurd (omega (arith, h))
+inner-line (ends.NoFile path) h = refl
+inner-line (ends.TooLarge path) h = refl
+inner-line (ends.Inner line) h = refl
+
 -- A call that carries a course over what it was handed says by its status what the inner course came to.
 pub inner_came : (room : ℕ) (course : Stage ⊤) (files : Contents) (old new : World) (status : ℕ) → Handed room files old → Carries course old new status → InnerCame room (course.run files) files new status
 inner_came room course files old new status handed c = record {
@@ -83,33 +97,41 @@ inner_came room course files old new status handed c = record {
     told : Shown
     told = inner_told run files
 
-    came : status ≤ 2 → HasEnded run (bare files) old new status
-    came le = c.ended le (bare files) handed.tells
+    began : Shown
+    began = record (bare files) { calls = handed.calls }
+
+    same : (n : ℕ) × (done (whole_acts run) began ≡ record told { calls = n })
+    same = done-calls (whole_acts run) (bare files) handed.calls
+
+    came : status ≤ 2 → HasEnded run began old new status
+    came le = c.ended le began handed.tells
+
+    tells : status ≤ 2 → Tells new (record told { calls = same.0 })
+    tells le = subst (Tells new) same.1 (came le).tells
 
     fits : status ≤ 2 → inner_outcome room run files ≡ inner_fitting run.outcome told
     fits le =
         fitting room run files
-        (within-told new.out room told.out c.rooms.1.out (c.keeps.out.room ∙ handed.out) (came le).tells.out)
-        (within-told new.err room told.err c.rooms.1.err (c.keeps.err.room ∙ handed.err) (came le).tells.err)
+        (within-told new.out room told.out c.rooms.1.out (c.keeps.out.room ∙ handed.out) (tells le).out)
+        (within-told new.err room told.err c.rooms.1.err (c.keeps.err.room ∙ handed.err) (tells le).err)
 
     by_value : (o : Outcome ⊤) → run.outcome ≡ o → status ≡ 0 → (left : Left) × (inner_outcome room run files ≡ value left) × (new.files.contents ≡ Some left.files) × (new.out.told ≡ Some left.out)
     by_value (value x) e zero =
         let le : status ≤ 2 = omega (arith, zero) in
-        (record { files = told.files; out = told.out }, fits le ∙ ap (λ o. inner_fitting o told) e, (came le).tells.files, (came le).tells.out)
+        (record { files = told.files; out = told.out }, fits le ∙ ap (λ o. inner_fitting o told) e, (tells le).files, (tells le).out)
     by_value (end x) e zero =
         let le : status ≤ 2 = omega (arith, zero) in
         absurd (omega (arith, zero, (some_status x).0, (came le).status_is ∙ ap outcome_status e))
 
-    by_end : (o : Outcome ⊤) → run.outcome ≡ o → status ≡ 1 → (e : End) × (end_status e ≡ 1) × (inner_outcome room run files ≡ end (inner_end e)) × (new.err.told ≡ Some ((done run.acts (bare files)).err ++ end_line e))
+    by_end : (o : Outcome ⊤) → run.outcome ≡ o → status ≡ 1 → (whole : List ℕ) × (inner_outcome room run files ≡ end (ends.Inner whole)) × (new.err.told ≡ Some ((done run.acts (bare files)).err ++ whole))
     by_end (value x) e one =
         let le : status ≤ 2 = omega (arith, one) in
         absurd (omega (arith, one, (came le).status_is ∙ ap outcome_status e))
     by_end (end x) e one =
         let le : status ≤ 2 = omega (arith, one) in (
-          x,
-          sym ((came le).status_is ∙ ap outcome_status e) ∙ one,
-          fits le ∙ ap (λ o. inner_fitting o told) e,
-          (came le).tells.err ∙ ap (λ o. Some (done (run.acts ++ closing_acts o) (bare files)).err) e ∙ ap (λ w. Some w.err) (done-append run.acts (warn (end_line x) ∷ []) (bare files)),
+          end_line x,
+          fits le ∙ ap (λ o. inner_fitting o told) e ∙ ap end (inner-line x (sym ((came le).status_is ∙ ap outcome_status e) ∙ one)),
+          (tells le).err ∙ ap (λ o. Some (done (run.acts ++ closing_acts o) (bare files)).err) e ∙ ap (λ w. Some w.err) (done-append run.acts (warn (end_line x) ∷ []) (bare files)),
         )
 
     by_words : (o : Outcome ⊤) → run.outcome ≡ o → status ≡ 2 → inner_outcome room run files ≡ end ends.NotUnderstood
@@ -121,13 +143,13 @@ inner_came room course files old new status handed c = record {
         fits le ∙ ap (λ o. inner_fitting o told) (e ∙ ap end (two-is x (sym ((came le).status_is ∙ ap outcome_status e) ∙ two)))
 
     unfull : status ≡ 3 → length told.out ≤ room → length told.err ≤ room → ⊥
-    unfull three out err = by_status (c.complete (bare files) handed.tells handed.sure has)
+    unfull three out err = by_status (c.complete began handed.tells handed.sure has)
       where
-        has : HasRoomFor old told
-        has = record {
+        has : HasRoomFor old (done (whole_acts run) began)
+        has = subst (HasRoomFor old) (sym same.1) (record {
           out = subst (λ o. IsSomeAnd o (λ n. length told.out ≤ n)) (sym handed.out) out;
           err = subst (λ o. IsSomeAnd o (λ n. length told.err ≤ n)) (sym handed.err) err;
-        }
+        })
 
         by_status : (status ≡ outcome_status run.outcome) ⊎ (status ≡ 4) → ⊥
         by_status (inl e) = absurd (omega (arith, three, e, low run.outcome))

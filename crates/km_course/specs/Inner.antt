@@ -1,7 +1,7 @@
 -- A course inside another: over files that were made for it, with outputs of its own whose rooms are told.
 use Rattle.std.specs.Prelude.{◌≡◌, ℕ, nat_lt, Bool, ◌||◌, if◌then◌else◌, List, [], ◌++◌, length, Some, ⊤}
 use Rattle.km_outside.specs.Contents.{Contents}
-use Rattle.km_course.specs.Lines.{line, refusal_text, end_line, end_status}
+use Rattle.km_course.specs.Lines.{end_line}
 use Rattle.km_course.specs.Course.{Outcome, Run, Stage, given}
 use Rattle.km_course.specs.Course.Outcome.{value, end}
 use Rattle.km_course.specs.World.{World, Shown, done}
@@ -27,10 +27,11 @@ inner_told run files = done (whole_acts run) (bare files)
 abbrev pub overfull : ℕ → Shown → Bool
 overfull room told = nat_lt room (length told.out) || nat_lt room (length told.err)
 
--- what an end of the inner course is to the outer one: a refusal's line is handed on as it is
+-- What an end of the inner course is to the outer one: its line is handed on as it is. No call on the objects outside is
+-- to blame for it.
 abbrev pub inner_end : End → End
-inner_end (ends.Refused refusal) = ends.Inner (line (refusal_text refusal))
-inner_end e = e
+inner_end ends.NotUnderstood = ends.NotUnderstood
+inner_end e = ends.Inner (end_line e)
 
 -- what an inner course comes to, all of which fits its outputs
 abbrev pub inner_fitting : Outcome ⊤ → Shown → Outcome Left
@@ -48,12 +49,12 @@ abbrev pub inner : ℕ → Stage ⊤ → Contents → Stage Left
 inner room course files = given (inner_outcome room (course.run files) files)
 
 -- What the status of an inner call says of the inner course, where new is what the call left: with 0 what the
--- course left is told; with 1 or 2 it came to an end, whose line ends what err tells; with 3 an output was
--- full.
+-- course left is told; with 1 it came to an end, whose line ends what err tells; with 2 its words weren't
+-- understood; with 3 an output was full.
 pub record InnerCame (room : ℕ) (run : Run ⊤) (files : Contents) (new : World) (status : ℕ) : Type 0 where
   pub ended : status ≡ 0 → (left : Left) × (inner_outcome room run files ≡ value left)
       × (new.files.contents ≡ Some left.files) × (new.out.told ≡ Some left.out)
-  pub refused : status ≡ 1 → (e : End) × (end_status e ≡ 1) × (inner_outcome room run files ≡ end (inner_end e))
-      × (new.err.told ≡ Some ((done run.acts (bare files)).err ++ end_line e))
+  pub refused : status ≡ 1 → (whole : List ℕ) × (inner_outcome room run files ≡ end (ends.Inner whole))
+      × (new.err.told ≡ Some ((done run.acts (bare files)).err ++ whole))
   pub misunderstood : status ≡ 2 → inner_outcome room run files ≡ end ends.NotUnderstood
   pub full : status ≡ 3 → inner_outcome room run files ≡ end (ends.Refused InnerOutputFull)

@@ -10,6 +10,8 @@ pub(crate) enum Command {
     Modinfo,
     /// Plans and loads modules into the modelled machine, and tells what names stand for. modprobe(8).
     Modprobe,
+    /// Makes a tree of modules in memory, indexes it and loads its modules there.
+    Trial,
 }
 
 /// The command of this name.
@@ -25,6 +27,9 @@ pub(crate) fn command_named(word: &[u8]) -> Option<Command>
     }
     if word == b"modprobe".as_slice() {
         return Some(Command::Modprobe);
+    }
+    if word == b"trial".as_slice() {
+        return Some(Command::Trial);
     }
     None
 }

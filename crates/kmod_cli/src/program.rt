@@ -1,10 +1,12 @@
 ghost use Rattle.std.specs.Prelude.{◌≡◌, ◌∷◌, ℕ, List, codes};
+ghost use Rattle.km_outside.specs.FilesSeen.{FilesSeen};
 ghost use Rattle.km_course.specs.World.{Shown, Tells, world};
 ghost use Rattle.km_course.specs.Carries.{Carries};
 ghost use Rattle.command_depmod.specs.Depmod.{depmod_course};
 ghost use Rattle.command_depmod.specs.Replaced.{LeavesFiles};
 ghost use Rattle.command_modinfo.specs.Modinfo.{modinfo_course};
 ghost use Rattle.command_modprobe.specs.Modprobe.{modprobe_course};
+ghost use Rattle.command_trial.specs.Trial.{trial_course};
 ghost use Rattle.kmod_cli.specs.Program.{course, course_named};
 
 use crate::command::{Command, command_named};
@@ -58,6 +60,7 @@ fn command<F: Files, O: Out, E: Out>(
             Command::Depmod => depmod(alloc, words, files, out, err),
             Command::Modinfo => modinfo(alloc, words, files, out, err),
             Command::Modprobe => modprobe(alloc, words, files, out, err),
+            Command::Trial => trial(alloc, words, out, err),
         },
         None => conclude(alloc, Err(Stop::from(End::NotUnderstood)), err),
     }
@@ -114,5 +117,15 @@ pub fn modprobe<F: Writes, O: Out, E: Out>(
         (world (F.seen files.new) (O.seen out.new) (E.seen err.new)) result }
 {
     let outcome = command_modprobe::modprobe(alloc, words, files, out);
+    conclude(alloc, outcome, err)
+}
+
+/// Does what `trial` does with these words after its name: tries the tools on a tree that it makes in memory. No call on
+/// files is made.
+fn trial<O: Out, E: Out>(alloc: Global, words: &[Word], out: &mut O, err: &mut E) -> u8
+    ensures { (files : FilesSeen) → Carries (trial_course words.now)
+        (world files (O.seen out.old) (E.seen err.old)) (world files (O.seen out.new) (E.seen err.new)) result }
+{
+    let outcome = command_trial::trial(alloc, words, out);
     conclude(alloc, outcome, err)
 }

@@ -34,3 +34,5 @@ mod sheet_row;
 mod sheets;
 #[cfg(test)]
 mod tree_row;
+#[cfg(test)]
+mod trial_row;

@@ -1,4 +1,4 @@
-ghost use Rattle.std.specs.Prelude.{◌≡◌, IfOk, List, Option, ℕ};
+ghost use Rattle.std.specs.Prelude.{◌≡◌, ◌≤◌, IfOk, IfSome, List, Option, ℕ};
 ghost use Rattle.clap.specs.Words.{found_of, rows_of};
 ghost use Rattle.kmod_words.specs.Trial.{trial_request, trial_asked, number_of as number_of_name};
 
@@ -22,7 +22,8 @@ pub struct TrialWords {
 
 /// What the words after `trial` ask for: `SEED COUNT`. It is `None` exactly where they aren't understood.
 pub fn read_trial(alloc: Global, words: &[Word]) -> Result<Option<TrialWords>, AllocError>
-    ensures { IfOk result (λ asked. asked ≡ trial_request words.now) }
+    ensures request { IfOk result (λ asked. asked ≡ trial_request words.now) }
+    ensures range { IfOk result (λ asked. IfSome asked (λ words. (1 ≤ words.count) × (words.count ≤ 2000))) }
 {
     let command = command(alloc, "trial", &ARGUMENTS)?;
     let texts = texts_of(alloc, words)?;
@@ -35,7 +36,8 @@ pub fn read_trial(alloc: Global, words: &[Word]) -> Result<Option<TrialWords>, A
 // What the matches ask for.
 #[tactic(auto, unfolding(crate::specs::Trial::trial_asked))]
 fn asked(matches: &ArgMatches<'_>) -> Option<TrialWords>
-    ensures { result ≡ trial_asked (rows_of (found_of matches.now)) }
+    ensures request { result ≡ trial_asked (rows_of (found_of matches.now)) }
+    ensures range { IfSome result (λ words. (1 ≤ words.count) × (words.count ≤ 2000)) }
 {
     let seed = number_of(matches, "seed", 20)?;
     let count = number_of(matches, "count", 4)?;

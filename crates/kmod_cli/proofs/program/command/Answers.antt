@@ -29,6 +29,12 @@ returns-in-Modprobe g c =
     (sym (c.in-Some.is ∙ ap Some c.in-Modprobe.is))
     c.modprobe.ensures
 
+pub returns-in-Trial : goal.returns-in-Trial
+returns-in-Trial g c =
+    subst (λ named. Carries (course_named named c.args.words.now) (world (g.F.Reads.seen c.args.files.now) (g.O.Out.seen c.args.out.now) (g.E.Out.seen c.args.err.now)) (world (g.F.Reads.seen c.args.files.now) (g.O.Out.seen c.trial.new.out) (g.E.Out.seen c.trial.new.err)) c.trial.result)
+    (sym (c.in-Some.is ∙ ap Some c.in-Trial.is))
+    (c.trial.ensures (g.F.Reads.seen c.args.files.now))
+
 pub returns-in-None : goal.returns-in-None
 returns-in-None g c =
     let old = world (g.F.Reads.seen c.args.files.now) (g.O.Out.seen c.args.out.now) (g.E.Out.seen c.args.err.now) in

@@ -1,0 +1,4 @@
+pub mod CourseSteps
+pub mod InsideSteps
+pub mod LineSteps
+pub mod WordSteps

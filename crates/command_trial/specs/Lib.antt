@@ -1,0 +1,4 @@
+pub mod Words
+pub mod Summary
+pub mod Inside
+pub mod Trial

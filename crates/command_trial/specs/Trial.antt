@@ -1,0 +1,42 @@
+-- The course of `trial`: a tree is made, indexed and loaded, and what came of it is said. The command is this project's
+-- own.
+use Rattle.std.specs.Prelude.{ℕ, List, Option, Some, None, ⊤}
+use Rattle.km_outside.specs.Contents.{Contents}
+use Rattle.km_course.specs.Course.{Stage, ◌>>=◌, ends, says}
+use Rattle.km_course.specs.Inner.{Left, inner}
+use Rattle.km_course.specs.declared.end.End.TheVariants.{NotUnderstood}
+use Rattle.kmod_words.specs.declared.trial.TrialWords.{TrialWords}
+use Rattle.kmod_words.specs.Trial.{trial_request}
+use Rattle.tree_gen.specs.Trial.{trial_contents}
+use Rattle.command_depmod.specs.Depmod.{depmod_course}
+use Rattle.command_modprobe.specs.Modprobe.{modprobe_course}
+use Rattle.command_trial.specs.Words.{depmod_words, modprobe_words}
+use Rattle.command_trial.specs.Summary.{dependencies_left, summary}
+
+-- Each output of a command inside a trial has room for so many bytes.
+abbrev pub inner_room : ℕ
+inner_room = 4194304
+
+-- The made tree is indexed, by a depmod inside. depmod(8).
+abbrev pub indexes_made : Contents → Stage Left
+indexes_made files = inner inner_room (depmod_course depmod_words) files
+
+-- Its modules are loaded, by a modprobe inside. modprobe(8).
+abbrev pub loads_made : ℕ → Contents → Stage Left
+loads_made count files = inner inner_room (modprobe_course (modprobe_words count)) files
+
+-- The course of a request: the tree is made and indexed, its modules are loaded, and the summary is said.
+abbrev pub tries : TrialWords → Stage ⊤
+tries asked = do
+  indexed ← indexes_made (trial_contents asked.seed asked.count)
+  left ← loads_made asked.count indexed.files
+  says (summary asked.count (dependencies_left indexed.files) left)
+
+-- the course of what the words ask for
+abbrev pub trial_asked_for : Option TrialWords → Stage ⊤
+trial_asked_for None = ends NotUnderstood
+trial_asked_for (Some asked) = tries asked
+
+-- The course of `trial` with these words after it. No act but the summary is done on the objects outside.
+abbrev pub trial_course : List (List ℕ) → Stage ⊤
+trial_course words = trial_asked_for (trial_request words)

@@ -1,0 +1,54 @@
+// The commands inside a trial.
+ghost use Rattle.std.specs.Prelude.{◌≡◌, true, IfOk};
+ghost use Rattle.km_outside.specs.MemFilesSeen.{MemFilesSeen, no_kind_listed};
+ghost use Rattle.km_course.specs.Follows.{Answers};
+ghost use Rattle.km_course.specs.Inner.{inner_outcome};
+ghost use Rattle.command_depmod.specs.Depmod.{depmod_course};
+ghost use Rattle.command_modprobe.specs.Modprobe.{modprobe_course};
+ghost use Rattle.command_trial.specs.Trial.{inner_room};
+ghost use Rattle.command_trial.specs.Words.{depmod_words as words_of_depmod, modprobe_words as words_of_modprobe};
+
+use crate::status::{bytes_from, hand_on};
+use crate::words::{depmod_words, modprobe_words};
+use command_depmod::depmod;
+use command_modprobe::modprobe;
+use km_course::{Stop, conclude};
+use km_outside::{MemFiles, MemOut};
+use std::alloc::Global;
+
+/// How many bytes each output of a command inside has room for.
+const ROOM: usize = 4_194_304;
+
+/// Indexes the made tree in these files, of which no call fails, and gives what depmod wrote to its output. Where an output
+/// is full the trial is refused; any other end of depmod is the trial's.
+pub(crate) fn index_made(alloc: Global, files: &mut MemFiles) -> Result<MemOut, Stop>
+    requires { no_kind_listed files.old.kinds ≡ true }
+    ensures left { Answers (λ out. record { files = files.new.contents; out = out.bytes })
+        (inner_outcome inner_room ((depmod_course words_of_depmod).run files.old.contents) files.old.contents) result }
+    ensures sure { IfOk result (λ out. no_kind_listed files.new.kinds ≡ true) }
+{
+    let words = depmod_words(alloc)?;
+    let mut out = MemOut::with_room(alloc, ROOM)?;
+    let mut err = MemOut::with_room(alloc, ROOM)?;
+    let outcome = depmod(alloc, words.as_slice(), files, &mut out, &mut err);
+    let warned = err.bytes().len();
+    let status = conclude(alloc, outcome, &mut err);
+    hand_on(alloc, status, bytes_from(err.bytes(), warned))?;
+    Ok(out)
+}
+
+/// Loads so many modules of the made tree in these files, of which no call fails, and gives what modprobe wrote to its
+/// output. Where an output is full the trial is refused; any other end of modprobe is the trial's.
+pub(crate) fn load_made(alloc: Global, count: u32, files: &mut MemFiles) -> Result<MemOut, Stop>
+    requires { no_kind_listed files.old.kinds ≡ true }
+    ensures { Answers (λ out. record { files = files.new.contents; out = out.bytes })
+        (inner_outcome inner_room ((modprobe_course (words_of_modprobe count)).run files.old.contents) files.old.contents) result }
+{
+    let words = modprobe_words(alloc, count)?;
+    let mut out = MemOut::with_room(alloc, ROOM)?;
+    let mut err = MemOut::with_room(alloc, ROOM)?;
+    let outcome = modprobe(alloc, words.as_slice(), files, &mut out);
+    let status = conclude(alloc, outcome, &mut err);
+    hand_on(alloc, status, err.bytes())?;
+    Ok(out)
+}

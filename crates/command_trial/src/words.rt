@@ -1,0 +1,66 @@
+// The words of the commands inside a trial.
+ghost use Rattle.std.specs.Prelude.{◌≡◌, IfOk, map};
+ghost use Rattle.tree_gen.specs.Trial.{name_of};
+ghost use Rattle.command_trial.specs.Words.{depmod_words as words_of_depmod, modprobe_words as words_of_modprobe};
+
+use km_names::{List, Word};
+use std::alloc::{AllocError, Global};
+
+/// The words after the depmod that indexes the made tree.
+const DEPMOD: [&str; 5] = ["-b", "/t", "-E", "/t/Module.symvers", "trial"];
+
+/// The options of the modprobe that loads its modules.
+const MODPROBE: [&str; 11] = [
+    "-a",
+    "-d",
+    "/t",
+    "-S",
+    "trial",
+    "--system-map",
+    "/t/System.map",
+    "--symvers",
+    "/t/Module.symvers",
+    "--image",
+    "/t/img",
+];
+
+/// The words after the depmod that indexes the made tree.
+pub(crate) fn depmod_words(alloc: Global) -> Result<List<Word>, AllocError>
+    ensures { IfOk result (λ words. words ≡ words_of_depmod) }
+{
+    words_of(alloc, &DEPMOD)
+}
+
+/// The words after the modprobe that loads so many of its modules.
+pub(crate) fn modprobe_words(alloc: Global, count: u32) -> Result<List<Word>, AllocError>
+    ensures { IfOk result (λ words. words ≡ words_of_modprobe count) }
+{
+    let mut words = words_of(alloc, &MODPROBE)?;
+    for number in 0..count {
+        words.push(module_name(alloc, number)?)?;
+    }
+    Ok(words)
+}
+
+/// The words of these texts.
+fn words_of(alloc: Global, texts: &[&str]) -> Result<List<Word>, AllocError>
+    ensures { IfOk result (λ words. words ≡ map (λ text. text.now) texts.now) }
+{
+    let mut words = List::new(alloc);
+    for text in texts {
+        words.push(Word::from_text(alloc, text)?)?;
+    }
+    Ok(words)
+}
+
+/// The name of the module of this number, in four digits.
+fn module_name(alloc: Global, number: u32) -> Result<Word, AllocError>
+    ensures { IfOk result (λ word. word ≡ name_of number) }
+{
+    let thousands = number / 1000 % 10;
+    let hundreds = number / 100 % 10;
+    let tens = number / 10 % 10;
+    let ones = number % 10;
+    let name = format!(in alloc; "m{thousands}{hundreds}{tens}{ones}")?;
+    Word::from_text(alloc, name.as_str())
+}
