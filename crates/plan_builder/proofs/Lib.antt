@@ -1,8 +1,10 @@
 pub mod Answering
 pub mod ByNumber
+pub mod ClosedLemmas
 pub mod Finds
 pub mod Firsts
 pub mod Inside
+pub mod Keys
 pub mod Lines
 pub mod Marks
 pub mod Named
