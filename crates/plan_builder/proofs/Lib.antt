@@ -1,5 +1,6 @@
 pub mod Answering
 pub mod ByNumber
+pub mod ClearLines
 pub mod ClosedLemmas
 pub mod Finds
 pub mod Firsts
@@ -9,6 +10,8 @@ pub mod Lines
 pub mod Marks
 pub mod Named
 pub mod Obstacles
+pub mod PlaceNames
 pub mod Sorting
 pub mod StepLaws
+pub mod StepModules
 pub mod Troubled
