@@ -1,5 +1,5 @@
 -- What the tests of the lines of modules.unmet say of each line.
-use Rattle.std.proofs.Common.{◌≡◌, ℕ, Bool, true, false, cond, List, [], ◌∷◌, ◌++◌, Option, Some, None, refl, sym, ap, ◌∙◌}
+use Rattle.std.proofs.Common.{◌≡◌, ℕ, Bool, true, false, cond, List, [], ◌∷◌, ◌++◌, Some, None, refl, sym, ap, ◌∙◌}
 use Rattle.std.specs.Prelude.{◌||◌, ◌&&◌}
 use Rattle.std.specs.List.{find, list_any}
 use Rattle.std.specs.Str.{bytes_eq}
@@ -10,7 +10,7 @@ use Rattle.symbol_binding.specs.declared.unbound.Unbound.{Unbound}
 use Rattle.symbol_binding.specs.declared.unbound.Unbound.TheVariants as lines
 use Rattle.symbol_binding.specs.Unmet.{vmlinux, belongs}
 use Rattle.plan_builder.specs.declared.check.LineKind.TheVariants as kinds
-use Rattle.plan_builder.specs.Obstacles.{is_met, is_obstacle}
+use Rattle.plan_builder.specs.Obstacles.{is_obstacle}
 use Rattle.plan_builder.specs.Closed.{is_at_one, collides}
 
 pub none-found : {X : Type 0} (p : X → Bool) (x : X) (xs : List X) → find p (x ∷ xs) ≡ None → (p x ≡ false) × (find p xs ≡ None)

@@ -1,23 +1,19 @@
 -- Plans without an obstacle are closed.
-use Rattle.std.proofs.Common.{◌≡◌, ℕ, ◌+◌, ◌<◌, Bool, true, false, cond, eqb, List, [], ◌∷◌, ◌++◌, length, take, map, get_or, Option, Some, None, refl, sym, ap, ◌∙◌, subst, inl, inr, arith}
+use Rattle.std.proofs.Common.{◌≡◌, ℕ, ◌<◌, Bool, true, false, eqb, List, [], ◌∷◌, ◌++◌, length, take, map, get_or, Option, Some, None, refl, sym, ap, ◌∙◌, subst, inl, inr, arith}
 use Rattle.std.specs.Prelude.{◌||◌, ◌⊎◌, ◌&&◌, not, is_some}
-use Rattle.std.specs.List.{AllByRecursion, IsDistinct, find, list_any, list_all}
-use Rattle.std.specs.Option.{option_map, option_map_or, option_to_list}
+use Rattle.std.specs.List.{IsDistinct, list_any, list_all}
 use Rattle.std.specs.Str.{bytes_eq}
-use Rattle.std.proofs.lemmas.Bool.{true≢false, and_parts, or_cases, or_left, or_right, eq-eqb, not-true, not_from_false}
+use Rattle.std.proofs.lemmas.Bool.{true≢false, and_parts, or_cases, or_left, eq-eqb, not-true, not_from_false}
 use Rattle.std.proofs.lemmas.List.Folds.{list_any-append, list_any_at}
 use Rattle.std.proofs.lemmas.Grind.{flat_map-append}
-use Rattle.std.proofs.lemmas.Option.{same_Some}
 use Rattle.std.proofs.lemmas.Slice.Eq.{bytes_eq-Decides}
 use Rattle.km_names.specs.First.{first}
 use Rattle.mod_tree.specs.DependencyLine.{own_path}
-use Rattle.index_format.specs.Map.{Value}
 use Rattle.index_format.specs.Listing.{KeyValue}
 use Rattle.symbol_binding.specs.Unmet.{vmlinux, belongs}
 use Rattle.name_table.specs.FirstSeen.{is_among}
 use Rattle.name_lookup.specs.Maps.{has_value}
 use Rattle.relation_order.specs.Sets.{has, below}
-use Rattle.relation_order.specs.Cycle.{cycle}
 use Rattle.relation_order.proofs.Lists.{has-range}
 use Rattle.relation_order.proofs.Saturation.{kept, keeps}
 use Rattle.relation_order.proofs.ReachedLaws.{passing, any-from_has}
@@ -25,48 +21,24 @@ use Rattle.relation_order.proofs.Restricted.{same-tests}
 use Rattle.plan_order.specs.Lists.{among}
 use Rattle.plan_order.proofs.PlanLaws.{plan-members, plan-distinct, plan-after}
 use Rattle.plan_order.proofs.Complete.{plan-is_planned}
-use Rattle.plan_builder.specs.declared.check.LineKind.{LineKind}
-use Rattle.plan_builder.specs.declared.check.LineKind.TheVariants as kinds
 use Rattle.plan_builder.specs.declared.request.Request.{Request}
-use Rattle.plan_builder.specs.declared.obstacle.Obstacle.{Obstacle}
-use Rattle.plan_builder.specs.declared.obstacle.Obstacle.TheVariants.{BadDepLine}
 use Rattle.plan_builder.specs.declared.step.PlanStep.{PlanStep}
-use Rattle.plan_builder.specs.declared.step.PlanStep.TheVariants.{Insert, Install, Builtin}
-use Rattle.plan_builder.specs.Modules.{bad_name, first_values, is_line_of, module_at, name_at, line_at, path_at, place_of, places_of, needed_names}
+use Rattle.plan_builder.specs.Modules.{bad_name, name_at, line_at, path_at, place_of, places_of, needed_names}
 use Rattle.plan_builder.specs.Needs.{Sources, modules, line_places, before, after, unloaded}
 use Rattle.plan_builder.specs.Members.{found_for, asked, planned}
 use Rattle.plan_builder.specs.Steps.{plan_steps}
-use Rattle.plan_builder.specs.Obstacles.{is_unfound, is_unknown, all_names, not_found, is_path_of, stands, is_obstacle, as_obstacle, line_of, cycle_obstacle, plan_tests, obstacle_of}
-use Rattle.plan_builder.specs.Closed.{first_text, step_module, step_modules, is_at_one, collides, IsOwnPath, IsClosed}
+use Rattle.plan_builder.specs.Obstacles.{is_path_of, stands, plan_tests, obstacle_of}
+use Rattle.plan_builder.specs.Closed.{first_text, step_module, step_modules, is_at_one, collides, IsClosed}
 use Rattle.plan_builder.proofs.Answering.{unloaded-low}
-use Rattle.plan_builder.proofs.ClearLines.{none-found, clear-lines, alone-lines}
-use Rattle.plan_builder.proofs.Finds.{option-none}
+use Rattle.plan_builder.proofs.ClearLines.{clear-lines, alone-lines}
 use Rattle.plan_builder.proofs.Firsts.{has-modules}
 use Rattle.plan_builder.proofs.Inside.{has-append, position-low}
-use Rattle.plan_builder.proofs.Keys.{place-own, place-name, has-own, module-first, modules-each}
+use Rattle.plan_builder.proofs.Keys.{place-own, place-name}
 use Rattle.plan_builder.proofs.PlaceNames.{from-name, to-name, parted, distinct-names}
-use Rattle.plan_builder.proofs.StepModules.{Low, order, plan-names, plan-paths}
-use Rattle.plan_builder.proofs.Troubled.{bytes-sym, or-false}
-
--- ---- tests one by one
-
-first-two : {F : Type 0} (t : Option F) (ts : List (Option F)) → first (t ∷ ts) ≡ None → (t ≡ None) × (first ts ≡ None)
-first-two None ts none = (refl, none)
-first-two (Some f) ts none = absurd (let bad = none in cc)
-
-cycle-none : (f : ℕ → List ℕ) (xs : List ℕ) → cycle_obstacle (map f xs) ≡ None → xs ≡ []
-cycle-none f [] none = refl
-cycle-none f (x ∷ xs) none = absurd (let bad = none in cc)
-
-each-passes : (p : KeyValue → Bool) (ms : List KeyValue) → find (λ m. not (p m)) ms ≡ None → AllByRecursion (λ m. p m ≡ true) ms
-each-passes p [] none = tt
-each-passes p (m ∷ ms) none =
-    let w = none-found (λ n. not (p n)) m ms none in
-    (passes (p m) w.0, each-passes p ms w.1)
-  where
-    passes : (b : Bool) → not b ≡ false → b ≡ true
-    passes true e = refl
-    passes false e = absurd (true≢false e)
+use Rattle.plan_builder.proofs.StepModules.{order, plan-names, plan-paths}
+use Rattle.plan_builder.proofs.Troubled.{bytes-sym}
+use Rattle.plan_builder.proofs.ModuleLines.{line-own, at-names, at-loaded, has-places, one-name, line-needs, own}
+use Rattle.plan_builder.proofs.PlanTests.{sound-lines, lines-none}
 
 among-all : (p : List ℕ → Bool) (names : List (List ℕ)) (name : List ℕ) → list_all p names ≡ true → is_among names name ≡ true → p name ≡ true
 among-all p [] name all h = absurd (true≢false (sym h))
@@ -85,96 +57,6 @@ any-same p xs ys same =
 or-parted : (a b c : Bool) → (a || (b || c)) ≡ ((a || b) || c)
 or-parted true b c = refl
 or-parted false b c = refl
-
-module _ (s : Sources) where
-  -- ---- dependency lines and paths of modules
-
-  line-own : (x : ℕ) → x < length (modules s) → first_text s.maps.dep (name_at (modules s) x) ≡ line_at (modules s) x
-  line-own x l = ap (λ o. option_map_or (λ (v : Value). v.1) o []) (module-first s.maps.dep x l)
-
-  at-name : (path : List ℕ) (x : ℕ) → x < length (modules s) → (has_value s.maps.dep (name_at (modules s) x) && bytes_eq (own_path (first_text s.maps.dep (name_at (modules s) x))) path) ≡ bytes_eq (path_at (modules s) x) path
-  at-name path x l = λ i. has-own s.maps.dep x l i && bytes_eq (own_path (line-own x l i)) path
-
-  at-names : (path : List ℕ) (xs : List ℕ) → ((y : ℕ) → has xs y ≡ true → y < length (modules s)) → is_at_one s.maps.dep (map (name_at (modules s)) xs) path ≡ is_path_of (modules s) xs path
-  at-names path [] low = refl
-  at-names path (x ∷ xs) low =
-      λ i. at-name path x (low x (or_left _ _ (eq-eqb x x refl))) i || at-names path xs (λ y h. low y (or_right _ _ h)) i
-
-  at-place : (path name : List ℕ) → (has_value s.maps.dep name && bytes_eq (own_path (first_text s.maps.dep name)) path) ≡ is_path_of (modules s) (option_to_list (place_of (modules s) name)) path
-  at-place path name = go (place_of (modules s) name) refl
-    where
-      go : (place : Option ℕ) → place_of (modules s) name ≡ place → (has_value s.maps.dep name && bytes_eq (own_path (first_text s.maps.dep name)) path) ≡ is_path_of (modules s) (option_to_list place) path
-      go None e =
-          ap (λ t. t && bytes_eq (own_path (first_text s.maps.dep name)) path) (sym (has-modules s.maps.dep name) ∙ ap is_some e)
-      go (Some y) e =
-          ap (λ n. has_value s.maps.dep n && bytes_eq (own_path (first_text s.maps.dep n)) path) (sym (place-name (modules s) name y e))
-          ∙ at-name path y (position-low (λ (m : KeyValue). bytes_eq m.0 name) (modules s) y e)
-          ∙ sym (or-false (bytes_eq (path_at (modules s) y) path))
-
-  at-loaded : (path : List ℕ) (names : List (List ℕ)) → is_at_one s.maps.dep names path ≡ is_path_of (modules s) (places_of (modules s) names) path
-  at-loaded path [] = refl
-  at-loaded path (name ∷ names) =
-      (λ i. at-place path name i || at-loaded path names i)
-      ∙ sym (list_any-append (λ x. bytes_eq (path_at (modules s) x) path) (option_to_list (place_of (modules s) name)) (places_of (modules s) names))
-
-  -- the place of a name stands among those of names
-  has-places : (names : List (List ℕ)) (name : List ℕ) (y : ℕ) → is_among names name ≡ true → place_of (modules s) name ≡ Some y → has (places_of (modules s) names) y ≡ true
-  has-places [] name y h e = absurd (true≢false (sym h))
-  has-places (n ∷ names) name y h e =
-      has-append (option_to_list (place_of (modules s) n)) (places_of (modules s) names) y ∙ go (or_cases _ _ h) (λ m. has-places names name y m e)
-    where
-      go : (bytes_eq name n ≡ true) ⊎ (is_among names name ≡ true) → (is_among names name ≡ true → has (places_of (modules s) names) y ≡ true) → (has (option_to_list (place_of (modules s) n)) y || has (places_of (modules s) names) y) ≡ true
-      go (inl is) ih =
-          or_left _ _ (ap (λ o. has (option_to_list o) y) (ap (place_of (modules s)) (sym ((bytes_eq-Decides name n).0 is)) ∙ e) ∙ or_left _ _ (eq-eqb y y refl))
-      go (inr m) ih = or_right _ _ (ih m)
-
-  -- a name of a step's module is the one that it has
-  one-name : (name : List ℕ) (step : PlanStep) → is_among (step_module s.maps.dep step) name ≡ true → step_module s.maps.dep step ≡ name ∷ []
-  one-name name (Insert n path options) h = alone (or_cases _ _ h)
-    where
-      alone : (bytes_eq name n ≡ true) ⊎ (false ≡ true) → n ∷ [] ≡ name ∷ []
-      alone (inl e) = ap (λ k. k ∷ []) (sym ((bytes_eq-Decides name n).0 e))
-      alone (inr bad) = absurd (true≢false (sym bad))
-  one-name name (Install n command) h = go (has_value s.maps.dep n) h
-    where
-      alone : (bytes_eq name n ≡ true) ⊎ (false ≡ true) → n ∷ [] ≡ name ∷ []
-      alone (inl e) = ap (λ k. k ∷ []) (sym ((bytes_eq-Decides name n).0 e))
-      alone (inr bad) = absurd (true≢false (sym bad))
-
-      go : (b : Bool) → is_among (cond b (n ∷ []) []) name ≡ true → cond b (n ∷ []) [] ≡ name ∷ []
-      go true h = alone (or_cases _ _ h)
-      go false h = absurd (true≢false (sym h))
-  one-name name (Builtin n) h = absurd (true≢false (sym h))
-
--- the tests of what is planned, and that of the dependency lines
-sound-lines : (s : Sources) (request : Request) → obstacle_of s request ≡ None → (bad_name s.maps.dep ≡ None) × (first (plan_tests s (found_for s request)) ≡ None)
-unfolding obstacle_of
-sound-lines s request none =
-    let unfound = option_map not_found (find (is_unfound s) request.names) in
-    let unknown = option_map not_found (find (is_unknown s request.ignore_install) (all_names (found_for s request))) in
-    let a = first-two (option_map BadDepLine (bad_name s.maps.dep)) (unfound ∷ unknown ∷ plan_tests s (found_for s request)) none in
-    let b = first-two unfound (unknown ∷ plan_tests s (found_for s request)) a.1 in
-    let c = first-two unknown (plan_tests s (found_for s request)) b.1 in
-    (option-none BadDepLine (bad_name s.maps.dep) a.0, c.1)
-
-module _ (s : Sources) (sound : bad_name s.maps.dep ≡ None) where
-  -- each module's value is its dependency line
-  well : (x : ℕ) → x < length (modules s) → is_line_of (has_value s.maps.dep) (name_at (modules s) x) (line_at (modules s) x) ≡ true
-  well =
-      modules-each (λ (m : KeyValue). is_line_of (has_value s.maps.dep) m.0 m.1.1 ≡ true) s.maps.dep
-      (each-passes (λ (m : KeyValue). is_line_of (has_value s.maps.dep) m.0 m.1.1) (first_values s.maps.dep)
-      (option-none (λ (m : KeyValue). m.0) (find (λ (m : KeyValue). not (is_line_of (has_value s.maps.dep) m.0 m.1.1)) (first_values s.maps.dep)) sound))
-
-  line-needs : (x : ℕ) → x < length (modules s) → list_all (has_value s.maps.dep) (needed_names (line_at (modules s) x)) ≡ true
-  line-needs x l = (and_parts _ _ (and_parts _ _ (well x l)).1).1
-
-  own : (x : ℕ) → x < length (modules s) → IsOwnPath s.maps.dep (name_at (modules s) x) (path_at (modules s) x)
-  own x l = record {
-    value = (module_at (modules s) x).1;
-    first = module-first s.maps.dep x l;
-    own = refl;
-    named = (bytes_eq-Decides _ _).0 (and_parts _ _ (and_parts _ _ (well x l)).1).0;
-  }
 
 module _ (s : Sources) (request : Request) where
   order-low : (y : ℕ) → has (order s request) y ≡ true → y < length (modules s)
@@ -269,37 +151,11 @@ module _ (s : Sources) (request : Request) where
 
   -- ---- lines of modules.unmet
 
-  record NoLines : Type 0 where
-    pub missing : find (is_obstacle kinds.Missing (is_path_of (modules s) (planned s (found_for s request))) (stands s)) s.unmet ≡ None
-    pub gpl : find (is_obstacle kinds.Gpl (is_path_of (modules s) (planned s (found_for s request))) (stands s)) s.unmet ≡ None
-    pub version : find (is_obstacle kinds.Version (is_path_of (modules s) (planned s (found_for s request))) (stands s)) s.unmet ≡ None
-    pub namespace : find (is_obstacle kinds.Namespace (is_path_of (modules s) (planned s (found_for s request))) (stands s)) s.unmet ≡ None
-    pub acyclic : cycle (among (before s)) (planned s (found_for s request)) ≡ []
-    pub double : find (is_obstacle kinds.Double (is_path_of (modules s) (planned s (found_for s request))) (stands s)) s.unmet ≡ None
-
   module _ (tests : first (plan_tests s (found_for s request)) ≡ None) where
-    lines-none : NoLines
-    lines-none =
-        let founds = found_for s request in
-        let a = first-two (line_of s founds kinds.Missing) (line_of s founds kinds.Gpl ∷ line_of s founds kinds.Version ∷ line_of s founds kinds.Namespace ∷ cycle_obstacle (map (name_at (modules s)) (cycle (among (before s)) (planned s founds))) ∷ line_of s founds kinds.Double ∷ []) tests in
-        let b = first-two (line_of s founds kinds.Gpl) (line_of s founds kinds.Version ∷ line_of s founds kinds.Namespace ∷ cycle_obstacle (map (name_at (modules s)) (cycle (among (before s)) (planned s founds))) ∷ line_of s founds kinds.Double ∷ []) a.1 in
-        let d = first-two (line_of s founds kinds.Version) (line_of s founds kinds.Namespace ∷ cycle_obstacle (map (name_at (modules s)) (cycle (among (before s)) (planned s founds))) ∷ line_of s founds kinds.Double ∷ []) b.1 in
-        let e = first-two (line_of s founds kinds.Namespace) (cycle_obstacle (map (name_at (modules s)) (cycle (among (before s)) (planned s founds))) ∷ line_of s founds kinds.Double ∷ []) d.1 in
-        let f = first-two (cycle_obstacle (map (name_at (modules s)) (cycle (among (before s)) (planned s founds)))) (line_of s founds kinds.Double ∷ []) e.1 in
-        let g = first-two (line_of s founds kinds.Double) [] f.1 in
-        record {
-          missing = option-none as_obstacle _ a.0;
-          gpl = option-none as_obstacle _ b.0;
-          version = option-none as_obstacle _ d.0;
-          namespace = option-none as_obstacle _ e.0;
-          acyclic = cycle-none (name_at (modules s)) _ f.0;
-          double = option-none as_obstacle _ g.0;
-        }
-
     in-plan : (path : List ℕ) → is_at_one s.maps.dep (map (name_at (modules s)) (order s request)) path ≡ is_path_of (modules s) (planned s (found_for s request)) path
     in-plan path =
         at-names s path (order s request) order-low
-        ∙ any-same (λ x. bytes_eq (path_at (modules s) x) path) (order s request) (planned s (found_for s request)) (plan-is_planned (among (before s)) (unloaded s) (after s) (asked s (found_for s request)) lines-none.acyclic)
+        ∙ any-same (λ x. bytes_eq (path_at (modules s) x) path) (order s request) (planned s (found_for s request)) (plan-is_planned (among (before s)) (unloaded s) (after s) (asked s (found_for s request)) (lines-none s request tests).acyclic)
 
     either : (path : List ℕ) → (bytes_eq vmlinux path || is_at_one s.maps.dep (s.loaded ++ map (name_at (modules s)) (order s request)) path) ≡ (stands s path || is_path_of (modules s) (planned s (found_for s request)) path)
     either path =
@@ -310,7 +166,7 @@ module _ (s : Sources) (request : Request) where
     steps-clear : (name : List ℕ) → is_among (step_modules s.maps.dep (plan_steps s request)) name ≡ true → list_any (belongs (own_path (first_text s.maps.dep name))) s.unmet ≡ false
     steps-clear name h =
         let w = at-step name h in
-        let l = lines-none in
+        let l = lines-none s request tests in
         let is : has (planned s (found_for s request)) w.0 ≡ true = sym (plan-is_planned (among (before s)) (unloaded s) (after s) (asked s (found_for s request)) l.acyclic w.0) ∙ w.1 in
         ap (λ t. list_any (belongs (own_path t)) s.unmet) (ap (first_text s.maps.dep) (sym w.2) ∙ line-own s w.0 (order-low w.0 w.1))
         ∙ clear-lines (is_path_of (modules s) (planned s (found_for s request))) (stands s) (path_at (modules s) w.0)
@@ -319,7 +175,7 @@ module _ (s : Sources) (request : Request) where
 
     steps-alone : list_any (collides s.maps.dep s.loaded (step_modules s.maps.dep (plan_steps s request))) s.unmet ≡ false
     steps-alone =
-        let l = lines-none in
+        let l = lines-none s request tests in
         ap (λ ns. list_any (collides s.maps.dep s.loaded ns) s.unmet) names
         ∙ alone-lines (is_path_of (modules s) (planned s (found_for s request))) (stands s) s.maps.dep s.loaded (map (name_at (modules s)) (order s request)) in-plan either s.unmet l.double
 

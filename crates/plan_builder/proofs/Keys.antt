@@ -1,17 +1,16 @@
 -- Each module stands at the place of its name, with the first value that the map has under it.
-use Rattle.std.proofs.Common.{◌≡◌, ℕ, zero, suc, ◌+◌, ◌<◌, Bool, true, false, cond, List, [], ◌∷◌, length, get_or, Option, Some, None, refl, sym, ap, ◌∙◌, subst, arith}
+use Rattle.std.proofs.Common.{◌≡◌, ℕ, zero, suc, ◌+◌, ◌<◌, Bool, true, false, cond, List, [], ◌∷◌, length, get_or, Some, None, refl, sym, ap, ◌∙◌, arith}
 use Rattle.std.specs.Prelude.{◌||◌, not, is_some, nat_lt, nat_le, slice_get}
-use Rattle.std.specs.List.{AllByRecursion, list_any, position, position_or_len}
+use Rattle.std.specs.List.{AllByRecursion, list_any, position_or_len}
 use Rattle.std.specs.Str.{bytes_eq}
 use Rattle.std.specs.Cmp.Lexicographic.{nat_list_cmp_total}
 use Rattle.std.specs.Ordering.{is_eq, is_lt, ordering_reverse}
-use Rattle.std.specs.declared.cmp.Ordering.TheVariants.{Less}
 use Rattle.std.specs.FinMap.Entries.{below_all}
 use Rattle.std.specs.FinMap.{entries, find, is_sorted}
 use Rattle.std.proofs.lemmas.Slice.Eq.{bytes_eq-Decides}
-use Rattle.std.proofs.lemmas.Bool.{and_parts, or_parts, lt-ltb, true≢false}
+use Rattle.std.proofs.lemmas.Bool.{and_parts, or_parts, lt-ltb}
 use Rattle.std.proofs.lemmas.List.Quantifiers.{position-Some}
-use Rattle.index_format.specs.Map.{Value, KeyValues, values_of}
+use Rattle.index_format.specs.Map.{KeyValues, values_of}
 use Rattle.index_format.specs.Listing.{KeyValue}
 use Rattle.index_format.proofs.TreeLemmas.{R}
 use Rattle.index_read.proofs.OrderLemmas.{self_equal}

@@ -8,9 +8,11 @@ pub mod Inside
 pub mod Keys
 pub mod Lines
 pub mod Marks
+pub mod ModuleLines
 pub mod Named
 pub mod Obstacles
 pub mod PlaceNames
+pub mod PlanTests
 pub mod Sorting
 pub mod StepLaws
 pub mod StepModules

@@ -1,6 +1,6 @@
 -- The modules of a plan's steps are those of its order, and each step that loads a module has its own path.
-use Rattle.std.proofs.Common.{◌≡◌, ℕ, ◌<◌, Bool, true, false, cond, eqb, List, [], ◌∷◌, ◌++◌, length, map, drop, flat_map, Option, Some, None, refl, sym, ap, ◌∙◌, inl, inr, append_assoc}
-use Rattle.std.specs.Prelude.{◌||◌, ◌&&◌, ◌⊎◌, All, is_some}
+use Rattle.std.proofs.Common.{◌≡◌, ℕ, ◌<◌, Bool, true, false, cond, List, [], ◌∷◌, ◌++◌, length, map, drop, Option, Some, None, refl, sym, ap, ◌∙◌, append_assoc}
+use Rattle.std.specs.Prelude.{◌&&◌, All, is_some}
 use Rattle.std.proofs.lemmas.Bool.{or_left, or_right, eq-eqb}
 use Rattle.std.proofs.lemmas.List.{append-nil, map-append}
 use Rattle.std.proofs.lemmas.List.Elements.{All-nil, All-cons, All-append}
@@ -9,12 +9,11 @@ use Rattle.std.proofs.Math.Seq.{drop-append_seam}
 use Rattle.relation_order.specs.Sets.{has}
 use Rattle.name_lookup.specs.Maps.{has_value}
 use Rattle.name_lookup.specs.declared.found.Found.{Found}
-use Rattle.plan_order.specs.Plan.{plan, group, with_group, with_groups}
+use Rattle.plan_order.specs.Plan.{plan, group, with_groups}
 use Rattle.plan_order.specs.Lists.{among}
 use Rattle.plan_order.proofs.Complete.{groups-more}
 use Rattle.name_table.specs.FirstSeen.{is_among}
 use Rattle.plan_builder.specs.declared.request.Request.{Request}
-use Rattle.plan_builder.specs.declared.step.PlanStep.{PlanStep}
 use Rattle.plan_builder.specs.Modules.{name_at, path_at, place_of, places_of}
 use Rattle.plan_builder.specs.Needs.{Sources, modules, before, after, unloaded}
 use Rattle.plan_builder.specs.Members.{found_for, asked, is_member, chosen_command, kind_unless}
