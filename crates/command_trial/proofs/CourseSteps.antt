@@ -1,5 +1,5 @@
 -- The stages of a trial, one after the other.
-use Rattle.std.proofs.Common.{◌≡◌, List, ℕ, subst}
+use Rattle.std.proofs.Common.{◌≡◌, subst}
 use Rattle.std.specs.Prelude.{Result, ⊤}
 use Rattle.km_outside.specs.MemFilesSeen.{MemFilesSeen}
 use Rattle.km_course.specs.Course.{Stage, ◌>>=◌, says}

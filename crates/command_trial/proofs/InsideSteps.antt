@@ -1,7 +1,7 @@
 -- What a command inside a trial came to, as its course and its status say.
 use Rattle.std.proofs.Common.{◌≡◌, ℕ, ◌≤◌, true, List, ◌++◌, length, drop, refl, sym, ◌∙◌, ap, subst, arith, inl, inr}
 use Rattle.std.proofs.Math.Seq.{drop-append_seam}
-use Rattle.std.specs.Prelude.{Some, Result, Ok, Err, ⊤, ◌⊎◌}
+use Rattle.std.specs.Prelude.{Some, Result, Ok, Err, ⊤}
 use Rattle.km_outside.specs.Contents.{Contents}
 use Rattle.km_outside.specs.MemFilesSeen.{MemFilesSeen, mem_files_seen, no_kind_listed}
 use Rattle.km_outside.specs.MemOutSeen.{MemOutSeen, empty_with_room, mem_out_seen, mem_out-within}

@@ -7,11 +7,7 @@ use km_names::{Blob, Texts, first_line, split_at_byte, words};
 use std::alloc::{AllocError, Global};
 
 /// What follows the start in each line of a text that begins so.
-pub(crate) fn rests_of_lines(
-    alloc: Global,
-    text: &[u8],
-    start: &[u8],
-) -> Result<Texts, AllocError>
+pub(crate) fn rests_of_lines(alloc: Global, text: &[u8], start: &[u8]) -> Result<Texts, AllocError>
     ensures { IfOk result (λ rests. rests ≡ rests_of start.now text.now) }
 {
     let mut rests = Texts::new(alloc);
@@ -25,12 +21,7 @@ pub(crate) fn rests_of_lines(
 }
 
 /// Puts what follows the start in the line at the end, if the line begins so.
-fn push_rest(
-    alloc: Global,
-    rests: &mut Texts,
-    line: &[u8],
-    start: &[u8],
-) -> Result<(), AllocError>
+fn push_rest(alloc: Global, rests: &mut Texts, line: &[u8], start: &[u8]) -> Result<(), AllocError>
     ensures { OnOk result (rests.new ≡ rests.old ++ rest_if_any (rest_after start.now line.now)) }
 {
     match line.strip_prefix(start) {

@@ -39,11 +39,7 @@ fn image_path(alloc: Global, rest: &[u8]) -> Result<PathText, AllocError>
 }
 
 /// The digest of all images, one after the other.
-fn digest_of_images(
-    alloc: Global,
-    files: &MemFiles,
-    rests: &[Blob],
-) -> Result<[u8; 32], AllocError>
+fn digest_of_images(alloc: Global, files: &MemFiles, rests: &[Blob]) -> Result<[u8; 32], AllocError>
     ensures { IfOk result (λ digest. digest ≡ sha256 (images_of files.now.contents rests.now)) }
 {
     let mut hasher = Sha256::new();
@@ -65,12 +61,7 @@ fn push_stated(text: &mut Blob, what: &[u8], shown: &[u8]) -> Result<(), AllocEr
 }
 
 /// Puts a line at the end that states a count.
-fn push_count(
-    alloc: Global,
-    text: &mut Blob,
-    what: &[u8],
-    count: usize,
-) -> Result<(), AllocError>
+fn push_count(alloc: Global, text: &mut Blob, what: &[u8], count: usize) -> Result<(), AllocError>
     ensures { OnOk result (text.new ≡ text.old ++ stated what.now (decimal count)) }
 {
     let shown = format!(in alloc; "{count}")?;
@@ -97,6 +88,10 @@ pub(crate) fn summary(
     push_count(alloc, &mut text, b"dependencies", dependencies)?;
     push_count(alloc, &mut text, b"planned", planned)?;
     push_count(alloc, &mut text, b"loaded", loaded.len())?;
-    push_stated(&mut text, b"images", hex::encode(alloc, digest.as_slice())?.as_bytes())?;
+    push_stated(
+        &mut text,
+        b"images",
+        hex::encode(alloc, digest.as_slice())?.as_bytes(),
+    )?;
     Ok(text)
 }

@@ -1,10 +1,12 @@
 // Trials, whole. The digests of images were worked out from the made trees by a program of its own: an image is of 8192
 // bytes, which are 0 but for the address of `printk` at byte 4096 and, after the first, that of `s0000` at byte 4104.
 use crate::row::{Objects, Row, USAGE};
+use std::alloc::Global;
+use std::process::Abort;
 use std::test::Fail;
 
-/// Trees of one, two and three modules, and words that aren't understood.
-const TRIALS: [Row; 7] = [
+/// Trees of one, two and three modules.
+const TRIALS: [Row; 3] = [
     (
         &["trial", "1", "1"],
         0,
@@ -23,18 +25,31 @@ const TRIALS: [Row; 7] = [
         "modules 3\ndependencies 2\nplanned 3\nloaded 3\nimages fe1d27353d8fe48d7d22f38f5a781d684f526252c8b571272bde9301d03a620a\n",
         "",
     ),
+];
+
+/// Words that aren't understood.
+const NOT_UNDERSTOOD: [Row; 4] = [
     (&["trial", "1", "0"], 2, "", USAGE),
     (&["trial", "1", "2001"], 2, "", USAGE),
     (&["trial", "18446744073709551616", "1"], 2, "", USAGE),
     (&["trial", "1"], 2, "", USAGE),
 ];
 
-#[test]
-fn made_trees_are_indexed_and_loaded(rt: HostRuntime) -> Result<(), Fail> {
-    let alloc = rt.alloc();
-    for row in TRIALS {
+/// Runs the rows, each over no file.
+fn expect_rows(rt: &impl Abort, alloc: Global, rows: &[Row]) -> Result<(), Fail> {
+    for row in rows {
         let mut objects = Objects::new(alloc)?;
-        objects.expect_row(&rt, alloc, row)?;
+        objects.expect_row(rt, alloc, *row)?;
     }
     Ok(())
+}
+
+#[test]
+fn made_trees_are_indexed_and_loaded(rt: HostRuntime) -> Result<(), Fail> {
+    expect_rows(&rt, rt.alloc(), &TRIALS)
+}
+
+#[test]
+fn a_seed_and_a_count_are_needed(rt: HostRuntime) -> Result<(), Fail> {
+    expect_rows(&rt, rt.alloc(), &NOT_UNDERSTOOD)
 }

@@ -1,4 +1,4 @@
-use Rattle.std.proofs.Common.{◌≡◌, ◌++◌, List, ℕ, length, ap, ◌∙◌, arith}
+use Rattle.std.proofs.Common.{◌≡◌, ◌++◌, length, ap, arith}
 use Rattle.std.specs.List.{flat_map}
 use Rattle.km_names.specs.Lines.{lines_of}
 use Rattle.km_outside.specs.Contents.{rest_after}

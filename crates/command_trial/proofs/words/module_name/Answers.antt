@@ -1,6 +1,5 @@
-use Rattle.std.proofs.Common.{◌≡◌, ◌++◌, ◌/◌, List, ℕ, [], ◌∷◌, ap, subst, ◌∙◌}
+use Rattle.std.proofs.Common.{◌≡◌, subst, ◌∙◌}
 use Rattle.std.specs.Prelude.{IfOk}
-use Rattle.tree_gen.specs.Trial.{name_of}
 use Rattle.command_trial.proofs.WordSteps.{digits-decimal}
 use Rattle.command_trial.proofs.words.module_name.Goals as goal
 
