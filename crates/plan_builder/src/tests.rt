@@ -1,0 +1,330 @@
+// What no clause says: worked plans, by the maps of a folder.
+ghost use Rattle.std.specs.Prelude.{◌≡◌, ◌≤◌, ◌↔◌, length, All, IfOk, IsTrue};
+ghost use Rattle.km_names.specs.Limit.{file_limit};
+ghost use Rattle.index_format.specs.Map.{IsKey, IsText};
+
+use crate::{PlanStep, PlanSteps, Request, plan, well_formed};
+use index_read::Index;
+use index_write::{KeyMap, encode};
+use km_names::{Blob, ConfFile, ConfFiles, Name, Names, PathText};
+use loaded_list::Loaded;
+use modprobe_conf::{Rules, parse};
+use name_lookup::Indexes;
+use std::alloc::Global;
+use std::process::Abort;
+use std::test::Fail;
+use unmet_file::Unmet;
+
+/// Keys with their values, of which each has the priority of its place.
+type Pairs = &'static [(&'static str, &'static str)];
+
+/// A folder, what is requested of it, and the plan or the obstacle.
+#[derive(Clone, Copy)]
+struct PlanRow {
+    dep: Pairs,
+    builtin: Pairs,
+    rules: &'static str,
+    unmet: &'static str,
+    loaded: &'static str,
+    names: &'static [&'static str],
+    options: &'static str,
+    ignore_install: bool,
+    want: &'static str,
+}
+
+/// A folder of no module.
+const EMPTY: PlanRow = PlanRow {
+    dep: &[],
+    builtin: &[],
+    rules: "",
+    unmet: "",
+    loaded: "",
+    names: &[],
+    options: "",
+    ignore_install: false,
+    want: "",
+};
+
+/// `b` needs `a`.
+const PAIR: PlanRow = PlanRow {
+    dep: &[("a", "kernel/a.ko:"), ("b", "kernel/b.ko: kernel/a.ko")],
+    ..EMPTY
+};
+
+/// The same with a command for loading `a`.
+const COMMAND: PlanRow = PlanRow {
+    rules: "install a /bin/true",
+    ..PAIR
+};
+
+/// `a` and `b` export what `c` needs.
+const DOUBLE: PlanRow = PlanRow {
+    dep: &[
+        ("a", "kernel/a.ko:"),
+        ("b", "kernel/b.ko:"),
+        ("c", "kernel/c.ko: kernel/a.ko"),
+    ],
+    unmet: "double x kernel/a.ko kernel/b.ko\n",
+    ..EMPTY
+};
+
+fn is_key(key: &[u8]) -> bool
+    ensures { IsTrue result ↔ IsKey key.now }
+{
+    key.iter().all(|byte| 0 < *byte && *byte < 128)
+}
+
+fn is_text(text: &[u8]) -> bool
+    ensures { IsTrue result ↔ IsText text.now }
+{
+    text.iter().all(|byte| 0 < *byte)
+}
+
+/// The index file of some pairs.
+fn index_of(rt: &impl Abort, alloc: Global, pairs: Pairs) -> Result<Index, Fail> {
+    let mut map = KeyMap::new(alloc);
+    let mut place = 0;
+    for (key, text) in pairs {
+        let is_key = is_key(key.as_bytes());
+        assert!(rt; is_key);
+        let is_text = is_text(text.as_bytes());
+        assert!(rt; is_text);
+        map.add(key.as_bytes(), place, text.as_bytes())?;
+        place = place.wrapping_add(1);
+    }
+    Ok(Index::adopt(alloc, encode(alloc, &map)?)?)
+}
+
+/// The index files of a row.
+fn indexes_of(rt: &impl Abort, alloc: Global, row: &PlanRow) -> Result<Indexes, Fail> {
+    Ok(Indexes {
+        dep: index_of(rt, alloc, row.dep)?,
+        alias: index_of(rt, alloc, &[])?,
+        symbols: index_of(rt, alloc, &[])?,
+        builtin: index_of(rt, alloc, row.builtin)?,
+    })
+}
+
+/// A file of the configuration.
+fn one_file(rt: &impl Abort, alloc: Global, text: &str) -> Result<ConfFiles, Fail>
+    ensures { IfOk result (λ files. All (λ file. length file.bytes ≤ file_limit) files) }
+{
+    let text = text.as_bytes();
+    assert!(rt;
+        text.len() <= 67_108_864,
+        "a file of more bytes than are taken"
+    );
+    let mut files = ConfFiles::new(alloc);
+    files.push(ConfFile {
+        path: PathText::from_slice(alloc, b"f")?,
+        bytes: Blob::from_slice(alloc, text)?,
+    })?;
+    Ok(files)
+}
+
+/// The rules of a text.
+fn rules_of(rt: &impl Abort, alloc: Global, text: &str) -> Result<Rules, Fail> {
+    let files = one_file(rt, alloc, text)?;
+    let rules = parse(alloc, &files)
+        .ok()
+        .ok_or("a line that wasn't understood")?;
+    Ok(rules)
+}
+
+/// The lines of a modules.unmet.
+fn unmet_of(rt: &impl Abort, alloc: Global, text: &str) -> Result<Unmet, Fail> {
+    let path = PathText::from_slice(alloc, b"modules.unmet")?;
+    let text = text.as_bytes();
+    assert!(rt;
+        text.len() <= 67_108_864,
+        "a file of more bytes than are taken"
+    );
+    let unmet = Unmet::read(alloc, &path, text)
+        .ok()
+        .ok_or("a line that wasn't understood")?;
+    Ok(unmet)
+}
+
+/// What a row requests.
+fn request_of(alloc: Global, row: &PlanRow) -> Result<Request, Fail> {
+    let mut names = Names::new(alloc);
+    for name in row.names {
+        names.push(Name::from_slice(alloc, name.as_bytes())?)?;
+    }
+    Ok(Request {
+        names,
+        options: Blob::from_slice(alloc, row.options.as_bytes())?,
+        use_blacklist: false,
+        ignore_install: row.ignore_install,
+    })
+}
+
+/// Parameters after a space, where there are any.
+fn push_options(text: &mut Blob, options: &Blob) -> Result<(), Fail> {
+    if !options.is_empty() {
+        text.push(b' ')?;
+        text.extend(options.as_bytes())?;
+    }
+    Ok(())
+}
+
+/// A step as a line.
+fn push_step(text: &mut Blob, step: &PlanStep) -> Result<(), Fail> {
+    match step {
+        PlanStep::Insert { path, options, .. } => {
+            text.extend(b"insmod ")?;
+            text.extend(path.as_bytes())?;
+            push_options(text, options)?;
+        }
+        PlanStep::Install { command, .. } => {
+            text.extend(b"install ")?;
+            text.extend(command.as_bytes())?;
+        }
+        PlanStep::Builtin { name } => {
+            text.extend(b"builtin ")?;
+            text.extend(name.as_bytes())?;
+        }
+    }
+    text.push(b'\n')?;
+    Ok(())
+}
+
+/// Steps as lines.
+fn lines_of(alloc: Global, steps: &PlanSteps) -> Result<Blob, Fail> {
+    let mut text = Blob::new(alloc);
+    for step in steps.as_slice() {
+        push_step(&mut text, step)?;
+    }
+    Ok(text)
+}
+
+/// The steps of the plan of a row, or its obstacle.
+fn answer_of(rt: &impl Abort, alloc: Global, row: &PlanRow) -> Result<Blob, Fail> {
+    let request = request_of(alloc, row)?;
+    let rules = rules_of(rt, alloc, row.rules)?;
+    let indexes = indexes_of(rt, alloc, row)?;
+    let unmet = unmet_of(rt, alloc, row.unmet)?;
+    let loaded = Loaded::read(alloc, row.loaded.as_bytes())?;
+    match plan(alloc, &request, &rules, &indexes, &unmet, &loaded) {
+        Ok(steps) => lines_of(alloc, &steps),
+        Err(obstacle) => Ok(obstacle.text(alloc)?),
+    }
+}
+
+/// The rows answer as they are to.
+fn expect_rows(rt: &impl Abort, alloc: Global, rows: &[PlanRow]) -> Result<(), Fail> {
+    for row in rows {
+        let answer = answer_of(rt, alloc, row)?;
+        assert_eq!(rt; answer.as_bytes(), row.want.as_bytes());
+    }
+    Ok(())
+}
+
+#[test]
+fn steps_stand_in_order(rt: HostRuntime) -> Result<(), Fail> {
+    let rows = [
+        PlanRow {
+            dep: &[
+                ("avail", "kernel/avail.ko:"),
+                ("late", "kernel/late.ko:"),
+                ("m", "kernel/m.ko: kernel/late.ko"),
+                ("zed", "kernel/zed.ko:"),
+            ],
+            rules: "softdep m pre: gone avail post: late zed",
+            names: &["m"],
+            want: "insmod kernel/avail.ko\ninsmod kernel/late.ko\ninsmod kernel/m.ko\ninsmod kernel/zed.ko\n",
+            ..EMPTY
+        },
+        PlanRow {
+            loaded: "a 8192 0 - Live 0x0",
+            names: &["b"],
+            want: "insmod kernel/b.ko\n",
+            ..PAIR
+        },
+        PlanRow {
+            builtin: &[("built", "")],
+            names: &["built"],
+            want: "builtin built\n",
+            ..EMPTY
+        },
+        PlanRow {
+            rules: "options b depth=3",
+            names: &["b"],
+            options: "raw=1",
+            want: "insmod kernel/a.ko\ninsmod kernel/b.ko depth=3 raw=1\n",
+            ..PAIR
+        },
+    ];
+    expect_rows(&rt, rt.alloc(), &rows)
+}
+
+#[test]
+fn commands_stand_in_place_of_modules(rt: HostRuntime) -> Result<(), Fail> {
+    let rows = [
+        PlanRow {
+            names: &["b"],
+            want: "install /bin/true\ninsmod kernel/b.ko\n",
+            ..COMMAND
+        },
+        PlanRow {
+            names: &["b"],
+            ignore_install: true,
+            want: "install /bin/true\ninsmod kernel/b.ko\n",
+            ..COMMAND
+        },
+        PlanRow {
+            names: &["a"],
+            ignore_install: true,
+            want: "insmod kernel/a.ko\n",
+            ..COMMAND
+        },
+    ];
+    expect_rows(&rt, rt.alloc(), &rows)
+}
+
+#[test]
+fn obstacles_keep_plans_away(rt: HostRuntime) -> Result<(), Fail> {
+    let rows = [
+        PlanRow {
+            names: &["c"],
+            want: "insmod kernel/a.ko\ninsmod kernel/c.ko\n",
+            ..DOUBLE
+        },
+        PlanRow {
+            names: &["b"],
+            want: "insmod kernel/b.ko\n",
+            ..DOUBLE
+        },
+        PlanRow {
+            names: &["b", "c"],
+            want: "double x kernel/a.ko kernel/b.ko",
+            ..DOUBLE
+        },
+        PlanRow {
+            dep: &[("a", "kernel/a.ko:"), ("b", "kernel/b.ko:")],
+            rules: "softdep a pre: b\nsoftdep b pre: a",
+            names: &["a"],
+            want: "cycle a -> b -> a",
+            ..EMPTY
+        },
+        PlanRow {
+            dep: &[("n", "kernel/n.ko:")],
+            unmet: "missing kernel/n.ko nosuch\n",
+            names: &["n"],
+            want: "missing kernel/n.ko nosuch",
+            ..EMPTY
+        },
+    ];
+    expect_rows(&rt, rt.alloc(), &rows)
+}
+
+#[test]
+fn a_name_without_a_value_has_no_line(rt: HostRuntime) -> Result<(), Fail> {
+    let alloc = rt.alloc();
+    let indexes = indexes_of(&rt, alloc, &PAIR)?;
+    for (name, want) in [("b", true), ("c", false)] {
+        let name = Name::from_slice(alloc, name.as_bytes())?;
+        assert_eq!(rt; well_formed(alloc, &name, &indexes)?, want);
+    }
+    Ok(())
+}
