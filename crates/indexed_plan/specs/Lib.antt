@@ -2,3 +2,4 @@ pub mod Index
 pub mod Binding
 pub mod Indexed
 pub mod Folder
+pub mod Steps

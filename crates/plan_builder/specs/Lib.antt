@@ -10,3 +10,4 @@ pub mod Steps
 pub mod Ends
 pub mod Obstacles
 pub mod Answers
+pub mod Closed
