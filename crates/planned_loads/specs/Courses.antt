@@ -1,0 +1,68 @@
+-- What the course of a modprobe that loads comes to over a folder that stands as depmod indexed it. modprobe(8).
+use Rattle.std.specs.Prelude.{◌≡◌, ℕ, List, reverse, Option, IfErr}
+use Rattle.km_outside.specs.Contents.{Contents}
+use Rattle.km_course.specs.Course.Outcome.{value}
+use Rattle.index_format.specs.Map.{KeyValues}
+use Rattle.index_read.specs.Contents.{contents}
+use Rattle.module_facts.specs.declared.facts.Facts.{Facts}
+use Rattle.module_facts.specs.declared.module.Module.{Module}
+use Rattle.provider_rel.specs.declared.kernel.Kernel.{Kernel}
+use Rattle.provider_rel.specs.Faces.{kernel_of}
+use Rattle.model_loader.specs.declared.region.Region.{Region}
+use Rattle.model_loader.specs.Machine.{Machine, new_machine}
+use Rattle.plan_builder.specs.declared.request.Request.{Request}
+use Rattle.plan_builder.specs.declared.step.PlanStep.{PlanStep}
+use Rattle.plan_binding.specs.Loads.{load_all, IsPlaceFault}
+use Rattle.plan_binding.specs.Binding.{Binds, IsLoaded}
+use Rattle.indexed_plan.specs.Indexed.{Indexed}
+use Rattle.indexed_plan.specs.Folder.{AreModulesOf}
+use Rattle.indexed_plan.specs.Steps.{inserted_names}
+use Rattle.command_loads.specs.Listed.{loads_listed}
+use Rattle.command_loads.specs.Loads.{loads_all}
+use Rattle.command_modprobe.specs.declared.known.Known.{Known}
+use Rattle.command_modprobe.specs.Known.{reads_known}
+use Rattle.command_modprobe.specs.Planned.{plan_outcome}
+use Rattle.command_modprobe.specs.Loaded.{paths_outcome}
+use Rattle.planned_loads.specs.Files.{AreSmall}
+use Rattle.planned_loads.specs.Loads.{AreMachineLoads}
+
+-- The map of the modules.dep.bin that was read.
+abbrev pub known_lines : Known → KeyValues
+known_lines known = contents known.indexes.dep.nodes
+
+-- A course came past its reading, over these files: this is known, and this is the machine of the kernel after the listed
+-- modules were loaded; the request has a plan, of which no step runs a command, and the modules of its steps are at these
+-- paths.
+pub record IsRead (held : Contents) (folder : List ℕ) (config listing : Option (List ℕ)) (request : Request) (addressed : Kernel) (region : Region) (known : Known) (machine : Machine) (steps : List PlanStep) (paths : List (List ℕ)) : Type 0 where
+  pub knows : ((reads_known config folder listing).run held).outcome ≡ value known
+  pub listed : ((loads_listed folder known.indexes.dep (new_machine addressed region) known.loaded).run held).outcome ≡ value machine
+  pub planned : plan_outcome known known.loaded request ≡ value steps
+  pub runs_none : paths_outcome steps ≡ value paths
+
+-- The loads of such a course bind.
+pub record CourseBinds (held : Contents) (folder : List ℕ) (images : Option (List ℕ)) (addressed : Kernel) (region : Region) (known : Known) (machine : Machine) (steps : List PlanStep) (paths : List (List ℕ)) : Type 0 where
+  -- the listed modules, oldest first, and those of the plan, each the module of its file
+  pub listed : List Module
+  pub plan : List Module
+  pub listed_of : AreModulesOf held folder (known_lines known) (reverse known.loaded) listed
+  pub plan_of : AreModulesOf held folder (known_lines known) (inserted_names steps) plan
+  pub listed_load : IsLoaded addressed region listed machine
+  -- each strong need is bound to an agreeing export that stands before it, and words have the values of the ABI
+  pub binds : Binds addressed region listed plan
+  -- the loads stop for want of room or for a word that doesn't fit alone, and their images and lines are those of the
+  -- machines of these loads
+  pub placed : IfErr (load_all machine plan) IsPlaceFault
+  pub loads : AreMachineLoads folder images machine paths plan ((loads_all folder images machine paths).run held)
+
+-- Over a folder that stands as depmod indexed it, and the same kernel's table with addresses, the loads of each course
+-- bind that came past its reading.
+abbrev pub CoursesBind : Type 0
+CoursesBind =
+    (held : Contents) (folder : List ℕ) (tree : List Facts) (kernel : Kernel) (builtin : List ℕ)
+    → Indexed held folder tree kernel builtin
+    → AreSmall held folder tree
+    → (config listing : Option (List ℕ)) (request : Request) (addressed : Kernel) (region : Region) (known : Known) (machine : Machine) (steps : List PlanStep) (paths : List (List ℕ))
+    → kernel_of addressed ≡ kernel_of kernel
+    → IsRead held folder config listing request addressed region known machine steps paths
+    → (images : Option (List ℕ))
+    → CourseBinds held folder images addressed region known machine steps paths

@@ -1,0 +1,4 @@
+pub mod Files
+pub mod Loads
+pub mod Listed
+pub mod Courses

@@ -1,0 +1,39 @@
+-- What the course of the loads of listed modules is, by the machines of these loads. modprobe(8), proc(5).
+use Rattle.std.specs.Prelude.{◌≡◌, ℕ, List, [], ◌∷◌, map, reverse, Some, Ok}
+use Rattle.km_names.specs.Path.{path_below}
+use Rattle.km_outside.specs.Contents.{Contents}
+use Rattle.km_course.specs.Course.{Run}
+use Rattle.km_course.specs.Course.Act.{read}
+use Rattle.km_course.specs.Course.Outcome.{value}
+use Rattle.index_read.specs.declared.index.Index.{Index}
+use Rattle.module_facts.specs.declared.module.Module.{Module}
+use Rattle.model_loader.specs.Machine.{Machine}
+use Rattle.plan_binding.specs.Loads.{load_all}
+use Rattle.command_files.specs.KernelModules.{path_listed}
+use Rattle.command_loads.specs.Listed.{loads_listed}
+use Rattle.planned_loads.specs.Files.{AreFileModules}
+
+-- Each path is the first one of the dependency line of the module of its name.
+abbrev pub AreListedPaths : Index → List (List ℕ) → List (List ℕ) → Type 0
+AreListedPaths index [] [] = Unit {0}
+AreListedPaths index [] (path ∷ paths) = ⊥
+AreListedPaths index (name ∷ names) [] = ⊥
+AreListedPaths index (name ∷ names) (path ∷ paths) =
+    (path_listed index name ≡ Some path) × AreListedPaths index names paths
+
+-- The modules of listed names went into a machine, the last of the list first: each was read of its file, and nothing
+-- else was done.
+pub record ListedGoIn (held : Contents) (folder : List ℕ) (index : Index) (machine : Machine) (names : List (List ℕ)) (after : Machine) (run : Run Machine) : Type 0 where
+  pub paths : List (List ℕ)
+  pub listed : List Module
+  pub found : AreListedPaths index (reverse names) paths
+  pub files : AreFileModules held folder paths listed
+  pub loaded : load_all machine listed ≡ Ok after
+  pub acts : run.acts ≡ map (λ path. read (path_below folder path)) paths
+
+-- A course of the loads of listed modules that gives a machine is that of the machine's loads.
+abbrev pub ListedAreOfMachine : Type 0
+ListedAreOfMachine =
+    (held : Contents) (folder : List ℕ) (index : Index) (machine : Machine) (names : List (List ℕ)) (after : Machine)
+    → ((loads_listed folder index machine names).run held).outcome ≡ value after
+    → ListedGoIn held folder index machine names after ((loads_listed folder index machine names).run held)

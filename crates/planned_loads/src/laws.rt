@@ -1,0 +1,18 @@
+// The laws.
+ghost use Rattle.indexed_plan.specs.Steps.{PlansAreClosed};
+ghost use Rattle.planned_loads.specs.Loads.{LoadsAreOfMachine};
+ghost use Rattle.planned_loads.specs.Listed.{ListedAreOfMachine};
+ghost use Rattle.planned_loads.specs.Courses.{CoursesBind};
+
+/// Loads of modules whose files are read are those of the machine: of a plan, with all that is said and written of them,
+/// and of listed modules, of which nothing is said.
+pub fn loads_are_of_machines()
+    ensures planned { LoadsAreOfMachine }
+    ensures listed { ListedAreOfMachine }
+{}
+
+/// Over a folder that stands as depmod indexed it, and the same kernel's table with addresses, a course that came past its
+/// reading loads modules that bind.
+pub fn courses_bind()
+    ensures { PlansAreClosed → CoursesBind }
+{}
