@@ -1,0 +1,7 @@
+mod RunLemmas
+mod FileLemmas
+mod LoadLemmas
+mod ListedLemmas
+mod KnownLemmas
+mod ClosedLemmas
+mod CourseLemmas

@@ -21,19 +21,18 @@ AreListedPaths index (name ∷ names) [] = ⊥
 AreListedPaths index (name ∷ names) (path ∷ paths) =
     (path_listed index name ≡ Some path) × AreListedPaths index names paths
 
--- The modules of listed names went into a machine, the last of the list first: each was read of its file, and nothing
--- else was done.
+-- The modules of names went into a machine, one after the other: each was read of its file, and nothing else was done.
 pub record ListedGoIn (held : Contents) (folder : List ℕ) (index : Index) (machine : Machine) (names : List (List ℕ)) (after : Machine) (run : Run Machine) : Type 0 where
   pub paths : List (List ℕ)
   pub listed : List Module
-  pub found : AreListedPaths index (reverse names) paths
+  pub found : AreListedPaths index names paths
   pub files : AreFileModules held folder paths listed
   pub loaded : load_all machine listed ≡ Ok after
   pub acts : run.acts ≡ map (λ path. read (path_below folder path)) paths
 
--- A course of the loads of listed modules that gives a machine is that of the machine's loads.
+-- A course of the loads of listed modules that gives a machine is that of the machine's loads, the last of the list first.
 abbrev pub ListedAreOfMachine : Type 0
 ListedAreOfMachine =
     (held : Contents) (folder : List ℕ) (index : Index) (machine : Machine) (names : List (List ℕ)) (after : Machine)
     → ((loads_listed folder index machine names).run held).outcome ≡ value after
-    → ListedGoIn held folder index machine names after ((loads_listed folder index machine names).run held)
+    → ListedGoIn held folder index machine (reverse names) after ((loads_listed folder index machine names).run held)
