@@ -5,3 +5,4 @@ mod ListedLemmas
 mod KnownLemmas
 mod ClosedLemmas
 mod CourseLemmas
+mod WholeLemmas

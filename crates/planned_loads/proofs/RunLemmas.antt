@@ -1,11 +1,14 @@
--- Runs of stages: what those come to that are made of two, and stages that leave the files as they were.
+-- Runs of stages: what those come to that are made of two, and stages that only read.
 use Rattle.std.proofs.Common.{◌≡◌, ◌∙◌, ℕ, Bool, true, false, List, [], ◌∷◌, ◌++◌, refl, sym, ap, subst}
-use Rattle.std.specs.Prelude.{⊤}
+use Rattle.std.specs.Prelude.{◌&&◌}
+use Rattle.std.specs.List.{list_all}
+use Rattle.std.proofs.lemmas.List.Folds.{list_all-append}
 use Rattle.km_outside.specs.Contents.{Contents}
-use Rattle.km_course.specs.Course.{Act, Outcome, Run, Stage, after, file_done, continued, ◌>>=◌, given, act_with, each_from, lists_or, reads_or, says_any, when◌then◌else◌}
+use Rattle.km_course.specs.Course.{Act, Outcome, Run, Stage, after, file_done, continued, ◌>>=◌, given, act_with, each_from, lists_or, reads_or, when◌then◌else◌}
 use Rattle.km_course.specs.Course.Act.{read, list, say, warn, put}
 use Rattle.km_course.specs.Course.Outcome.{value, end}
 use Rattle.km_course.specs.declared.end.End.{End}
+use Rattle.planned_loads.specs.Acts.{is_reading}
 
 pub after-append : (a b : List Act) (files : Contents) → after (a ++ b) files ≡ after b (after a files)
 after-append [] b files = refl
@@ -60,54 +63,66 @@ goes-on stage next files y is =
       acts = ap (λ o. (continued (stage.run files).acts o next files).acts) h.1;
     }
 
--- ---- stages that leave the files as they were
+-- ---- stages that only read
 
-abbrev pub Quiet : {X : Type 0} → Stage X → Type 0
-Quiet stage = (files : Contents) → after (stage.run files).acts files ≡ files
+-- acts that only read leave the files as they were
+pub read-leaves : (acts : List Act) (files : Contents) → list_all is_reading acts ≡ true → after acts files ≡ files
+read-leaves [] files only = refl
+read-leaves (read path ∷ acts) files only = read-leaves acts files only
+read-leaves (list folder ∷ acts) files only = read-leaves acts files only
+read-leaves (say bytes ∷ acts) files only = cc
+read-leaves (warn bytes ∷ acts) files only = cc
+read-leaves (put path bytes ∷ acts) files only = cc
 
-quiet-continued : {X Y : Type 0} (acts : List Act) (o : Outcome X) (next : X → Stage Y) (files : Contents) → after acts files ≡ files → ((x : X) → Quiet (next x)) → after (continued acts o next files).acts files ≡ files
+abbrev pub OnlyReads : {X : Type 0} → Stage X → Type 0
+OnlyReads stage = (files : Contents) → list_all is_reading (stage.run files).acts ≡ true
+
+pub both-read : (a b : List Act) → list_all is_reading a ≡ true → list_all is_reading b ≡ true → list_all is_reading (a ++ b) ≡ true
+both-read a b first later = list_all-append is_reading a b ∙ ap (λ x. x && list_all is_reading b) first ∙ later
+
+reads-continued : {X Y : Type 0} (acts : List Act) (o : Outcome X) (next : X → Stage Y) (files : Contents) → list_all is_reading acts ≡ true → ((x : X) → OnlyReads (next x)) → list_all is_reading (continued acts o next files).acts ≡ true
 unfolding continued
-quiet-continued acts (value x) next files first later =
-    after-append acts ((next x).run (after acts files)).acts files ∙ later x (after acts files) ∙ first
-quiet-continued acts (end e) next files first later = first
+reads-continued acts (value x) next files first later = both-read acts ((next x).run (after acts files)).acts first (later x (after acts files))
+reads-continued acts (end e) next files first later = first
 
-pub quiet-then : {X Y : Type 0} (stage : Stage X) (next : X → Stage Y) → Quiet stage → ((x : X) → Quiet (next x)) → Quiet (stage >>= next)
+pub reads-then : {X Y : Type 0} (stage : Stage X) (next : X → Stage Y) → OnlyReads stage → ((x : X) → OnlyReads (next x)) → OnlyReads (stage >>= next)
 unfolding ◌>>=◌
-quiet-then stage next first later = λ files. quiet-continued (stage.run files).acts (stage.run files).outcome next files (first files) later
+reads-then stage next first later = λ files. reads-continued (stage.run files).acts (stage.run files).outcome next files (first files) later
 
-pub quiet-given : {X : Type 0} (o : Outcome X) → Quiet (given o)
+pub reads-given : {X : Type 0} (o : Outcome X) → OnlyReads (given o)
 unfolding given
-quiet-given o = λ files. refl
+reads-given o = λ files. refl
 
-pub quiet-reads : (absent : Outcome (List ℕ)) (path : List ℕ) → Quiet (reads_or absent path)
+pub reads-file : (absent : Outcome (List ℕ)) (path : List ℕ) → OnlyReads (reads_or absent path)
 unfolding act_with
-quiet-reads absent path = λ files. refl
+reads-file absent path = λ files. refl
 
-pub quiet-lists : (absent : Outcome (List (List ℕ))) (fits : List ℕ → Bool) (folder : List ℕ) → Quiet (lists_or absent fits folder)
+pub reads-names : (absent : Outcome (List (List ℕ))) (fits : List ℕ → Bool) (folder : List ℕ) → OnlyReads (lists_or absent fits folder)
 unfolding act_with
-quiet-lists absent fits folder = λ files. refl
+reads-names absent fits folder = λ files. refl
 
-pub quiet-says : (bytes : List ℕ) → Quiet (says_any bytes)
-unfolding act_with given
-quiet-says [] = λ files. refl
-quiet-says (byte ∷ bytes) = λ files. refl
+pub reads-when : {X : Type 0} (test : Bool) (a b : Stage X) → OnlyReads a → OnlyReads b → OnlyReads (when test then a else b)
+reads-when true a b first second = first
+reads-when false a b first second = second
 
-pub quiet-when : {X : Type 0} (test : Bool) (a b : Stage X) → Quiet a → Quiet b → Quiet (when test then a else b)
-quiet-when true a b first second = first
-quiet-when false a b first second = second
+pub reads-each : {A S : Type 0} (step : S → A → Stage S) → ((s : S) (a : A) → OnlyReads (step s a)) → (s : S) (items : List A) → OnlyReads (each_from step s items)
+reads-each step each s [] = reads-given (value s)
+reads-each step each s (item ∷ items) =
+    reads-then (step s item) (λ next. each_from step next items) (each s item) (λ next. reads-each step each next items)
 
-pub quiet-each : {A S : Type 0} (step : S → A → Stage S) → ((s : S) (a : A) → Quiet (step s a)) → (s : S) (items : List A) → Quiet (each_from step s items)
-quiet-each step each s [] = quiet-given (value s)
-quiet-each step each s (item ∷ items) =
-    quiet-then (step s item) (λ next. each_from step next items) (each s item) (λ next. quiet-each step each next items)
-
--- after a stage that leaves the files as they were
-pub quiet-on : {X Y : Type 0} (stage : Stage X) (next : X → Stage Y) (files : Contents) (y : Y) → Quiet stage → ((stage >>= next).run files).outcome ≡ value y → (mid : X) × ((stage.run files).outcome ≡ value mid) × (((next mid).run files).outcome ≡ value y)
-quiet-on stage next files y quiet is =
+-- after a stage that only reads
+pub reads-on : {X Y : Type 0} (stage : Stage X) (next : X → Stage Y) (files : Contents) (y : Y) → OnlyReads stage → ((stage >>= next).run files).outcome ≡ value y → (mid : X) × ((stage.run files).outcome ≡ value mid) × (((next mid).run files).outcome ≡ value y)
+reads-on stage next files y only is =
     let h = goes-on stage next files y is in
-    (h.mid, h.first, subst (λ fs. ((next h.mid).run fs).outcome ≡ value y) (quiet files) h.then)
+    (h.mid, h.first, subst (λ fs. ((next h.mid).run fs).outcome ≡ value y) (read-leaves (stage.run files).acts files (only files)) h.then)
 
 -- what is given, and the next stage
 pub given-on : {X Y : Type 0} (o : Outcome X) (next : X → Stage Y) (files : Contents) (y : Y) → ((given o >>= next).run files).outcome ≡ value y → (mid : X) × (o ≡ value mid) × (((next mid).run files).outcome ≡ value y)
 unfolding given
-given-on o next files y is = quiet-on (given o) next files y (quiet-given o) is
+given-on o next files y is = reads-on (given o) next files y (reads-given o) is
+
+-- the run of a stage that only reads and gives a value, and the next one
+pub run-on : {X Y : Type 0} (stage : Stage X) (next : X → Stage Y) (files : Contents) (x : X) → list_all is_reading (stage.run files).acts ≡ true → (stage.run files).outcome ≡ value x → (stage >>= next).run files ≡ joined (stage.run files).acts ((next x).run files)
+run-on stage next files x only is =
+    run-then stage next files (stage.run files).acts x (ap (run_of (stage.run files).acts) is)
+    ∙ ap (λ fs. joined (stage.run files).acts ((next x).run fs)) (read-leaves (stage.run files).acts files only)

@@ -1,7 +1,10 @@
 -- What the course of a modprobe that loads comes to over a folder that stands as depmod indexed it. modprobe(8).
-use Rattle.std.specs.Prelude.{◌≡◌, ℕ, List, reverse, Option, IfErr}
+use Rattle.std.specs.Prelude.{◌≡◌, ℕ, true, List, ◌++◌, reverse, Option, Some, IfErr, ⊤}
+use Rattle.std.specs.List.{list_all}
 use Rattle.km_outside.specs.Contents.{Contents}
-use Rattle.km_course.specs.Course.Outcome.{value}
+use Rattle.kmod_words.specs.declared.modprobe.ModprobeWords.{ModprobeWords}
+use Rattle.km_course.specs.Course.{Act, Outcome, Run}
+use Rattle.km_course.specs.Course.Outcome.{value, end}
 use Rattle.index_format.specs.Map.{KeyValues}
 use Rattle.index_read.specs.Contents.{contents}
 use Rattle.module_facts.specs.declared.facts.Facts.{Facts}
@@ -17,12 +20,15 @@ use Rattle.plan_binding.specs.Binding.{Binds, IsLoaded}
 use Rattle.indexed_plan.specs.Indexed.{Indexed}
 use Rattle.indexed_plan.specs.Folder.{AreModulesOf}
 use Rattle.indexed_plan.specs.Steps.{inserted_names}
+use Rattle.command_files.specs.KernelModules.{modules_folder}
 use Rattle.command_loads.specs.Listed.{loads_listed}
 use Rattle.command_loads.specs.Loads.{loads_all}
+use Rattle.command_loads.specs.Tables.{reads_machine}
 use Rattle.command_modprobe.specs.declared.known.Known.{Known}
 use Rattle.command_modprobe.specs.Known.{reads_known}
-use Rattle.command_modprobe.specs.Planned.{plan_outcome}
-use Rattle.command_modprobe.specs.Loaded.{paths_outcome}
+use Rattle.command_modprobe.specs.Planned.{plan_lines, plan_outcome, request_of}
+use Rattle.command_modprobe.specs.Loaded.{loads_plan, paths_outcome, region_at}
+use Rattle.planned_loads.specs.Acts.{is_reading, said}
 use Rattle.planned_loads.specs.Files.{AreSmall}
 use Rattle.planned_loads.specs.Loads.{AreMachineLoads}
 
@@ -38,6 +44,34 @@ pub record IsRead (held : Contents) (folder : List ℕ) (config listing : Option
   pub listed : ((loads_listed folder known.indexes.dep (new_machine addressed region) known.loaded).run held).outcome ≡ value machine
   pub planned : plan_outcome known known.loaded request ≡ value steps
   pub runs_none : paths_outcome steps ≡ value paths
+
+-- what loads come to, as the end of a course
+abbrev pub ended : Outcome Machine → Outcome ⊤
+ended (value machine) = value tt
+ended (end e) = end e
+
+-- A course is one of loads: files are read, the lines of the plan are said, and then the modules at the paths are loaded
+-- into the machine, and nothing more is done.
+pub record IsLoadingCourse (held : Contents) (folder : List ℕ) (images : Option (List ℕ)) (machine : Machine) (steps : List PlanStep) (paths : List (List ℕ)) (run : Run ⊤) : Type 0 where
+  pub before : List Act
+  pub reads : list_all is_reading before ≡ true
+  pub acts : run.acts ≡ before ++ (said (plan_lines folder steps) ++ ((loads_all folder images machine paths).run held).acts)
+  pub outcome : run.outcome ≡ ended ((loads_all folder images machine paths).run held).outcome
+
+-- What is asked for has a System.map and a region, and from these came the machine of the kernel.
+pub record HasMachine (held : Contents) (asked : ModprobeWords) (addressed : Kernel) (region : Region) : Type 0 where
+  pub map : List ℕ
+  pub mapped : asked.system_map ≡ Some map
+  pub in_region : region_at asked.region_base asked.region_size ≡ Some region
+  pub made : ((reads_machine map asked.symvers region).run held).outcome ≡ value (new_machine addressed region)
+
+-- A course that came past its reading is one of loads, over any files.
+abbrev pub CoursesLoad : Type 0
+CoursesLoad =
+    (held : Contents) (asked : ModprobeWords) (addressed : Kernel) (region : Region) (known : Known) (machine : Machine) (steps : List PlanStep) (paths : List (List ℕ))
+    → HasMachine held asked addressed region
+    → IsRead held (modules_folder asked.dirname asked.version) asked.config asked.loaded (request_of asked) addressed region known machine steps paths
+    → IsLoadingCourse held (modules_folder asked.dirname asked.version) asked.image machine steps paths ((loads_plan asked).run held)
 
 -- The loads of such a course bind.
 pub record CourseBinds (held : Contents) (folder : List ℕ) (images : Option (List ℕ)) (addressed : Kernel) (region : Region) (known : Known) (machine : Machine) (steps : List PlanStep) (paths : List (List ℕ)) : Type 0 where
