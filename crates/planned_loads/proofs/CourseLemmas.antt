@@ -160,6 +160,12 @@ none-runs (step ∷ steps) is =
 
 -- ---- the folder
 
+-- the modules that steps load
+record ArePlanned (held : Contents) (folder : List ℕ) (dep : KeyValues) (steps : List PlanStep) : Type 0 where
+  plan : List Module
+  of_names : AreModulesOf held folder dep (inserted_names steps) plan
+  of_files : AreFileModules held folder (flat_map loaded_path steps) plan
+
 module _ (held : Contents) (folder : List ℕ) (tree : List Facts) (kernel : Kernel) (builtin : List ℕ) (indexed : Indexed held folder tree kernel builtin) (small : AreSmall held folder tree) (known : Known) (knows : KnowsFolder held folder known) where
   abbrev dep : KeyValues
   dep = known_lines known
@@ -216,13 +222,8 @@ module _ (held : Contents) (folder : List ℕ) (tree : List Facts) (kernel : Ker
         read = refl;
       })
 
-  -- the modules of steps that are loaded
-  pub record ArePlanned (steps : List PlanStep) : Type 0 where
-    pub plan : List Module
-    pub of_names : AreModulesOf held folder dep (inserted_names steps) plan
-    pub of_files : AreFileModules held folder (flat_map loaded_path steps) plan
-
-  pub step-modules : (steps : List PlanStep) → All (IsAtOwnPath dep) steps → ArePlanned steps
+  -- so are those of steps
+  pub step-modules : (steps : List PlanStep) → All (IsAtOwnPath dep) steps → ArePlanned held folder dep steps
   step-modules [] all = record { plan = []; of_names = tt; of_files = tt }
   step-modules (Insert name path options ∷ steps) all =
       let own = own-module name path (All-head (IsAtOwnPath dep) (Insert name path options) steps all) in

@@ -1,5 +1,5 @@
 -- Files of modules: what reading one comes to, and that images leave them as they were.
-use Rattle.std.proofs.Common.{◌≡◌, ◌∙◌, ◌-◌, ◌<◌, ◌≤◌, ℕ, Bool, true, false, ◌||◌, cond, List, [], ◌∷◌, ◌++◌, length, take, reverse, None, refl, sym, ap, subst, arith, append_assoc}
+use Rattle.std.proofs.Common.{◌≡◌, ◌∙◌, ◌-◌, ◌<◌, ◌≤◌, ◌==◌, ℕ, Bool, true, false, ◌||◌, cond, List, [], ◌∷◌, ◌++◌, length, take, reverse, None, refl, sym, ap, subst, arith, append_assoc}
 use Rattle.std.specs.Prelude.{Option, Some, codes, nat_eq, nat_lt, option_and_then, ◌&&◌}
 use Rattle.std.specs.List.{ends_with, list_any}
 use Rattle.std.specs.FinMap.{get, insert, get-insert}
@@ -25,6 +25,7 @@ use Rattle.mod_tree.specs.Tree.{is_module_path}
 use Rattle.km_course.specs.Course.{Act, Outcome, Stage, after, ◌>>=◌, ends, given, read_outcome, reads, when◌then◌else◌}
 use Rattle.km_course.specs.Course.Act.{read, say, put}
 use Rattle.km_course.specs.Course.Outcome.{value, end}
+use Rattle.km_course.specs.declared.end.End.{End}
 use Rattle.km_course.specs.declared.end.End.TheVariants.{NoFile, Refused, TooLarge}
 use Rattle.km_course.specs.declared.refusal.Refusal.TheVariants.{Compressed}
 use Rattle.model_loader.specs.declared.entry.Entry.{Entry}
@@ -34,7 +35,7 @@ use Rattle.command_loads.proofs.ModuleSteps.{checked, module_at-same}
 use Rattle.indexed_plan.specs.Indexed.{HasFile}
 use Rattle.planned_loads.specs.Files.{AreFileModules, IsFileModule}
 use Rattle.planned_loads.specs.Loads.{image_acts, load_acts}
-use Rattle.planned_loads.proofs.RunLemmas.{goes-on, run-act, run-given, run-then, run_of}
+use Rattle.planned_loads.proofs.RunLemmas.{goes-on, joined, run-given, run-read, run-then, run_of}
 
 -- ---- paths
 
@@ -56,22 +57,20 @@ ends-ko : (path : List ℕ) → is_module_path path ≡ true → is_compressed p
 ends-ko path kind plain =
     (ends_is Decides-eqb path (codes ".ko") (ends_with nat_eq path (codes ".ko")) refl).0 (left-holds (ends_with nat_eq path (codes ".ko")) (is_compressed path) kind plain)
 
-first_of_list : List ℕ → ℕ
+abbrev first_of_list : List ℕ → ℕ
 first_of_list [] = 0
 first_of_list (b ∷ bs) = b
 
-last_of : List ℕ → ℕ
+abbrev last_of : List ℕ → ℕ
 last_of bs = first_of_list (reverse bs)
 
 below-last : (folder front : List ℕ) (text : List ℕ) → path_below folder (front ++ text) ≡ (without_end_slashes folder ++ 47 ∷ front) ++ text
 below-last folder front text = sym (append_assoc (without_end_slashes folder) (47 ∷ front) text)
 
 last-ko : (front : List ℕ) → last_of (front ++ codes ".ko") ≡ 111
-unfolding last_of first_of_list
 last-ko front = ap first_of_list (reverse-append front (codes ".ko"))
 
 last-img : (front : List ℕ) → last_of (front ++ codes ".img") ≡ 103
-unfolding last_of first_of_list
 last-img front = ap first_of_list (reverse-append front (codes ".img"))
 
 -- so no image is put there
@@ -143,12 +142,13 @@ pub reads-module : (files : Contents) (folder path : List ℕ) (m : Module) → 
 reads-module files folder path m is =
     let file = path_below folder path in
     let there : (reads file).run files ≡ run_of (read file ∷ []) (value is.bytes) =
-    run-act (read file) (λ fs. read_outcome (end (NoFile file)) file (get fs file)) _ files
+    run-read (end (NoFile file)) file files
     ∙ ap (run_of (read file ∷ [])) (file-read file is.bytes (get files file) is.there is.small) in
     let valid : file_outcome file path is.bytes ≡ value m =
     valid-outcome file path is.bytes (fact_fault path is.bytes) refl is.passed ∙ ap value (sym is.read) in
     ap (λ b. (when b then ends (Refused (Compressed file)) else reads_plain folder path).run files) (plain-path path is.bytes is.passed)
     ∙ run-then (reads file) (checked file path) files (read file ∷ []) is.bytes there
+    ∙ ap (joined (read file ∷ [])) (run-given (file_outcome file path is.bytes) files)
     ∙ ap (λ o. run_of (read file ∷ []) o) valid
 
 -- what was read is the module of a file
@@ -172,31 +172,29 @@ pub record HasReadModule (files : Contents) (folder path : List ℕ) (m : Module
   pub file : IsFileModule files folder path m
   pub acts : ((reads_module folder path).run files).acts ≡ read (path_below folder path) ∷ []
 
+-- what isn't ended at once
+past-test : {X : Type 0} (test : Bool) (e : End) (other : Stage X) (files : Contents) (x : X) → ((when test then ends e else other).run files).outcome ≡ value x → (other.run files).outcome ≡ value x
+unfolding given
+past-test true e other files x is = cc
+past-test false e other files x is = is
+
+plain-read : (files : Contents) (folder path : List ℕ) (m : Module) → is_module_path path ≡ true → ((reads_plain folder path).run files).outcome ≡ value m → IsFileModule files folder path m
+plain-read files folder path m kind is =
+    let file = path_below folder path in
+    let h = goes-on (reads file) (checked file path) files m is in
+    let bytes : List ℕ = h.mid in
+    let found : read_outcome (end (NoFile file)) file (get files file) ≡ value bytes = ap (λ r. r.outcome) (sym (run-read (end (NoFile file)) file files)) ∙ h.first in
+    let there = file-there file bytes (get files file) found in
+    let valid : file_outcome file path bytes ≡ value m =
+    ap (λ r. r.outcome) (sym (run-given (file_outcome file path bytes) (after ((reads file).run files).acts files))) ∙ h.rest in
+    let good = outcome-valid file path bytes (fact_fault path bytes) refl m valid in
+    record { kind = kind; bytes = bytes; there = there.0; small = there.1; passed = good.0; read = good.1 }
+
 pub module-read : (files : Contents) (folder path : List ℕ) (m : Module) → is_module_path path ≡ true → ((reads_module folder path).run files).outcome ≡ value m → HasReadModule files folder path m
 module-read files folder path m kind is =
-    let file = path_below folder path in
-    let made : IsFileModule files folder path m = by_kind (is_compressed path) is in
+    let told = Refused (Compressed (path_below folder path)) in
+    let made : IsFileModule files folder path m = plain-read files folder path m kind (past-test (is_compressed path) told (reads_plain folder path) files m is) in
     record { file = made; acts = ap (λ r. r.acts) (reads-module files folder path m made) }
-  where
-    by_plain : ((reads_plain folder path).run files).outcome ≡ value m → IsFileModule files folder path m
-    by_plain is =
-        let file = path_below folder path in
-        let h = goes-on (reads file) (checked file path) files m is in
-        let bytes : List ℕ = h.mid in
-        let found : read_outcome (end (NoFile file)) file (get files file) ≡ value bytes =
-        ap (λ r. r.outcome) (sym (run-act (read file) (λ fs. read_outcome (end (NoFile file)) file (get fs file)) _ files)) ∙ h.first in
-        let there = file-there file bytes (get files file) found in
-        let valid : file_outcome file path bytes ≡ value m =
-        ap (λ r. r.outcome) (sym (run-given (file_outcome file path bytes) (after ((reads file).run files).acts files))) ∙ h.then in
-        let good = outcome-valid file path bytes (fact_fault path bytes) refl m valid in
-        record { kind = kind; bytes = bytes; there = there.0; small = there.1; passed = good.0; read = good.1 }
-
-    by_kind : (b : Bool) → ((when b then ends (Refused (Compressed (path_below folder path))) else reads_plain folder path).run files).outcome ≡ value m → IsFileModule files folder path m
-    by_kind false is = by_plain is
-    by_kind true is =
-        let ended : ◌≡◌ {A = Outcome Module} (end (Refused (Compressed (path_below folder path)))) (value m) =
-        ap (λ r. r.outcome) (sym (run-given (end (Refused (Compressed (path_below folder path)))) files)) ∙ is in
-        cc
 
 -- ---- dependency lines
 

@@ -28,7 +28,7 @@ use Rattle.command_files.specs.IndexFile.{index_of, index_outcome, reads_index}
 use Rattle.command_modprobe.specs.declared.known.Known.{Known}
 use Rattle.command_modprobe.specs.Known.{reads_index_in, reads_indexes, reads_known, reads_lists, reads_loaded, reads_rules, reads_unmet}
 use Rattle.command_modprobe.proofs.KnownSteps.{after_alias, after_builtin, after_configuration, after_dep, after_indexes, after_loaded, after_rules, after_softdep, after_symbols, after_unmet, loaded_stated, softdep_stated, unmet_stated}
-use Rattle.planned_loads.proofs.RunLemmas.{OnlyReads, given-on, reads-each, reads-given, reads-names, reads-on, reads-file, reads-then, reads-when, run-act, run-given}
+use Rattle.planned_loads.proofs.RunLemmas.{OnlyReads, given-on, reads-each, reads-given, reads-names, reads-on, reads-file, reads-then, reads-when, run-read, run-given}
 
 -- ---- the reading only reads
 
@@ -151,7 +151,7 @@ was-accepted file bytes (Some fault) index came = cc
 
 read-came : (absent : Outcome (List ℕ)) (path : List ℕ) (files : Contents) (bytes : List ℕ) → ((reads_or absent path).run files).outcome ≡ value bytes → read_outcome absent path (get files path) ≡ value bytes
 read-came absent path files bytes came =
-    ap (λ r. r.outcome) (sym (run-act (read path) (λ fs. read_outcome absent path (get fs path)) _ files)) ∙ came
+    ap (λ r. r.outcome) (sym (run-read absent path files)) ∙ came
 
 given-came : {X : Type 0} (o : Outcome X) (x : X) (files : Contents) → ((given o).run files).outcome ≡ value x → o ≡ value x
 given-came o x files came = ap (λ r. r.outcome) (sym (run-given o files)) ∙ came

@@ -61,7 +61,7 @@ one-goes-in files folder index machine name next is =
     let found : path_listed index name ≡ Some path = path-given name (path_listed index name) path h.first in
     let line = listed-line index name path found in
     let kind : is_module_path path ≡ true = (line-module line.0 path line.2).1 in
-    let g = goes-on (reads_module folder path) (listed_read machine) files next h.then in
+    let g = goes-on (reads_module folder path) (listed_read machine) files next h.rest in
     let m : Module = g.mid in
     let file = module-read files folder path m kind g.first in
     record {
@@ -69,8 +69,8 @@ one-goes-in files folder index machine name next is =
       m = m;
       found = found;
       file = file.file;
-      took = stepped m.facts.name (step machine m) next g.then;
-      acts = h.acts ∙ g.acts ∙ ap (λ as. as ++ []) file.acts;
+      took = stepped m.facts.name (step machine m) next g.rest;
+      acts = h.acts ∙ g.acts ∙ ap (λ done. done ++ []) file.acts;
     }
 
 -- ---- all of them
@@ -91,10 +91,10 @@ listed-go-in folder index (name ∷ names) machine files last is =
     let next : Machine = g.mid in
     let one = one-goes-in files folder index machine name next g.first in
     let rest : ((each_from (loads_listed_one folder index) next names).run files).outcome ≡ value last =
-    subst (λ as. ((each_from (loads_listed_one folder index) next names).run (after as files)).outcome ≡ value last) one.acts g.then in
+    subst (λ done. ((each_from (loads_listed_one folder index) next names).run (after done files)).outcome ≡ value last) one.acts g.rest in
     let others = listed-go-in folder index names next files last rest in
     let same : ((each_from (loads_listed_one folder index) next names).run (after ((loads_listed_one folder index machine name).run files).acts files)).acts ≡ ((each_from (loads_listed_one folder index) next names).run files).acts =
-    ap (λ as. ((each_from (loads_listed_one folder index) next names).run (after as files)).acts) one.acts in
+    ap (λ done. ((each_from (loads_listed_one folder index) next names).run (after done files)).acts) one.acts in
     record {
       paths = one.path ∷ others.paths;
       listed = one.m ∷ others.listed;
@@ -103,8 +103,8 @@ listed-go-in folder index (name ∷ names) machine files last is =
       loaded = ap (unless_refused (λ other. load_all other others.listed)) one.took ∙ others.loaded;
       acts =
           g.acts
-          ∙ ap (λ as. as ++ ((each_from (loads_listed_one folder index) next names).run (after ((loads_listed_one folder index machine name).run files).acts files)).acts) one.acts
-          ∙ ap (λ as. read (path_below folder one.path) ∷ as) (same ∙ others.acts);
+          ∙ ap (λ done. done ++ ((each_from (loads_listed_one folder index) next names).run (after ((loads_listed_one folder index machine name).run files).acts files)).acts) one.acts
+          ∙ ap (λ done. read (path_below folder one.path) ∷ done) (same ∙ others.acts);
     }
 
 pub listed-are-of-machine : ListedAreOfMachine

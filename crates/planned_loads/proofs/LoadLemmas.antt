@@ -1,5 +1,5 @@
 -- The course of loads of modules, by the machines of these loads.
-use Rattle.std.proofs.Common.{◌≡◌, ◌∙◌, ℕ, List, [], ◌∷◌, ◌++◌, length, None, refl, sym, ap, subst, append_assoc, append-nil}
+use Rattle.std.proofs.Common.{◌≡◌, ◌∙◌, ℕ, List, [], ◌∷◌, ◌++◌, length, None, refl, sym, ap, subst, arith, append_assoc, append-nil}
 use Rattle.std.specs.Prelude.{Option, Some, Result, Ok, Err, ⊤, codes}
 use Rattle.std.specs.Option.{option_map_or}
 use Rattle.km_names.specs.Path.{path_below}
@@ -56,7 +56,7 @@ one-goes-in files folder images machine next path m is took =
     let last : (one_loaded images machine m next).run files ≡ run_of acts (value next) =
     run-then (shows_load images e) (one_shown next) files acts tt (shown-acts images e files)
     ∙ ap (joined acts) (run-given (value next) (after acts files))
-    ∙ ap (λ as. run_of as (value next)) (append-nil acts) in
+    ∙ ap (λ done. run_of done (value next)) (append-nil acts) in
     let loading : (loads Planned machine m).run files ≡ run_of [] (value next) =
     run-given (load_outcome Planned m.facts.name (step machine m)) files ∙ ap (run_of []) (loaded_ok Planned m.facts.name (step machine m) next took) in
     let rest : (one_read images machine m).run files ≡ run_of acts (value next) =
@@ -106,9 +106,9 @@ loads-more folder images machine next path paths m ms run took are =
           record {
             gives = h.gives;
             entries = e ∷ h.entries;
-            one_each = ap (λ n. 1 + n) h.one_each;
+            one_each = omega (arith, h.one_each);
             newer = h.newer ∙ more h.entries;
-            acts = ap (λ as. first ++ as) h.acts;
+            acts = ap (λ done. first ++ done) h.acts;
           };
       stopped = λ fault is.
           let h = are.stopped fault (sym all ∙ is) in
@@ -126,9 +126,9 @@ loads-more folder images machine next path paths m ms run took are =
             refused = h.refused;
             tells = h.tells;
             entries = e ∷ h.entries;
-            one_each = ap (λ n. 1 + n) h.one_each;
+            one_each = omega (arith, h.one_each);
             newer = h.newer ∙ more h.entries;
-            acts = ap (λ as. first ++ as) h.acts ∙ sym (append_assoc first (loads_acts folder images h.earlier h.entries) (read (path_below folder h.path) ∷ []));
+            acts = ap (λ done. first ++ done) h.acts ∙ sym (append_assoc first (loads_acts folder images h.earlier h.entries) (read (path_below folder h.path) ∷ []));
           };
     }
 

@@ -1,10 +1,11 @@
 -- Runs of stages: what those come to that are made of two, and stages that only read.
 use Rattle.std.proofs.Common.{◌≡◌, ◌∙◌, ℕ, Bool, true, false, List, [], ◌∷◌, ◌++◌, refl, sym, ap, subst}
 use Rattle.std.specs.Prelude.{◌&&◌}
+use Rattle.std.specs.FinMap.{get}
 use Rattle.std.specs.List.{list_all}
 use Rattle.std.proofs.lemmas.List.Folds.{list_all-append}
 use Rattle.km_outside.specs.Contents.{Contents}
-use Rattle.km_course.specs.Course.{Act, Outcome, Run, Stage, after, file_done, continued, ◌>>=◌, given, act_with, each_from, lists_or, reads_or, when◌then◌else◌}
+use Rattle.km_course.specs.Course.{Act, Outcome, Run, Stage, after, file_done, continued, ◌>>=◌, given, act_with, each_from, read_outcome, lists_or, reads_or, when◌then◌else◌}
 use Rattle.km_course.specs.Course.Act.{read, list, say, warn, put}
 use Rattle.km_course.specs.Course.Outcome.{value, end}
 use Rattle.km_course.specs.declared.end.End.{End}
@@ -36,15 +37,15 @@ pub run-given : {X : Type 0} (o : Outcome X) (files : Contents) → (given o).ru
 unfolding given
 run-given o files = refl
 
-pub run-act : {X : Type 0} (act : Act) (o : Contents → Outcome X) (possible : Outcome X → Type 0) (files : Contents) → (act_with act o possible).run files ≡ run_of (act ∷ []) (o files)
+pub run-read : (absent : Outcome (List ℕ)) (path : List ℕ) (files : Contents) → (reads_or absent path).run files ≡ run_of (read path ∷ []) (read_outcome absent path (get files path))
 unfolding act_with
-run-act act o possible files = refl
+run-read absent path files = refl
 
 -- two stages gave a value: so did the first, and the second over the files that the first left
 pub record GoesOn {X Y : Type 0} (stage : Stage X) (next : X → Stage Y) (files : Contents) (y : Y) : Type 0 where
   pub mid : X
   pub first : (stage.run files).outcome ≡ value mid
-  pub then : ((next mid).run (after (stage.run files).acts files)).outcome ≡ value y
+  pub rest : ((next mid).run (after (stage.run files).acts files)).outcome ≡ value y
   pub acts : ((stage >>= next).run files).acts ≡ (stage.run files).acts ++ ((next mid).run (after (stage.run files).acts files)).acts
 
 continued-on : {X Y : Type 0} (acts : List Act) (o : Outcome X) (next : X → Stage Y) (files : Contents) (y : Y) → (continued acts o next files).outcome ≡ value y → (mid : X) × (o ≡ value mid) × (((next mid).run (after acts files)).outcome ≡ value y)
@@ -59,7 +60,7 @@ goes-on stage next files y is =
     record {
       mid = h.0;
       first = h.1;
-      then = h.2;
+      rest = h.2;
       acts = ap (λ o. (continued (stage.run files).acts o next files).acts) h.1;
     }
 
@@ -114,7 +115,7 @@ reads-each step each s (item ∷ items) =
 pub reads-on : {X Y : Type 0} (stage : Stage X) (next : X → Stage Y) (files : Contents) (y : Y) → OnlyReads stage → ((stage >>= next).run files).outcome ≡ value y → (mid : X) × ((stage.run files).outcome ≡ value mid) × (((next mid).run files).outcome ≡ value y)
 reads-on stage next files y only is =
     let h = goes-on stage next files y is in
-    (h.mid, h.first, subst (λ fs. ((next h.mid).run fs).outcome ≡ value y) (read-leaves (stage.run files).acts files (only files)) h.then)
+    (h.mid, h.first, subst (λ fs. ((next h.mid).run fs).outcome ≡ value y) (read-leaves (stage.run files).acts files (only files)) h.rest)
 
 -- what is given, and the next stage
 pub given-on : {X Y : Type 0} (o : Outcome X) (next : X → Stage Y) (files : Contents) (y : Y) → ((given o >>= next).run files).outcome ≡ value y → (mid : X) × (o ≡ value mid) × (((next mid).run files).outcome ≡ value y)

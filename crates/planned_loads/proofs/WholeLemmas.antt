@@ -68,7 +68,7 @@ said-leaves (byte ∷ bytes) files = refl
 
 last-continued : (acts : List Act) (o : Outcome Machine) (files : Contents) → continued acts o after_loads files ≡ run_of acts (ended o)
 unfolding continued given
-last-continued acts (value machine) files = ap (λ as. run_of as (value tt)) (append-nil acts)
+last-continued acts (value machine) files = ap (λ done. run_of done (value tt)) (append-nil acts)
 last-continued acts (end e) files = refl
 
 loads-last : (folder : List ℕ) (images : Option (List ℕ)) (machine : Machine) (paths : List (List ℕ)) (files : Contents) → (loads_all folder images machine paths >>= after_loads).run files ≡ run_of ((loads_all folder images machine paths).run files).acts (ended ((loads_all folder images machine paths).run files).outcome)
@@ -140,7 +140,7 @@ module _ (held : Contents) (asked : ModprobeWords) (addressed : Kernel) (region 
         reads = both-read a (b ++ c) (only-known asked.config folder asked.loaded held) (both-read b c (only-machine has.map asked.symvers region held) listing-reads);
         acts =
             ap (λ r. r.acts) whole
-            ∙ ap (λ as. a ++ as) (sym (append_assoc b c rest.acts))
+            ∙ ap (λ done. a ++ done) (sym (append_assoc b c rest.acts))
             ∙ sym (append_assoc a (b ++ c) rest.acts);
         outcome = ap (λ r. r.outcome) whole;
       }
