@@ -200,6 +200,10 @@ lists-came configuration folder indexes listing files known came =
     let same = same-known a.0 indexes b.0 c.0 known (given-came (value (record { rules = a.0; indexes = indexes; unmet = b.0; loaded = c.0 })) known files c.2) in
     (same.0, b.1 ∙ ap (λ o. value o) same.1)
 
+-- the first index of indexes that are the same
+same-index : (a b : Indexes) (index : Index) → a ≡ b → a.dep ≡ index → b.dep ≡ index
+same-index a b index same is = ap (λ (x : Indexes). x.dep) (sym same) ∙ is
+
 pub knows-folder : (files : Contents) (config listing : Option (List ℕ)) (folder : List ℕ) (known : Known) → ((reads_known config folder listing).run files).outcome ≡ value known → KnowsFolder files folder known
 knows-folder files config listing folder known came =
     let a = reads-on (reads_configuration Modprobe config) (after_configuration folder listing) files known (only-configuration Modprobe config) came in
@@ -212,7 +216,7 @@ knows-folder files config listing folder known came =
       index = index.0;
       index_there = index.1;
       accepted = index.2;
-      is_index = ap (λ (x : Indexes). x.dep) (sym lists.0) ∙ index.3;
+      is_index = same-index c.0 known.indexes (index_of index.0) lists.0 index.3;
       text = unmet.0;
       text_read = unmet.1;
       states = unmet.2;
