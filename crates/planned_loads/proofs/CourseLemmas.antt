@@ -1,9 +1,10 @@
 -- The courses of loads over folders that stand as depmod indexed them.
-use Rattle.std.proofs.Common.{◌≡◌, ◌∙◌, ◌≤◌, ◌==◌, ℕ, Bool, true, false, ◌||◌, List, [], ◌∷◌, ◌++◌, length, map, reverse, flat_map, None, refl, sym, ap, subst, inl, inr}
+use Rattle.std.proofs.Common.{◌≡◌, ◌∙◌, ◌≤◌, ◌==◌, ℕ, Bool, true, false, ◌||◌, List, [], ◌∷◌, ◌++◌, length, map, reverse, flat_map, None, refl, sym, ap, subst, inl, inr, arith}
 use Rattle.std.specs.Prelude.{Option, Some, Result, Ok, Err, IsOk, IfErr, All, codes, not, slice_get}
 use Rattle.std.specs.FinMap.{get}
 use Rattle.std.specs.List.{list_any}
 use Rattle.std.specs.Str.{bytes_eq}
+use Rattle.std.proofs.lemmas.Bool.Decides.{nat_tests}
 use Rattle.std.proofs.lemmas.List.Elements.{All-head, All-tail}
 use Rattle.std.proofs.lemmas.Slice.Eq.{bytes_eq-Decides}
 use Rattle.km_names.specs.First.{first}
@@ -88,7 +89,7 @@ indexed-value index dep name text holds is =
 
 some-value : (vs : List Value) (v : Value) → slice_get vs 0 ≡ Some v → not (length vs == 0) ≡ true
 some-value [] v is = cc
-some-value (w ∷ vs) v is = refl
+some-value (w ∷ vs) v is = grind (arith, nat_tests)
 
 module _ (held : Contents) (folder : List ℕ) (index : Index) (dep : KeyValues) (holds : Holds index.nodes dep) where
   listed-value : (name path : List ℕ) → path_listed index name ≡ Some path → (v : Value) × (slice_get (values_of dep name) 0 ≡ Some v) × (own_path v.1 ≡ path)
@@ -161,10 +162,10 @@ none-runs (step ∷ steps) is =
 -- ---- the folder
 
 -- the modules that steps load
-record ArePlanned (held : Contents) (folder : List ℕ) (dep : KeyValues) (steps : List PlanStep) : Type 0 where
-  plan : List Module
-  of_names : AreModulesOf held folder dep (inserted_names steps) plan
-  of_files : AreFileModules held folder (flat_map loaded_path steps) plan
+pub record ArePlanned (held : Contents) (folder : List ℕ) (dep : KeyValues) (steps : List PlanStep) : Type 0 where
+  pub plan : List Module
+  pub of_names : AreModulesOf held folder dep (inserted_names steps) plan
+  pub of_files : AreFileModules held folder (flat_map loaded_path steps) plan
 
 module _ (held : Contents) (folder : List ℕ) (tree : List Facts) (kernel : Kernel) (builtin : List ℕ) (indexed : Indexed held folder tree kernel builtin) (small : AreSmall held folder tree) (known : Known) (knows : KnowsFolder held folder known) where
   abbrev dep : KeyValues
@@ -239,7 +240,7 @@ module _ (held : Contents) (folder : List ℕ) (tree : List Facts) (kernel : Ker
 -- ---- courses
 
 loaded-ok : (r : Result Machine LoadFault) (machine : Machine) → r ≡ Ok machine → IsOk r
-loaded-ok (Ok other) machine is = tt
+loaded-ok (Ok other) machine is = refl
 loaded-ok (Err fault) machine is = cc
 
 pub courses-bind : PlansAreClosed → CoursesBind
