@@ -11,6 +11,7 @@ ghost use Rattle.plan_builder.specs.Modules.{name_at, bad_name, modules_of};
 ghost use Rattle.plan_builder.specs.Needs.{modules as modules_in, before, after, unloaded};
 ghost use Rattle.plan_builder.specs.Members.{asked, planned as planned_for};
 ghost use Rattle.plan_builder.specs.Steps.{plan_steps};
+ghost use Rattle.plan_builder.specs.Closed.{IsClosed};
 ghost use Rattle.plan_builder.specs.Obstacles.{is_path_of, plan_tests, obstacle_of};
 ghost use Rattle.plan_builder.specs.Answers.{need_tests, ShortCycle, IsCycleOf};
 ghost use Rattle.plan_builder.specs.Sources.{sources};
@@ -62,6 +63,7 @@ pub fn plan(
 ) -> Result<PlanSteps, Obstacle>
     ensures plan { IfOk result (λ steps. steps ≡ plan_steps (sources rules.now indexes.now unmet.now loaded.now request.now) request.now) }
     ensures passed { OnOk result (obstacle_of (sources rules.now indexes.now unmet.now loaded.now request.now) request.now ≡ None) }
+    ensures closed { IfOk result (IsClosed (sources rules.now indexes.now unmet.now loaded.now request.now)) }
     ensures err { IfErr result (λ o. (o ≡ Obstacle.Memory) ⊎ (obstacle_of (sources rules.now indexes.now unmet.now loaded.now request.now) request.now ≡ Some o)) }
 {
     let pairs = all_pairs(alloc, &indexes.dep)?;
