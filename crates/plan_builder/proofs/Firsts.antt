@@ -34,7 +34,7 @@ eq-bytes a b = same-tests _ _
     (λ h. (bytes_eq-Decides a b).1 (equal_keys a b h))
     (λ h. subst (λ k. is_eq (R a k) ≡ true) ((bytes_eq-Decides a b).0 h) (self_equal a))
 
-less : (o : Ordering) → is_lt o ≡ true → o ≡ Less
+pub less : (o : Ordering) → is_lt o ≡ true → o ≡ Less
 less Less e = refl
 less Equal e = absurd (true≢false (sym e))
 less Greater e = absurd (true≢false (sym e))
@@ -134,7 +134,7 @@ below-firsts k (e ∷ es) h = let w = and_parts _ _ h in go e.1 w.0 (below-first
     go [] l ih = ih
     go (v ∷ vs) l ih = and_from _ _ l ih
 
-sorted-firsts : (es : List Entry) → is_sorted R es ≡ true → is_sorted R (firsts es) ≡ true
+pub sorted-firsts : (es : List Entry) → is_sorted R es ≡ true → is_sorted R (firsts es) ≡ true
 sorted-firsts [] up = refl
 sorted-firsts (e ∷ es) up = let w = and_parts _ _ up in go e.1 w.0 (sorted-firsts es w.1)
   where
@@ -150,10 +150,10 @@ back : (b : Bool) → T b → b ≡ true
 back true h = refl
 back false h = absurd h
 
-map-sorted : (m : KeyValues) → is_sorted R (entries m) ≡ true
+pub map-sorted : (m : KeyValues) → is_sorted R (entries m) ≡ true
 map-sorted m = back _ (entries_sorted m)
 
-find-map-firsts : (m : KeyValues) (q : List ℕ) → find R q (first_values m) ≡ slice_get (values_of m q) 0
+pub find-map-firsts : (m : KeyValues) (q : List ℕ) → find R q (first_values m) ≡ slice_get (values_of m q) 0
 find-map-firsts m q = find-firsts q (entries m) (map-sorted m) ∙ ap (λ o. slice_get (unwrap_or o []) 0) (sym (get-entries m q))
 
 -- the first pair of each key of a listing is that of the map
@@ -167,7 +167,7 @@ firsts-are m ps is =
 
 -- ---- which names there are
 
-any-find : (n : List ℕ) (es : List KeyValue) → list_any (λ (m : KeyValue). bytes_eq m.0 n) es ≡ is_some (find R n es)
+pub any-find : (n : List ℕ) (es : List KeyValue) → list_any (λ (m : KeyValue). bytes_eq m.0 n) es ≡ is_some (find R n es)
 any-find n [] = refl
 any-find n (e ∷ es) = ap (λ b. b || list_any (λ (m : KeyValue). bytes_eq m.0 n) es) (bytes-sym e.0 n ∙ sym (eq-bytes n e.0)) ∙ go (is_eq (R n e.0)) (any-find n es)
   where
@@ -180,7 +180,7 @@ or-swap true true c = refl
 or-swap true false c = refl
 or-swap false b c = refl
 
-any-insert : (p : KeyValue → Bool) (m : KeyValue) (ns : List KeyValue) → list_any p (insert_module m ns) ≡ (p m || list_any p ns)
+pub any-insert : (p : KeyValue → Bool) (m : KeyValue) (ns : List KeyValue) → list_any p (insert_module m ns) ≡ (p m || list_any p ns)
 any-insert p m [] = refl
 any-insert p m (n ∷ ns) = go (nat_le m.1.0 n.1.0) (any-insert p m ns)
   where
@@ -188,7 +188,7 @@ any-insert p m (n ∷ ns) = go (nat_le m.1.0 n.1.0) (any-insert p m ns)
     go true ih = refl
     go false ih = ap (λ b. p n || b) ih ∙ or-swap (p n) (p m) (list_any p ns)
 
-any-by : (p : KeyValue → Bool) (ms : List KeyValue) → list_any p (by_number ms) ≡ list_any p ms
+pub any-by : (p : KeyValue → Bool) (ms : List KeyValue) → list_any p (by_number ms) ≡ list_any p ms
 any-by p [] = refl
 any-by p (m ∷ ms) = any-insert p m (by_number ms) ∙ ap (λ b. p m || b) (any-by p ms)
 

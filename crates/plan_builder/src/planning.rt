@@ -11,6 +11,7 @@ ghost use Rattle.plan_builder.specs.Modules.{name_at, bad_name, modules_of};
 ghost use Rattle.plan_builder.specs.Needs.{modules as modules_in, before, after, unloaded};
 ghost use Rattle.plan_builder.specs.Members.{asked, planned as planned_for};
 ghost use Rattle.plan_builder.specs.Steps.{plan_steps};
+ghost use Rattle.plan_builder.specs.Closed.{IsClosed};
 ghost use Rattle.plan_builder.specs.Obstacles.{is_path_of, plan_tests, obstacle_of};
 ghost use Rattle.plan_builder.specs.Answers.{need_tests, ShortCycle, IsCycleOf};
 ghost use Rattle.plan_builder.specs.Sources.{sources};
@@ -45,6 +46,10 @@ use unmet_file::Unmet;
 /// What is loaded is left out everywhere. A member that is no module has a step of its own before the modules of its
 /// name: its command, or that it is built in.
 ///
+/// Every plan is closed: its modules are distinct and none is loaded, each stands after those that its dependency line
+/// names and that aren't loaded, no line of modules.unmet is on a need of one, and none says that one exports what the
+/// kernel, a loaded module or another of them does.
+///
 /// # Errors
 ///
 /// In this order: `BadDepLine` exactly where a value of modules.dep.bin isn't the dependency line of its module over names
@@ -62,6 +67,7 @@ pub fn plan(
 ) -> Result<PlanSteps, Obstacle>
     ensures plan { IfOk result (λ steps. steps ≡ plan_steps (sources rules.now indexes.now unmet.now loaded.now request.now) request.now) }
     ensures passed { OnOk result (obstacle_of (sources rules.now indexes.now unmet.now loaded.now request.now) request.now ≡ None) }
+    ensures closed { IfOk result (IsClosed (sources rules.now indexes.now unmet.now loaded.now request.now)) }
     ensures err { IfErr result (λ o. (o ≡ Obstacle.Memory) ⊎ (obstacle_of (sources rules.now indexes.now unmet.now loaded.now request.now) request.now ≡ Some o)) }
 {
     let pairs = all_pairs(alloc, &indexes.dep)?;

@@ -1,5 +1,4 @@
-use Rattle.std.proofs.Common.{◌≡◌, ◌<◌, ℕ, List, [], length, Some, None, ap, sym, ◌∙◌, subst}
-use Rattle.std.specs.Prelude.{All}
+use Rattle.std.proofs.Common.{◌≡◌, length, Some, None, ap, sym, ◌∙◌, subst}
 use Rattle.std.specs.List.{find}
 use Rattle.std.specs.Option.{option_map}
 use Rattle.std.proofs.lemmas.Result.{err_from_is_err_and}
@@ -20,6 +19,8 @@ use Rattle.plan_builder.specs.Sources.{sources}
 use Rattle.plan_builder.proofs.Answering.{right, unloaded-low}
 use Rattle.plan_builder.proofs.Obstacles.{when-bad, when-unfound, when-unknown, when-known, steps-are}
 use Rattle.plan_builder.proofs.StepLaws.{ends-rising}
+use Rattle.plan_builder.specs.Closed.{IsClosed}
+use Rattle.plan_builder.proofs.ClosedLemmas.{plans-are-closed}
 use Rattle.plan_builder.proofs.planning.plan.Goals as goal
 
 pub returns-in_err-modules-clause-err : goal.returns-in_err-modules-clause-err
@@ -113,3 +114,8 @@ returns-clause-passed c =
     let known : find (is_unknown (sources c.args.rules.now c.args.indexes.now c.args.unmet.now c.args.loaded.now c.args.request.now) c.args.request.now.ignore_install) (all_names (found_for (sources c.args.rules.now c.args.indexes.now c.args.unmet.now c.args.loaded.now c.args.request.now) c.args.request.now)) ≡ None =
     (λ i. find (is_unknown (sym same i) request.ignore_install) (all_names (sym (c.deref.ensures.value ∙ are) i))) ∙ c.in_ok-check_known.ensures.passed in
     when-known s request sound found known None ((λ i. first (plan_tests (sym same i) (sym (c.deref-2.ensures.value ∙ are) i))) ∙ c.in_ok-plan.ensures.passed)
+
+pub returns-clause-closed : goal.returns-clause-closed
+returns-clause-closed c =
+    let s = sources c.args.rules.now c.args.indexes.now c.args.unmet.now c.args.loaded.now c.args.request.now in
+    subst (IsClosed s) (sym (returns-clause-plan c)) (plans-are-closed s c.args.request.now (returns-clause-passed c))
