@@ -50,10 +50,11 @@ use Rattle.indexed_plan.specs.Binding.{StandsAsIndexed}
 use Rattle.indexed_plan.specs.Folder.{AreModulesOf, IsModuleOf, IsRead as IsReadFolder}
 use Rattle.indexed_plan.specs.Index.{lines_of_map}
 use Rattle.indexed_plan.specs.Indexed.{HasFile, Indexed}
-use Rattle.indexed_plan.specs.Steps.{AreClosedSteps, PlansAreClosed, inserted_names, runs_command}
+use Rattle.indexed_plan.specs.Steps.{AreClosedSteps, inserted_names, runs_command}
 use Rattle.indexed_plan.proofs.FolderLemmas.{folders-bind}
 use Rattle.indexed_plan.proofs.IndexedLemmas.{folders-read}
 use Rattle.indexed_plan.proofs.NamedLemmas.{lines-are-of-tree}
+use Rattle.indexed_plan.proofs.StepLemmas.{plans-closed}
 use Rattle.command_files.specs.IndexFile.{first_text, text_of_first}
 use Rattle.command_files.specs.KernelModules.{path_listed}
 use Rattle.command_loads.specs.Loads.{loads_all}
@@ -243,8 +244,8 @@ loaded-ok : (r : Result Machine LoadFault) (machine : Machine) → r ≡ Ok mach
 loaded-ok (Ok other) machine is = refl
 loaded-ok (Err fault) machine is = cc
 
-pub courses-bind : PlansAreClosed → CoursesBind
-courses-bind plans held folder tree kernel builtin indexed small config listing request addressed region known machine steps paths same came images =
+pub courses-bind : CoursesBind
+courses-bind held folder tree kernel builtin indexed small config listing request addressed region known machine steps paths same came images =
     let knows = knows-folder held config listing folder known came.knows in
     let lines = known_lines known in
     let holding = holds held folder tree kernel builtin indexed small known knows in
@@ -259,7 +260,7 @@ courses-bind plans held folder tree kernel builtin indexed small config listing 
     let valued : (name : List ℕ) → is_among known.loaded name ≡ true → has_value lines name ≡ true = λ name in'.
     have-values held folder known.indexes.dep lines holding (reverse known.loaded) loads.paths loads.found name (among-reversed known.loaded name ∙ in') in
     let runs : list_any runs_command (plan_steps s request) ≡ false = ap (list_any runs_command) made.1 ∙ none-runs steps given'.0 in
-    let closing : AreClosedSteps s steps = subst (AreClosedSteps s) made.1 (plans s request made.0 runs valued) in
+    let closing : AreClosedSteps s steps = subst (AreClosedSteps s) made.1 (plans-closed s request made.0 runs valued) in
     let modules = step-modules held folder tree kernel builtin indexed small known knows steps closing.own_paths in
     let plan = modules.plan in
     let binding : Binds addressed region listed plan =

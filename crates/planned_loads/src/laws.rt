@@ -1,5 +1,4 @@
 // The laws.
-ghost use Rattle.indexed_plan.specs.Steps.{PlansAreClosed};
 ghost use Rattle.planned_loads.specs.Loads.{LoadsAreOfMachine};
 ghost use Rattle.planned_loads.specs.Listed.{ListedAreOfMachine};
 ghost use Rattle.planned_loads.specs.Courses.{CoursesLoad, CoursesBind};
@@ -19,5 +18,5 @@ pub fn courses_load()
 /// Over a folder that stands as depmod indexed it, and the same kernel's table with addresses, a course that came past its
 /// reading loads modules that bind.
 pub fn courses_bind()
-    ensures { PlansAreClosed → CoursesBind }
+    ensures { CoursesBind }
 {}
