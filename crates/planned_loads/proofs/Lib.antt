@@ -6,3 +6,4 @@ mod KnownLemmas
 mod ClosedLemmas
 mod CourseLemmas
 mod WholeLemmas
+mod EndLemmas

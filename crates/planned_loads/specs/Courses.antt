@@ -5,6 +5,8 @@ use Rattle.km_outside.specs.Contents.{Contents}
 use Rattle.kmod_words.specs.declared.modprobe.ModprobeWords.{ModprobeWords}
 use Rattle.km_course.specs.Course.{Act, Outcome, Run}
 use Rattle.km_course.specs.Course.Outcome.{value, end}
+use Rattle.km_course.specs.declared.end.End.TheVariants.{Refused}
+use Rattle.km_course.specs.declared.refusal.Refusal.TheVariants.{LoadRefused}
 use Rattle.index_format.specs.Map.{KeyValues}
 use Rattle.index_read.specs.Contents.{contents}
 use Rattle.module_facts.specs.declared.facts.Facts.{Facts}
@@ -12,6 +14,8 @@ use Rattle.module_facts.specs.declared.module.Module.{Module}
 use Rattle.provider_rel.specs.declared.kernel.Kernel.{Kernel}
 use Rattle.provider_rel.specs.Faces.{kernel_of}
 use Rattle.model_loader.specs.declared.region.Region.{Region}
+use Rattle.model_loader.specs.declared.fault.LoadFault.{LoadFault}
+use Rattle.model_loader.specs.FaultText.{load_fault_text}
 use Rattle.model_loader.specs.Machine.{Machine, new_machine}
 use Rattle.plan_builder.specs.declared.request.Request.{Request}
 use Rattle.plan_builder.specs.declared.step.PlanStep.{PlanStep}
@@ -100,3 +104,21 @@ CoursesBind =
     → IsRead held folder config listing request addressed region known machine steps paths
     → (images : Option (List ℕ))
     → CourseBinds held folder images addressed region known machine steps paths
+
+-- A course of loads came to its end: all modules of the plan were loaded, or one of them found no room in the region, or a
+-- word of it didn't fit there.
+pub data HasEnded : Outcome ⊤ → Type 0 where
+  all_loaded : HasEnded (value tt)
+  no_place : (name : List ℕ) (fault : LoadFault) → IsPlaceFault fault → HasEnded (end (Refused (LoadRefused name (load_fault_text fault))))
+
+-- So the whole course of such a modprobe ends for nothing else.
+abbrev pub CoursesEnd : Type 0
+CoursesEnd =
+    (held : Contents) (asked : ModprobeWords) (tree : List Facts) (kernel : Kernel) (builtin : List ℕ)
+    → Indexed held (modules_folder asked.dirname asked.version) tree kernel builtin
+    → AreSmall held (modules_folder asked.dirname asked.version) tree
+    → (addressed : Kernel) (region : Region) (known : Known) (machine : Machine) (steps : List PlanStep) (paths : List (List ℕ))
+    → kernel_of addressed ≡ kernel_of kernel
+    → HasMachine held asked addressed region
+    → IsRead held (modules_folder asked.dirname asked.version) asked.config asked.loaded (request_of asked) addressed region known machine steps paths
+    → HasEnded ((loads_plan asked).run held).outcome
