@@ -245,7 +245,9 @@ loaded-ok (Ok other) machine is = refl
 loaded-ok (Err fault) machine is = cc
 
 pub courses-bind : CoursesBind
-courses-bind held folder tree kernel builtin indexed small config listing request addressed region known machine steps paths same came images =
+courses-bind held folder tree kernel builtin addressed as_indexed config listing request region known machine steps paths came images =
+    let indexed = as_indexed.indexed in
+    let small = as_indexed.small in
     let knows = knows-folder held config listing folder known came.knows in
     let lines = known_lines known in
     let holding = holds held folder tree kernel builtin indexed small known knows in
@@ -264,7 +266,7 @@ courses-bind held folder tree kernel builtin indexed small config listing reques
     let modules = step-modules held folder tree kernel builtin indexed small known knows steps closing.own_paths in
     let plan = modules.plan in
     let binding : Binds addressed region listed plan =
-    folders-bind held folder tree kernel builtin lines known.unmet indexed (is-read held folder tree kernel builtin indexed small known knows) addressed region (reverse known.loaded) (inserted_names steps) listed plan same of_listed modules.of_names
+    folders-bind held folder tree kernel builtin lines known.unmet indexed (is-read held folder tree kernel builtin indexed small known knows) addressed region (reverse known.loaded) (inserted_names steps) listed plan as_indexed.same_table of_listed modules.of_names
     (loaded-ok (load_all start listed) machine loads.loaded)
     (closed-reversed (lines_of_map lines) known.unmet known.loaded (inserted_names steps) closing.closed) in
     let after_listed : load_all start (listed ++ plan) ≡ load_all machine plan =

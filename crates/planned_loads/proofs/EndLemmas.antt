@@ -22,9 +22,9 @@ ended-so folder images machine paths plan run (Err fault) is placed loads =
     subst (λ o. HasEnded (ended o)) (sym h.tells) (no_place h.m.facts.name fault placed)
 
 pub courses-end : CoursesEnd
-courses-end held asked tree kernel builtin indexed small addressed region known machine steps paths same has came =
+courses-end held asked tree kernel builtin addressed as_indexed region known machine steps paths has came =
     let folder = modules_folder asked.dirname asked.version in
     let course = courses-load held asked addressed region known machine steps paths has came in
-    let binds = courses-bind held folder tree kernel builtin indexed small asked.config asked.loaded (request_of asked) addressed region known machine steps paths same came asked.image in
+    let binds = courses-bind held folder tree kernel builtin addressed as_indexed asked.config asked.loaded (request_of asked) region known machine steps paths came asked.image in
     subst HasEnded (sym course.outcome)
     (ended-so folder asked.image machine paths binds.plan _ (load_all machine binds.plan) refl binds.placed binds.loads)

@@ -40,6 +40,13 @@ use Rattle.planned_loads.specs.Loads.{AreMachineLoads}
 abbrev pub known_lines : Known → KeyValues
 known_lines known = contents known.indexes.dep.nodes
 
+-- The folder stands as depmod indexed it, and its modules can be read; and the kernel of the machine has the table that was
+-- indexed, with addresses.
+pub record IsIndexedFor (held : Contents) (folder : List ℕ) (tree : List Facts) (kernel : Kernel) (builtin : List ℕ) (addressed : Kernel) : Type 0 where
+  pub indexed : Indexed held folder tree kernel builtin
+  pub small : AreSmall held folder tree
+  pub same_table : kernel_of addressed ≡ kernel_of kernel
+
 -- A course came past its reading, over these files: this is known, and this is the machine of the kernel after the listed
 -- modules were loaded; the request has a plan, of which no step runs a command, and the modules of its steps are at these
 -- paths.
@@ -96,11 +103,9 @@ pub record CourseBinds (held : Contents) (folder : List ℕ) (images : Option (L
 -- bind that came past its reading.
 abbrev pub CoursesBind : Type 0
 CoursesBind =
-    (held : Contents) (folder : List ℕ) (tree : List Facts) (kernel : Kernel) (builtin : List ℕ)
-    → Indexed held folder tree kernel builtin
-    → AreSmall held folder tree
-    → (config listing : Option (List ℕ)) (request : Request) (addressed : Kernel) (region : Region) (known : Known) (machine : Machine) (steps : List PlanStep) (paths : List (List ℕ))
-    → kernel_of addressed ≡ kernel_of kernel
+    (held : Contents) (folder : List ℕ) (tree : List Facts) (kernel : Kernel) (builtin : List ℕ) (addressed : Kernel)
+    → IsIndexedFor held folder tree kernel builtin addressed
+    → (config listing : Option (List ℕ)) (request : Request) (region : Region) (known : Known) (machine : Machine) (steps : List PlanStep) (paths : List (List ℕ))
     → IsRead held folder config listing request addressed region known machine steps paths
     → (images : Option (List ℕ))
     → CourseBinds held folder images addressed region known machine steps paths
@@ -114,11 +119,9 @@ pub data HasEnded : Outcome ⊤ → Type 0 where
 -- So the whole course of such a modprobe ends for nothing else.
 abbrev pub CoursesEnd : Type 0
 CoursesEnd =
-    (held : Contents) (asked : ModprobeWords) (tree : List Facts) (kernel : Kernel) (builtin : List ℕ)
-    → Indexed held (modules_folder asked.dirname asked.version) tree kernel builtin
-    → AreSmall held (modules_folder asked.dirname asked.version) tree
-    → (addressed : Kernel) (region : Region) (known : Known) (machine : Machine) (steps : List PlanStep) (paths : List (List ℕ))
-    → kernel_of addressed ≡ kernel_of kernel
+    (held : Contents) (asked : ModprobeWords) (tree : List Facts) (kernel : Kernel) (builtin : List ℕ) (addressed : Kernel)
+    → IsIndexedFor held (modules_folder asked.dirname asked.version) tree kernel builtin addressed
+    → (region : Region) (known : Known) (machine : Machine) (steps : List PlanStep) (paths : List (List ℕ))
     → HasMachine held asked addressed region
     → IsRead held (modules_folder asked.dirname asked.version) asked.config asked.loaded (request_of asked) addressed region known machine steps paths
     → HasEnded ((loads_plan asked).run held).outcome
