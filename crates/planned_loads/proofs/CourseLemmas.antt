@@ -1,6 +1,6 @@
 -- The courses of loads over folders that stand as depmod indexed them.
-use Rattle.std.proofs.Common.{◌≡◌, ◌∙◌, ◌≤◌, ◌==◌, ℕ, Bool, true, false, ◌||◌, List, [], ◌∷◌, ◌++◌, length, map, reverse, flat_map, None, refl, sym, ap, subst, inl, inr, arith}
-use Rattle.std.specs.Prelude.{Option, Some, Result, Ok, Err, IsOk, IfErr, All, codes, not, slice_get}
+use Rattle.std.proofs.Common.{◌≡◌, ◌∙◌, ◌==◌, ℕ, Bool, true, false, ◌||◌, List, [], ◌∷◌, ◌++◌, length, map, reverse, flat_map, None, refl, sym, ap, subst, arith}
+use Rattle.std.specs.Prelude.{Option, Some, Result, Ok, Err, IsOk, IfErr, All, not, slice_get}
 use Rattle.std.specs.FinMap.{get}
 use Rattle.std.specs.List.{list_any}
 use Rattle.std.specs.Str.{bytes_eq}
@@ -10,8 +10,7 @@ use Rattle.std.proofs.lemmas.Slice.Eq.{bytes_eq-Decides}
 use Rattle.km_names.specs.First.{first}
 use Rattle.km_names.specs.Path.{path_below}
 use Rattle.km_outside.specs.Contents.{Contents}
-use Rattle.km_course.specs.Course.{Outcome}
-use Rattle.km_course.specs.Course.Outcome.{value, end}
+use Rattle.km_course.specs.Course.Outcome.{value}
 use Rattle.index_format.specs.Map.{Value, KeyValues, values_of}
 use Rattle.index_format.specs.Holds.{Holds}
 use Rattle.index_format.specs.Node.{root}
@@ -27,7 +26,6 @@ use Rattle.module_facts.specs.Facts.{facts_of}
 use Rattle.module_facts.specs.Faults.{fact_fault}
 use Rattle.provider_rel.specs.declared.kernel.Kernel.{Kernel}
 use Rattle.provider_rel.specs.Faces.{kernel_of}
-use Rattle.model_loader.specs.declared.region.Region.{Region}
 use Rattle.model_loader.specs.declared.fault.LoadFault.{LoadFault}
 use Rattle.model_loader.specs.Machine.{Machine, new_machine}
 use Rattle.name_lookup.specs.Maps.{has_value}
@@ -39,12 +37,11 @@ use Rattle.plan_builder.specs.declared.step.PlanStep.TheVariants.{Insert, Instal
 use Rattle.plan_builder.specs.Closed.{IsAtOwnPath, IsOwnPath}
 use Rattle.plan_builder.specs.Obstacles.{obstacle_of}
 use Rattle.plan_builder.specs.Steps.{plan_steps}
-use Rattle.plan_binding.specs.Lines.{AreClosed}
 use Rattle.plan_binding.specs.Loads.{IsPlaceFault, load_all, unless_refused}
 use Rattle.plan_binding.specs.Binding.{Binds}
 use Rattle.plan_binding.proofs.ListLemmas.{first-none}
 use Rattle.plan_binding.proofs.LoadLemmas.{load-append}
-use Rattle.depmod_core.specs.declared.file.OutputFile.TheVariants.{DepBin, Unmet}
+use Rattle.depmod_core.specs.declared.file.OutputFile.TheVariants.{Unmet}
 use Rattle.depmod_core.specs.Files.{content, file_name, files}
 use Rattle.indexed_plan.specs.Binding.{StandsAsIndexed}
 use Rattle.indexed_plan.specs.Folder.{AreModulesOf, IsModuleOf, IsRead as IsReadFolder}
@@ -57,14 +54,13 @@ use Rattle.indexed_plan.proofs.NamedLemmas.{lines-are-of-tree}
 use Rattle.indexed_plan.proofs.StepLemmas.{plans-closed}
 use Rattle.command_files.specs.IndexFile.{first_text, text_of_first}
 use Rattle.command_files.specs.KernelModules.{path_listed}
-use Rattle.command_loads.specs.Loads.{loads_all}
 use Rattle.command_loads.specs.Modules.{module_at}
 use Rattle.command_modprobe.specs.declared.known.Known.{Known}
 use Rattle.command_modprobe.specs.Planned.{plan_outcome, plan_unless, sources_with}
 use Rattle.command_modprobe.specs.Loaded.{command_owner, loaded_path, paths_outcome, unless_install}
 use Rattle.planned_loads.specs.Files.{AreFileModules, AreSmall, IsFileModule}
 use Rattle.planned_loads.specs.Listed.{AreListedPaths}
-use Rattle.planned_loads.specs.Courses.{CourseBinds, CoursesBind, IsRead, known_lines}
+use Rattle.planned_loads.specs.Courses.{CoursesBind, known_lines}
 use Rattle.planned_loads.proofs.ClosedLemmas.{among-reversed, closed-reversed}
 use Rattle.planned_loads.proofs.FileLemmas.{line-module}
 use Rattle.planned_loads.proofs.KnownLemmas.{KnowsFolder, knows-folder, read-there}
@@ -122,13 +118,15 @@ module _ (held : Contents) (folder : List ℕ) (index : Index) (dep : KeyValues)
   listed-modules (name ∷ names) (path ∷ paths) [] found are = absurd are
   listed-modules (name ∷ names) (path ∷ paths) (m ∷ ms) found are =
       let v = listed-value name path found.0 in
-      let is = are.0 in
-      (record {
-        path = path;
-        bytes = is.bytes;
-        file = record { value = v.0; first = v.1; own = v.2; there = is.there };
-        facts = ap (λ (x : Module). x.facts) is.read ∙ facts-at path is.bytes is.passed;
-      }, listed-modules names paths ms found.1 are.1)
+      let is = are.0 in (
+        record {
+          path = path;
+          bytes = is.bytes;
+          file = record { value = v.0; first = v.1; own = v.2; there = is.there };
+          facts = ap (λ (x : Module). x.facts) is.read ∙ facts-at path is.bytes is.passed;
+        },
+        listed-modules names paths ms found.1 are.1,
+      )
 
 -- ---- steps
 
@@ -207,22 +205,23 @@ module _ (held : Contents) (folder : List ℕ) (tree : List Facts) (kernel : Ker
       let at_path : f.path ≡ path = sym line.own ∙ own.own in
       let file = indexed.modules f line.in_tree in
       let there : HasFile held (path_below folder path) file.bytes = subst (λ p. HasFile held (path_below folder p) file.bytes) at_path file.there in
-      let passed : fact_fault path file.bytes ≡ None = subst (λ p. fact_fault p file.bytes ≡ None) at_path file.passed in
-      (module_at path file.bytes passed,
-      record {
-        path = path;
-        bytes = file.bytes;
-        file = record { value = own.value; first = own.first; own = own.own; there = there };
-        facts = facts-at path file.bytes passed;
-      },
-      record {
-        kind = subst (λ p. is_module_path p ≡ true) at_path file.kind;
-        bytes = file.bytes;
-        there = there;
-        small = small f file.bytes line.in_tree file.there;
-        passed = passed;
-        read = refl;
-      })
+      let passed : fact_fault path file.bytes ≡ None = subst (λ p. fact_fault p file.bytes ≡ None) at_path file.passed in (
+        module_at path file.bytes passed,
+        record {
+          path = path;
+          bytes = file.bytes;
+          file = record { value = own.value; first = own.first; own = own.own; there = there };
+          facts = facts-at path file.bytes passed;
+        },
+        record {
+          kind = subst (λ p. is_module_path p ≡ true) at_path file.kind;
+          bytes = file.bytes;
+          there = there;
+          small = small f file.bytes line.in_tree file.there;
+          passed = passed;
+          read = refl;
+        },
+      )
 
   -- so are those of steps
   pub step-modules : (steps : List PlanStep) → All (IsAtOwnPath dep) steps → ArePlanned held folder dep steps

@@ -1,8 +1,7 @@
 -- How courses of loads end.
 use Rattle.std.proofs.Common.{◌≡◌, ℕ, List, refl, sym, subst}
 use Rattle.std.specs.Prelude.{Option, Result, Ok, Err, IfErr}
-use Rattle.kmod_words.specs.declared.modprobe.ModprobeWords.{ModprobeWords}
-use Rattle.km_course.specs.Course.{Outcome, Run}
+use Rattle.km_course.specs.Course.{Run}
 use Rattle.module_facts.specs.declared.module.Module.{Module}
 use Rattle.model_loader.specs.declared.fault.LoadFault.{LoadFault}
 use Rattle.model_loader.specs.Machine.{Machine}

@@ -1,6 +1,6 @@
 -- Files of modules: what reading one comes to, and that images leave them as they were.
-use Rattle.std.proofs.Common.{◌≡◌, ◌∙◌, ◌-◌, ◌<◌, ◌≤◌, ◌==◌, ℕ, Bool, true, false, ◌||◌, cond, List, [], ◌∷◌, ◌++◌, length, take, reverse, None, refl, sym, ap, subst, arith, append_assoc}
-use Rattle.std.specs.Prelude.{Option, Some, codes, nat_eq, nat_lt, option_and_then, ◌&&◌}
+use Rattle.std.proofs.Common.{◌≡◌, ◌∙◌, ◌-◌, ◌≤◌, ◌==◌, ℕ, Bool, true, false, ◌||◌, cond, List, [], ◌∷◌, ◌++◌, length, take, reverse, None, refl, sym, ap, subst, arith, append_assoc}
+use Rattle.std.specs.Prelude.{Option, Some, codes, nat_eq, nat_lt}
 use Rattle.std.specs.List.{ends_with, list_any}
 use Rattle.std.specs.FinMap.{get, insert, get-insert}
 use Rattle.std.specs.Str.{bytes_eq}
@@ -10,7 +10,6 @@ use Rattle.std.proofs.lemmas.Cmp.{nat_list_cmp_total}
 use Rattle.std.proofs.lemmas.List.{reverse-append}
 use Rattle.std.proofs.lemmas.Map.Text.{is_eq-slice_cmp}
 use Rattle.std.proofs.lemmas.Slice.Eq.{bytes_eq-Decides, ends_is}
-use Rattle.km_names.specs.First.{first}
 use Rattle.km_names.specs.Limit.{file_limit}
 use Rattle.km_names.specs.Path.{is_compressed, path_below, without_end_slashes}
 use Rattle.km_outside.specs.Contents.{Contents}
@@ -18,12 +17,11 @@ use Rattle.elf_object.specs.Shape.{fault_if}
 use Rattle.module_facts.specs.declared.fault.ModuleFault.{ModuleFault}
 use Rattle.module_facts.specs.declared.fault.ModuleFault.TheVariants.{Compressed as CompressedFile}
 use Rattle.module_facts.specs.declared.module.Module.{Module}
-use Rattle.module_facts.specs.Facts.{facts_of}
 use Rattle.module_facts.specs.Faults.{fact_fault, module_tests}
 use Rattle.mod_tree.specs.DependencyLine.{is_dependency_line, is_line_path, line_path, own_path}
 use Rattle.mod_tree.specs.Tree.{is_module_path}
-use Rattle.km_course.specs.Course.{Act, Outcome, Stage, after, ◌>>=◌, ends, given, read_outcome, reads, when◌then◌else◌}
-use Rattle.km_course.specs.Course.Act.{read, say, put}
+use Rattle.km_course.specs.Course.{Stage, after, ◌>>=◌, ends, given, read_outcome, reads, when◌then◌else◌}
+use Rattle.km_course.specs.Course.Act.{read}
 use Rattle.km_course.specs.Course.Outcome.{value, end}
 use Rattle.km_course.specs.declared.end.End.{End}
 use Rattle.km_course.specs.declared.end.End.TheVariants.{NoFile, Refused, TooLarge}
@@ -32,9 +30,8 @@ use Rattle.model_loader.specs.declared.entry.Entry.{Entry}
 use Rattle.plan_binding.proofs.ListLemmas.{first-none}
 use Rattle.command_loads.specs.Modules.{file_outcome, module_at, module_outcome, reads_module}
 use Rattle.command_loads.proofs.ModuleSteps.{checked, module_at-same}
-use Rattle.indexed_plan.specs.Indexed.{HasFile}
 use Rattle.planned_loads.specs.Files.{AreFileModules, IsFileModule}
-use Rattle.planned_loads.specs.Loads.{image_acts, load_acts}
+use Rattle.planned_loads.specs.Loads.{load_acts}
 use Rattle.planned_loads.proofs.RunLemmas.{goes-on, joined, run-given, run-read, run-then, run_of}
 
 -- ---- paths

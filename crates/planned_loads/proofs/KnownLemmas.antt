@@ -1,5 +1,5 @@
 -- What modprobe knows after its reading, by the files of a folder.
-use Rattle.std.proofs.Common.{◌≡◌, ◌∙◌, ◌≤◌, ℕ, Bool, true, false, cond, List, [], ◌∷◌, ◌++◌, length, None, refl, sym, ap, subst}
+use Rattle.std.proofs.Common.{◌≡◌, ◌∙◌, ℕ, Bool, true, false, cond, List, [], ◌∷◌, ◌++◌, length, None, refl, sym, ap}
 use Rattle.std.specs.Prelude.{Option, Some, Result, Ok, Err, codes, nat_eq, nat_lt}
 use Rattle.std.specs.FinMap.{get}
 use Rattle.std.specs.List.{ends_with}
@@ -10,7 +10,6 @@ use Rattle.km_names.specs.declared.conf.ConfFault.{ConfFault}
 use Rattle.km_names.specs.declared.conf.ConfFault.TheVariants as faults
 use Rattle.km_outside.specs.Contents.{Contents}
 use Rattle.km_course.specs.Course.{Outcome, Stage, ◌>>=◌, given, gives, read_outcome, reads, reads_any, reads_or, lists_any_conf, lists_conf}
-use Rattle.km_course.specs.Course.Act.{read}
 use Rattle.km_course.specs.Course.Outcome.{value, end}
 use Rattle.km_course.specs.declared.end.End.TheVariants.{NoFile, TooLarge}
 use Rattle.index_format.specs.Check.{Fault, index_fault}
@@ -24,7 +23,7 @@ use Rattle.command_files.specs.Configuration.{folder_name, lists_folder, lists_f
 use Rattle.command_files.specs.declared.configuration.ListedFolder.{ListedFolder}
 use Rattle.command_files.specs.declared.configuration.Tool.{Tool}
 use Rattle.command_files.specs.declared.configuration.Tool.TheVariants.{Modprobe}
-use Rattle.command_files.specs.IndexFile.{index_of, index_outcome, reads_index}
+use Rattle.command_files.specs.IndexFile.{index_of, index_outcome}
 use Rattle.command_modprobe.specs.declared.known.Known.{Known}
 use Rattle.command_modprobe.specs.Known.{reads_index_in, reads_indexes, reads_known, reads_lists, reads_loaded, reads_rules, reads_unmet}
 use Rattle.command_modprobe.proofs.KnownSteps.{after_alias, after_builtin, after_configuration, after_dep, after_indexes, after_loaded, after_rules, after_softdep, after_symbols, after_unmet, loaded_stated, softdep_stated, unmet_stated}

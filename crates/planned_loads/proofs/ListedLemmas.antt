@@ -1,5 +1,5 @@
 -- The course of the loads of listed modules, by the machines of these loads.
-use Rattle.std.proofs.Common.{◌≡◌, ◌∙◌, ℕ, List, [], ◌∷◌, ◌++◌, map, None, true, refl, sym, ap, subst}
+use Rattle.std.proofs.Common.{◌≡◌, ◌∙◌, ℕ, List, [], ◌∷◌, ◌++◌, None, true, refl, sym, ap, subst}
 use Rattle.std.specs.Prelude.{Option, Some, Result, Ok, Err, option_and_then, reverse}
 use Rattle.km_names.specs.Path.{path_below}
 use Rattle.km_outside.specs.Contents.{Contents}
@@ -11,7 +11,7 @@ use Rattle.model_loader.specs.declared.fault.LoadFault.{LoadFault}
 use Rattle.model_loader.specs.FaultText.{load_fault_text}
 use Rattle.model_loader.specs.Machine.{Machine}
 use Rattle.model_loader.specs.Step.{step}
-use Rattle.km_course.specs.Course.{Act, Outcome, Run, Stage, after, ◌>>=◌, given, each_from}
+use Rattle.km_course.specs.Course.{Act, Run, after, given, each_from}
 use Rattle.km_course.specs.Course.Act.{read}
 use Rattle.km_course.specs.Course.Outcome.{value, end}
 use Rattle.km_course.specs.declared.end.End.TheVariants.{Refused}
@@ -19,8 +19,8 @@ use Rattle.km_course.specs.declared.refusal.Refusal.TheVariants.{ListedRefused}
 use Rattle.command_files.specs.IndexFile.{first_text}
 use Rattle.command_files.specs.KernelModules.{path_listed}
 use Rattle.command_loads.specs.declared.load.Cause.TheVariants.{Listed}
-use Rattle.command_loads.specs.Listed.{listed_outcome, loads_listed, loads_listed_one}
-use Rattle.command_loads.specs.Loads.{load_outcome, loads}
+use Rattle.command_loads.specs.Listed.{listed_outcome, loads_listed_one}
+use Rattle.command_loads.specs.Loads.{load_outcome}
 use Rattle.command_loads.specs.Modules.{reads_module}
 use Rattle.command_loads.proofs.ListedSteps.{listed_found, listed_read}
 use Rattle.command_loads.proofs.LoadSteps.{loaded_ok}

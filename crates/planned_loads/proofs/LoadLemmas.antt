@@ -1,6 +1,6 @@
 -- The course of loads of modules, by the machines of these loads.
-use Rattle.std.proofs.Common.{◌≡◌, ◌∙◌, ℕ, List, [], ◌∷◌, ◌++◌, length, None, refl, sym, ap, subst, arith, append_assoc, append-nil}
-use Rattle.std.specs.Prelude.{Option, Some, Result, Ok, Err, ⊤, codes}
+use Rattle.std.proofs.Common.{◌≡◌, ◌∙◌, ℕ, List, [], ◌∷◌, ◌++◌, None, refl, sym, ap, subst, arith, append_assoc, append-nil}
+use Rattle.std.specs.Prelude.{Option, Some, Result, Ok, Err}
 use Rattle.std.specs.Option.{option_map_or}
 use Rattle.km_names.specs.Path.{path_below}
 use Rattle.km_outside.specs.Contents.{Contents}
@@ -10,18 +10,18 @@ use Rattle.model_loader.specs.declared.fault.LoadFault.{LoadFault}
 use Rattle.model_loader.specs.FaultText.{load_fault_text}
 use Rattle.model_loader.specs.Machine.{Machine}
 use Rattle.model_loader.specs.Step.{refusal, step, with_entry}
-use Rattle.km_course.specs.Course.{Act, Outcome, Run, Stage, after, ◌>>=◌, act_with, continued, given, each_from}
-use Rattle.km_course.specs.Course.Act.{read, say, put}
+use Rattle.km_course.specs.Course.{Run, after, ◌>>=◌, act_with, continued, given}
+use Rattle.km_course.specs.Course.Act.{read, say}
 use Rattle.km_course.specs.Course.Outcome.{value, end}
 use Rattle.km_course.specs.declared.end.End.TheVariants.{Refused}
 use Rattle.km_course.specs.declared.refusal.Refusal.TheVariants.{LoadRefused}
 use Rattle.command_loads.specs.declared.load.Cause.TheVariants.{Planned}
-use Rattle.command_loads.specs.Loads.{entered, load_outcome, load_refusal, loaded_line, loads, loads_all, loads_one, shows_load}
+use Rattle.command_loads.specs.Loads.{entered, load_outcome, loaded_line, loads, loads_all, loads_one, shows_load}
 use Rattle.command_loads.specs.Modules.{reads_module}
 use Rattle.command_loads.proofs.LoadSteps.{loaded_ok, loads_others, one_loaded, one_read, one_shown}
 use Rattle.plan_binding.specs.Loads.{load_all, unless_refused}
 use Rattle.planned_loads.specs.Files.{AreFileModules, IsFileModule}
-use Rattle.planned_loads.specs.Loads.{AllGoIn, AreMachineLoads, LoadsAreOfMachine, OneIsRefused, image_acts, load_acts, loads_acts}
+use Rattle.planned_loads.specs.Loads.{AreMachineLoads, LoadsAreOfMachine, image_acts, load_acts, loads_acts}
 use Rattle.planned_loads.proofs.FileLemmas.{reads-module, still-files}
 use Rattle.planned_loads.proofs.RunLemmas.{joined, run-ends, run-given, run-then, run_of}
 

@@ -1,25 +1,25 @@
 -- The whole course of a modprobe that loads.
 use Rattle.std.proofs.Common.{◌≡◌, ◌∙◌, ℕ, true, List, [], ◌∷◌, ◌++◌, map, None, refl, sym, ap, append_assoc, append-nil}
-use Rattle.std.specs.Prelude.{Option, Some, Ok, Err, ⊤}
+use Rattle.std.specs.Prelude.{Option, Some, ⊤}
 use Rattle.std.specs.List.{list_all}
 use Rattle.km_names.specs.Path.{path_below}
 use Rattle.km_outside.specs.Contents.{Contents}
 use Rattle.kmod_words.specs.declared.modprobe.ModprobeWords.{ModprobeWords}
-use Rattle.km_course.specs.Course.{Act, Outcome, Run, Stage, ◌>>=◌, act_with, after, continued, given, gives, reads, says_any}
-use Rattle.km_course.specs.Course.Act.{read, say}
+use Rattle.km_course.specs.Course.{Act, Outcome, Run, Stage, ◌>>=◌, act_with, after, continued, given, reads, says_any}
+use Rattle.km_course.specs.Course.Act.{read}
 use Rattle.km_course.specs.Course.Outcome.{value, end}
 use Rattle.km_course.specs.declared.end.End.TheVariants.{NoFile}
 use Rattle.provider_rel.specs.declared.kernel.Kernel.{Kernel}
-use Rattle.provider_rel.specs.KernelTable.{exports_of_map, exports_of_symvers, exports_with_addresses}
+use Rattle.provider_rel.specs.KernelTable.{exports_of_map}
 use Rattle.model_loader.specs.declared.region.Region.{Region}
 use Rattle.model_loader.specs.Machine.{Machine, kernel_fault, new_machine}
 use Rattle.plan_builder.specs.declared.step.PlanStep.{PlanStep}
 use Rattle.command_files.specs.KernelModules.{modules_folder}
-use Rattle.command_files.specs.KernelTable.{Table, reads_map, reads_symvers, table_outcome}
+use Rattle.command_files.specs.KernelTable.{reads_map, reads_symvers, table_outcome}
 use Rattle.command_files.proofs.TableSteps.{map_read, symvers_read}
 use Rattle.command_loads.specs.Listed.{loads_listed}
 use Rattle.command_loads.specs.Loads.{loads_all}
-use Rattle.command_loads.specs.Tables.{addressed_outcome, machine_outcome, reads_addressed, reads_machine}
+use Rattle.command_loads.specs.Tables.{machine_outcome, reads_addressed, reads_machine}
 use Rattle.command_loads.proofs.TableSteps.{both_added, both_read, both_understood, made}
 use Rattle.command_modprobe.specs.declared.known.Known.{Known}
 use Rattle.command_modprobe.specs.Known.{reads_known}
@@ -27,7 +27,7 @@ use Rattle.command_modprobe.specs.Planned.{plan_lines, plan_outcome, request_of}
 use Rattle.command_modprobe.specs.Loaded.{loads_into, loads_plan, paths_outcome, region_at}
 use Rattle.command_modprobe.proofs.LoadSteps.{after_lines, after_listed, after_loads, after_machine, after_paths, after_steps, loads_known}
 use Rattle.planned_loads.specs.Acts.{is_reading, said}
-use Rattle.planned_loads.specs.Courses.{CoursesLoad, HasMachine, IsLoadingCourse, IsRead, ended}
+use Rattle.planned_loads.specs.Courses.{CoursesLoad, HasMachine, IsLoadingCourse, CameToLoads, ended}
 use Rattle.planned_loads.proofs.KnownLemmas.{only-known}
 use Rattle.planned_loads.proofs.ListedLemmas.{listed-are-of-machine}
 use Rattle.planned_loads.proofs.RunLemmas.{OnlyReads, both-read, joined, reads-file, reads-given, reads-then, run-given, run-on, run-then, run_of}
@@ -77,7 +77,7 @@ loads-last folder images machine paths files = last-continued ((loads_all folder
 
 -- ---- the whole
 
-module _ (held : Contents) (asked : ModprobeWords) (addressed : Kernel) (region : Region) (known : Known) (machine : Machine) (steps : List PlanStep) (paths : List (List ℕ)) (has : HasMachine held asked addressed region) (came : IsRead held (modules_folder asked.dirname asked.version) asked.config asked.loaded (request_of asked) addressed region known machine steps paths) where
+module _ (held : Contents) (asked : ModprobeWords) (addressed : Kernel) (region : Region) (known : Known) (machine : Machine) (steps : List PlanStep) (paths : List (List ℕ)) (has : HasMachine held asked addressed region) (came : CameToLoads held (modules_folder asked.dirname asked.version) asked.config asked.loaded (request_of asked) addressed region known machine steps paths) where
   abbrev folder : List ℕ
   folder = modules_folder asked.dirname asked.version
 

@@ -50,7 +50,7 @@ pub record IsIndexedFor (held : Contents) (folder : List ℕ) (tree : List Facts
 -- A course came past its reading, over these files: this is known, and this is the machine of the kernel after the listed
 -- modules were loaded; the request has a plan, of which no step runs a command, and the modules of its steps are at these
 -- paths.
-pub record IsRead (held : Contents) (folder : List ℕ) (config listing : Option (List ℕ)) (request : Request) (addressed : Kernel) (region : Region) (known : Known) (machine : Machine) (steps : List PlanStep) (paths : List (List ℕ)) : Type 0 where
+pub record CameToLoads (held : Contents) (folder : List ℕ) (config listing : Option (List ℕ)) (request : Request) (addressed : Kernel) (region : Region) (known : Known) (machine : Machine) (steps : List PlanStep) (paths : List (List ℕ)) : Type 0 where
   pub knows : ((reads_known config folder listing).run held).outcome ≡ value known
   pub listed : ((loads_listed folder known.indexes.dep (new_machine addressed region) known.loaded).run held).outcome ≡ value machine
   pub planned : plan_outcome known known.loaded request ≡ value steps
@@ -81,7 +81,7 @@ abbrev pub CoursesLoad : Type 0
 CoursesLoad =
     (held : Contents) (asked : ModprobeWords) (addressed : Kernel) (region : Region) (known : Known) (machine : Machine) (steps : List PlanStep) (paths : List (List ℕ))
     → HasMachine held asked addressed region
-    → IsRead held (modules_folder asked.dirname asked.version) asked.config asked.loaded (request_of asked) addressed region known machine steps paths
+    → CameToLoads held (modules_folder asked.dirname asked.version) asked.config asked.loaded (request_of asked) addressed region known machine steps paths
     → IsLoadingCourse held (modules_folder asked.dirname asked.version) asked.image machine steps paths ((loads_plan asked).run held)
 
 -- The loads of such a course bind.
@@ -106,7 +106,7 @@ CoursesBind =
     (held : Contents) (folder : List ℕ) (tree : List Facts) (kernel : Kernel) (builtin : List ℕ) (addressed : Kernel)
     → IsIndexedFor held folder tree kernel builtin addressed
     → (config listing : Option (List ℕ)) (request : Request) (region : Region) (known : Known) (machine : Machine) (steps : List PlanStep) (paths : List (List ℕ))
-    → IsRead held folder config listing request addressed region known machine steps paths
+    → CameToLoads held folder config listing request addressed region known machine steps paths
     → (images : Option (List ℕ))
     → CourseBinds held folder images addressed region known machine steps paths
 
@@ -123,5 +123,5 @@ CoursesEnd =
     → IsIndexedFor held (modules_folder asked.dirname asked.version) tree kernel builtin addressed
     → (region : Region) (known : Known) (machine : Machine) (steps : List PlanStep) (paths : List (List ℕ))
     → HasMachine held asked addressed region
-    → IsRead held (modules_folder asked.dirname asked.version) asked.config asked.loaded (request_of asked) addressed region known machine steps paths
+    → CameToLoads held (modules_folder asked.dirname asked.version) asked.config asked.loaded (request_of asked) addressed region known machine steps paths
     → HasEnded ((loads_plan asked).run held).outcome
