@@ -1,0 +1,5 @@
+use Rattle.planned_loads.proofs.WholeLemmas.{courses-load}
+use Rattle.planned_loads.proofs.laws.courses_load.Goals as goal
+
+pub returns : goal.returns
+returns c = courses-load

@@ -1,0 +1,5 @@
+pub mod Acts
+pub mod Files
+pub mod Loads
+pub mod Listed
+pub mod Courses
