@@ -21,7 +21,8 @@ use Rattle.provider_rel.specs.Relation.{uses_at, name_at}
 use Rattle.depmod_core.specs.Dependencies.{dependency_line, path_at}
 use Rattle.plan_binding.specs.Members.{Member}
 use Rattle.plan_binding.specs.Lines.{AreLinesOf}
-use Rattle.indexed_plan.specs.Index.{first_text, lines_of_map, HasLines, IsAtPath, MapsHaveLines}
+use Rattle.plan_builder.specs.Closed.{first_text}
+use Rattle.indexed_plan.specs.Index.{lines_of_map, HasLines, IsAtPath, MapsHaveLines}
 use Rattle.plan_binding.proofs.ListLemmas.{Member-left, Member-right, Member-map, from-map}
 use Rattle.plan_binding.proofs.LineLemmas.{member-place}
 

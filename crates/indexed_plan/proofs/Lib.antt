@@ -5,3 +5,4 @@ pub mod BindingLemmas
 pub mod NamedLemmas
 pub mod IndexedLemmas
 pub mod FolderLemmas
+pub mod StepLemmas

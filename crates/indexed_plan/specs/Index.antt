@@ -2,10 +2,9 @@
 -- modules.dep(5), depmod(8).
 use Rattle.std.specs.Prelude.{◌≡◌, ◌==◌, ℕ, true, not, IsTrue, AllPairs, List, [], ◌∷◌, length, map, reverse, slice_get, Some}
 use Rattle.std.specs.List.{list_any}
-use Rattle.std.specs.Option.{option_map_or}
 use Rattle.km_names.specs.Ascii.{is_graphic}
 use Rattle.km_names.specs.Path.{module_name}
-use Rattle.index_format.specs.Map.{Value, KeyValues, values_of}
+use Rattle.index_format.specs.Map.{KeyValues, values_of}
 use Rattle.mod_tree.specs.DependencyLine.{is_dependency_line, own_path, line_needs}
 use Rattle.mod_tree.specs.Tree.{is_module_path}
 use Rattle.relation_order.specs.Sets.{below}
@@ -15,12 +14,9 @@ use Rattle.symbol_binding.specs.Symbols.{Kernel}
 use Rattle.provider_rel.specs.Faces.{modules_of}
 use Rattle.provider_rel.specs.Relation.{uses_at, dependencies}
 use Rattle.depmod_core.specs.Dependencies.{dependency_line, path_at, dep_map}
+use Rattle.plan_builder.specs.Closed.{first_text}
 use Rattle.plan_binding.specs.Members.{Member}
 use Rattle.plan_binding.specs.Lines.{Lines, AreLinesOf}
-
--- The first text under a name.
-abbrev pub first_text : KeyValues → List ℕ → List ℕ
-first_text dep name = option_map_or (λ (v : Value). v.1) (slice_get (values_of dep name) 0) []
 
 -- What the dependency lines of a map say: the first path, and the names of the modules at the others.
 abbrev pub lines_of_map : KeyValues → Lines

@@ -3,6 +3,7 @@ ghost use Rattle.indexed_plan.specs.Index.{MapsHaveLines, FilesHaveLines};
 ghost use Rattle.indexed_plan.specs.Indexed.{FoldersReadAsIndexed};
 ghost use Rattle.indexed_plan.specs.Folder.{FilesAreValid, FoldersBind};
 ghost use Rattle.indexed_plan.specs.Binding.{IndexedPlansBind, LinesAreOfTree};
+ghost use Rattle.indexed_plan.specs.Steps.{PlansAreClosed};
 
 /// The map that depmod makes has the dependency lines of its tree, the lines of such a map say what each module of the
 /// tree depends on, and it has no others.
@@ -28,4 +29,10 @@ pub fn folders_read_as_indexed()
 pub fn folders_bind()
     ensures valid { FilesAreValid }
     ensures bind { FoldersBind }
+{}
+
+/// A plan for a request that runs no command loads modules that are closed over the loaded ones, where these have
+/// dependency lines, and loads each from the first path of its own.
+pub fn plans_are_closed()
+    ensures { PlansAreClosed }
 {}

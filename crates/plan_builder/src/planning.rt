@@ -46,6 +46,10 @@ use unmet_file::Unmet;
 /// What is loaded is left out everywhere. A member that is no module has a step of its own before the modules of its
 /// name: its command, or that it is built in.
 ///
+/// Every plan is closed: its modules are distinct and none is loaded, each stands after those that its dependency line
+/// names and that aren't loaded, no line of modules.unmet is on a need of one, and none says that one exports what the
+/// kernel, a loaded module or another of them does.
+///
 /// # Errors
 ///
 /// In this order: `BadDepLine` exactly where a value of modules.dep.bin isn't the dependency line of its module over names
