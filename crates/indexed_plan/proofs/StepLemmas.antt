@@ -37,9 +37,6 @@ member-among [] x at = absurd at
 member-among (n ∷ names) x (inl is) = or_left _ _ ((bytes_eq-Decides x n).1 (sym is))
 member-among (n ∷ names) x (inr later) = or_right _ _ (member-among names x later)
 
-names-flip : (x y : List ℕ) → bytes_eq x y ≡ bytes_eq y x
-names-flip x y = nat_list_eq_equiv.symm x y
-
 -- ---- without commands the modules of steps are those that they load
 
 same-name : (dep : KeyValues) (step : PlanStep) → runs_command step ≡ false → step_module dep step ≡ inserted_name step
@@ -115,7 +112,7 @@ module _ (dep : KeyValues) where
     where
       here : bytes_eq path (own_path (first_text dep n)) ≡ (has_value dep n && bytes_eq (own_path (first_text dep n)) path)
       here =
-          names-flip path (own_path (first_text dep n))
+          nat_list_eq_equiv.symm path (own_path (first_text dep n))
           ∙ ap (λ t. t && bytes_eq (own_path (first_text dep n)) path) (sym (known n (or_left _ _ ((bytes_eq-Decides n n).1 refl))))
 
   meets-collides : (loaded plan : List (List ℕ)) → AreModules (loaded ++ plan) → AreModules plan → (line : Unbound) → meets (lines_of_map dep) loaded plan line ≡ collides dep loaded plan line
