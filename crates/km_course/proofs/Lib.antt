@@ -4,4 +4,3 @@ pub mod Writes
 pub mod Carried
 pub mod Inside
 pub mod Following
-pub mod Quiet

@@ -7,6 +7,7 @@ ghost use Rattle.command_depmod.specs.Replaced.{LeavesFiles};
 ghost use Rattle.command_modinfo.specs.Modinfo.{modinfo_course};
 ghost use Rattle.command_modprobe.specs.Modprobe.{modprobe_course};
 ghost use Rattle.command_trial.specs.Trial.{trial_course};
+ghost use Rattle.kmod_cli.specs.Headline.{Headline};
 ghost use Rattle.kmod_cli.specs.Program.{course, course_named};
 
 use crate::command::{Command, command_named};
@@ -18,7 +19,8 @@ use std::alloc::Global;
 /// Does all that the program does: carries out the course of the words, which are those after the
 /// program's name, and answers the exit status. Status 0 is done, 1 refused, 2 not understood, 3 a failed
 /// call on files, `out` or `err`, and 4 want of memory; all but 0 have a line on `err`. The first word names
-/// the command. Where it is `depmod`, files are left as [`depmod`] leaves them.
+/// the command. Where it is `depmod`, files are left as [`depmod`] leaves them; where it is `modprobe`, its plan binds as
+/// [`modprobe`] says.
 pub fn run<F: Files, O: Out, E: Out>(
     alloc: Global,
     words: &[Word],
@@ -32,6 +34,8 @@ pub fn run<F: Files, O: Out, E: Out>(
     ensures replaces { (rest : List (List ℕ)) → words.now ≡ codes "depmod" ∷ rest → (shown : Shown) →
         Tells (world (F.seen files.old) (O.seen out.old) (E.seen err.old)) shown →
         LeavesFiles rest shown.files (F.seen files.new).contents result }
+    ensures headline { (rest : List (List ℕ)) → words.now ≡ codes "modprobe" ∷ rest → (shown : Shown) →
+        Tells (world (F.seen files.old) (O.seen out.old) (E.seen err.old)) shown → Headline rest shown.files }
 {
     match words {
         [] => command(alloc, None, words, files, out, err),
@@ -104,7 +108,9 @@ fn modinfo<F: Reads, O: Out, E: Out>(
 
 /// Does what `modprobe` does with these words after its name, and answers the exit status, as [`run`] does: prints the plan
 /// for names and loads its modules into the modelled machine, prints it alone, or tells what names stand for. It lists no
-/// folder of modules, so that their paths come from the index alone. modprobe(8).
+/// folder of modules, so that their paths come from the index alone. While tree and kernel stand as depmod indexed them, no
+/// install command is chosen and the listed modules load, the modules that it loads bind: the course ends where all are
+/// loaded, or with the one that finds no room or has a word that doesn't fit. modprobe(8).
 pub fn modprobe<F: Writes, O: Out, E: Out>(
     alloc: Global,
     words: &[Word],
@@ -112,9 +118,11 @@ pub fn modprobe<F: Writes, O: Out, E: Out>(
     out: &mut O,
     err: &mut E,
 ) -> u8
-    ensures { Carries (modprobe_course words.now)
+    ensures carries { Carries (modprobe_course words.now)
         (world (F.seen files.old) (O.seen out.old) (E.seen err.old))
         (world (F.seen files.new) (O.seen out.new) (E.seen err.new)) result }
+    ensures headline { (shown : Shown) → Tells (world (F.seen files.old) (O.seen out.old) (E.seen err.old)) shown →
+        Headline words.now shown.files }
 {
     let outcome = command_modprobe::modprobe(alloc, words, files, out);
     conclude(alloc, outcome, err)

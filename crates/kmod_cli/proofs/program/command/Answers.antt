@@ -27,7 +27,7 @@ pub returns-in-Modprobe : goal.returns-in-Modprobe
 returns-in-Modprobe g c =
     subst (λ named. Carries (course_named named c.args.words.now) (world (g.F.Reads.seen c.args.files.now) (g.O.Out.seen c.args.out.now) (g.E.Out.seen c.args.err.now)) (world (g.F.Reads.seen c.modprobe.new.files) (g.O.Out.seen c.modprobe.new.out) (g.E.Out.seen c.modprobe.new.err)) c.modprobe.result)
     (sym (c.in-Some.is ∙ ap Some c.in-Modprobe.is))
-    c.modprobe.ensures
+    c.modprobe.ensures.carries
 
 pub returns-in-Trial : goal.returns-in-Trial
 returns-in-Trial g c =

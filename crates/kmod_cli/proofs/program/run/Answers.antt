@@ -4,6 +4,7 @@ use Rattle.km_course.specs.World.{world}
 use Rattle.km_course.specs.Carries.{Carries}
 use Rattle.kmod_cli.specs.Program.{command_named, course, course_named}
 use Rattle.kmod_cli.proofs.CommandSteps.{no-words, name-first, depmod-leaves}
+use Rattle.kmod_cli.proofs.HeadlineLaw.{headline}
 use Rattle.kmod_cli.proofs.program.run.Goals as goal
 
 pub returns-in-empty : goal.returns-in-empty
@@ -13,7 +14,11 @@ returns-in-empty g c =
     let new = world (g.F.Reads.seen c.command.new.files) (g.O.Out.seen c.command.new.out) (g.E.Out.seen c.command.new.err) in
     let carries : Carries (course words) old new c.command.result =
     subst (λ all. Carries (course all) old new c.command.result) (sym (no-words words c.in-empty.len_below)) c.command.ensures in
-    record { carries = carries; replaces = depmod-leaves words old new c.command.result carries }
+    record {
+      carries = carries;
+      replaces = depmod-leaves words old new c.command.result carries;
+      headline = λ rest is shown told. headline rest shown.files;
+    }
 
 pub returns-in-len1-up : goal.returns-in-len1-up
 returns-in-len1-up g c =
@@ -27,4 +32,8 @@ returns-in-len1-up g c =
     (subst (λ named. Carries (course_named named rest) old new c.command-in-len1-up.result)
     (c.command_named-named.ensures ∙ ap command_named c.as_bytes.ensures)
     c.command-in-len1-up.ensures) in
-    record { carries = carries; replaces = depmod-leaves words old new c.command-in-len1-up.result carries }
+    record {
+      carries = carries;
+      replaces = depmod-leaves words old new c.command-in-len1-up.result carries;
+      headline = λ after is shown told. headline after shown.files;
+    }
