@@ -1,6 +1,7 @@
-use Rattle.std.proofs.Common.{ℕ, List, sym, ap, subst, ◌∙◌}
+use Rattle.std.proofs.Common.{◌≡◌, ◌+◌, ◌≤◌, ℕ, List, ◌∷◌, length, drop, sym, ap, subst, ◌∙◌}
 use Rattle.std.specs.Prelude.{Err}
 use Rattle.std.proofs.lemmas.Result.{err_from_is_err_and}
+use Rattle.plan_builder.specs.declared.step.PlanStep.{PlanStep}
 use Rattle.km_course.specs.Follows.{Answers}
 use Rattle.km_course.proofs.Following.{next-item}
 use Rattle.command_modprobe.specs.Loaded.{paths_outcome}
@@ -11,11 +12,16 @@ pub returns-in_err-push_path : goal.returns-in_err-push_path
 returns-in_err-push_path c =
     let p = err_from_is_err_and c.from_residual.result c.from_residual.ensures.1 in
     let steps = c.args.steps.now in
+    let i = c.loop-step.step-index in
+    let step = c.step-item.result in
+    let cut : drop i steps ≡ step ∷ drop (i + 1) steps =
+    subst (λ (all : List PlanStep). drop i all ≡ step ∷ drop (i + 1) all) c.as_slice-step-items.ensures
+    (next-item c.as_slice-step-items.result.now i step c.loop-step-test.true c.step-item.is) in
     subst (λ r. Answers (λ (x : List (List ℕ)). x) (paths_outcome steps) r) (sym (p.1 ∙ ap Err p.2))
-    (command-stops steps c.loop-step.step-index c.step-item.result c.in_err-push_path.field-0.0
-    (next-item steps c.loop-step.step-index c.step-item.result c.loop-step-test.true c.step-item.is)
-    c.loop-step.invariant.command c.in_err-push_path.ensures.err)
+    (command-stops steps i step c.in_err-push_path.field-0.0 cut c.loop-step.invariant.command c.in_err-push_path.ensures.err)
 
 pub returns : goal.returns
 returns c =
-    paths-given c.args.steps.now c.loop-step.step-index c.loop-step.paths c.loop-step-test.false c.loop-step.invariant.command c.loop-step.invariant.paths
+    paths-given c.args.steps.now c.loop-step.step-index c.loop-step.paths
+    (subst (λ (all : List PlanStep). length all ≤ c.loop-step.step-index) c.as_slice-step-items.ensures c.loop-step-test.false)
+    c.loop-step.invariant.command c.loop-step.invariant.paths
