@@ -66,6 +66,11 @@ misunderstood stage w stop is ended =
     (answered (λ (x : ⊤). x) (end NotUnderstood) w (Err stop)
     (subst (λ s. Answers (λ (x : ⊤). x) (end NotUnderstood) (Err s)) (sym ended) refl))
 
+-- without a region nothing is understood, with a System.map or without
+pub no-region : (asked : ModprobeWords) (system_map : Option (List ℕ)) → loads_into asked system_map None ≡ ends NotUnderstood
+no-region asked None = refl
+no-region asked (Some system_map) = refl
+
 -- regions of one base and one size are the same
 IsRegion-prop : (base size : ℕ) → IsProp (IsRegion base size)
 IsRegion-prop base size = Prim.hlevel props

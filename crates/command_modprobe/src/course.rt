@@ -43,6 +43,7 @@ fn in_mode<F: Writes, O: Out>(
     match mode {
         Mode::ResolveAlias => resolve_alias(alloc, asked, files, out),
         Mode::Load => load_plan(alloc, asked, files, out),
-        Mode::DryRun | Mode::ShowDepends => show_plan(alloc, asked, files, out),
+        Mode::DryRun => show_plan(alloc, asked, files, out),
+        Mode::ShowDepends => show_plan(alloc, asked, files, out),
     }
 }
