@@ -1,4 +1,3 @@
-pub mod RegionSteps
 pub mod KnownSteps
 pub mod ResolvedSteps
 pub mod PlanSteps

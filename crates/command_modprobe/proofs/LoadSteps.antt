@@ -9,7 +9,7 @@ use Rattle.kmod_words.specs.declared.modprobe.ModprobeWords.{ModprobeWords}
 use Rattle.model_loader.specs.declared.region.Region.{Region}
 use Rattle.model_loader.specs.Machine.{Machine}
 use Rattle.model_loader.specs.Regions.{IsRegion, is_region}
-use Rattle.model_loader.specs.Spans.{span_of}
+use Rattle.model_loader.specs.Spans.{Span, span_of}
 use Rattle.plan_builder.specs.declared.request.Request.{Request}
 use Rattle.plan_builder.specs.declared.step.PlanStep.{PlanStep}
 use Rattle.km_course.specs.Course.{Stage, ◌>>=◌, given, gives, ends, says_any}
@@ -81,8 +81,11 @@ by-pages base other same =
 
 -- a region that was made, or none, is the one of its base and its size
 found-region : (base size : ℕ) (answer : Bool) (is : is_region base size ≡ answer) (found : Option Region) → option_map span_of found ≡ (if answer then Some (record { base = base; size = size }) else None) → found ≡ region_when base size answer is
+unfolding with_pages
 found-region base size true is None found = cc
-found-region base size true is (Some r) found = ap Some (by-pages r.base base cc r.size size cc r.pages _)
+found-region base size true is (Some r) found =
+    let same : span_of r ≡ record { base = base; size = size } = cc in
+    ap Some (by-pages r.base base (ap (λ (s : Span). s.base) same) r.size size (ap (λ (s : Span). s.size) same) r.pages _)
 found-region base size false is None found = refl
 found-region base size false is (Some r) found = cc
 

@@ -1,12 +1,13 @@
 -- Plans that are loaded. modprobe(8).
-use Rattle.std.proofs.Common.{refl}
+use Rattle.std.proofs.Common.{refl, arith}
+use Rattle.std.proofs.lemmas.Bool.Decides.{nat_tests}
 use Rattle.std.specs.Prelude.{◌≡◌, ℕ, Bool, true, false, List, [], ◌∷◌, map, Option, Some, None, ⊤}
 use Rattle.std.specs.List.{flat_map}
 use Rattle.km_names.specs.First.{first}
 use Rattle.kmod_words.specs.declared.modprobe.ModprobeWords.{ModprobeWords}
 use Rattle.model_loader.specs.declared.region.Region.{Region}
 use Rattle.model_loader.specs.Machine.{Machine}
-use Rattle.model_loader.specs.Regions.{is_region}
+use Rattle.model_loader.specs.Regions.{IsRegion, is_region}
 use Rattle.plan_builder.specs.declared.request.Request.{Request}
 use Rattle.plan_builder.specs.declared.step.PlanStep.{PlanStep}
 use Rattle.plan_builder.specs.declared.step.PlanStep.TheVariants.{Insert, Install, Builtin}
@@ -23,7 +24,15 @@ use Rattle.command_loads.specs.Tables.{reads_machine}
 use Rattle.command_modprobe.specs.declared.known.Known.{Known}
 use Rattle.command_modprobe.specs.Known.{reads_known}
 use Rattle.command_modprobe.specs.Planned.{request_of, plan_outcome, plan_lines}
-use Rattle.command_modprobe.proofs.RegionSteps.{region-by}
+
+-- what passes the test is a region
+pub region-by : (base size : ℕ) → is_region base size ≡ true → IsRegion base size
+region-by base size is = record {
+  begins = grind (arith, nat_tests);
+  whole = grind (arith, nat_tests);
+  some = grind (arith, nat_tests);
+  ends = grind (arith, nat_tests);
+}
 
 -- the region of a base and a size for which the test answers this
 abbrev pub region_when : (base size : ℕ) (answer : Bool) → is_region base size ≡ answer → Option Region

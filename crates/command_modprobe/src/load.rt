@@ -88,7 +88,9 @@ fn load_request<F: Writes, O: Out>(
 {
     let steps = plan_in(alloc, Mode::Load, &known, request)?;
     let paths = loaded_paths(alloc, &steps)?;
-    load_steps(alloc, folder, images, known, machine, &steps, &paths, files, out)
+    load_steps(
+        alloc, folder, images, known, machine, &steps, &paths, files, out,
+    )
 }
 
 /// Loads the listed modules, prints the lines of a plan, and loads the modules at its paths.

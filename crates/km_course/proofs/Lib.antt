@@ -4,3 +4,4 @@ pub mod Writes
 pub mod Carried
 pub mod Inside
 pub mod Following
+pub mod Quiet

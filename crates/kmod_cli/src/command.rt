@@ -8,7 +8,7 @@ pub(crate) enum Command {
     Depmod,
     /// Shows what modules say of themselves. modinfo(8).
     Modinfo,
-    /// Tells which modules names stand for. modprobe(8).
+    /// Plans and loads modules into the modelled machine, and tells what names stand for. modprobe(8).
     Modprobe,
 }
 

@@ -99,8 +99,9 @@ fn modinfo<F: Reads, O: Out, E: Out>(
     conclude(alloc, outcome, err)
 }
 
-/// Does what `modprobe` does with these words after its name, and answers the exit status, as [`run`] does: tells which
-/// modules names stand for. It lists no folder of modules, so that their paths come from the index alone. modprobe(8).
+/// Does what `modprobe` does with these words after its name, and answers the exit status, as [`run`] does: prints the plan
+/// for names and loads its modules into the modelled machine, prints it alone, or tells what names stand for. It lists no
+/// folder of modules, so that their paths come from the index alone. modprobe(8).
 pub fn modprobe<F: Writes, O: Out, E: Out>(
     alloc: Global,
     words: &[Word],

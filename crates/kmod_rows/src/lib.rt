@@ -13,6 +13,8 @@ mod load_row;
 #[cfg(test)]
 mod loading;
 #[cfg(test)]
+mod loads;
+#[cfg(test)]
 mod modinfo;
 #[cfg(test)]
 mod modinfo_names;
@@ -22,6 +24,8 @@ mod modprobe_names;
 mod object;
 #[cfg(test)]
 mod placement;
+#[cfg(test)]
+mod plans;
 #[cfg(test)]
 mod row;
 #[cfg(test)]

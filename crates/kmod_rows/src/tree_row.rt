@@ -1,4 +1,4 @@
-use crate::row::Objects;
+use crate::row::{Objects, Row};
 use crate::sheet_row::{MoreRow, SheetRow, object_with};
 use km_names::PathText;
 use km_outside::CallKind;
@@ -97,4 +97,57 @@ pub(crate) fn expect_tree(rt: &impl Abort, alloc: Global, row: &TreeRow<'_>) -> 
     }
     objects.expect_row(rt, alloc, (row.words, row.status, row.out, row.err))?;
     expect_files(rt, alloc, &objects, row.after)
+}
+
+/// Commands over a tree that depmod indexed: which modules and other files are there, which replacement after depmod's
+/// fails, and the rows, each over files of its own.
+#[derive(Clone, Copy)]
+pub(crate) struct IndexedRow<'a> {
+    pub(crate) modules: &'a [ModuleRow<'a>],
+    pub(crate) files: &'a [FileRow],
+    pub(crate) fail_replace: Option<u8>,
+    pub(crate) rows: &'a [Row],
+}
+
+/// The usual table, and no modules.
+pub(crate) const INDEXED: IndexedRow<'static> = IndexedRow {
+    modules: &[],
+    files: &[SYMVERS],
+    fail_replace: None,
+    rows: &[],
+};
+
+/// How many files depmod replaces.
+const DEPMOD_FILES: u64 = 9;
+
+/// Runs depmod and then the words of a row, and compares what came of them.
+fn expect_command(
+    rt: &impl Abort,
+    alloc: Global,
+    tree: &IndexedRow<'_>,
+    row: Row,
+) -> Result<(), Fail> {
+    let mut objects = Objects::new(alloc)?;
+    put_modules(rt, alloc, &mut objects, tree.modules)?;
+    put_files(alloc, &mut objects, tree.files)?;
+    if let Some(number) = tree.fail_replace {
+        objects
+            .files
+            .fail_call(CallKind::Replace, DEPMOD_FILES + u64::from(number))?;
+    }
+    objects.expect_row(rt, alloc, (USUAL.words, 0, "", ""))?;
+    objects.expect_row(rt, alloc, row)?;
+    Ok(())
+}
+
+/// Runs each row over a tree that depmod indexed, and compares what came of it.
+pub(crate) fn expect_indexed(
+    rt: &impl Abort,
+    alloc: Global,
+    tree: &IndexedRow<'_>,
+) -> Result<(), Fail> {
+    for row in tree.rows {
+        expect_command(rt, alloc, tree, *row)?;
+    }
+    Ok(())
 }
