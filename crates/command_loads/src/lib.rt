@@ -15,5 +15,5 @@ mod shown;
 mod tests;
 
 pub use listed::load_listed;
-pub use load::load_all;
+pub use load::{Cause, load_all};
 pub use machine::read_machine;

@@ -17,7 +17,7 @@ use std::alloc::Global;
 
 /// Why a module is loaded.
 #[derive(Clone, Copy)]
-pub(crate) enum Cause {
+pub enum Cause {
     /// It is listed as loaded.
     Listed,
     /// It is one of a plan.

@@ -22,15 +22,15 @@ use unmet_file::Unmet;
 
 /// What modprobe knows before it looks a name up.
 #[derive(Drop)]
-pub(crate) struct Known {
+pub struct Known {
     /// The rules of the configuration and of modules.softdep.
-    pub(crate) rules: Rules,
+    pub rules: Rules,
     /// What names are looked up in.
-    pub(crate) indexes: Indexes,
+    pub indexes: Indexes,
     /// What stands in the way of loading modules.
-    pub(crate) unmet: Unmet,
+    pub unmet: Unmet,
     /// The modules that are loaded, the newest first.
-    pub(crate) loaded: Loaded,
+    pub loaded: Loaded,
 }
 
 /// Reads what modprobe has to know: the configuration, which is understood before another file is read, the index files

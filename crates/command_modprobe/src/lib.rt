@@ -12,3 +12,4 @@ mod plan;
 mod resolve_alias;
 
 pub use course::modprobe;
+pub use known::Known;

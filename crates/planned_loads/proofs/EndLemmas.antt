@@ -18,7 +18,7 @@ ended-so folder images machine paths plan run (Ok after) is placed loads =
     subst (λ o. HasEnded (ended o)) (sym (loads.loaded after is).gives) all_loaded
 ended-so folder images machine paths plan run (Err fault) is placed loads =
     let h = loads.stopped fault is in
-    subst (λ o. HasEnded (ended o)) (sym h.tells) (no_place h.m.facts.name fault placed)
+    subst (λ o. HasEnded (ended o)) (sym h.tells) (no_place h.first.m.facts.name fault placed)
 
 pub courses-end : CoursesEnd
 courses-end held asked tree kernel builtin addressed as_indexed region known machine steps paths has came =

@@ -1,5 +1,6 @@
 mod RunLemmas
 mod FileLemmas
+mod RefusedLemmas
 mod LoadLemmas
 mod ListedLemmas
 mod KnownLemmas

@@ -28,6 +28,7 @@ use Rattle.plan_binding.specs.Loads.{load_all, unless_refused}
 use Rattle.planned_loads.specs.Files.{AreFileModules, IsFileModule}
 use Rattle.planned_loads.specs.Listed.{AreListedLoads, AreListedPaths, ListedAreOfMachine, ListedGoIn, ListedLoadsAreOfMachine}
 use Rattle.planned_loads.proofs.FileLemmas.{line-module, module-read, reads-module}
+use Rattle.planned_loads.proofs.RefusedLemmas.{load-on, load-stops, none-loaded, one-fault, refused-first, refused-later}
 use Rattle.planned_loads.proofs.RunLemmas.{goes-on, joined, run-ends, run-given, run-then, run_of}
 
 -- ---- one listed module
@@ -127,9 +128,6 @@ loaded-not : (name : List ℕ) (fault : LoadFault) (r : Result Machine LoadFault
 unfolding load_outcome
 loaded-not name fault r is = ap (load_outcome Listed name) is
 
-none-loaded : (machine : Machine) (fault : LoadFault) → ◌≡◌ {A = Result Machine LoadFault} (Ok machine) (Err fault) → ⊥
-none-loaded machine fault is = cc
-
 none-left : (files : Contents) (folder : List ℕ) (index : Index) (machine : Machine) → AreListedLoads machine [] ((each_from (loads_listed_one folder index) machine []).run files)
 unfolding given
 none-left files folder index machine = record {
@@ -139,38 +137,23 @@ none-left files folder index machine = record {
 
 listed-more : (machine next : Machine) (m : Module) (ms : List Module) (acts : List Act) (run : Run Machine) → step machine m ≡ Ok next → AreListedLoads next ms run → AreListedLoads machine (m ∷ ms) (joined acts run)
 listed-more machine next m ms acts run took are =
-    let all : load_all machine (m ∷ ms) ≡ load_all next ms = ap (unless_refused (λ other. load_all other ms)) took in
+    let all = load-on machine next m ms took in
     record {
       loaded = λ after' is. are.loaded after' (sym all ∙ is);
       stopped = λ fault is.
           let h = are.stopped fault (sym all ∙ is) in
-          record {
-            before = m ∷ h.before;
-            m = h.m;
-            after = h.after;
-            modules = ap (λ xs. m ∷ xs) h.modules;
-            middle = h.middle;
-            loaded = ap (unless_refused (λ other. load_all other h.before)) took ∙ h.loaded;
-            refused = h.refused;
-            tells = h.tells;
-          };
+          record { first = refused-later machine next m ms fault took h.first; tells = h.tells };
     }
 
 listed-none : (machine : Machine) (m : Module) (ms : List Module) (acts : List Act) (fault : LoadFault) → step machine m ≡ Err fault → AreListedLoads machine (m ∷ ms) (run_of acts (end (Refused (ListedRefused m.facts.name (load_fault_text fault)))))
 listed-none machine m ms acts fault refused =
-    let all : load_all machine (m ∷ ms) ≡ Err fault = ap (unless_refused (λ other. load_all other ms)) refused in
+    let all = load-stops machine m ms fault refused in
     record {
       loaded = λ after' is. absurd (none-loaded after' fault (sym is ∙ all));
       stopped = λ other is.
-          let same : fault ≡ other = (let both : ◌≡◌ {A = Result Machine LoadFault} (Err fault) (Err other) = sym all ∙ is in cc) in
+          let same : fault ≡ other = one-fault (load_all machine (m ∷ ms)) fault other all is in
           record {
-            before = [];
-            m = m;
-            after = ms;
-            modules = refl;
-            middle = machine;
-            loaded = refl;
-            refused = refused ∙ ap Err same;
+            first = refused-first machine m ms other (refused ∙ ap Err same);
             tells = ap (λ f. end (Refused (ListedRefused m.facts.name (load_fault_text f)))) same;
           };
     }

@@ -19,10 +19,11 @@ use Rattle.command_loads.specs.declared.load.Cause.TheVariants.{Planned}
 use Rattle.command_loads.specs.Loads.{entered, load_outcome, loaded_line, loads, loads_all, loads_one, shows_load}
 use Rattle.command_loads.specs.Modules.{reads_module}
 use Rattle.command_loads.proofs.LoadSteps.{loaded_ok, loads_others, one_loaded, one_read, one_shown}
-use Rattle.plan_binding.specs.Loads.{load_all, unless_refused}
+use Rattle.plan_binding.specs.Loads.{load_all}
 use Rattle.planned_loads.specs.Files.{AreFileModules, IsFileModule}
 use Rattle.planned_loads.specs.Loads.{AreMachineLoads, LoadsAreOfMachine, image_acts, load_acts, loads_acts}
 use Rattle.planned_loads.proofs.FileLemmas.{reads-module, still-files}
+use Rattle.planned_loads.proofs.RefusedLemmas.{load-on, load-stops, none-loaded, one-fault, refused-first, refused-later}
 use Rattle.planned_loads.proofs.RunLemmas.{joined, run-ends, run-given, run-then, run_of}
 
 -- ---- one load
@@ -76,9 +77,6 @@ one-is-refused files folder images machine path m fault is refused =
 
 -- ---- loads, one after the other
 
-none-loaded : (machine after : Machine) (fault : LoadFault) → ◌≡◌ {A = Result Machine LoadFault} (Ok machine) (Err fault) → ⊥
-none-loaded machine after fault is = cc
-
 none-left : (files : Contents) (folder : List ℕ) (images : Option (List ℕ)) (machine : Machine) → AreMachineLoads folder images machine [] [] ((loads_all folder images machine []).run files)
 unfolding given
 none-left files folder images machine = record {
@@ -89,7 +87,7 @@ none-left files folder images machine = record {
     newer = let same : machine ≡ after = cc in ap (λ (x : Machine). x.entries) (sym same) ∙ sym (append-nil machine.entries);
     acts = refl;
   };
-  stopped = λ fault is. absurd (none-loaded machine machine fault is);
+  stopped = λ fault is. absurd (none-loaded machine fault is);
 }
 
 -- after the first module the others are loaded
@@ -97,7 +95,7 @@ loads-more : (folder : List ℕ) (images : Option (List ℕ)) (machine next : Ma
 loads-more folder images machine next path paths m ms run took are =
     let e = entered machine m in
     let first = load_acts folder images path e in
-    let all : load_all machine (m ∷ ms) ≡ load_all next ms = ap (unless_refused (λ other. load_all other ms)) took in
+    let all = load-on machine next m ms took in
     let more : (es : List Entry) → next.entries ++ es ≡ machine.entries ++ e ∷ es = λ es.
     ap (λ xs. xs ++ es) (step-entries machine next m took) ∙ append_assoc machine.entries (e ∷ []) es in
     record {
@@ -113,18 +111,13 @@ loads-more folder images machine next path paths m ms run took are =
       stopped = λ fault is.
           let h = are.stopped fault (sym all ∙ is) in
           record {
-            before = m ∷ h.before;
-            m = h.m;
-            after = h.after;
-            modules = ap (λ xs. m ∷ xs) h.modules;
+            first = refused-later machine next m ms fault took h.first;
+            tells = h.tells;
             earlier = path ∷ h.earlier;
             path = h.path;
             later = h.later;
             all = ap (λ ps. path ∷ ps) h.all;
-            middle = h.middle;
-            loaded = ap (unless_refused (λ other. load_all other h.before)) took ∙ h.loaded;
-            refused = h.refused;
-            tells = h.tells;
+            in_step = omega (arith, h.in_step);
             entries = e ∷ h.entries;
             one_each = omega (arith, h.one_each);
             newer = h.newer ∙ more h.entries;
@@ -135,24 +128,19 @@ loads-more folder images machine next path paths m ms run took are =
 -- the first module is refused
 loads-none : (folder : List ℕ) (images : Option (List ℕ)) (machine : Machine) (path : List ℕ) (paths : List (List ℕ)) (m : Module) (ms : List Module) (fault : LoadFault) → step machine m ≡ Err fault → AreMachineLoads folder images machine (path ∷ paths) (m ∷ ms) (run_of (read (path_below folder path) ∷ []) (end (Refused (LoadRefused m.facts.name (load_fault_text fault)))))
 loads-none folder images machine path paths m ms fault refused =
-    let all : load_all machine (m ∷ ms) ≡ Err fault = ap (unless_refused (λ other. load_all other ms)) refused in
+    let all = load-stops machine m ms fault refused in
     record {
-      loaded = λ after is. absurd (none-loaded after after fault (sym is ∙ all));
+      loaded = λ after is. absurd (none-loaded after fault (sym is ∙ all));
       stopped = λ other is.
-          let same : fault ≡ other = (let both : ◌≡◌ {A = Result Machine LoadFault} (Err fault) (Err other) = sym all ∙ is in cc) in
+          let same : fault ≡ other = one-fault (load_all machine (m ∷ ms)) fault other all is in
           record {
-            before = [];
-            m = m;
-            after = ms;
-            modules = refl;
+            first = refused-first machine m ms other (refused ∙ ap Err same);
+            tells = ap (λ f. end (Refused (LoadRefused m.facts.name (load_fault_text f)))) same;
             earlier = [];
             path = path;
             later = paths;
             all = refl;
-            middle = machine;
-            loaded = refl;
-            refused = refused ∙ ap Err same;
-            tells = ap (λ f. end (Refused (LoadRefused m.facts.name (load_fault_text f)))) same;
+            in_step = refl;
             entries = [];
             one_each = refl;
             newer = sym (append-nil machine.entries);

@@ -1,5 +1,5 @@
 -- What the course of the loads of listed modules is, by the machines of these loads. modprobe(8), proc(5).
-use Rattle.std.specs.Prelude.{◌≡◌, ℕ, List, [], ◌∷◌, ◌++◌, map, reverse, Some, Ok, Err}
+use Rattle.std.specs.Prelude.{◌≡◌, ℕ, List, [], ◌∷◌, map, reverse, Some, Ok, Err}
 use Rattle.km_names.specs.Path.{path_below}
 use Rattle.km_outside.specs.Contents.{Contents}
 use Rattle.km_course.specs.Course.{Run}
@@ -12,11 +12,11 @@ use Rattle.module_facts.specs.declared.module.Module.{Module}
 use Rattle.model_loader.specs.declared.fault.LoadFault.{LoadFault}
 use Rattle.model_loader.specs.FaultText.{load_fault_text}
 use Rattle.model_loader.specs.Machine.{Machine}
-use Rattle.model_loader.specs.Step.{step}
 use Rattle.plan_binding.specs.Loads.{load_all}
 use Rattle.command_files.specs.KernelModules.{path_listed}
 use Rattle.command_loads.specs.Listed.{loads_listed}
 use Rattle.planned_loads.specs.Files.{AreFileModules}
+use Rattle.planned_loads.specs.Loads.{IsFirstRefused}
 
 -- Each path is the first one of the dependency line of the module of its name.
 abbrev pub AreListedPaths : Index → List (List ℕ) → List (List ℕ) → Type 0
@@ -42,16 +42,10 @@ ListedAreOfMachine =
     → ((loads_listed folder index machine names).run held).outcome ≡ value after
     → ListedGoIn held folder index machine (reverse names) after ((loads_listed folder index machine names).run held)
 
--- One of some modules was refused: the machine after those before it refuses it, and that is told.
+-- One of listed modules was refused, and that is told.
 pub record ListedIsRefused (machine : Machine) (ms : List Module) (fault : LoadFault) (run : Run Machine) : Type 0 where
-  pub before : List Module
-  pub m : Module
-  pub after : List Module
-  pub modules : ms ≡ before ++ m ∷ after
-  pub middle : Machine
-  pub loaded : load_all machine before ≡ Ok middle
-  pub refused : step middle m ≡ Err fault
-  pub tells : run.outcome ≡ end (Refused (ListedRefused m.facts.name (load_fault_text fault)))
+  pub first : IsFirstRefused machine ms fault
+  pub tells : run.outcome ≡ end (Refused (ListedRefused first.m.facts.name (load_fault_text fault)))
 
 -- Loads of listed modules are those of the machine: all modules go in where they can be loaded one after the other, else
 -- the first refusal is told.

@@ -43,26 +43,32 @@ pub record AllGoIn (folder : List ℕ) (images : Option (List ℕ)) (machine aft
   pub newer : after.entries ≡ machine.entries ++ entries
   pub acts : run.acts ≡ loads_acts folder images paths entries
 
--- The modules before one went into a machine so, and that one was refused: it is read, and nothing more is done.
-pub record OneIsRefused (folder : List ℕ) (images : Option (List ℕ)) (machine : Machine) (paths : List (List ℕ)) (ms : List Module) (fault : LoadFault) (run : Run Machine) : Type 0 where
-  -- the modules before it and their paths, the module and its path, and those after it
+-- Of some modules that are loaded one after the other, the first that is refused: the machine after those before it refuses
+-- it for this fault.
+pub record IsFirstRefused (machine : Machine) (ms : List Module) (fault : LoadFault) : Type 0 where
   pub before : List Module
   pub m : Module
   pub after : List Module
   pub modules : ms ≡ before ++ m ∷ after
+  pub middle : Machine
+  pub loaded : load_all machine before ≡ Ok middle
+  pub refused : step middle m ≡ Err fault
+
+-- The modules before one went into a machine so, and that one was refused: it is read, that is told, and nothing more is
+-- done.
+pub record OneIsRefused (folder : List ℕ) (images : Option (List ℕ)) (machine : Machine) (paths : List (List ℕ)) (ms : List Module) (fault : LoadFault) (run : Run Machine) : Type 0 where
+  pub first : IsFirstRefused machine ms fault
+  pub tells : run.outcome ≡ end (Refused (LoadRefused first.m.facts.name (load_fault_text fault)))
+  -- its path, those of the modules before it, and those of the modules after it
   pub earlier : List (List ℕ)
   pub path : List ℕ
   pub later : List (List ℕ)
   pub all : paths ≡ earlier ++ path ∷ later
-  -- the machine after those before it refuses it
-  pub middle : Machine
-  pub loaded : load_all machine before ≡ Ok middle
-  pub refused : step middle m ≡ Err fault
-  pub tells : run.outcome ≡ end (Refused (LoadRefused m.facts.name (load_fault_text fault)))
+  pub in_step : length earlier ≡ length first.before
   -- the entries of those before it
   pub entries : List Entry
   pub one_each : length entries ≡ length earlier
-  pub newer : middle.entries ≡ machine.entries ++ entries
+  pub newer : first.middle.entries ≡ machine.entries ++ entries
   pub acts : run.acts ≡ loads_acts folder images earlier entries ++ read (path_below folder path) ∷ []
 
 -- Loads of modules at paths are those of the machine: all modules go in where they can be loaded one after the other,
