@@ -5,6 +5,6 @@ mod LoadLemmas
 mod ListedLemmas
 mod KnownLemmas
 mod ClosedLemmas
-mod CourseLemmas
-mod WholeLemmas
-mod EndLemmas
+pub mod CourseLemmas
+pub mod WholeLemmas
+pub mod EndLemmas
