@@ -219,7 +219,7 @@ fn an_image_can_not_be_put(rt: HostRuntime) -> Result<(), Fail> {
         &IndexedRow {
             modules: &TWO,
             files: &[SYMVERS, SYSTEM_MAP],
-            fail_replace: Some(1),
+            fail_replace: Some(10),
             rows: &[(
                 &[
                     "modprobe",

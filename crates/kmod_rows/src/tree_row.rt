@@ -99,8 +99,8 @@ pub(crate) fn expect_tree(rt: &impl Abort, alloc: Global, row: &TreeRow<'_>) -> 
     expect_files(rt, alloc, &objects, row.after)
 }
 
-/// Commands over a tree that depmod indexed: which modules and other files are there, which replacement after depmod's
-/// fails, and the rows, each over files of its own.
+/// Commands over a tree that depmod indexed: which modules and other files are there, which replacement fails, counted
+/// from the first of depmod's nine, and the rows, each over files of its own.
 #[derive(Clone, Copy)]
 pub(crate) struct IndexedRow<'a> {
     pub(crate) modules: &'a [ModuleRow<'a>],
@@ -117,9 +117,6 @@ pub(crate) const INDEXED: IndexedRow<'static> = IndexedRow {
     rows: &[],
 };
 
-/// How many files depmod replaces.
-const DEPMOD_FILES: u64 = 9;
-
 /// Runs depmod and then the words of a row, and compares what came of them.
 fn expect_command(
     rt: &impl Abort,
@@ -133,7 +130,7 @@ fn expect_command(
     if let Some(number) = tree.fail_replace {
         objects
             .files
-            .fail_call(CallKind::Replace, DEPMOD_FILES + u64::from(number))?;
+            .fail_call(CallKind::Replace, u64::from(number))?;
     }
     objects.expect_row(rt, alloc, (USUAL.words, 0, "", ""))?;
     objects.expect_row(rt, alloc, row)?;
