@@ -1,16 +1,58 @@
-ghost use Rattle.std.specs.Prelude.{◌≡◌, ◌≤◌, ◌⊎◌, ◌++◌, List, ℕ, length, All, IfOk, IfErr, OnOk};
+ghost use Rattle.std.specs.Prelude.{◌≡◌, ◌≤◌, ◌⊎◌, ◌++◌, length, All, IfOk, IfErr, OnOk};
 ghost use Rattle.km_names.specs.Limit.{file_limit};
-ghost use Rattle.std.specs.List.{flat_map};
-ghost use Rattle.mod_tree.specs.Search.{search_of, words_of_lines};
+ghost use Rattle.mod_tree.specs.Search.{search_of};
+ghost use Rattle.mod_tree.specs.Shown.{shown};
 
 use km_names::{
-    ConfFault, ConfFiles, List as Items, Name, Names, Statement, Texts, parse_files, split_word,
-    words,
+    ConfFault, ConfFiles, List as Items, Statement, Texts, parse_files, split_word, words,
 };
 use std::alloc::{AllocError, Global};
+use std::marker::Model;
 
-/// The words that say in which folders modules are looked for first, in order.
-pub type Search = Names;
+/// The words that say in which folders modules are looked for first: those of the `search` lines of
+/// depmod.d(5), or `updates built-in` where there is no line. Contracts see the list of the words, in order.
+#[derive(Drop)]
+pub struct Search {
+    lines: Items<SearchLine>,
+}
+
+impl Model for Search {
+    ghost use Rattle.std.specs.Prelude.{List, ℕ};
+
+    ghost Value = { List (List ℕ) };
+
+    ghost use Rattle.mod_tree.specs.Search.{words_of_lines};
+
+    ghost view = { λ s. words_of_lines s.lines };
+}
+
+impl Search {
+    /// The words, in order.
+    pub(crate) fn words(&self, alloc: Global) -> Result<Vec<&[u8]>, AllocError>
+        ensures { IfOk result (λ words. shown words.items ≡ self.now) }
+    {
+        let mut words = Vec::new(alloc);
+        if self.lines.is_empty() {
+            words.push(b"updates".as_slice())?;
+            words.push(b"built-in".as_slice())?;
+            return Ok(words);
+        }
+        for line in self.lines.as_slice() {
+            push_words(&mut words, line)?;
+        }
+        Ok(words)
+    }
+}
+
+/// Puts the words of a line at the end.
+fn push_words<'a>(words: &mut Vec<&'a [u8]>, line: &'a SearchLine) -> Result<(), AllocError>
+    ensures { OnOk result (shown words.new.items ≡ shown words.old.items ++ line.now.words) }
+{
+    for word in line.words.as_slice() {
+        words.push(word.as_bytes())?;
+    }
+    Ok(())
+}
 
 /// A line `search WORDS` of depmod.d(5), with its words, one or more.
 #[derive(Drop)]
@@ -45,31 +87,6 @@ pub fn parse_search(alloc: Global, files: &ConfFiles) -> Result<Search, ConfFaul
     ensures err { IfErr result (λ fault.
         (fault ≡ ConfFault.Memory) ⊎ (search_of files.now ≡ Err fault)) }
 {
-    let lines: Items<SearchLine> = parse_files(alloc, files)?;
-    Ok(all_words(alloc, &lines)?)
-}
-
-/// The words of all lines, in order, or the usual ones where there is no line.
-fn all_words(alloc: Global, lines: &Items<SearchLine>) -> Result<Search, AllocError>
-    ensures { IfOk result (λ search. search ≡ words_of_lines lines.now) }
-{
-    let mut search = Search::new(alloc);
-    if lines.is_empty() {
-        search.push(Name::from_slice(alloc, b"updates")?)?;
-        search.push(Name::from_slice(alloc, b"built-in")?)?;
-        return Ok(search);
-    }
-    for line in lines.as_slice() {
-        push_words(alloc, &mut search, &line.words)?;
-    }
-    Ok(search)
-}
-
-fn push_words(alloc: Global, search: &mut Search, words: &Texts) -> Result<(), AllocError>
-    ensures { OnOk result (search.new ≡ search.old ++ words.now) }
-{
-    for word in words.as_slice() {
-        search.push(Name::from_slice(alloc, word.as_bytes())?)?;
-    }
-    Ok(())
+    let lines = parse_files(alloc, files)?;
+    Ok(Search { lines })
 }

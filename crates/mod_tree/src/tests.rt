@@ -1,8 +1,8 @@
 ghost use Rattle.std.specs.Prelude.{◌≤◌, length, All, IfOk};
 ghost use Rattle.km_names.specs.Limit.{file_limit};
 
-use crate::{TreeFault, choose, line_path, parse_search};
-use km_names::{Blob, ConfFault, ConfFile, ConfFiles, Name, Names, PathText, Paths};
+use crate::{Search, TreeFault, choose, line_path, parse_search};
+use km_names::{Blob, ConfFault, ConfFile, ConfFiles, PathText, Paths};
 use std::alloc::{AllocError, Global};
 use std::process::Abort;
 use std::test::Fail;
@@ -13,14 +13,6 @@ fn paths_of(alloc: Global, texts: &[&[u8]]) -> Result<Paths, AllocError> {
         paths.push(PathText::from_slice(alloc, text)?)?;
     }
     Ok(paths)
-}
-
-fn names_of(alloc: Global, texts: &[&[u8]]) -> Result<Names, AllocError> {
-    let mut names = Names::new(alloc);
-    for text in texts {
-        names.push(Name::from_slice(alloc, text)?)?;
-    }
-    Ok(names)
 }
 
 fn file_of(rt: &impl Abort, alloc: Global, text: &[u8]) -> Result<ConfFiles, AllocError>
@@ -38,6 +30,16 @@ fn file_of(rt: &impl Abort, alloc: Global, text: &[u8]) -> Result<ConfFiles, All
     Ok(files)
 }
 
+// The search list of a file that is understood.
+fn search_of(rt: &impl Abort, alloc: Global, text: &[u8]) -> Result<Search, AllocError> {
+    let files = file_of(rt, alloc, text)?;
+    match parse_search(alloc, &files) {
+        Ok(search) => Ok(search),
+        Err(ConfFault::Memory) => Err(AllocError),
+        Err(ConfFault::BadLine { .. }) => panic!(rt; "a line that wasn't understood"),
+    }
+}
+
 // Each path on a line of its own.
 fn lines_of(alloc: Global, paths: &Paths) -> Result<Vec<u8>, AllocError> {
     let mut text = Vec::new(alloc);
@@ -48,7 +50,7 @@ fn lines_of(alloc: Global, paths: &Paths) -> Result<Vec<u8>, AllocError> {
     Ok(text)
 }
 
-// For some search words and lines of modules.order, the tree of one listing.
+// For some search lines and lines of modules.order, the tree of one listing.
 #[test]
 fn trees_of_a_listing(rt: HostRuntime) -> Result<(), Fail> {
     let listed = [
@@ -63,29 +65,29 @@ fn trees_of_a_listing(rt: HostRuntime) -> Result<(), Fail> {
     ];
     let rows = [
         (
-            [b"updates".as_slice(), b"built-in"],
+            b"search updates built-in".as_slice(),
             b"".as_slice(),
             b"kernel/b.ko\nkernel/c-d.ko\nupdates/a.ko\n".as_slice(),
         ),
         (
-            [b"extra".as_slice(), b"updates"],
+            b"search extra updates",
             b"kernel/c-d.ko\n\nkernel/b.ko\r\nupdates/a.ko\nkernel/c-d.ko",
             b"kernel/c-d.ko\nextra/a.ko.xz\nkernel/b.ko\n",
         ),
         (
-            [b"built-in".as_slice(), b"updates"],
+            b"search built-in\nsearch updates",
             b"kernel/none.ko\nupdates/a.ko\nkernel/b.ko",
             b"kernel/b.ko\nextra/a.ko.xz\nkernel/c-d.ko\n",
         ),
         (
-            [b"kernel/drivers".as_slice(), b"kernel"],
+            b"search kernel/drivers kernel",
             b"c_d\nkernel/c_d.ko\n",
             b"kernel/b.ko\nkernel/c-d.ko\nkernel/drivers/a.ko\n",
         ),
     ];
     let paths = paths_of(rt.alloc(), &listed)?;
     for (search, order, want) in rows {
-        let search = names_of(rt.alloc(), &search)?;
+        let search = search_of(&rt, rt.alloc(), search)?;
         match choose(rt.alloc(), &paths, order, &search) {
             Ok(tree) => assert_eq!(rt; lines_of(rt.alloc(), &tree)?.as_slice(), want),
             Err(_) => assert!(rt; false, "no tree"),
@@ -104,7 +106,7 @@ fn paths_that_have_no_tree(rt: HostRuntime) -> Result<(), Fail> {
         ],
         [b"z/\x7f.ko".as_slice(), b"kernel/a:.ko.gz", b"kernel/a.ko"],
     ];
-    let search = names_of(rt.alloc(), &[])?;
+    let search = search_of(&rt, rt.alloc(), b"")?;
     for row in rows {
         let paths = paths_of(rt.alloc(), &row)?;
         match choose(rt.alloc(), &paths, b"", &search) {
@@ -130,20 +132,15 @@ fn search_lists(rt: HostRuntime) -> Result<(), Fail> {
         ),
     ];
     for (text, want) in rows {
-        let files = file_of(&rt, rt.alloc(), text)?;
-        match parse_search(rt.alloc(), &files) {
-            Ok(search) => {
-                let mut words = Vec::new(rt.alloc());
-                for word in search.as_slice() {
-                    if !words.is_empty() {
-                        words.push(b' ')?;
-                    }
-                    words.extend_from_slice(word.as_bytes())?;
-                }
-                assert_eq!(rt; words.as_slice(), want);
+        let search = search_of(&rt, rt.alloc(), text)?;
+        let mut words = Vec::new(rt.alloc());
+        for word in &search.words(rt.alloc())? {
+            if !words.is_empty() {
+                words.push(b' ')?;
             }
-            Err(_) => assert!(rt; false, "a line that wasn't understood"),
+            words.extend_from_slice(word)?;
         }
+        assert_eq!(rt; words.as_slice(), want);
     }
     for text in [
         b"search a\nsearch".as_slice(),

@@ -1,7 +1,0 @@
-use Rattle.std.proofs.Common.{◌≡◌, ◌++◌, drop}
-use Rattle.std.specs.List.{flat_map}
-use Rattle.mod_tree.specs.declared.search.SearchLine.{SearchLine}
-use Rattle.mod_tree.proofs.search.all_words.Given as goal
-
-abbrev pub invariant-loop-line : goal.invariant-loop-line
-invariant-loop-line l = l.search ++ flat_map (λ (line : SearchLine). line.words) (drop l.line-index l.line-items) ≡ flat_map (λ (line : SearchLine). line.words) l.lines
