@@ -1,0 +1,64 @@
+ghost use Rattle.std.specs.Prelude.{◌≡◌, ◌-◌, ◌==◌, ◌∷◌, [], if◌then◌else◌};
+
+use crate::{Needed, Needs, PlanOrCycle, find_planned, plan_or_cycle};
+use std::alloc::{AllocError, Global};
+use std::test::Fail;
+
+// Modules in a ring: before each comes the one of the number below, before 0 the last, and after it that one is wanted
+// which is as far from the last as it is from 0.
+#[derive(Drop)]
+struct Ring {
+    count: usize,
+}
+
+impl Needs for Ring {
+    ghost count = { λ r. r.count };
+
+    ghost before = { λ r n. (if n == 0 then r.count - 1 else n - 1) ∷ [] };
+
+    ghost after = { λ r n. (r.count - 1 - n) ∷ [] };
+
+    fn needed(&self, alloc: Global, place: usize) -> Result<Needed, AllocError> {
+        let below = if place == 0 {
+            self.count - 1
+        } else {
+            place - 1
+        };
+        Ok(Needed {
+            before: vec![in alloc; below]?,
+            after: vec![in alloc; self.count - 1 - place]?,
+        })
+    }
+}
+
+// Which of a ring are free, which one is requested, and the order with the end of its group, or the cycle.
+static ROWS: [(&[bool], usize, &[usize], Option<usize>); 4] = [
+    // 3 needs 2, which is there, and wants 1, which needs 0, which needs 4, which is there
+    (&[true, true, false, true, false], 3, &[3, 0, 1], Some(1)),
+    // what isn't free isn't planned
+    (&[false, true], 0, &[], Some(0)),
+    (&[true, true, true], 1, &[0, 2, 1], None),
+    (&[true], 0, &[0], None),
+];
+
+#[test]
+fn plans_and_cycles(rt: HostRuntime) -> Result<(), Fail> {
+    let alloc = rt.alloc();
+    for (free, request, want, end) in ROWS {
+        let ring = Ring { count: free.len() };
+        assert!(rt; request < free.len());
+        let requests = vec![in alloc; vec![in alloc; request]?]?;
+        let planned = find_planned(alloc, &ring, free, &requests)?;
+        match plan_or_cycle(alloc, &planned, free, &requests)? {
+            PlanOrCycle::Plan(plan) => {
+                assert_eq!(rt; plan.order.as_slice(), want);
+                assert_eq!(rt; plan.ends.first().copied(), end);
+            }
+            PlanOrCycle::Cycle(cycle) => {
+                assert_eq!(rt; cycle.as_slice(), want);
+                assert!(rt; end.is_none());
+            }
+        }
+    }
+    Ok(())
+}
