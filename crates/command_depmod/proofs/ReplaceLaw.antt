@@ -3,6 +3,7 @@ use Rattle.std.proofs.Common.{◌≡◌, ℕ, suc, ◌≤◌, Bool, true, false,
 use Rattle.std.specs.Prelude.{Option, Some, None, is_some, ◌⊎◌, ⊤, map}
 use Rattle.km_names.specs.Path.{path_below}
 use Rattle.km_outside.specs.Contents.{Contents}
+use Rattle.module_facts.specs.declared.facts.Facts.{Facts}
 use Rattle.symbol_binding.specs.Unmet.{unmet}
 use Rattle.symbol_binding.specs.declared.unbound.Unbound.{Unbound}
 use Rattle.provider_rel.specs.Faces.{modules_of}
@@ -33,11 +34,11 @@ use Rattle.command_depmod.specs.Replaced.{replacements, LeavesFiles}
 
 -- ---- acts that put no file
 
-abbrev IsQuiet : Act → Type 0
+abbrev pub IsQuiet : Act → Type 0
 IsQuiet (put path bytes) = ⊥
 IsQuiet act = Unit {0}
 
-abbrev AreQuiet : List Act → Type 0
+abbrev pub AreQuiet : List Act → Type 0
 AreQuiet [] = Unit {0}
 AreQuiet (act ∷ acts) = IsQuiet act × AreQuiet acts
 
@@ -52,7 +53,7 @@ quiet-file (say bytes) files q = refl
 quiet-file (warn bytes) files q = refl
 quiet-file (put path bytes) files q = absurd q
 
-quiet-after : (acts : List Act) (files : Contents) → AreQuiet acts → after acts files ≡ files
+pub quiet-after : (acts : List Act) (files : Contents) → AreQuiet acts → after acts files ≡ files
 quiet-after [] files q = refl
 quiet-after (act ∷ acts) files q = ap (after acts) (quiet-file act files q.0) ∙ quiet-after acts files q.1
 
@@ -62,8 +63,8 @@ after-quiet (act ∷ q) r files h = ap (after (q ++ r)) (quiet-file act files h.
 
 -- ---- stages that put no file
 
-record Quiet {X : Type 0} (stage : Stage X) : Type 0 where
-  acts : (files : Contents) → AreQuiet (stage.run files).acts
+pub record Quiet {X : Type 0} (stage : Stage X) : Type 0 where
+  pub acts : (files : Contents) → AreQuiet (stage.run files).acts
 
 quiet-then : {X Y : Type 0} (stage : Stage X) (next : X → Stage Y) → Quiet stage → ((x : X) → Quiet (next x)) → Quiet (stage >>= next)
 unfolding ◌>>=◌ continued
@@ -111,33 +112,36 @@ quiet-configuration None = quiet-then _ _ (quiet-folders (folder_name Depmod) ro
 quiet-configuration (Some path) =
     quiet-when _ _ _ (quiet-files (path ∷ [])) (quiet-then _ _ (quiet-act (list path) _ _ tt) (λ names. quiet-files _))
 
-quiet-search : (config : Option (List ℕ)) → Quiet (reads_search config)
+pub quiet-search : (config : Option (List ℕ)) → Quiet (reads_search config)
 quiet-search config = quiet-then _ _ (quiet-configuration config) (λ files. quiet-given _)
 
-quiet-tree : (folder : List ℕ) (search : List (List ℕ)) → Quiet (reads_tree folder search)
+pub quiet-tree : (folder : List ℕ) (search : List (List ℕ)) → Quiet (reads_tree folder search)
 quiet-tree folder search =
     quiet-then _ _ (quiet-act (list folder) _ _ tt) (λ listed. quiet-then _ _ (quiet-act (read _) _ _ tt) (λ order. quiet-given _))
 
-quiet-kernel : (map symvers : Option (List ℕ)) → Quiet (reads_kernel map symvers)
+pub quiet-kernel : (map symvers : Option (List ℕ)) → Quiet (reads_kernel map symvers)
 quiet-kernel (Some file) symvers = quiet-then _ _ (quiet-act (read file) _ _ tt) (λ bytes. quiet-given _)
 quiet-kernel None (Some file) = quiet-then _ _ (quiet-act (read file) _ _ tt) (λ bytes. quiet-given _)
 quiet-kernel None None = quiet-given _
 
-quiet-modules : (folder : List ℕ) (paths : List (List ℕ)) → Quiet (reads_modules_facts folder paths)
-quiet-modules folder paths = quiet-each (adds_facts folder) [] paths (λ before path.
-    quiet-then _ _ (quiet-when _ _ _ (quiet-given _) (quiet-then _ _ (quiet-act (read _) _ _ tt) (λ bytes. quiet-given _))) (λ facts. quiet-given _))
+pub quiet-module : (folder : List ℕ) (before : List Facts) (path : List ℕ) → Quiet (adds_facts folder before path)
+quiet-module folder before path =
+    quiet-then _ _ (quiet-when _ _ _ (quiet-given _) (quiet-then _ _ (quiet-act (read _) _ _ tt) (λ bytes. quiet-given _))) (λ facts. quiet-given _)
 
-quiet-related : (folder : List ℕ) (config map symvers : Option (List ℕ)) → Quiet (reads_related folder config map symvers)
+pub quiet-modules : (folder : List ℕ) (paths : List (List ℕ)) → Quiet (reads_modules_facts folder paths)
+quiet-modules folder paths = quiet-each (adds_facts folder) [] paths (quiet-module folder)
+
+pub quiet-related : (folder : List ℕ) (config map symvers : Option (List ℕ)) → Quiet (reads_related folder config map symvers)
 quiet-related folder config map symvers =
     quiet-then _ _ (quiet-search config) (λ search.
     quiet-then _ _ (quiet-tree folder search) (λ paths.
     quiet-then _ _ (quiet-kernel map symvers) (λ kernel.
     quiet-then _ _ (quiet-modules folder paths) (λ facts. quiet-given _))))
 
-quiet-made : (folder : List ℕ) (tree : Tree) → Quiet (makes_outputs folder tree)
+pub quiet-made : (folder : List ℕ) (tree : Tree) → Quiet (makes_outputs folder tree)
 quiet-made folder tree = quiet-then _ _ (quiet-act (read _) _ _ tt) (λ builtin. quiet-given _)
 
-quiet-warned : (errsyms versions : Bool) (obstacles : List Unbound) → Quiet (warns_unmet errsyms versions obstacles)
+pub quiet-warned : (errsyms versions : Bool) (obstacles : List Unbound) → Quiet (warns_unmet errsyms versions obstacles)
 quiet-warned errsyms versions obstacles =
     quiet-when errsyms _ _ (quiet-each _ tt obstacles (λ _ obstacle. by_line (warning_line versions obstacle))) (quiet-given _)
   where
@@ -151,10 +155,10 @@ quiet-said made files = quiet-each _ tt files (λ _ file. quiet-says_any (conten
 -- ---- replacements come last
 
 -- the acts that put a file of some, each
-puts_of : List ℕ → OutputFiles → List OutputFile → List Act
+unfoldable pub puts_of : List ℕ → OutputFiles → List OutputFile → List Act
 puts_of folder made files = map (λ file. put (path_below folder (file_name file)) (content made file)) files
 
-puts-run : (folder : List ℕ) (made : OutputFiles) (files : List OutputFile) (told : Contents) → (puts_each folder made files).run told ≡ record { acts = puts_of folder made files; outcome = value tt }
+pub puts-run : (folder : List ℕ) (made : OutputFiles) (files : List OutputFile) (told : Contents) → (puts_each folder made files).run told ≡ record { acts = puts_of folder made files; outcome = value tt }
 unfolding ◌>>=◌ continued given act_with puts_of
 puts-run folder made [] told = refl
 puts-run folder made (file ∷ files) told =

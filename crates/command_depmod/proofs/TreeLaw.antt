@@ -1,6 +1,6 @@
 -- What is known of the paths of a tree, by its definition.
 use Rattle.std.proofs.Common.{◌≡◌, ℕ, ◌≤◌, Bool, true, false, cond, List, [], ◌∷◌, length, Option, Some, None, Ok, Err, refl, sym, ap, subst, ◌∙◌, inl, inr, arith, Ordering}
-use Rattle.std.specs.Prelude.{◌==◌, not, ◌&&◌, ◌||◌, nat_lt, map, filter, AllPairs, is_some}
+use Rattle.std.specs.Prelude.{◌==◌, not, ◌&&◌, ◌||◌, nat_lt, map, filter, All, AllPairs, is_some}
 use Rattle.std.specs.List.{AllByRecursion, IsDistinct, list_any, list_all, position_or_len}
 use Rattle.std.specs.Str.{bytes_eq}
 use Rattle.std.specs.Char.{is_ascii_graphic}
@@ -265,6 +265,25 @@ known words lines listed clear few =
       colon = All-from_recursion (λ p. not (list_any (λ b. b == 58) p) ≡ true) tree (weaker (λ q. has q ms ≡ true) (λ p. not (list_any (λ b. b == 58) p) ≡ true) tree (λ q h.
           ap not (clean q (good q h)).1) there);
     }
+
+-- each path is one of a module
+kinds : (search lines listed : List (List ℕ)) → All (λ p. is_module_path p ≡ true) (tree_paths search lines (filter is_module_path listed))
+unfolding tree_paths
+kinds words lines listed =
+    let ms : List (List ℕ) = filter is_module_path listed in
+    let chosen : List (List ℕ) = filter (is_chosen words ms) ms in
+    let tree : List (List ℕ) = in_order (listing_cmp lines) chosen in
+    let of_tree : (q : List ℕ) → has q tree ≡ true → is_module_path q ≡ true = λ q h.
+    let e : (has q ms && is_chosen words ms q) ≡ true = sym (any-filter (is_chosen words ms) q ms) ∙ sym (members (listing_total lines) (listing_same lines) q chosen) ∙ h in
+    (and_parts _ _ (sym (any-filter is_module_path q listed) ∙ (and_parts _ _ e).0)).1 in
+    All-from_recursion (λ p. is_module_path p ≡ true) tree (weaker (λ q. has q tree ≡ true) (λ p. is_module_path p ≡ true) tree of_tree (own tree))
+
+pub tree-kinds : (listed : List (List ℕ)) (order : List ℕ) (search paths : List (List ℕ)) → tree_of listed order search ≡ Ok paths → All (λ p. is_module_path p ≡ true) paths
+unfolding tree_of
+tree-kinds listed order words paths e =
+    let ms : List (List ℕ) = filter is_module_path listed in
+    let p = parts (bad_path ms) (name_count ms) (tree_paths words (lines_of order) ms) paths e in
+    subst (All (λ p. is_module_path p ≡ true)) p.2 (kinds words (lines_of order) listed)
 
 pub tree-paths : (listed : List (List ℕ)) (order : List ℕ) (search paths : List (List ℕ)) → tree_of listed order search ≡ Ok paths → AreTreePaths paths
 unfolding tree_of

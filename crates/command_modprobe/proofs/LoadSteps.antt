@@ -1,7 +1,7 @@
 -- The stages of a plan that is loaded, joined.
 use Rattle.std.proofs.Common.{◌≡◌, ℕ, ◌+◌, ◌<◌, ◌≤◌, Bool, true, false, List, [], ◌∷◌, ◌++◌, length, map, drop, refl, sym, ap, subst, ◌∙◌, append_assoc, append-nil, inl, inr}
 use Rattle.std.proofs.Props.{props}
-use Rattle.std.specs.Prelude.{Option, Some, None, Result, Ok, Err, ◌⊎◌, if◌then◌else◌, option_map, ⊤}
+use Rattle.std.specs.Prelude.{Option, Some, None, Result, Err, ◌⊎◌, if◌then◌else◌, option_map, ⊤}
 use Rattle.std.specs.List.{flat_map}
 use Rattle.std.proofs.lemmas.List.{drop_all}
 use Rattle.km_names.specs.First.{first}
@@ -22,12 +22,11 @@ use Rattle.km_course.specs.declared.stop.Stop.TheVariants.{Ended, Memory}
 use Rattle.km_course.proofs.Steps.{answered}
 use Rattle.km_course.proofs.Following.{along}
 use Rattle.command_files.specs.KernelModules.{modules_folder}
-use Rattle.command_loads.specs.Listed.{loads_listed}
 use Rattle.command_loads.specs.Loads.{loads_all}
 use Rattle.command_loads.specs.Tables.{reads_machine}
 use Rattle.command_modprobe.specs.declared.known.Known.{Known}
 use Rattle.command_modprobe.specs.Known.{reads_known}
-use Rattle.command_modprobe.specs.Planned.{plan_lines, plan_outcome, request_of}
+use Rattle.command_modprobe.specs.Planned.{plan_lines, request_of}
 use Rattle.command_modprobe.specs.Loaded.{command_owner, install_stop, loaded_path, loads_into, loads_request, loads_steps, paths_outcome, region_at, region_when, unless_install}
 
 -- the stages after each part of a load

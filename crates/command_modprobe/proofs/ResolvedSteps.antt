@@ -1,20 +1,17 @@
 -- Names, one after the other, and what they stand for.
-use Rattle.std.proofs.Common.{◌≡◌, ℕ, ◌+◌, ◌<◌, ◌≤◌, Bool, true, false, List, [], ◌∷◌, ◌++◌, length, drop, get_or, cond, eqb, ◌≢◌, refl, sym, ap, subst, ◌∙◌, append_assoc, append-nil}
+use Rattle.std.proofs.Common.{◌≡◌, ℕ, ◌+◌, ◌<◌, ◌≤◌, Bool, true, false, List, [], ◌∷◌, ◌++◌, length, drop, cond, eqb, ◌≢◌, sym, ap, subst, ◌∙◌, append_assoc, append-nil}
 use Rattle.std.specs.Prelude.{find, Some, None, Result, Err, ⊤}
-use Rattle.std.proofs.lemmas.List.{drop_more, drop_all}
-use Rattle.kmod_words.specs.declared.modprobe.Mode.{Mode}
+use Rattle.std.proofs.lemmas.List.{drop_all}
 use Rattle.kmod_words.specs.declared.modprobe.ModprobeWords.{ModprobeWords}
 use Rattle.command_files.specs.KernelModules.{modules_folder}
 use Rattle.km_course.specs.World.{World}
 use Rattle.km_course.specs.Follows.{Answers, Follows}
 use Rattle.km_course.specs.declared.stop.Stop.{Stop}
 use Rattle.km_course.specs.declared.stop.Stop.TheVariants.{Ended}
-use Rattle.km_course.proofs.Steps.{answered}
 use Rattle.command_modprobe.specs.Known.{reads_known}
-use Rattle.command_modprobe.specs.Modprobe.{modprobe_in_mode}
-use Rattle.km_course.specs.Course.{Stage, ◌>>=◌, given, ends, says_any}
+use Rattle.km_course.specs.Course.{Stage, ◌>>=◌, given, says_any}
 use Rattle.km_course.specs.Course.Outcome.{value, end}
-use Rattle.km_course.specs.declared.end.End.TheVariants.{Refused, NotUnderstood}
+use Rattle.km_course.specs.declared.end.End.TheVariants.{Refused}
 use Rattle.km_course.specs.declared.refusal.Refusal.TheVariants.{NotFound}
 use Rattle.std.proofs.lemmas.Bool.{ne_eqb}
 use Rattle.name_lookup.specs.declared.found.Found.{Found}

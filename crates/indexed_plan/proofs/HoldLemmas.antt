@@ -77,7 +77,7 @@ with-sound m k v all key one =
     (put-sound k (place (values_of m k) v) (entries m) (record { key = key; some = placed-some (values_of m k) v; values = placed-storable (values_of m k) v old one }) all)
 
 -- a value that a file can have, with its key
-abbrev Fits : KeyValue → Type 0
+abbrev pub Fits : KeyValue → Type 0
 Fits p = IsKey p.0 × IsStorable p.1
 
 all-sound : (m : KeyValues) (ps : List KeyValue) → Sound (entries m) → ((p : KeyValue) → Member p ps → Fits p) → Sound (entries (with_values m ps))
@@ -87,7 +87,7 @@ all-sound m (p ∷ ps) all fit =
     all-sound (with_value m p.0 p.1) ps (with-sound m p.0 p.1 all one.0 one.1) (λ q in'. fit q (inr in'))
 
 -- the map of such values is that for which its file stands
-map-holds : (ps : List KeyValue) → ((p : KeyValue) → Member p ps → Fits p) → length (file (map_of ps)) ≤ 2 ^ 26 → Holds (file (map_of ps)) (map_of ps)
+pub map-holds : (ps : List KeyValue) → ((p : KeyValue) → Member p ps → Fits p) → length (file (map_of ps)) ≤ 2 ^ 26 → Holds (file (map_of ps)) (map_of ps)
 map-holds ps fit low =
     holds (map_of ps) (rises (entries (map_of ps)) (entries_sorted (map_of ps))) (all-sound empty ps (subst Sound (sym entries-empty) tt) fit) low
 

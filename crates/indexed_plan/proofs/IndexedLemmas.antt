@@ -37,11 +37,11 @@ use Rattle.indexed_plan.proofs.HoldLemmas.{dep-holds}
 use Rattle.std.proofs.lemmas.List.{length-map}
 
 -- a path has one file
-one-file : (held : Contents) (path a b : List ℕ) → HasFile held path a → HasFile held path b → a ≡ b
+pub one-file : (held : Contents) (path a b : List ℕ) → HasFile held path a → HasFile held path b → a ≡ b
 one-file held path a b has_a has_b = let e : ◌≡◌ {A = Option (List ℕ)} (Some a) (Some b) = sym has_a ∙ has_b in cc
 
 -- a file that isn't too large
-size-passed : (name : OutputFile) (bytes : List ℕ) → size_fault name bytes ≡ None → length bytes ≤ 2 ^ 26
+pub size-passed : (name : OutputFile) (bytes : List ℕ) → size_fault name bytes ≡ None → length bytes ≤ 2 ^ 26
 size-passed name bytes none = go (nat_lt file_limit (length bytes)) (OutputTooLarge name (min (length bytes) 18446744073709551615)) refl none
   where
     go : (b : Bool) (fault : OutputFault) → nat_lt file_limit (length bytes) ≡ b → (if b then Some fault else None) ≡ None → length bytes ≤ 2 ^ 26

@@ -6,3 +6,5 @@ pub mod NamedLemmas
 pub mod IndexedLemmas
 pub mod FolderLemmas
 pub mod StepLemmas
+pub mod StandingLemmas
+pub mod ObstacleLemmas

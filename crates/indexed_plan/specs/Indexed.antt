@@ -1,7 +1,8 @@
 -- Files that stand as depmod indexed them: the modules of a tree in a folder, and what depmod made of them. depmod(8),
 -- modules.dep(5).
-use Rattle.std.specs.Prelude.{◌≡◌, ℕ, true, List, Some, None, Ok}
+use Rattle.std.specs.Prelude.{◌≡◌, ◌≤◌, ℕ, true, List, length, Some, None, Ok}
 use Rattle.std.specs.FinMap.{get}
+use Rattle.km_names.specs.Limit.{file_limit}
 use Rattle.km_names.specs.Path.{path_below}
 use Rattle.km_outside.specs.Contents.{Contents}
 use Rattle.index_format.specs.Map.{KeyValues}
@@ -27,11 +28,12 @@ use Rattle.indexed_plan.specs.Binding.{StandsAsIndexed}
 abbrev pub HasFile : Contents → List ℕ → List ℕ → Type 0
 HasFile held path bytes = get held path ≡ Some bytes
 
--- The file at the path of a module is a valid one, and has these facts.
+-- The file at the path of a module is a valid one that can be read, and has these facts.
 pub record IsModuleFile (held : Contents) (folder : List ℕ) (f : Facts) : Type 0 where
   pub kind : is_module_path f.path ≡ true
   pub bytes : List ℕ
   pub there : HasFile held (path_below folder f.path) bytes
+  pub small : length bytes ≤ file_limit
   pub passed : fact_fault f.path bytes ≡ None
   pub facts : f ≡ facts_of f.path bytes
 

@@ -3,3 +3,4 @@ pub mod Binding
 pub mod Indexed
 pub mod Folder
 pub mod Steps
+pub mod Standing

@@ -4,6 +4,7 @@ ghost use Rattle.indexed_plan.specs.Indexed.{FoldersReadAsIndexed};
 ghost use Rattle.indexed_plan.specs.Folder.{FilesAreValid, FoldersBind};
 ghost use Rattle.indexed_plan.specs.Binding.{IndexedPlansBind, LinesAreOfTree};
 ghost use Rattle.indexed_plan.specs.Steps.{PlansAreClosed};
+ghost use Rattle.indexed_plan.specs.Standing.{FilesStand, LinesAreNoObstacle};
 
 /// The map that depmod makes has the dependency lines of its tree, the lines of such a map say what each module of the
 /// tree depends on, and it has no others.
@@ -35,4 +36,11 @@ pub fn folders_bind()
 /// dependency lines, and loads each from the first path of its own.
 pub fn plans_are_closed()
     ensures { PlansAreClosed }
+{}
+
+/// Each index that depmod makes is accepted and stands for its map, and its modules.unmet for its lines; and over the
+/// dependency lines that it made of a tree no plan is refused for a bad one.
+pub fn written_files_stand()
+    ensures files { FilesStand }
+    ensures lines { LinesAreNoObstacle }
 {}

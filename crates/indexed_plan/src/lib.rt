@@ -12,4 +12,5 @@ mod laws;
 
 pub use laws::{
     folders_bind, folders_read_as_indexed, indexed_lines, indexed_plans_bind, plans_are_closed,
+    written_files_stand,
 };

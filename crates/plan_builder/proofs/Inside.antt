@@ -1,6 +1,6 @@
 -- Places of modules are below their count.
-use Rattle.std.proofs.Common.{◌≡◌, ℕ, ◌<◌, Bool, true, false, cond, List, [], ◌∷◌, ◌++◌, length, Option, Some, None, refl, sym, ap, ◌∙◌, inl, inr}
-use Rattle.std.specs.Prelude.{◌||◌, ◌⊎◌, ◌&&◌, ◌==◌, not, All, filter, nat_lt, nat_eq}
+use Rattle.std.proofs.Common.{◌≡◌, ℕ, ◌<◌, Bool, true, false, cond, List, [], ◌∷◌, ◌++◌, length, Option, Some, None, refl, sym, ◌∙◌, inl, inr}
+use Rattle.std.specs.Prelude.{◌||◌, ◌⊎◌, ◌&&◌, ◌==◌, not, All, nat_lt, nat_eq}
 use Rattle.std.specs.List.{flat_map, position, position_or_len, list_any}
 use Rattle.std.specs.Option.{option_to_list}
 use Rattle.std.specs.Str.{bytes_eq}
@@ -10,8 +10,8 @@ use Rattle.relation_order.specs.Sets.{has}
 use Rattle.relation_order.proofs.Saturation.{kept}
 use Rattle.relation_order.proofs.PlaceSteps.{all-within}
 use Rattle.index_format.specs.Listing.{KeyValue}
-use Rattle.plan_builder.specs.Modules.{place_of, places_of, needed_names, line_at, name_at}
-use Rattle.plan_builder.specs.Needs.{Sources, modules, line_places, soft_places, found_names, is_available, before, after}
+use Rattle.plan_builder.specs.Modules.{place_of, places_of}
+use Rattle.plan_builder.specs.Needs.{Sources, modules, soft_places, found_names, is_available}
 
 pub has-append : (xs ys : List ℕ) (y : ℕ) → has (xs ++ ys) y ≡ (has xs y || has ys y)
 has-append xs ys y = list_any-append _ xs ys

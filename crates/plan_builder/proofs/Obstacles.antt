@@ -1,5 +1,5 @@
 -- The first obstacle of a request, test by test, and the steps of its plan.
-use Rattle.std.proofs.Common.{◌≡◌, ◌<◌, subst, ℕ, List, [], ◌∷◌, ◌++◌, length, map, drop, Option, Some, None, sym, ap, ◌∙◌}
+use Rattle.std.proofs.Common.{◌≡◌, ◌<◌, subst, List, [], ◌∷◌, ◌++◌, length, map, drop, Option, Some, None, sym, ap, ◌∙◌}
 use Rattle.std.specs.List.{find}
 use Rattle.std.specs.Option.{option_map}
 use Rattle.std.proofs.lemmas.List.{length-map}

@@ -1,12 +1,10 @@
 -- The first of the values of each key, among keys with their values.
-use Rattle.std.specs.Prelude.{◌≡◌, ℕ, List, [], ◌∷◌, map, false, Option, Some, None, if◌then◌else◌}
+use Rattle.std.specs.Prelude.{◌≡◌, ℕ, List, [], ◌∷◌, false, Option, Some, None, if◌then◌else◌}
 use Rattle.std.specs.Option.{option_map_or}
-use Rattle.std.specs.List.{list_any, after_first, slice_split}
+use Rattle.std.specs.List.{list_any, after_first}
 use Rattle.std.specs.Str.{bytes_eq}
 use Rattle.std.specs.Prelude.{◌==◌, true}
 use Rattle.index_format.specs.Listing.{KeyValue}
-use Rattle.index_read.specs.declared.value.Pair.{Pair}
-use Rattle.index_read.specs.Values.{pair_of}
 
 -- The pairs whose key isn't that of the pair before them; the first follows one with this key, or none.
 abbrev pub after_key : Option (List ℕ) → List KeyValue → List KeyValue

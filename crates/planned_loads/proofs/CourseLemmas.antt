@@ -58,7 +58,7 @@ use Rattle.command_loads.specs.Modules.{module_at}
 use Rattle.command_modprobe.specs.declared.known.Known.{Known}
 use Rattle.command_modprobe.specs.Planned.{plan_outcome, plan_unless, sources_with}
 use Rattle.command_modprobe.specs.Loaded.{command_owner, loaded_path, paths_outcome, unless_install}
-use Rattle.planned_loads.specs.Files.{AreFileModules, AreSmall, IsFileModule}
+use Rattle.planned_loads.specs.Files.{AreFileModules, IsFileModule}
 use Rattle.planned_loads.specs.Listed.{AreListedPaths}
 use Rattle.planned_loads.specs.Courses.{CoursesBind, known_lines}
 use Rattle.planned_loads.proofs.ClosedLemmas.{among-reversed, closed-reversed}
@@ -166,7 +166,7 @@ pub record ArePlanned (held : Contents) (folder : List ℕ) (dep : KeyValues) (s
   pub of_names : AreModulesOf held folder dep (inserted_names steps) plan
   pub of_files : AreFileModules held folder (flat_map loaded_path steps) plan
 
-module _ (held : Contents) (folder : List ℕ) (tree : List Facts) (kernel : Kernel) (builtin : List ℕ) (indexed : Indexed held folder tree kernel builtin) (small : AreSmall held folder tree) (known : Known) (knows : KnowsFolder held folder known) where
+module _ (held : Contents) (folder : List ℕ) (tree : List Facts) (kernel : Kernel) (builtin : List ℕ) (indexed : Indexed held folder tree kernel builtin) (known : Known) (knows : KnowsFolder held folder known) where
   abbrev dep : KeyValues
   dep = known_lines known
 
@@ -217,7 +217,7 @@ module _ (held : Contents) (folder : List ℕ) (tree : List Facts) (kernel : Ker
           kind = subst (λ p. is_module_path p ≡ true) at_path file.kind;
           bytes = file.bytes;
           there = there;
-          small = small f file.bytes line.in_tree file.there;
+          small = file.small;
           passed = passed;
           read = refl;
         },
@@ -246,10 +246,9 @@ loaded-ok (Err fault) machine is = cc
 pub courses-bind : CoursesBind
 courses-bind held folder tree kernel builtin addressed as_indexed config listing request region known machine steps paths came images =
     let indexed = as_indexed.indexed in
-    let small = as_indexed.small in
     let knows = knows-folder held config listing folder known came.knows in
     let lines = known_lines known in
-    let holding = holds held folder tree kernel builtin indexed small known knows in
+    let holding = holds held folder tree kernel builtin indexed known knows in
     let start = new_machine addressed region in
     let loads = listed-are-of-machine held folder known.indexes.dep start known.loaded machine came.listed in
     let listed = loads.listed in
@@ -262,10 +261,10 @@ courses-bind held folder tree kernel builtin addressed as_indexed config listing
     have-values held folder known.indexes.dep lines holding (reverse known.loaded) loads.paths loads.found name (among-reversed known.loaded name ∙ in') in
     let runs : list_any runs_command (plan_steps s request) ≡ false = ap (list_any runs_command) made.1 ∙ none-runs steps given'.0 in
     let closing : AreClosedSteps s steps = subst (AreClosedSteps s) made.1 (plans-closed s request made.0 runs valued) in
-    let modules = step-modules held folder tree kernel builtin indexed small known knows steps closing.own_paths in
+    let modules = step-modules held folder tree kernel builtin indexed known knows steps closing.own_paths in
     let plan = modules.plan in
     let binding : Binds addressed region listed plan =
-    folders-bind held folder tree kernel builtin lines known.unmet indexed (is-read held folder tree kernel builtin indexed small known knows) addressed region (reverse known.loaded) (inserted_names steps) listed plan as_indexed.same_table of_listed modules.of_names
+    folders-bind held folder tree kernel builtin lines known.unmet indexed (is-read held folder tree kernel builtin indexed known knows) addressed region (reverse known.loaded) (inserted_names steps) listed plan as_indexed.same_table of_listed modules.of_names
     (loaded-ok (load_all start listed) machine loads.loaded)
     (closed-reversed (lines_of_map lines) known.unmet known.loaded (inserted_names steps) closing.closed) in
     let after_listed : load_all start (listed ++ plan) ≡ load_all machine plan =

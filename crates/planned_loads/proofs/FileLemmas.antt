@@ -50,21 +50,21 @@ left-holds true b is none = refl
 left-holds false b is none = cc
 
 -- it ends in `.ko`
-ends-ko : (path : List ℕ) → is_module_path path ≡ true → is_compressed path ≡ false → path ≡ take (length path - 3) path ++ codes ".ko"
+pub ends-ko : (path : List ℕ) → is_module_path path ≡ true → is_compressed path ≡ false → path ≡ take (length path - 3) path ++ codes ".ko"
 ends-ko path kind plain =
     (ends_is Decides-eqb path (codes ".ko") (ends_with nat_eq path (codes ".ko")) refl).0 (left-holds (ends_with nat_eq path (codes ".ko")) (is_compressed path) kind plain)
 
-abbrev first_of_list : List ℕ → ℕ
+abbrev pub first_of_list : List ℕ → ℕ
 first_of_list [] = 0
 first_of_list (b ∷ bs) = b
 
-abbrev last_of : List ℕ → ℕ
+abbrev pub last_of : List ℕ → ℕ
 last_of bs = first_of_list (reverse bs)
 
 below-last : (folder front : List ℕ) (text : List ℕ) → path_below folder (front ++ text) ≡ (without_end_slashes folder ++ 47 ∷ front) ++ text
 below-last folder front text = sym (append_assoc (without_end_slashes folder) (47 ∷ front) text)
 
-last-ko : (front : List ℕ) → last_of (front ++ codes ".ko") ≡ 111
+pub last-ko : (front : List ℕ) → last_of (front ++ codes ".ko") ≡ 111
 last-ko front = ap first_of_list (reverse-append front (codes ".ko"))
 
 last-img : (front : List ℕ) → last_of (front ++ codes ".img") ≡ 103
@@ -81,12 +81,12 @@ apart folder path images name kind plain same =
     let numbers : 111 ≡ 103 = sym one ∙ ap last_of same ∙ other in
     absurd (omega (arith, numbers))
 
-false-unless : (b : Bool) → (b ≡ true → ⊥) → b ≡ false
+pub false-unless : (b : Bool) → (b ≡ true → ⊥) → b ≡ false
 false-unless true never = absurd (never refl)
 false-unless false never = refl
 
 -- a file is there as before, once another was put
-other-file : (files : Contents) (path place image : List ℕ) → (path ≡ place → ⊥) → get (insert files place image) path ≡ get files path
+pub other-file : (files : Contents) (path place image : List ℕ) → (path ≡ place → ⊥) → get (insert files place image) path ≡ get files path
 other-file files path place image differ =
     get-insert nat_list_cmp_total files place image path
     ∙ ap (λ b. cond b (Some image) (get files path)) (is_eq-slice_cmp path place ∙ false-unless (bytes_eq path place) (λ is. differ ((bytes_eq-Decides path place).0 is)))
@@ -149,7 +149,7 @@ reads-module files folder path m is =
     ∙ ap (λ o. run_of (read file ∷ []) o) valid
 
 -- what was read is the module of a file
-file-there : (path bytes : List ℕ) (found : Option (List ℕ)) → read_outcome (end (NoFile path)) path found ≡ value bytes → (found ≡ Some bytes) × (length bytes ≤ file_limit)
+pub file-there : (path bytes : List ℕ) (found : Option (List ℕ)) → read_outcome (end (NoFile path)) path found ≡ value bytes → (found ≡ Some bytes) × (length bytes ≤ file_limit)
 file-there path bytes None is = cc
 file-there path bytes (Some there) is = by_size (nat_lt file_limit (length there)) refl is
   where
@@ -170,7 +170,7 @@ pub record HasReadModule (files : Contents) (folder path : List ℕ) (m : Module
   pub acts : ((reads_module folder path).run files).acts ≡ read (path_below folder path) ∷ []
 
 -- what isn't ended at once
-past-test : {X : Type 0} (test : Bool) (e : End) (other : Stage X) (files : Contents) (x : X) → ((when test then ends e else other).run files).outcome ≡ value x → (other.run files).outcome ≡ value x
+pub past-test : {X : Type 0} (test : Bool) (e : End) (other : Stage X) (files : Contents) (x : X) → ((when test then ends e else other).run files).outcome ≡ value x → (other.run files).outcome ≡ value x
 unfolding given
 past-test true e other files x is = cc
 past-test false e other files x is = is

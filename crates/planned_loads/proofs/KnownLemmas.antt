@@ -32,7 +32,7 @@ use Rattle.planned_loads.proofs.RunLemmas.{OnlyReads, given-on, reads-each, read
 -- ---- the reading only reads
 
 -- the files of a configuration with one more
-abbrev one_more_file : List ConfFile → List ℕ → List ℕ → Stage (List ConfFile)
+abbrev pub one_more_file : List ConfFile → List ℕ → List ℕ → Stage (List ConfFile)
 one_more_file files path bytes = gives (files ++ record { path = path; bytes = bytes } ∷ [])
 
 only-file : (files : List ConfFile) (path : List ℕ) → OnlyReads (reads_file files path)
@@ -42,7 +42,7 @@ only-file files path =
 only-files : (paths : List (List ℕ)) → OnlyReads (reads_files paths)
 only-files paths = reads-each reads_file only-file [] paths
 
-abbrev one_more_folder : List ListedFolder → List ℕ → List (List ℕ) → Stage (List ListedFolder)
+abbrev pub one_more_folder : List ListedFolder → List ℕ → List (List ℕ) → Stage (List ListedFolder)
 one_more_folder listed path names = gives (listed ++ record { path = path; names = names } ∷ [])
 
 only-folder : (name : List ℕ) (listed : List ListedFolder) (root : List ℕ) → OnlyReads (lists_folder name listed root)
@@ -52,7 +52,7 @@ only-folder name listed root =
 only-folders : (name : List ℕ) (places : List (List ℕ)) → OnlyReads (lists_folders name places)
 only-folders name places = reads-each (lists_folder name) (only-folder name) [] places
 
-abbrev of_folder : List ℕ → List (List ℕ) → Stage (List ConfFile)
+abbrev pub of_folder : List ℕ → List (List ℕ) → Stage (List ConfFile)
 of_folder path names = reads_listed (record { path = path; names = names } ∷ [])
 
 only-given_path : (path : List ℕ) → OnlyReads (reads_given path)
@@ -66,15 +66,15 @@ only-configuration tool (Some path) = only-given_path path
 only-configuration tool None =
     reads-then (lists_folders (folder_name tool) roots) reads_listed (only-folders (folder_name tool) roots) (λ folders. only-files (paths_of folders))
 
-abbrev index_read : List ℕ → List ℕ → Stage Index
+abbrev pub index_read : List ℕ → List ℕ → Stage Index
 index_read file bytes = given (index_outcome file bytes (index_fault bytes))
 
-only-index : (folder name : List ℕ) → OnlyReads (reads_index_in folder name)
+pub only-index : (folder name : List ℕ) → OnlyReads (reads_index_in folder name)
 only-index folder name =
     let file = path_below folder name in
     reads-then (reads file) (index_read file) (reads-file (end (NoFile file)) file) (λ bytes. reads-given (index_outcome file bytes (index_fault bytes)))
 
-only-indexes : (folder : List ℕ) → OnlyReads (reads_indexes folder)
+pub only-indexes : (folder : List ℕ) → OnlyReads (reads_indexes folder)
 only-indexes folder =
     reads-then (reads_index_in folder (codes "modules.dep.bin")) (after_dep folder) (only-index folder (codes "modules.dep.bin")) (λ dep.
     reads-then (reads_index_in folder (codes "modules.alias.bin")) (after_alias folder dep) (only-index folder (codes "modules.alias.bin")) (λ alias.
@@ -82,21 +82,21 @@ only-indexes folder =
     reads-then (reads_index_in folder (codes "modules.builtin.bin")) (after_builtin dep alias symbols) (only-index folder (codes "modules.builtin.bin")) (λ builtin.
     reads-given (value (record { dep = dep; alias = alias; symbols = symbols; builtin = builtin }))))))
 
-only-rules : (configuration : List ConfFile) (folder : List ℕ) → OnlyReads (reads_rules configuration folder)
+pub only-rules : (configuration : List ConfFile) (folder : List ℕ) → OnlyReads (reads_rules configuration folder)
 only-rules configuration folder =
     let file = path_below folder (codes "modules.softdep") in
     reads-then (reads_any file) (softdep_stated configuration file) (reads-file (value []) file) (λ bytes. reads-given _)
 
-only-unmet : (folder : List ℕ) → OnlyReads (reads_unmet folder)
+pub only-unmet : (folder : List ℕ) → OnlyReads (reads_unmet folder)
 only-unmet folder =
     let file = path_below folder (codes "modules.unmet") in
     reads-then (reads_any file) (unmet_stated file) (reads-file (value []) file) (λ bytes. reads-given (stated_outcome (unmet_of file bytes)))
 
-only-loaded : (path : Option (List ℕ)) → OnlyReads (reads_loaded path)
+pub only-loaded : (path : Option (List ℕ)) → OnlyReads (reads_loaded path)
 only-loaded None = reads-given (value [])
 only-loaded (Some path) = reads-then (reads path) loaded_stated (reads-file (end (NoFile path)) path) (λ bytes. reads-given _)
 
-only-lists : (configuration : List ConfFile) (folder : List ℕ) (indexes : Indexes) (listing : Option (List ℕ)) → OnlyReads (reads_lists configuration folder indexes listing)
+pub only-lists : (configuration : List ConfFile) (folder : List ℕ) (indexes : Indexes) (listing : Option (List ℕ)) → OnlyReads (reads_lists configuration folder indexes listing)
 only-lists configuration folder indexes listing =
     reads-then (reads_rules configuration folder) (after_softdep folder indexes listing) (only-rules configuration folder) (λ rules.
     reads-then (reads_unmet folder) (after_unmet indexes listing rules) (only-unmet folder) (λ unmet.
@@ -138,7 +138,7 @@ needed-there path (Some there) bytes came = by_size (nat_lt file_limit (length t
     by_size true came = cc
     by_size false came = cc
 
-was-stated : {X : Type 0} (o : Result X ConfFault) (x : X) → stated_outcome o ≡ value x → o ≡ Ok x
+pub was-stated : {X : Type 0} (o : Result X ConfFault) (x : X) → stated_outcome o ≡ value x → o ≡ Ok x
 was-stated (Ok other) x came = cc
 was-stated (Err (faults.BadLine file number)) x came = cc
 was-stated (Err faults.Memory) x came = cc
@@ -148,11 +148,11 @@ unfolding index_outcome
 was-accepted file bytes None index came = (refl, cc)
 was-accepted file bytes (Some fault) index came = cc
 
-read-came : (absent : Outcome (List ℕ)) (path : List ℕ) (files : Contents) (bytes : List ℕ) → ((reads_or absent path).run files).outcome ≡ value bytes → read_outcome absent path (get files path) ≡ value bytes
+pub read-came : (absent : Outcome (List ℕ)) (path : List ℕ) (files : Contents) (bytes : List ℕ) → ((reads_or absent path).run files).outcome ≡ value bytes → read_outcome absent path (get files path) ≡ value bytes
 read-came absent path files bytes came =
     ap (λ r. r.outcome) (sym (run-read absent path files)) ∙ came
 
-given-came : {X : Type 0} (o : Outcome X) (x : X) (files : Contents) → ((given o).run files).outcome ≡ value x → o ≡ value x
+pub given-came : {X : Type 0} (o : Outcome X) (x : X) (files : Contents) → ((given o).run files).outcome ≡ value x → o ≡ value x
 given-came o x files came = ap (λ r. r.outcome) (sym (run-given o files)) ∙ came
 
 -- an index that was read is that of its file

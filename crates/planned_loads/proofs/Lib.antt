@@ -1,10 +1,15 @@
-mod RunLemmas
-mod FileLemmas
+pub mod RunLemmas
+pub mod FileLemmas
 mod RefusedLemmas
 mod LoadLemmas
 mod ListedLemmas
-mod KnownLemmas
+pub mod KnownLemmas
 mod ClosedLemmas
 pub mod CourseLemmas
 pub mod WholeLemmas
 pub mod EndLemmas
+mod SpaceLemmas
+mod SoftdepLemmas
+mod EndsLemmas
+mod ReadingLemmas
+mod PassLemmas

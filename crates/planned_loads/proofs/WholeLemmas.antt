@@ -37,10 +37,10 @@ use Rattle.planned_loads.proofs.RunLemmas.{OnlyReads, both-read, joined, reads-f
 only-map : (file : List ℕ) → OnlyReads (reads_map file)
 only-map file = reads-then (reads file) (map_read file) (reads-file (end (NoFile file)) file) (λ bytes. reads-given _)
 
-only-symvers : (file : List ℕ) → OnlyReads (reads_symvers file)
+pub only-symvers : (file : List ℕ) → OnlyReads (reads_symvers file)
 only-symvers file = reads-then (reads file) (symvers_read file) (reads-file (end (NoFile file)) file) (λ bytes. reads-given _)
 
-only-addressed : (map : List ℕ) (symvers : Option (List ℕ)) → OnlyReads (reads_addressed map symvers)
+pub only-addressed : (map : List ℕ) (symvers : Option (List ℕ)) → OnlyReads (reads_addressed map symvers)
 only-addressed map None = only-map map
 only-addressed map (Some symvers) =
     reads-then (reads map) (both_read map symvers) (reads-file (end (NoFile map)) map) (λ bytes.

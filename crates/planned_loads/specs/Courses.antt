@@ -33,18 +33,15 @@ use Rattle.command_modprobe.specs.Known.{reads_known}
 use Rattle.command_modprobe.specs.Planned.{plan_lines, plan_outcome, request_of}
 use Rattle.command_modprobe.specs.Loaded.{loads_plan, paths_outcome, region_at}
 use Rattle.planned_loads.specs.Acts.{is_reading, said}
-use Rattle.planned_loads.specs.Files.{AreSmall}
 use Rattle.planned_loads.specs.Loads.{AreMachineLoads}
 
 -- The map of the modules.dep.bin that was read.
 abbrev pub known_lines : Known → KeyValues
 known_lines known = contents known.indexes.dep.nodes
 
--- The folder stands as depmod indexed it, and its modules can be read; and the kernel of the machine has the table that was
--- indexed, with addresses.
+-- The folder stands as depmod indexed it; and the kernel of the machine has the table that was indexed, with addresses.
 pub record IsIndexedFor (held : Contents) (folder : List ℕ) (tree : List Facts) (kernel : Kernel) (builtin : List ℕ) (addressed : Kernel) : Type 0 where
   pub indexed : Indexed held folder tree kernel builtin
-  pub small : AreSmall held folder tree
   pub same_table : kernel_of addressed ≡ kernel_of kernel
 
 -- A course came past its reading, over these files: this is known, and this is the machine of the kernel after the listed

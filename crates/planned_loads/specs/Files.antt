@@ -3,12 +3,10 @@ use Rattle.std.specs.Prelude.{◌≡◌, ◌≤◌, ℕ, true, List, [], ◌∷�
 use Rattle.km_names.specs.Limit.{file_limit}
 use Rattle.km_names.specs.Path.{path_below}
 use Rattle.km_outside.specs.Contents.{Contents}
-use Rattle.module_facts.specs.declared.facts.Facts.{Facts}
 use Rattle.module_facts.specs.declared.module.Module.{Module}
 use Rattle.module_facts.specs.Faults.{fact_fault}
 use Rattle.mod_tree.specs.Tree.{is_module_path}
 use Rattle.command_loads.specs.Modules.{module_at}
-use Rattle.plan_binding.specs.Members.{Member}
 use Rattle.indexed_plan.specs.Indexed.{HasFile}
 
 -- A module is that of the file at a path of the tree in a folder, which can be read, and with which nothing is wrong.
@@ -27,8 +25,3 @@ AreFileModules held folder [] (m ∷ ms) = ⊥
 AreFileModules held folder (path ∷ paths) [] = ⊥
 AreFileModules held folder (path ∷ paths) (m ∷ ms) =
     IsFileModule held folder path m × AreFileModules held folder paths ms
-
--- The files of the modules of a tree are no greater than a file that is read.
-abbrev pub AreSmall : Contents → List ℕ → List Facts → Type 0
-AreSmall held folder tree =
-    (f : Facts) (bytes : List ℕ) → Member f tree → HasFile held (path_below folder f.path) bytes → length bytes ≤ file_limit

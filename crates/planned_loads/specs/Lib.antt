@@ -3,3 +3,4 @@ pub mod Files
 pub mod Loads
 pub mod Listed
 pub mod Courses
+pub mod Reading

@@ -2,6 +2,7 @@
 ghost use Rattle.planned_loads.specs.Loads.{LoadsAreOfMachine};
 ghost use Rattle.planned_loads.specs.Listed.{ListedLoadsAreOfMachine, ListedAreOfMachine};
 ghost use Rattle.planned_loads.specs.Courses.{CoursesLoad, CoursesBind, CoursesEnd};
+ghost use Rattle.planned_loads.specs.Reading.{FoldersAreRead, ReadingsEnd, CoursesPass};
 
 /// Loads of modules whose files are read are those of the machine: of a plan, with all that is said and written of them,
 /// and of listed modules, of which nothing is said.
@@ -21,4 +22,13 @@ pub fn courses_load()
 pub fn courses_bind()
     ensures bind { CoursesBind }
     ensures stop { CoursesEnd }
+{}
+
+/// The files that depmod wrote are never refused: each index is accepted, and each line of modules.softdep and of
+/// modules.unmet is understood. What a modprobe over such a folder is refused for before it looks a name up is its
+/// configuration or its list of loaded modules; and in no mode does it end for an index or a dependency line.
+pub fn written_files_are_read()
+    ensures folder { FoldersAreRead }
+    ensures reading { ReadingsEnd }
+    ensures courses { CoursesPass }
 {}

@@ -11,4 +11,4 @@
 
 mod laws;
 
-pub use laws::{courses_bind, courses_load, loads_are_of_machines};
+pub use laws::{courses_bind, courses_load, loads_are_of_machines, written_files_are_read};

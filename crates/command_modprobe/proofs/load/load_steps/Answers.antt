@@ -1,10 +1,7 @@
-use Rattle.std.proofs.Common.{sym, ap, subst, ◌∙◌}
+use Rattle.std.proofs.Common.{◌∙◌}
 use Rattle.std.specs.Prelude.{⊤}
 use Rattle.std.proofs.lemmas.Result.{err_from_is_err_and}
-use Rattle.model_loader.specs.Machine.{Machine}
-use Rattle.km_course.specs.World.{world}
 use Rattle.km_course.specs.Course.{says_any}
-use Rattle.km_course.specs.Follows.{Follows}
 use Rattle.km_course.proofs.Steps.{next, exits, wants, gave}
 use Rattle.km_course.proofs.Following.{along}
 use Rattle.command_loads.specs.Listed.{loads_listed}

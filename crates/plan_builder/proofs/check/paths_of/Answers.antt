@@ -1,7 +1,6 @@
 use Rattle.std.proofs.Common.{◌≡◌, ◌||◌, get_or, ap, sym, ◌∙◌, arith}
 use Rattle.std.specs.Str.{bytes_eq}
 use Rattle.std.proofs.lemmas.List.Folds.{list_any_more}
-use Rattle.name_table.specs.FirstSeen.{is_among}
 use Rattle.plan_builder.specs.Modules.{path_at}
 use Rattle.plan_builder.proofs.Troubled.{bytes-sym}
 use Rattle.plan_builder.proofs.check.paths_of.Goals as goal

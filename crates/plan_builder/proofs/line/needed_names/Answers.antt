@@ -1,5 +1,5 @@
 use Rattle.std.proofs.Common.{◌≡◌, ◌++◌, ◌∷◌, [], ◌==◌, map, ap, sym, ◌∙◌, append_assoc, append-nil}
-use Rattle.std.specs.List.{slice_split, before_first, after_first}
+use Rattle.std.specs.List.{slice_split, before_first}
 use Rattle.km_names.specs.Path.{module_name}
 use Rattle.mod_tree.specs.DependencyLine.{needed_paths}
 use Rattle.plan_builder.proofs.Lines.{others-next, others-none, needed-is}

@@ -1,4 +1,4 @@
-use Rattle.std.proofs.Common.{not, ap, sym, ◌∙◌, length}
+use Rattle.std.proofs.Common.{not, ap, ◌∙◌, length}
 use Rattle.std.specs.Prelude.{filter}
 use Rattle.name_table.specs.FirstSeen.{is_among}
 use Rattle.relation_order.specs.Sets.{below}

@@ -1,5 +1,4 @@
-use Rattle.std.proofs.Common.{◌≡◌, take, length, map, Some}
-use Rattle.name_table.specs.NameTable.{IsTableOf}
+use Rattle.std.proofs.Common.{◌≡◌, take}
 use Rattle.plan_builder.specs.Tables.{shown, IsNamed}
 use Rattle.plan_builder.proofs.modules.table_of.Given as goal
 

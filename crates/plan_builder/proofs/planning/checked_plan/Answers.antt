@@ -1,5 +1,4 @@
-use Rattle.std.proofs.Common.{◌≡◌, ℕ, List, [], ◌∷◌, ◌++◌, Some, None, map, length, ap, sym, ◌∙◌, subst}
-use Rattle.std.specs.Prelude.{Bool}
+use Rattle.std.proofs.Common.{◌≡◌, [], ◌∷◌, ◌++◌, map, length, ap, sym, ◌∙◌}
 use Rattle.std.proofs.Math.Path.{fun_ext}
 use Rattle.std.proofs.lemmas.Result.{err_from_is_err_and}
 use Rattle.km_names.specs.First.{first}
@@ -11,7 +10,7 @@ use Rattle.plan_builder.specs.declared.check.LineKind.TheVariants as kinds
 use Rattle.plan_builder.specs.Modules.{name_at}
 use Rattle.plan_builder.specs.Needs.{modules, before, after, unloaded}
 use Rattle.plan_builder.specs.Members.{asked, planned}
-use Rattle.plan_builder.specs.Obstacles.{is_path_of, stands, line_of, first_line, cycle_obstacle, plan_tests}
+use Rattle.plan_builder.specs.Obstacles.{is_path_of, stands, line_of, first_line, cycle_obstacle}
 use Rattle.plan_builder.specs.Answers.{need_tests}
 use Rattle.plan_builder.specs.Planner.{sources_of}
 use Rattle.plan_builder.proofs.Answering.{first-none, first-some, right, cycle-answer, plan-answer, short-answer, unloaded-low}

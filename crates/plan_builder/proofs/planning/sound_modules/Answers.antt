@@ -3,7 +3,7 @@ use Rattle.std.specs.Prelude.{is_some}
 use Rattle.std.specs.Option.{option_map}
 use Rattle.std.proofs.lemmas.Result.{err_from_is_err_and}
 use Rattle.index_read.specs.Values.{shown_pairs}
-use Rattle.plan_builder.specs.Modules.{bad_among, by_number, place_of, modules_of, first_values}
+use Rattle.plan_builder.specs.Modules.{bad_among, by_number, place_of}
 use Rattle.plan_builder.specs.Tables.{shown}
 use Rattle.plan_builder.specs.declared.obstacle.Obstacle.TheVariants.{BadDepLine}
 use Rattle.plan_builder.proofs.Answering.{right}

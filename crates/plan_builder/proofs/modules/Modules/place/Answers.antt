@@ -1,4 +1,4 @@
-use Rattle.std.proofs.Common.{sym, ap, ◌∙◌}
+use Rattle.std.proofs.Common.{ap, ◌∙◌}
 use Rattle.plan_builder.specs.Modules.{place_of}
 use Rattle.plan_builder.specs.Tables.{shown}
 use Rattle.plan_builder.proofs.Named.{place-named}
