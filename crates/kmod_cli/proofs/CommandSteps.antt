@@ -5,6 +5,8 @@ use Rattle.km_course.specs.World.{World, Shown, Tells}
 use Rattle.km_course.specs.Carries.{Carries}
 use Rattle.command_depmod.specs.Replaced.{LeavesFiles}
 use Rattle.command_depmod.proofs.ReplaceLaw.{leaves}
+use Rattle.indexed_folder.specs.Left.{LeavesIndexed}
+use Rattle.indexed_folder.proofs.LeftLemmas.{leaves-indexed}
 use Rattle.kmod_cli.specs.Program.{command_named, course}
 
 pub no-words : (words : List (List ℕ)) → length words < 1 → words ≡ []
@@ -20,3 +22,9 @@ pub depmod-leaves : (words : List (List ℕ)) (old new : World) (status : ℕ) �
 unfolding command_named
 depmod-leaves words old new status c rest is =
     leaves rest old new status (subst (λ w. Carries (course w) old new status) is c)
+
+-- and its folder stands as it indexed it
+pub depmod-indexes : (words : List (List ℕ)) (old new : World) (status : ℕ) → Carries (course words) old new status → (rest : List (List ℕ)) → words ≡ codes "depmod" ∷ rest → (shown : Shown) → Tells old shown → LeavesIndexed rest shown.files new.files.contents status
+unfolding command_named
+depmod-indexes words old new status c rest is =
+    leaves-indexed rest old new status (subst (λ w. Carries (course w) old new status) is c)

@@ -7,6 +7,7 @@ ghost use Rattle.command_depmod.specs.Replaced.{LeavesFiles};
 ghost use Rattle.command_modinfo.specs.Modinfo.{modinfo_course};
 ghost use Rattle.command_modprobe.specs.Modprobe.{modprobe_course};
 ghost use Rattle.command_trial.specs.Trial.{trial_course};
+ghost use Rattle.indexed_folder.specs.Left.{LeavesIndexed};
 ghost use Rattle.kmod_cli.specs.Headline.{Headline};
 ghost use Rattle.kmod_cli.specs.Program.{course, course_named};
 
@@ -34,6 +35,9 @@ pub fn run<F: Files, O: Out, E: Out>(
     ensures replaces { (rest : List (List ℕ)) → words.now ≡ codes "depmod" ∷ rest → (shown : Shown) →
         Tells (world (F.seen files.old) (O.seen out.old) (E.seen err.old)) shown →
         LeavesFiles rest shown.files (F.seen files.new).contents result }
+    ensures indexes { (rest : List (List ℕ)) → words.now ≡ codes "depmod" ∷ rest → (shown : Shown) →
+        Tells (world (F.seen files.old) (O.seen out.old) (E.seen err.old)) shown →
+        LeavesIndexed rest shown.files (F.seen files.new).contents result }
     ensures headline { (rest : List (List ℕ)) → words.now ≡ codes "modprobe" ∷ rest → (shown : Shown) →
         Tells (world (F.seen files.old) (O.seen out.old) (E.seen err.old)) shown → Headline rest shown.files }
 {
@@ -72,7 +76,8 @@ fn command<F: Files, O: Out, E: Out>(
 
 /// Does what `depmod` does with these words after its name, and answers the exit status, as [`run`] does: indexes the
 /// modules of a kernel. A refused one replaces no file, and neither does one with `-n`; whatever stops another, it has
-/// replaced a first part of its nine files, each whole. depmod(8).
+/// replaced a first part of its nine files, each whole. One that replaces them in the folder of the modules, by the table of
+/// a kernel, and is done leaves that folder as it indexed it. depmod(8).
 pub fn depmod<F: Files, O: Out, E: Out>(
     alloc: Global,
     words: &[Word],
@@ -85,6 +90,8 @@ pub fn depmod<F: Files, O: Out, E: Out>(
         (world (F.seen files.new) (O.seen out.new) (E.seen err.new)) result }
     ensures replaces { (shown : Shown) → Tells (world (F.seen files.old) (O.seen out.old) (E.seen err.old)) shown →
         LeavesFiles words.now shown.files (F.seen files.new).contents result }
+    ensures indexes { (shown : Shown) → Tells (world (F.seen files.old) (O.seen out.old) (E.seen err.old)) shown →
+        LeavesIndexed words.now shown.files (F.seen files.new).contents result }
 {
     let outcome = command_depmod::depmod(alloc, words, files, out, err);
     conclude(alloc, outcome, err)

@@ -3,6 +3,7 @@ use Rattle.km_course.specs.Carries.{Carries}
 use Rattle.km_course.proofs.Carried.{carried}
 use Rattle.command_depmod.specs.Depmod.{depmod_course}
 use Rattle.command_depmod.proofs.ReplaceLaw.{leaves}
+use Rattle.indexed_folder.proofs.LeftLemmas.{leaves-indexed}
 use Rattle.kmod_cli.proofs.program.depmod.Goals as goal
 
 pub returns : goal.returns
@@ -18,4 +19,8 @@ returns g c =
     )
     c.depmod-outcome.ensures
     c.conclude.ensures in
-    record { carries = carries; replaces = leaves c.args.words.now old new c.conclude.result carries }
+    record {
+      carries = carries;
+      replaces = leaves c.args.words.now old new c.conclude.result carries;
+      indexes = leaves-indexed c.args.words.now old new c.conclude.result carries;
+    }

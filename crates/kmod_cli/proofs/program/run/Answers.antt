@@ -3,7 +3,7 @@ use Rattle.std.proofs.lemmas.List.{take_rest}
 use Rattle.km_course.specs.World.{world}
 use Rattle.km_course.specs.Carries.{Carries}
 use Rattle.kmod_cli.specs.Program.{command_named, course, course_named}
-use Rattle.kmod_cli.proofs.CommandSteps.{no-words, name-first, depmod-leaves}
+use Rattle.kmod_cli.proofs.CommandSteps.{no-words, name-first, depmod-leaves, depmod-indexes}
 use Rattle.kmod_cli.proofs.HeadlineLaw.{headline}
 use Rattle.kmod_cli.proofs.program.run.Goals as goal
 
@@ -17,6 +17,7 @@ returns-in-empty g c =
     record {
       carries = carries;
       replaces = depmod-leaves words old new c.command.result carries;
+      indexes = depmod-indexes words old new c.command.result carries;
       headline = λ rest is shown told. headline rest shown.files;
     }
 
@@ -35,5 +36,6 @@ returns-in-len1-up g c =
     record {
       carries = carries;
       replaces = depmod-leaves words old new c.command-in-len1-up.result carries;
+      indexes = depmod-indexes words old new c.command-in-len1-up.result carries;
       headline = λ after is shown told. headline after shown.files;
     }

@@ -1,0 +1,4 @@
+pub mod ReadLemmas
+pub mod PutLemmas
+pub mod LeftLemmas
+pub mod TableLemmas
