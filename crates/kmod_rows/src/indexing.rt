@@ -3,7 +3,8 @@ use crate::sheets::{
     ALIASES, CIRCLE_A, CIRCLE_B, CIRCLE_C, CIRCLE_P, FREE, GIVES, GIVES_ALONE, GIVES_VERSION_1,
     GPL_ONLY, IMPORTS, IN_SPACE, MAY_NEED_VERSION_2, NEEDS, NEEDS_NOSUCH,
 };
-use crate::tree_row::{FileRow, SYMVERS, TreeRow, USUAL, expect_tree};
+use crate::tree_row::{Failing, FileRow, SYMVERS, TreeRow, USUAL, expect_tree};
+use km_outside::CallKind;
 use std::test::Fail;
 
 /// A tree without modules: the texts have their headings, and each index is that of an empty map.
@@ -71,8 +72,8 @@ fn one_module_needs_another(rt: HostRuntime) -> Result<(), Fail> {
         rt.alloc(),
         &TreeRow {
             modules: &[
-                ("/r/lib/modules/6.1.0/kernel/a.ko", GIVES, &NO_MORE),
-                ("/r/lib/modules/6.1.0/kernel/b.ko", NEEDS, &NO_MORE),
+                ("kernel/a.ko", GIVES, &NO_MORE),
+                ("kernel/b.ko", NEEDS, &NO_MORE),
             ],
             after: &[
                 FileRow {
@@ -105,19 +106,11 @@ fn text_files_go_to_the_output(rt: HostRuntime) -> Result<(), Fail> {
         rt.alloc(),
         &TreeRow {
             modules: &[
-                ("/r/lib/modules/6.1.0/kernel/a.ko", GIVES, &NO_MORE),
-                ("/r/lib/modules/6.1.0/kernel/b.ko", NEEDS, &NO_MORE),
+                ("kernel/a.ko", GIVES, &NO_MORE),
+                ("kernel/b.ko", NEEDS, &NO_MORE),
             ],
-            fail_replace: Some(0),
-            words: &[
-                "depmod",
-                "-n",
-                "-b",
-                "/r",
-                "-E",
-                "/r/Module.symvers",
-                "6.1.0",
-            ],
+            failing: Failing::Call(CallKind::Replace, 0),
+            words: "depmod -n -b /r -E /r/Module.symvers 6.1.0",
             out: "kernel/a.ko:\nkernel/b.ko: kernel/a.ko\n# Aliases extracted from modules themselves.\n# Soft dependencies extracted from modules themselves.\n# Aliases for symbols, used by symbol_request().\nalias symbol:fa a\n",
             ..USUAL
         },
@@ -131,17 +124,8 @@ fn files_go_to_another_folder(rt: HostRuntime) -> Result<(), Fail> {
         &rt,
         rt.alloc(),
         &TreeRow {
-            modules: &[("/r/lib/modules/6.1.0/kernel/a.ko", GIVES, &NO_MORE)],
-            words: &[
-                "depmod",
-                "-b",
-                "/r//",
-                "-o",
-                "/o/",
-                "-E",
-                "/r/Module.symvers",
-                "6.1.0",
-            ],
+            modules: &[("kernel/a.ko", GIVES, &NO_MORE)],
+            words: "depmod -b /r// -o /o/ -E /r/Module.symvers 6.1.0",
             after: &[FileRow {
                 path: "/o/lib/modules/6.1.0/modules.dep",
                 bytes: b"kernel/a.ko:\n",
@@ -158,7 +142,7 @@ fn an_alias_that_cannot_be_used(rt: HostRuntime) -> Result<(), Fail> {
         &rt,
         rt.alloc(),
         &TreeRow {
-            modules: &[("/r/lib/modules/6.1.0/kernel/x.ko", ALIASES, &NO_MORE)],
+            modules: &[("kernel/x.ko", ALIASES, &NO_MORE)],
             after: &[
                 FileRow {
                     path: "/r/lib/modules/6.1.0/modules.alias",
@@ -182,10 +166,10 @@ fn modules_in_a_circle(rt: HostRuntime) -> Result<(), Fail> {
         rt.alloc(),
         &TreeRow {
             modules: &[
-                ("/r/lib/modules/6.1.0/kernel/p.ko", CIRCLE_P, &NO_MORE),
-                ("/r/lib/modules/6.1.0/kernel/a.ko", CIRCLE_A, &NO_MORE),
-                ("/r/lib/modules/6.1.0/kernel/b.ko", CIRCLE_B, &NO_MORE),
-                ("/r/lib/modules/6.1.0/kernel/c.ko", CIRCLE_C, &NO_MORE),
+                ("kernel/p.ko", CIRCLE_P, &NO_MORE),
+                ("kernel/a.ko", CIRCLE_A, &NO_MORE),
+                ("kernel/b.ko", CIRCLE_B, &NO_MORE),
+                ("kernel/c.ko", CIRCLE_C, &NO_MORE),
             ],
             files: &[
                 SYMVERS,
@@ -217,9 +201,9 @@ fn two_modules_export_one_name(rt: HostRuntime) -> Result<(), Fail> {
         rt.alloc(),
         &TreeRow {
             modules: &[
-                ("/r/lib/modules/6.1.0/kernel/a.ko", GIVES_ALONE, &NO_MORE),
-                ("/r/lib/modules/6.1.0/kernel/b.ko", GIVES_ALONE, &NO_MORE),
-                ("/r/lib/modules/6.1.0/kernel/c.ko", NEEDS, &NO_MORE),
+                ("kernel/a.ko", GIVES_ALONE, &NO_MORE),
+                ("kernel/b.ko", GIVES_ALONE, &NO_MORE),
+                ("kernel/c.ko", NEEDS, &NO_MORE),
             ],
             after: &[
                 FileRow {
@@ -243,16 +227,8 @@ fn a_symbol_is_missing(rt: HostRuntime) -> Result<(), Fail> {
         &rt,
         rt.alloc(),
         &TreeRow {
-            modules: &[("/r/lib/modules/6.1.0/kernel/n.ko", NEEDS_NOSUCH, &NO_MORE)],
-            words: &[
-                "depmod",
-                "-e",
-                "-b",
-                "/r",
-                "-E",
-                "/r/Module.symvers",
-                "6.1.0",
-            ],
+            modules: &[("kernel/n.ko", NEEDS_NOSUCH, &NO_MORE)],
+            words: "depmod -e -b /r -E /r/Module.symvers 6.1.0",
             err: "kmod: warning: kernel/n.ko needs unknown symbol nosuch\n",
             after: &[FileRow {
                 path: "/r/lib/modules/6.1.0/modules.unmet",
@@ -271,26 +247,10 @@ fn a_version_differs(rt: HostRuntime) -> Result<(), Fail> {
         rt.alloc(),
         &TreeRow {
             modules: &[
-                (
-                    "/r/lib/modules/6.1.0/kernel/p.ko",
-                    GIVES_VERSION_1,
-                    &NO_MORE,
-                ),
-                (
-                    "/r/lib/modules/6.1.0/kernel/w.ko",
-                    MAY_NEED_VERSION_2,
-                    &NO_MORE,
-                ),
+                ("kernel/p.ko", GIVES_VERSION_1, &NO_MORE),
+                ("kernel/w.ko", MAY_NEED_VERSION_2, &NO_MORE),
             ],
-            words: &[
-                "depmod",
-                "-e",
-                "-b",
-                "/r",
-                "-E",
-                "/r/Module.symvers",
-                "6.1.0",
-            ],
+            words: "depmod -e -b /r -E /r/Module.symvers 6.1.0",
             err: "kmod: warning: kernel/w.ko disagrees about version of symbol fa\n",
             after: &[
                 FileRow {
@@ -314,8 +274,8 @@ fn an_unknown_kernel_exports_all(rt: HostRuntime) -> Result<(), Fail> {
         &rt,
         rt.alloc(),
         &TreeRow {
-            modules: &[("/r/lib/modules/6.1.0/kernel/n.ko", NEEDS_NOSUCH, &NO_MORE)],
-            words: &["depmod", "-e", "-b", "/r", "6.1.0"],
+            modules: &[("kernel/n.ko", NEEDS_NOSUCH, &NO_MORE)],
+            words: "depmod -e -b /r 6.1.0",
             after: &[FileRow {
                 path: "/r/lib/modules/6.1.0/modules.unmet",
                 bytes: b"",
@@ -333,14 +293,14 @@ fn a_system_map_is_a_table(rt: HostRuntime) -> Result<(), Fail> {
         rt.alloc(),
         &TreeRow {
             modules: &[
-                ("/r/lib/modules/6.1.0/kernel/a.ko", GIVES, &NO_MORE),
-                ("/r/lib/modules/6.1.0/kernel/b.ko", NEEDS, &NO_MORE),
+                ("kernel/a.ko", GIVES, &NO_MORE),
+                ("kernel/b.ko", NEEDS, &NO_MORE),
             ],
             files: &[FileRow {
                 path: "/r/System.map",
                 bytes: b"ffffffff81000000 T printk\nffffffff82000000 r __ksymtab_printk\n",
             }],
-            words: &["depmod", "-b", "/r", "-F", "/r/System.map", "6.1.0"],
+            words: "depmod -b /r -F /r/System.map 6.1.0",
             after: &[
                 FileRow {
                     path: "/r/lib/modules/6.1.0/modules.dep",
@@ -364,9 +324,9 @@ fn a_gpl_only_export_has_a_line(rt: HostRuntime) -> Result<(), Fail> {
         rt.alloc(),
         &TreeRow {
             modules: &[
-                ("/r/lib/modules/6.1.0/kernel/a.ko", GIVES_ALONE, &GPL_ONLY),
-                ("/r/lib/modules/6.1.0/kernel/b.ko", NEEDS, &NO_MORE),
-                ("/r/lib/modules/6.1.0/kernel/c.ko", FREE, &NO_MORE),
+                ("kernel/a.ko", GIVES_ALONE, &GPL_ONLY),
+                ("kernel/b.ko", NEEDS, &NO_MORE),
+                ("kernel/c.ko", FREE, &NO_MORE),
             ],
             after: &[
                 FileRow {
@@ -391,9 +351,9 @@ fn a_namespace_has_a_line(rt: HostRuntime) -> Result<(), Fail> {
         rt.alloc(),
         &TreeRow {
             modules: &[
-                ("/r/lib/modules/6.1.0/kernel/a.ko", GIVES_ALONE, &IN_SPACE),
-                ("/r/lib/modules/6.1.0/kernel/b.ko", NEEDS, &NO_MORE),
-                ("/r/lib/modules/6.1.0/kernel/c.ko", IMPORTS, &NO_MORE),
+                ("kernel/a.ko", GIVES_ALONE, &IN_SPACE),
+                ("kernel/b.ko", NEEDS, &NO_MORE),
+                ("kernel/c.ko", IMPORTS, &NO_MORE),
             ],
             after: &[FileRow {
                 path: "/r/lib/modules/6.1.0/modules.unmet",
@@ -412,9 +372,9 @@ fn an_update_is_chosen(rt: HostRuntime) -> Result<(), Fail> {
         rt.alloc(),
         &TreeRow {
             modules: &[
-                ("/r/lib/modules/6.1.0/kernel/a.ko", GIVES, &NO_MORE),
-                ("/r/lib/modules/6.1.0/kernel/b.ko", NEEDS, &NO_MORE),
-                ("/r/lib/modules/6.1.0/updates/a.ko", GIVES, &NO_MORE),
+                ("kernel/a.ko", GIVES, &NO_MORE),
+                ("kernel/b.ko", NEEDS, &NO_MORE),
+                ("updates/a.ko", GIVES, &NO_MORE),
             ],
             after: &[FileRow {
                 path: "/r/lib/modules/6.1.0/modules.dep",
@@ -433,8 +393,8 @@ fn a_bad_module_is_named(rt: HostRuntime) -> Result<(), Fail> {
         rt.alloc(),
         &TreeRow {
             modules: &[
-                ("/r/lib/modules/6.1.0/kernel/a.ko", GIVES, &NO_MORE),
-                ("/r/lib/modules/6.1.0/kernel/c.ko", NEEDS, &NO_MORE),
+                ("kernel/a.ko", GIVES, &NO_MORE),
+                ("kernel/c.ko", NEEDS, &NO_MORE),
             ],
             files: &[
                 SYMVERS,
@@ -469,7 +429,7 @@ fn a_compressed_module_is_refused(rt: HostRuntime) -> Result<(), Fail> {
         &rt,
         rt.alloc(),
         &TreeRow {
-            modules: &[("/r/lib/modules/6.1.0/kernel/a.ko", GIVES, &NO_MORE)],
+            modules: &[("kernel/a.ko", GIVES, &NO_MORE)],
             files: &[
                 SYMVERS,
                 FileRow {
@@ -492,8 +452,8 @@ fn a_compressed_module_may_be_passed_over(rt: HostRuntime) -> Result<(), Fail> {
         rt.alloc(),
         &TreeRow {
             modules: &[
-                ("/r/lib/modules/6.1.0/kernel/a.ko", GIVES, &NO_MORE),
-                ("/r/lib/modules/6.1.0/updates/b.ko", NEEDS, &NO_MORE),
+                ("kernel/a.ko", GIVES, &NO_MORE),
+                ("updates/b.ko", NEEDS, &NO_MORE),
             ],
             files: &[
                 SYMVERS,
@@ -518,7 +478,7 @@ fn the_search_list_is_the_configurations(rt: HostRuntime) -> Result<(), Fail> {
         &rt,
         rt.alloc(),
         &TreeRow {
-            modules: &[("/r/lib/modules/6.1.0/kernel/a.ko", GIVES, &NO_MORE)],
+            modules: &[("kernel/a.ko", GIVES, &NO_MORE)],
             files: &[
                 SYMVERS,
                 FileRow {
@@ -548,7 +508,7 @@ fn the_third_replacement_fails(rt: HostRuntime) -> Result<(), Fail> {
         &rt,
         rt.alloc(),
         &TreeRow {
-            modules: &[("/r/lib/modules/6.1.0/kernel/a.ko", GIVES, &NO_MORE)],
+            modules: &[("kernel/a.ko", GIVES, &NO_MORE)],
             files: &[
                 SYMVERS,
                 FileRow {
@@ -564,7 +524,7 @@ fn the_third_replacement_fails(rt: HostRuntime) -> Result<(), Fail> {
                     bytes: b"old",
                 },
             ],
-            fail_replace: Some(2),
+            failing: Failing::Call(CallKind::Replace, 2),
             status: 3,
             err: "kmod: file fault /r/lib/modules/6.1.0/modules.alias\n",
             after: &[
@@ -620,16 +580,7 @@ fn a_bad_line_of_the_configuration(rt: HostRuntime) -> Result<(), Fail> {
                 path: "/c/a.conf",
                 bytes: b"search updates\nmake_map_files no\n",
             }],
-            words: &[
-                "depmod",
-                "-C",
-                "/c",
-                "-b",
-                "/r",
-                "-E",
-                "/r/Module.symvers",
-                "6.1.0",
-            ],
+            words: "depmod -C /c -b /r -E /r/Module.symvers 6.1.0",
             status: 1,
             err: "kmod: /c/a.conf: bad line 2\n",
             ..USUAL
@@ -644,16 +595,7 @@ fn no_configuration_at_the_path(rt: HostRuntime) -> Result<(), Fail> {
         &rt,
         rt.alloc(),
         &TreeRow {
-            words: &[
-                "depmod",
-                "-C",
-                "/c",
-                "-b",
-                "/r",
-                "-E",
-                "/r/Module.symvers",
-                "6.1.0",
-            ],
+            words: "depmod -C /c -b /r -E /r/Module.symvers 6.1.0",
             status: 1,
             err: "kmod: no file /c\n",
             ..USUAL
@@ -668,7 +610,7 @@ fn a_bad_line_of_the_kernels_table(rt: HostRuntime) -> Result<(), Fail> {
         &rt,
         rt.alloc(),
         &TreeRow {
-            modules: &[("/r/lib/modules/6.1.0/kernel/a.ko", GIVES, &NO_MORE)],
+            modules: &[("kernel/a.ko", GIVES, &NO_MORE)],
             files: &[FileRow {
                 path: "/r/Module.symvers",
                 bytes: b"0x1\tprintk\tvmlinux\nprintk\n",
@@ -688,7 +630,7 @@ fn no_modules_at_all(rt: HostRuntime) -> Result<(), Fail> {
         rt.alloc(),
         &TreeRow {
             files: &[SYMVERS],
-            words: &["depmod", "-b", "/s", "-E", "/r/Module.symvers", "6.1.0"],
+            words: "depmod -b /s -E /r/Module.symvers 6.1.0",
             status: 1,
             err: "kmod: no file /s/lib/modules/6.1.0\n",
             ..USUAL
@@ -703,7 +645,7 @@ fn two_tables_are_too_many(rt: HostRuntime) -> Result<(), Fail> {
         &rt,
         rt.alloc(),
         &TreeRow {
-            words: &["depmod", "-F", "x", "-E", "y", "6.1.0"],
+            words: "depmod -F x -E y 6.1.0",
             status: 2,
             err: "kmod: usage: kmod depmod|modprobe|modinfo|trial WORDS\n",
             ..USUAL

@@ -1,12 +1,15 @@
 use crate::sheet_row::NO_MORE;
 use crate::sheets::{EXT4, GIVES, JBD2, MAY_NEED, MBCACHE, NEEDS};
-use crate::tree_row::{FileRow, INDEXED, IndexedRow, ModuleRow, SYMVERS, expect_indexed};
+use crate::tree_row::{Failing, FileRow, INDEXED, IndexedRow, ModuleRow, SYMVERS, expect_indexed};
+use km_outside::CallKind;
+use std::alloc::Global;
+use std::process::Abort;
 use std::test::Fail;
 
 /// Two modules, of which `b` needs `a`.
 const TWO: [ModuleRow<'static>; 2] = [
-    ("/r/lib/modules/6.1.0/kernel/a.ko", GIVES, &NO_MORE),
-    ("/r/lib/modules/6.1.0/kernel/b.ko", NEEDS, &NO_MORE),
+    ("kernel/a.ko", GIVES, &NO_MORE),
+    ("kernel/b.ko", NEEDS, &NO_MORE),
 ];
 
 /// The addresses of a kernel that exports `printk`.
@@ -26,39 +29,13 @@ fn two_modules_are_loaded(rt: HostRuntime) -> Result<(), Fail> {
             files: &[SYMVERS, SYSTEM_MAP],
             rows: &[
                 (
-                    &[
-                        "modprobe",
-                        "-d",
-                        "/r",
-                        "-S",
-                        "6.1.0",
-                        "--system-map",
-                        "/r/System.map",
-                        "--symvers",
-                        "/r/Module.symvers",
-                        "--region",
-                        "0xffffffffc0000000:0x3000",
-                        "b",
-                    ],
+                    "modprobe -d /r -S 6.1.0 --system-map /r/System.map --symvers /r/Module.symvers --region 0xffffffffc0000000:0x3000 b",
                     0,
                     "insmod /r/lib/modules/6.1.0/kernel/a.ko\ninsmod /r/lib/modules/6.1.0/kernel/b.ko\nloaded a ffffffffc0000000 8192 c6c95917cef2d89bf138a45b46ef4155f44b4dba3fdef5bd3e0dd145c1741227\nloaded b ffffffffc0002000 4096 0a0ae56ba2cd70c076737e2ae47ebdd9a5154c842c849bb19266dcee8398c17b\n",
                     "",
                 ),
                 (
-                    &[
-                        "modprobe",
-                        "-d",
-                        "/r",
-                        "-S",
-                        "6.1.0",
-                        "--system-map",
-                        "/r/System.map",
-                        "--symvers",
-                        "/r/Module.symvers",
-                        "--region",
-                        "0xffffffffc0000000:0x2000",
-                        "b",
-                    ],
+                    "modprobe -d /r -S 6.1.0 --system-map /r/System.map --symvers /r/Module.symvers --region 0xffffffffc0000000:0x2000 b",
                     1,
                     "insmod /r/lib/modules/6.1.0/kernel/a.ko\ninsmod /r/lib/modules/6.1.0/kernel/b.ko\nloaded a ffffffffc0000000 8192 c6c95917cef2d89bf138a45b46ef4155f44b4dba3fdef5bd3e0dd145c1741227\n",
                     "kmod: b: region full, 1 pages\n",
@@ -76,21 +53,10 @@ fn a_weak_need_is_loaded(rt: HostRuntime) -> Result<(), Fail> {
         &rt,
         rt.alloc(),
         &IndexedRow {
-            modules: &[("/r/lib/modules/6.1.0/kernel/w.ko", MAY_NEED, &NO_MORE)],
+            modules: &[("kernel/w.ko", MAY_NEED, &NO_MORE)],
             files: &[SYMVERS, SYSTEM_MAP],
             rows: &[(
-                &[
-                    "modprobe",
-                    "-d",
-                    "/r",
-                    "-S",
-                    "6.1.0",
-                    "--system-map",
-                    "/r/System.map",
-                    "--symvers",
-                    "/r/Module.symvers",
-                    "w",
-                ],
+                "modprobe -d /r -S 6.1.0 --system-map /r/System.map --symvers /r/Module.symvers w",
                 0,
                 "insmod /r/lib/modules/6.1.0/kernel/w.ko\nloaded w ffffffffc0000000 4096 2077e1b57a1ac1246f305a7da892b64d4d8c10b0b40b178ace55e5e4c719c5bf\n",
                 "",
@@ -122,39 +88,13 @@ fn listed_modules_are_refused(rt: HostRuntime) -> Result<(), Fail> {
             ],
             rows: &[
                 (
-                    &[
-                        "modprobe",
-                        "-d",
-                        "/r",
-                        "-S",
-                        "6.1.0",
-                        "--system-map",
-                        "/r/System.map",
-                        "--symvers",
-                        "/r/Module.symvers",
-                        "--loaded",
-                        "/r/unknown",
-                        "b",
-                    ],
+                    "modprobe -d /r -S 6.1.0 --system-map /r/System.map --symvers /r/Module.symvers --loaded /r/unknown b",
                     1,
                     "",
                     "kmod: listed module c: not found\n",
                 ),
                 (
-                    &[
-                        "modprobe",
-                        "-d",
-                        "/r",
-                        "-S",
-                        "6.1.0",
-                        "--system-map",
-                        "/r/System.map",
-                        "--symvers",
-                        "/r/Module.symvers",
-                        "--loaded",
-                        "/r/needy",
-                        "a",
-                    ],
+                    "modprobe -d /r -S 6.1.0 --system-map /r/System.map --symvers /r/Module.symvers --loaded /r/needy a",
                     1,
                     "",
                     "kmod: listed module b: missing symbol fa\n",
@@ -182,24 +122,13 @@ fn loads_need_addresses(rt: HostRuntime) -> Result<(), Fail> {
             ],
             rows: &[
                 (
-                    &[
-                        "modprobe",
-                        "-d",
-                        "/r",
-                        "-S",
-                        "6.1.0",
-                        "--system-map",
-                        "/r/System.map",
-                        "--symvers",
-                        "/r/Module.symvers",
-                        "b",
-                    ],
+                    "modprobe -d /r -S 6.1.0 --system-map /r/System.map --symvers /r/Module.symvers b",
                     1,
                     "",
                     "kmod: kernel without address printk\n",
                 ),
                 (
-                    &["modprobe", "-d", "/r", "-S", "6.1.0", "b"],
+                    "modprobe -d /r -S 6.1.0 b",
                     2,
                     "",
                     "kmod: usage: kmod depmod|modprobe|modinfo|trial WORDS\n",
@@ -210,37 +139,113 @@ fn loads_need_addresses(rt: HostRuntime) -> Result<(), Fail> {
     )
 }
 
-/// The folder for images can't be written: the line of that load is missing.
-#[test]
-fn an_image_can_not_be_put(rt: HostRuntime) -> Result<(), Fail> {
+/// A load of `b` whose images are put.
+const LOAD: &str =
+    "modprobe -d /r -S 6.1.0 --system-map /r/System.map --symvers /r/Module.symvers --image /r/img b";
+
+/// What it writes before the loads.
+const PLANNED: &str =
+    "insmod /r/lib/modules/6.1.0/kernel/a.ko\ninsmod /r/lib/modules/6.1.0/kernel/b.ko\n";
+
+/// What it writes before the load of `b`.
+const A_LOADED: &str =
+    "insmod /r/lib/modules/6.1.0/kernel/a.ko\ninsmod /r/lib/modules/6.1.0/kernel/b.ko\nloaded a ffffffffc0000000 8192 c6c95917cef2d89bf138a45b46ef4155f44b4dba3fdef5bd3e0dd145c1741227\n";
+
+/// The calls of such a load in their order, each with its kind and number, the path, and what was written before. Five
+/// folders were listed and five files read, and nine replaced, when the tree was indexed.
+const CALLS: [(CallKind, u8, &str, &str); 17] = [
+    (CallKind::ListConf, 5, "/etc/modprobe.d", ""),
+    (CallKind::ListConf, 6, "/run/modprobe.d", ""),
+    (CallKind::ListConf, 7, "/usr/local/lib/modprobe.d", ""),
+    (CallKind::ListConf, 8, "/usr/lib/modprobe.d", ""),
+    (CallKind::ListConf, 9, "/lib/modprobe.d", ""),
+    (
+        CallKind::Read,
+        5,
+        "/r/lib/modules/6.1.0/modules.dep.bin",
+        "",
+    ),
+    (
+        CallKind::Read,
+        6,
+        "/r/lib/modules/6.1.0/modules.alias.bin",
+        "",
+    ),
+    (
+        CallKind::Read,
+        7,
+        "/r/lib/modules/6.1.0/modules.symbols.bin",
+        "",
+    ),
+    (
+        CallKind::Read,
+        8,
+        "/r/lib/modules/6.1.0/modules.builtin.bin",
+        "",
+    ),
+    (
+        CallKind::Read,
+        9,
+        "/r/lib/modules/6.1.0/modules.softdep",
+        "",
+    ),
+    (CallKind::Read, 10, "/r/lib/modules/6.1.0/modules.unmet", ""),
+    (CallKind::Read, 11, "/r/System.map", ""),
+    (CallKind::Read, 12, "/r/Module.symvers", ""),
+    (
+        CallKind::Read,
+        13,
+        "/r/lib/modules/6.1.0/kernel/a.ko",
+        PLANNED,
+    ),
+    (CallKind::Replace, 9, "/r/img/a.img", PLANNED),
+    (
+        CallKind::Read,
+        14,
+        "/r/lib/modules/6.1.0/kernel/b.ko",
+        A_LOADED,
+    ),
+    (CallKind::Replace, 10, "/r/img/b.img", A_LOADED),
+];
+
+/// Runs a load of which something fails.
+fn expect_failing(
+    rt: &impl Abort,
+    alloc: Global,
+    failing: Failing,
+    out: &str,
+    err: &str,
+) -> Result<(), Fail> {
     expect_indexed(
-        &rt,
-        rt.alloc(),
+        rt,
+        alloc,
         &IndexedRow {
             modules: &TWO,
             files: &[SYMVERS, SYSTEM_MAP],
-            fail_replace: Some(10),
-            rows: &[(
-                &[
-                    "modprobe",
-                    "-d",
-                    "/r",
-                    "-S",
-                    "6.1.0",
-                    "--system-map",
-                    "/r/System.map",
-                    "--symvers",
-                    "/r/Module.symvers",
-                    "--image",
-                    "/r/img",
-                    "b",
-                ],
-                3,
-                "insmod /r/lib/modules/6.1.0/kernel/a.ko\ninsmod /r/lib/modules/6.1.0/kernel/b.ko\nloaded a ffffffffc0000000 8192 c6c95917cef2d89bf138a45b46ef4155f44b4dba3fdef5bd3e0dd145c1741227\n",
-                "kmod: file fault /r/img/b.img\n",
-            )],
+            failing,
+            rows: &[(LOAD, 3, out, err)],
         },
     )
+}
+
+/// Each call of a load fails in turn, and each write: what was written before stands.
+#[test]
+fn each_call_can_fail(rt: HostRuntime) -> Result<(), Fail> {
+    let alloc = rt.alloc();
+    for (kind, number, path, out) in CALLS {
+        let err = format!(in alloc; "kmod: file fault {path}\n")?;
+        expect_failing(&rt, alloc, Failing::Call(kind, number), out, err.as_str())?;
+    }
+    for (number, out) in [(0, ""), (1, PLANNED), (2, A_LOADED)] {
+        expect_failing(
+            &rt,
+            alloc,
+            Failing::Write(number),
+            out,
+            "kmod: output fault\n",
+        )?;
+    }
+    Ok(())
 }
 
 /// A file system with two helpers, of which one is listed as loaded, over a kernel of 40 names.
@@ -251,21 +256,9 @@ fn a_file_system_is_loaded(rt: HostRuntime) -> Result<(), Fail> {
         rt.alloc(),
         &IndexedRow {
             modules: &[
-                (
-                    "/r/lib/modules/6.1.0/kernel/fs/mbcache.ko",
-                    MBCACHE,
-                    &NO_MORE,
-                ),
-                (
-                    "/r/lib/modules/6.1.0/kernel/fs/ext4/ext4.ko",
-                    EXT4,
-                    &NO_MORE,
-                ),
-                (
-                    "/r/lib/modules/6.1.0/kernel/fs/jbd2/jbd2.ko",
-                    JBD2,
-                    &NO_MORE,
-                ),
+                ("kernel/fs/mbcache.ko", MBCACHE, &NO_MORE),
+                ("kernel/fs/ext4/ext4.ko", EXT4, &NO_MORE),
+                ("kernel/fs/jbd2/jbd2.ko", JBD2, &NO_MORE),
             ],
             files: &[
                 FileRow {
@@ -286,22 +279,7 @@ fn a_file_system_is_loaded(rt: HostRuntime) -> Result<(), Fail> {
                 },
             ],
             rows: &[(
-                &[
-                    "modprobe",
-                    "-d",
-                    "/r",
-                    "-S",
-                    "6.1.0",
-                    "--system-map",
-                    "/r/System.map",
-                    "--symvers",
-                    "/r/Module.symvers",
-                    "--loaded",
-                    "/r/loaded",
-                    "--image",
-                    "/r/img",
-                    "fs-ext4",
-                ],
+                "modprobe -d /r -S 6.1.0 --system-map /r/System.map --symvers /r/Module.symvers --loaded /r/loaded --image /r/img fs-ext4",
                 0,
                 "insmod /r/lib/modules/6.1.0/kernel/fs/jbd2/jbd2.ko\ninsmod /r/lib/modules/6.1.0/kernel/fs/ext4/ext4.ko\nloaded jbd2 ffffffffc0002000 8192 00f1821d7526dd3993c75e7869b3ef740cc34be59dc7c9c0c4ef8995419d91d8\nloaded ext4 ffffffffc0004000 4096 2dc003ea3181922124704cfd3edbbf883011cb4847f826c9f81c61bfd4824b79\n",
                 "",

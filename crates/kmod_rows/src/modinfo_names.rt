@@ -30,63 +30,56 @@ pub(crate) const CUT_VALUE: &[u8] =
 /// What is shown of modules by their names.
 const BY_NAME: [Row; 10] = [
     (
-        &["modinfo", "-l", "-k", "6.1.0", "-b", "/r", "nosuch"],
+        "modinfo -l -k 6.1.0 -b /r nosuch",
         1,
         "",
         "kmod: not found nosuch\n",
     ),
     (
-        &["modinfo", "-k", "6.1.0", "-b", "/r", "a"],
+        "modinfo -k 6.1.0 -b /r a",
         0,
         "filename:       /r/lib/modules/6.1.0/kernel/a.ko\nlicense:        GPL\n",
         "",
     ),
+    ("modinfo -lk6.1.0 a --basedir=/r//", 0, "GPL\n", ""),
     (
-        &["modinfo", "-lk6.1.0", "a", "--basedir=/r//"],
-        0,
-        "GPL\n",
-        "",
-    ),
-    (
-        &["modinfo", "-n", "--set-version", "6.1.0", "-b/r", "a", "a"],
+        "modinfo -n --set-version 6.1.0 -b/r a a",
         0,
         "/r/lib/modules/6.1.0/kernel/a.ko\n/r/lib/modules/6.1.0/kernel/a.ko\n",
         "",
     ),
     (
-        &[
-            "modinfo", "-l", "-k", "6.1.0", "-b", "/r", "a", "no-such", "b",
-        ],
+        "modinfo -l -k 6.1.0 -b /r a no-such b",
         1,
         "GPL\n",
         "kmod: not found no_such\n",
     ),
     (
-        &["modinfo", "-l", "-k", "6.1.0", "-b", "/r", "b"],
+        "modinfo -l -k 6.1.0 -b /r b",
         1,
         "",
         "kmod: no file /r/lib/modules/6.1.0/kernel/b.ko\n",
     ),
     (
-        &["modinfo", "-k", "6.1.0", "-b", "/r", "kernel/a.ko"],
+        "modinfo -k 6.1.0 -b /r kernel/a.ko",
         1,
         "",
         "kmod: not found kernel/a.ko\n",
     ),
     (
-        &["modinfo", "-k", "6.1.0", "a"],
+        "modinfo -k 6.1.0 a",
         1,
         "",
         "kmod: no file /lib/modules/6.1.0/modules.dep.bin\n",
     ),
     (
-        &["modinfo", "-k", "6.1.0", "-b", "/", "a"],
+        "modinfo -k 6.1.0 -b / a",
         1,
         "",
         "kmod: no file /lib/modules/6.1.0/modules.dep.bin\n",
     ),
     (
-        &["modinfo", "-k", "6.2.0", "-b", "/r", "a"],
+        "modinfo -k 6.2.0 -b /r a",
         1,
         "",
         "kmod: no file /r/lib/modules/6.2.0/modules.dep.bin\n",
@@ -129,10 +122,10 @@ fn modules_are_shown_by_their_names(rt: HostRuntime) -> Result<(), Fail> {
         let mut objects = kernel(alloc, TWO_NAMES)?;
         objects.expect_row(&rt, alloc, row)?;
     }
-    let words = ["modinfo", "-k", "6.1.0", "-b", "/r", "a"];
+    let words = "modinfo -k 6.1.0 -b /r a";
     for (index, err) in REFUSED {
         let mut objects = kernel(alloc, index)?;
-        objects.expect_row(&rt, alloc, (&words, 1, "", err))?;
+        objects.expect_row(&rt, alloc, (words, 1, "", err))?;
     }
     Ok(())
 }
@@ -140,7 +133,7 @@ fn modules_are_shown_by_their_names(rt: HostRuntime) -> Result<(), Fail> {
 #[test]
 fn the_index_is_read_once_and_first(rt: HostRuntime) -> Result<(), Fail> {
     let alloc = rt.alloc();
-    let words = ["modinfo", "-l", "-k", "6.1.0", "-b", "/r", "a", "a"];
+    let words = "modinfo -l -k 6.1.0 -b /r a a";
     let rows = [
         (
             0,
@@ -157,7 +150,7 @@ fn the_index_is_read_once_and_first(rt: HostRuntime) -> Result<(), Fail> {
     for (read, out, err) in rows {
         let mut objects = kernel(alloc, TWO_NAMES)?;
         objects.fail_read(read)?;
-        objects.expect_row(&rt, alloc, (&words, 3, out, err))?;
+        objects.expect_row(&rt, alloc, (words, 3, out, err))?;
     }
     Ok(())
 }

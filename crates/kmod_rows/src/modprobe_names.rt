@@ -48,42 +48,16 @@ type FilesRow = (&'static [FileRow], Row);
 const NAMES: [FilesRow; 9] = [
     (
         &[DEP, ALIAS, SYMBOLS, BUILTIN],
-        (
-            &["modprobe", "-d", "/r", "-S", "6.1.0", "-R", "symbol:fa"],
-            0,
-            "a\n",
-            "",
-        ),
+        ("modprobe -d /r -S 6.1.0 -R symbol:fa", 0, "a\n", ""),
+    ),
+    (
+        &[DEP, ALIAS, SYMBOLS, BUILTIN],
+        ("modprobe -d /r -S 6.1.0 -R pci-x:v00001d99", 0, "x\n", ""),
     ),
     (
         &[DEP, ALIAS, SYMBOLS, BUILTIN],
         (
-            &[
-                "modprobe",
-                "-d",
-                "/r",
-                "-S",
-                "6.1.0",
-                "-R",
-                "pci-x:v00001d99",
-            ],
-            0,
-            "x\n",
-            "",
-        ),
-    ),
-    (
-        &[DEP, ALIAS, SYMBOLS, BUILTIN],
-        (
-            &[
-                "modprobe",
-                "-d",
-                "/r",
-                "-S",
-                "6.1.0",
-                "-R",
-                "pci-x:v0000ad99",
-            ],
+            "modprobe -d /r -S 6.1.0 -R pci-x:v0000ad99",
             1,
             "",
             "kmod: not found pci_x:v0000ad99\n",
@@ -91,46 +65,20 @@ const NAMES: [FilesRow; 9] = [
     ),
     (
         &[DEP_OF_U2, ALIAS, SYMBOLS, BUILTIN, BLACKLIST],
-        (
-            &["modprobe", "-d", "/r", "-S", "6.1.0", "-R", "usb:v1"],
-            0,
-            "u1\nu3\n",
-            "",
-        ),
+        ("modprobe -d /r -S 6.1.0 -R usb:v1", 0, "u1\nu3\n", ""),
     ),
     (
         &[DEP_OF_U2, ALIAS, SYMBOLS, BUILTIN, BLACKLIST],
-        (
-            &["modprobe", "-d", "/r", "-S", "6.1.0", "-R", "u2"],
-            0,
-            "u2\n",
-            "",
-        ),
+        ("modprobe -d /r -S 6.1.0 -R u2", 0, "u2\n", ""),
     ),
     (
         &[DEP_OF_U2, ALIAS, SYMBOLS, BUILTIN, BLACKLIST],
-        (
-            &["modprobe", "-d", "/r", "-S", "6.1.0", "-R", "-b", "u2"],
-            0,
-            "",
-            "",
-        ),
+        ("modprobe -d /r -S 6.1.0 -R -b u2", 0, "", ""),
     ),
     (
         &[DEP, ALIAS, SYMBOLS, BUILTIN],
         (
-            &[
-                "modprobe",
-                "-d",
-                "/r",
-                "-S",
-                "6.1.0",
-                "-R",
-                "-a",
-                "symbol:fa",
-                "built",
-                "usb:v1",
-            ],
+            "modprobe -d /r -S 6.1.0 -R -a symbol:fa built usb:v1",
             0,
             "a\nbuilt\nu1\nu2\nu3\n",
             "",
@@ -139,18 +87,7 @@ const NAMES: [FilesRow; 9] = [
     (
         &[DEP, ALIAS, SYMBOLS, BUILTIN],
         (
-            &[
-                "modprobe",
-                "-d",
-                "/r",
-                "-S",
-                "6.1.0",
-                "-R",
-                "-a",
-                "symbol:fa",
-                "no-such",
-                "built",
-            ],
+            "modprobe -d /r -S 6.1.0 -R -a symbol:fa no-such built",
             1,
             "",
             "kmod: not found no_such\n",
@@ -158,21 +95,7 @@ const NAMES: [FilesRow; 9] = [
     ),
     (
         &[DEP, ALIAS, SYMBOLS, BUILTIN],
-        (
-            &[
-                "modprobe",
-                "-d",
-                "/r",
-                "-S",
-                "6.1.0",
-                "-R",
-                "b",
-                "no-such=1",
-            ],
-            0,
-            "b\n",
-            "",
-        ),
+        ("modprobe -d /r -S 6.1.0 -R b no-such=1", 0, "b\n", ""),
     ),
 ];
 
@@ -184,7 +107,7 @@ const CONFIGURED: [FilesRow; 5] = [
             bytes: b"\noptions x\n",
         }],
         (
-            &["modprobe", "-d", "/r", "-S", "6.1.0", "-R", "a"],
+            "modprobe -d /r -S 6.1.0 -R a",
             1,
             "",
             "kmod: /etc/modprobe.d/a.conf: bad line 2\n",
@@ -209,12 +132,7 @@ const CONFIGURED: [FilesRow; 5] = [
                 bytes: b"alias z-1 c-2\n",
             },
         ],
-        (
-            &["modprobe", "-d", "/r", "-S", "6.1.0", "-R", "z-1"],
-            0,
-            "c_2\na\n",
-            "",
-        ),
+        ("modprobe -d /r -S 6.1.0 -R z-1", 0, "c_2\na\n", ""),
     ),
     (
         &[
@@ -231,22 +149,7 @@ const CONFIGURED: [FilesRow; 5] = [
                 bytes: b"alias z b\n",
             },
         ],
-        (
-            &[
-                "modprobe",
-                "-d",
-                "/r",
-                "-S",
-                "6.1.0",
-                "-R",
-                "-C",
-                "/r/own.conf",
-                "z",
-            ],
-            0,
-            "b\n",
-            "",
-        ),
+        ("modprobe -d /r -S 6.1.0 -R -C /r/own.conf z", 0, "b\n", ""),
     ),
     (
         &[
@@ -263,21 +166,12 @@ const CONFIGURED: [FilesRow; 5] = [
                 bytes: b"alias z a\n",
             },
         ],
-        (
-            &[
-                "modprobe", "-d", "/r", "-S", "6.1.0", "-R", "-C", "/r/own", "z",
-            ],
-            0,
-            "a\nb\n",
-            "",
-        ),
+        ("modprobe -d /r -S 6.1.0 -R -C /r/own z", 0, "a\nb\n", ""),
     ),
     (
         &[DEP, ALIAS, SYMBOLS, BUILTIN],
         (
-            &[
-                "modprobe", "-d", "/r", "-S", "6.1.0", "-R", "-C", "/r/own", "a",
-            ],
+            "modprobe -d /r -S 6.1.0 -R -C /r/own a",
             1,
             "",
             "kmod: no file /r/own\n",
@@ -290,7 +184,7 @@ const IN_ORDER: [FilesRow; 4] = [
     (
         &[DEP, SYMBOLS],
         (
-            &["modprobe", "-d", "/r", "-S", "6.1.0", "-R", "a"],
+            "modprobe -d /r -S 6.1.0 -R a",
             1,
             "",
             "kmod: no file /r/lib/modules/6.1.0/modules.alias.bin\n",
@@ -312,7 +206,7 @@ const IN_ORDER: [FilesRow; 4] = [
             },
         ],
         (
-            &["modprobe", "-d", "/r", "-S", "6.1.0", "-R", "a"],
+            "modprobe -d /r -S 6.1.0 -R a",
             1,
             "",
             "kmod: /r/lib/modules/6.1.0/modules.softdep: bad line 1\n",
@@ -330,9 +224,7 @@ const IN_ORDER: [FilesRow; 4] = [
             },
         ],
         (
-            &[
-                "modprobe", "-d", "/r", "-S", "6.1.0", "-R", "--loaded", "/r/none", "a",
-            ],
+            "modprobe -d /r -S 6.1.0 -R --loaded /r/none a",
             1,
             "",
             "kmod: /r/lib/modules/6.1.0/modules.unmet: bad line 2\n",
@@ -341,9 +233,7 @@ const IN_ORDER: [FilesRow; 4] = [
     (
         &[DEP, ALIAS, SYMBOLS, BUILTIN],
         (
-            &[
-                "modprobe", "-d", "/r", "-S", "6.1.0", "-R", "--loaded", "/r/none", "nosuch",
-            ],
+            "modprobe -d /r -S 6.1.0 -R --loaded /r/none nosuch",
             1,
             "",
             "kmod: no file /r/none\n",
@@ -397,11 +287,11 @@ fn each_file_is_understood_before_the_next(rt: HostRuntime) -> Result<(), Fail> 
 #[test]
 fn bad_indexes_are_refused(rt: HostRuntime) -> Result<(), Fail> {
     let alloc = rt.alloc();
-    let words = ["modprobe", "-d", "/r", "-S", "6.1.0", "-R", "a"];
+    let words = "modprobe -d /r -S 6.1.0 -R a";
     for (index, err) in BAD_INDEXES {
         let mut objects = Objects::new(alloc)?;
         objects.put(alloc, DEP.path, index)?;
-        objects.expect_row(&rt, alloc, (&words, 1, "", err))?;
+        objects.expect_row(&rt, alloc, (words, 1, "", err))?;
     }
     Ok(())
 }

@@ -7,14 +7,14 @@ use std::test::Fail;
 
 /// Two modules, of which `b` needs `a`.
 const TWO: [ModuleRow<'static>; 2] = [
-    ("/r/lib/modules/6.1.0/kernel/a.ko", GIVES, &NO_MORE),
-    ("/r/lib/modules/6.1.0/kernel/b.ko", NEEDS, &NO_MORE),
+    ("kernel/a.ko", GIVES, &NO_MORE),
+    ("kernel/b.ko", NEEDS, &NO_MORE),
 ];
 
 /// Two modules that need nothing.
 const ALONE: [ModuleRow<'static>; 2] = [
-    ("/r/lib/modules/6.1.0/kernel/a.ko", EMPTY_SHEET, &NO_MORE),
-    ("/r/lib/modules/6.1.0/kernel/b.ko", EMPTY_SHEET, &NO_MORE),
+    ("kernel/a.ko", EMPTY_SHEET, &NO_MORE),
+    ("kernel/b.ko", EMPTY_SHEET, &NO_MORE),
 ];
 
 /// A module comes after what it needs, with its own parameters and those of the configuration.
@@ -33,9 +33,7 @@ fn a_plan_of_two_modules(rt: HostRuntime) -> Result<(), Fail> {
                 },
             ],
             rows: &[(
-                &[
-                    "modprobe", "-d", "/r", "-S", "6.1.0", "-n", "b", "raw=1", "wide=2",
-                ],
+                "modprobe -d /r -S 6.1.0 -n b raw=1 wide=2",
                 0,
                 "insmod /r/lib/modules/6.1.0/kernel/a.ko\ninsmod /r/lib/modules/6.1.0/kernel/b.ko depth=3 raw=1 wide=2\n",
                 "",
@@ -61,7 +59,7 @@ fn a_bad_line_of_the_configuration(rt: HostRuntime) -> Result<(), Fail> {
                 },
             ],
             rows: &[(
-                &["modprobe", "-d", "/r", "-S", "6.1.0", "-n", "b"],
+                "modprobe -d /r -S 6.1.0 -n b",
                 1,
                 "",
                 "kmod: /etc/modprobe.d/a.conf: bad line 1\n",
@@ -88,53 +86,18 @@ fn loaded_modules_are_left_out(rt: HostRuntime) -> Result<(), Fail> {
             ],
             rows: &[
                 (
-                    &[
-                        "modprobe",
-                        "-d",
-                        "/r",
-                        "-S",
-                        "6.1.0",
-                        "--loaded",
-                        "/r/loaded",
-                        "-n",
-                        "b",
-                    ],
+                    "modprobe -d /r -S 6.1.0 --loaded /r/loaded -n b",
                     0,
                     "insmod /r/lib/modules/6.1.0/kernel/b.ko\n",
                     "",
                 ),
                 (
-                    &[
-                        "modprobe",
-                        "-d",
-                        "/r",
-                        "-S",
-                        "6.1.0",
-                        "--loaded",
-                        "/r/loaded",
-                        "-D",
-                        "b",
-                    ],
+                    "modprobe -d /r -S 6.1.0 --loaded /r/loaded -D b",
                     0,
                     "insmod /r/lib/modules/6.1.0/kernel/a.ko\ninsmod /r/lib/modules/6.1.0/kernel/b.ko\n",
                     "",
                 ),
-                (
-                    &[
-                        "modprobe",
-                        "-d",
-                        "/r",
-                        "-S",
-                        "6.1.0",
-                        "--loaded",
-                        "/r/loaded",
-                        "-n",
-                        "a",
-                    ],
-                    0,
-                    "",
-                    "",
-                ),
+                ("modprobe -d /r -S 6.1.0 --loaded /r/loaded -n a", 0, "", ""),
             ],
             ..INDEXED
         },
@@ -162,34 +125,25 @@ fn commands_stand_for_modules(rt: HostRuntime) -> Result<(), Fail> {
             ],
             rows: &[
                 (
-                    &["modprobe", "-d", "/r", "-S", "6.1.0", "-D", "b"],
+                    "modprobe -d /r -S 6.1.0 -D b",
                     0,
                     "install /bin/true\ninsmod /r/lib/modules/6.1.0/kernel/b.ko\n",
                     "",
                 ),
                 (
-                    &["modprobe", "-d", "/r", "-S", "6.1.0", "-D", "-i", "b"],
+                    "modprobe -d /r -S 6.1.0 -D -i b",
                     0,
                     "install /bin/true\ninsmod /r/lib/modules/6.1.0/kernel/b.ko\n",
                     "",
                 ),
                 (
-                    &["modprobe", "-d", "/r", "-S", "6.1.0", "-D", "-i", "a"],
+                    "modprobe -d /r -S 6.1.0 -D -i a",
                     0,
                     "insmod /r/lib/modules/6.1.0/kernel/a.ko\n",
                     "",
                 ),
                 (
-                    &[
-                        "modprobe",
-                        "-d",
-                        "/r",
-                        "-S",
-                        "6.1.0",
-                        "--system-map",
-                        "/r/System.map",
-                        "b",
-                    ],
+                    "modprobe -d /r -S 6.1.0 --system-map /r/System.map b",
                     1,
                     "",
                     "kmod: install chosen a\n",
@@ -208,25 +162,25 @@ fn two_modules_export_one_symbol(rt: HostRuntime) -> Result<(), Fail> {
         rt.alloc(),
         &IndexedRow {
             modules: &[
-                ("/r/lib/modules/6.1.0/kernel/a.ko", GIVES_ALONE, &NO_MORE),
-                ("/r/lib/modules/6.1.0/kernel/b.ko", GIVES_ALONE, &NO_MORE),
-                ("/r/lib/modules/6.1.0/kernel/c.ko", NEEDS, &NO_MORE),
+                ("kernel/a.ko", GIVES_ALONE, &NO_MORE),
+                ("kernel/b.ko", GIVES_ALONE, &NO_MORE),
+                ("kernel/c.ko", NEEDS, &NO_MORE),
             ],
             rows: &[
                 (
-                    &["modprobe", "-d", "/r", "-S", "6.1.0", "-n", "c"],
+                    "modprobe -d /r -S 6.1.0 -n c",
                     0,
                     "insmod /r/lib/modules/6.1.0/kernel/a.ko\ninsmod /r/lib/modules/6.1.0/kernel/c.ko\n",
                     "",
                 ),
                 (
-                    &["modprobe", "-d", "/r", "-S", "6.1.0", "-n", "b"],
+                    "modprobe -d /r -S 6.1.0 -n b",
                     0,
                     "insmod /r/lib/modules/6.1.0/kernel/b.ko\n",
                     "",
                 ),
                 (
-                    &["modprobe", "-d", "/r", "-S", "6.1.0", "-n", "-a", "b", "c"],
+                    "modprobe -d /r -S 6.1.0 -n -a b c",
                     1,
                     "",
                     "kmod: double fa kernel/a.ko kernel/b.ko\n",
@@ -245,27 +199,19 @@ fn needs_that_are_not_met(rt: HostRuntime) -> Result<(), Fail> {
         rt.alloc(),
         &IndexedRow {
             modules: &[
-                ("/r/lib/modules/6.1.0/kernel/n.ko", NEEDS_NOSUCH, &NO_MORE),
-                (
-                    "/r/lib/modules/6.1.0/kernel/p.ko",
-                    GIVES_VERSION_1,
-                    &NO_MORE,
-                ),
-                (
-                    "/r/lib/modules/6.1.0/kernel/w.ko",
-                    MAY_NEED_VERSION_2,
-                    &NO_MORE,
-                ),
+                ("kernel/n.ko", NEEDS_NOSUCH, &NO_MORE),
+                ("kernel/p.ko", GIVES_VERSION_1, &NO_MORE),
+                ("kernel/w.ko", MAY_NEED_VERSION_2, &NO_MORE),
             ],
             rows: &[
                 (
-                    &["modprobe", "-d", "/r", "-S", "6.1.0", "-n", "n"],
+                    "modprobe -d /r -S 6.1.0 -n n",
                     1,
                     "",
                     "kmod: missing kernel/n.ko nosuch\n",
                 ),
                 (
-                    &["modprobe", "-d", "/r", "-S", "6.1.0", "-n", "w"],
+                    "modprobe -d /r -S 6.1.0 -n w",
                     1,
                     "",
                     "kmod: version kernel/w.ko fa kernel/p.ko\n",
@@ -284,17 +230,13 @@ fn soft_dependencies_are_planned(rt: HostRuntime) -> Result<(), Fail> {
         rt.alloc(),
         &IndexedRow {
             modules: &[
-                (
-                    "/r/lib/modules/6.1.0/kernel/avail.ko",
-                    EMPTY_SHEET,
-                    &NO_MORE,
-                ),
-                ("/r/lib/modules/6.1.0/kernel/late.ko", GIVES_ALONE, &NO_MORE),
-                ("/r/lib/modules/6.1.0/kernel/m.ko", ASKS_FOR_MORE, &NO_MORE),
-                ("/r/lib/modules/6.1.0/kernel/zed.ko", EMPTY_SHEET, &NO_MORE),
+                ("kernel/avail.ko", EMPTY_SHEET, &NO_MORE),
+                ("kernel/late.ko", GIVES_ALONE, &NO_MORE),
+                ("kernel/m.ko", ASKS_FOR_MORE, &NO_MORE),
+                ("kernel/zed.ko", EMPTY_SHEET, &NO_MORE),
             ],
             rows: &[(
-                &["modprobe", "-d", "/r", "-S", "6.1.0", "-n", "m"],
+                "modprobe -d /r -S 6.1.0 -n m",
                 0,
                 "insmod /r/lib/modules/6.1.0/kernel/avail.ko\ninsmod /r/lib/modules/6.1.0/kernel/late.ko\ninsmod /r/lib/modules/6.1.0/kernel/m.ko\ninsmod /r/lib/modules/6.1.0/kernel/zed.ko\n",
                 "",
@@ -320,7 +262,7 @@ fn a_circle_of_soft_dependencies(rt: HostRuntime) -> Result<(), Fail> {
                 },
             ],
             rows: &[(
-                &["modprobe", "-d", "/r", "-S", "6.1.0", "-n", "a"],
+                "modprobe -d /r -S 6.1.0 -n a",
                 1,
                 "",
                 "kmod: cycle a -> b -> a\n",
@@ -346,14 +288,9 @@ fn built_in_and_unknown_names(rt: HostRuntime) -> Result<(), Fail> {
                 },
             ],
             rows: &[
+                ("modprobe -d /r -S 6.1.0 -n built", 0, "builtin built\n", ""),
                 (
-                    &["modprobe", "-d", "/r", "-S", "6.1.0", "-n", "built"],
-                    0,
-                    "builtin built\n",
-                    "",
-                ),
-                (
-                    &["modprobe", "-d", "/r", "-S", "6.1.0", "-n", "no-such"],
+                    "modprobe -d /r -S 6.1.0 -n no-such",
                     1,
                     "",
                     "kmod: not found no_such\n",

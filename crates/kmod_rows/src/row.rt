@@ -46,13 +46,10 @@ impl Objects {
         row: RowOf<'_>,
     ) -> Result<(), AllocError> {
         let (words, status, out, err) = row;
-        let mut list = List::new(alloc);
-        for word in words {
-            list.push(Word::from_text(alloc, word)?)?;
-        }
+        let words = words_of(alloc, words)?;
         let got = run(
             alloc,
-            list.as_slice(),
+            words.as_slice(),
             &mut self.files,
             &mut self.out,
             &mut self.err,
@@ -64,8 +61,21 @@ impl Objects {
     }
 }
 
-/// Words, the status that they are to answer, and what they are to write to the output and to err.
-pub(crate) type RowOf<'a> = (&'a [&'a str], u8, &'a str, &'a str);
+/// The words of a text, with one space between each and the next. An empty text has none.
+fn words_of(alloc: Global, text: &str) -> Result<List<Word>, AllocError> {
+    let mut words = List::new(alloc);
+    if text.is_empty() {
+        return Ok(words);
+    }
+    for word in text.split(' ') {
+        words.push(Word::from_text(alloc, word)?)?;
+    }
+    Ok(words)
+}
+
+/// Words with a space between each and the next, the status that they are to answer, and what they are to write to the
+/// output and to err.
+pub(crate) type RowOf<'a> = (&'a str, u8, &'a str, &'a str);
 
 /// A row that is written out.
 pub(crate) type Row = RowOf<'static>;

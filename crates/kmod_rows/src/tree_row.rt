@@ -1,4 +1,4 @@
-use crate::row::{Objects, Row};
+use crate::row::{Objects, RowOf};
 use crate::sheet_row::{MoreRow, SheetRow, object_with};
 use km_names::PathText;
 use km_outside::CallKind;
@@ -13,17 +13,30 @@ pub(crate) struct FileRow {
     pub(crate) bytes: &'static [u8],
 }
 
-/// A module of a tree: its whole path, its sheet, and what more its object is to have.
+/// A module of a tree: its path in the tree, its sheet, and what more its object is to have.
 pub(crate) type ModuleRow<'a> = (&'static str, SheetRow, &'a MoreRow);
 
-/// A command over a tree: which modules and other files are there, which replacement fails, the words, the status, what is
-/// written to the output and to err, and which files are there afterwards.
+/// What is made to fail. Calls are counted from 0, those of a kind on their own.
+#[derive(Clone, Copy)]
+pub(crate) enum Failing {
+    /// Nothing.
+    Nothing,
+    /// A call of this kind on the files.
+    Call(CallKind, u8),
+    /// A write to the output.
+    Write(u8),
+    /// A write to err.
+    Line(u8),
+}
+
+/// A command over a tree: which modules and other files are there, what fails, the words, the status, what is written to the
+/// output and to err, and which files are there afterwards.
 #[derive(Clone, Copy)]
 pub(crate) struct TreeRow<'a> {
     pub(crate) modules: &'a [ModuleRow<'a>],
     pub(crate) files: &'a [FileRow],
-    pub(crate) fail_replace: Option<u8>,
-    pub(crate) words: &'a [&'a str],
+    pub(crate) failing: Failing,
+    pub(crate) words: &'a str,
     pub(crate) status: u8,
     pub(crate) out: &'static str,
     pub(crate) err: &'static str,
@@ -40,15 +53,15 @@ pub(crate) const SYMVERS: FileRow = FileRow {
 pub(crate) const USUAL: TreeRow<'static> = TreeRow {
     modules: &[],
     files: &[SYMVERS],
-    fail_replace: None,
-    words: &["depmod", "-b", "/r", "-E", "/r/Module.symvers", "6.1.0"],
+    failing: Failing::Nothing,
+    words: "depmod -b /r -E /r/Module.symvers 6.1.0",
     status: 0,
     out: "",
     err: "",
     after: &[],
 };
 
-/// Puts the modules of a row.
+/// Puts the modules of a row into the folder of the kernel.
 fn put_modules(
     rt: &impl Abort,
     alloc: Global,
@@ -57,7 +70,19 @@ fn put_modules(
 ) -> Result<(), Fail> {
     for (path, sheet, more) in modules {
         let object = object_with(rt, alloc, sheet, more)?;
-        objects.put(alloc, path, object.as_bytes())?;
+        let path = format!(in alloc; "/r/lib/modules/6.1.0/{path}")?;
+        objects.put(alloc, path.as_str(), object.as_bytes())?;
+    }
+    Ok(())
+}
+
+/// Makes fail what a row says.
+pub(crate) fn set_failing(objects: &mut Objects, failing: Failing) -> Result<(), Fail> {
+    match failing {
+        Failing::Nothing => {}
+        Failing::Call(kind, number) => objects.files.fail_call(kind, u64::from(number))?,
+        Failing::Write(number) => objects.out.fail_write(u64::from(number))?,
+        Failing::Line(number) => objects.err.fail_write(u64::from(number))?,
     }
     Ok(())
 }
@@ -90,30 +115,26 @@ pub(crate) fn expect_tree(rt: &impl Abort, alloc: Global, row: &TreeRow<'_>) -> 
     let mut objects = Objects::new(alloc)?;
     put_modules(rt, alloc, &mut objects, row.modules)?;
     put_files(alloc, &mut objects, row.files)?;
-    if let Some(number) = row.fail_replace {
-        objects
-            .files
-            .fail_call(CallKind::Replace, u64::from(number))?;
-    }
+    set_failing(&mut objects, row.failing)?;
     objects.expect_row(rt, alloc, (row.words, row.status, row.out, row.err))?;
     expect_files(rt, alloc, &objects, row.after)
 }
 
-/// Commands over a tree that depmod indexed: which modules and other files are there, which replacement fails, counted
-/// from the first of depmod's nine, and the rows, each over files of its own.
+/// Commands over a tree that depmod indexed: which modules and other files are there, what fails, counted from the first
+/// call of depmod's, and the rows, each over files of its own.
 #[derive(Clone, Copy)]
 pub(crate) struct IndexedRow<'a> {
     pub(crate) modules: &'a [ModuleRow<'a>],
     pub(crate) files: &'a [FileRow],
-    pub(crate) fail_replace: Option<u8>,
-    pub(crate) rows: &'a [Row],
+    pub(crate) failing: Failing,
+    pub(crate) rows: &'a [RowOf<'a>],
 }
 
 /// The usual table, and no modules.
 pub(crate) const INDEXED: IndexedRow<'static> = IndexedRow {
     modules: &[],
     files: &[SYMVERS],
-    fail_replace: None,
+    failing: Failing::Nothing,
     rows: &[],
 };
 
@@ -122,16 +143,12 @@ fn expect_command(
     rt: &impl Abort,
     alloc: Global,
     tree: &IndexedRow<'_>,
-    row: Row,
+    row: RowOf<'_>,
 ) -> Result<(), Fail> {
     let mut objects = Objects::new(alloc)?;
     put_modules(rt, alloc, &mut objects, tree.modules)?;
     put_files(alloc, &mut objects, tree.files)?;
-    if let Some(number) = tree.fail_replace {
-        objects
-            .files
-            .fail_call(CallKind::Replace, u64::from(number))?;
-    }
+    set_failing(&mut objects, tree.failing)?;
     objects.expect_row(rt, alloc, (USUAL.words, 0, "", ""))?;
     objects.expect_row(rt, alloc, row)?;
     Ok(())

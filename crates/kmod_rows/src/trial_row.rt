@@ -8,19 +8,19 @@ use std::test::Fail;
 /// Trees of one, two and three modules.
 const TRIALS: [Row; 3] = [
     (
-        &["trial", "1", "1"],
+        "trial 1 1",
         0,
         "modules 1\ndependencies 0\nplanned 1\nloaded 1\nimages c6c95917cef2d89bf138a45b46ef4155f44b4dba3fdef5bd3e0dd145c1741227\n",
         "",
     ),
     (
-        &["trial", "1", "2"],
+        "trial 1 2",
         0,
         "modules 2\ndependencies 1\nplanned 2\nloaded 2\nimages 6e01d8a1a0adb080eac0b219e0d389f1fd57a7baed14adfbaa0d581bd54b07a0\n",
         "",
     ),
     (
-        &["trial", "1", "3"],
+        "trial 1 3",
         0,
         "modules 3\ndependencies 2\nplanned 3\nloaded 3\nimages fe1d27353d8fe48d7d22f38f5a781d684f526252c8b571272bde9301d03a620a\n",
         "",
@@ -29,10 +29,10 @@ const TRIALS: [Row; 3] = [
 
 /// Words that aren't understood.
 const NOT_UNDERSTOOD: [Row; 4] = [
-    (&["trial", "1", "0"], 2, "", USAGE),
-    (&["trial", "1", "2001"], 2, "", USAGE),
-    (&["trial", "18446744073709551616", "1"], 2, "", USAGE),
-    (&["trial", "1"], 2, "", USAGE),
+    ("trial 1 0", 2, "", USAGE),
+    ("trial 1 2001", 2, "", USAGE),
+    ("trial 18446744073709551616 1", 2, "", USAGE),
+    ("trial 1", 2, "", USAGE),
 ];
 
 /// Runs the rows, each over no file.
