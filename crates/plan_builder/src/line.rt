@@ -1,6 +1,6 @@
 // Dependency lines by what they name.
 ghost use Rattle.std.specs.Prelude.{◌≡◌, ◌<◌, ◌==◌, ℕ, List, Bool, IfOk, option_copied};
-ghost use Rattle.std.specs.List.{list_all};
+ghost use Rattle.std.specs.List.{before_first, list_all};
 ghost use Rattle.std.specs.Str.{bytes_eq};
 ghost use Rattle.km_names.specs.Path.{module_name as module_name_of};
 ghost use Rattle.index_read.specs.Contents.{contents};
@@ -113,13 +113,14 @@ fn all_known<K: Known>(
 ) -> Result<bool, AllocError>
     ensures { IfOk result (λ all. all ≡ list_all (K.has known.now) (needed_names_of line.now)) }
 {
-    let mut rest = split_at_byte(line, b':').1;
-    while let Some(after) = after_space(rest) {
-        write_name(buffer, split_at_byte(after, b' ').0)?;
+    let mut next = after_space(split_at_byte(line, b':').1);
+    while let Some(paths) = next {
+        let (path, others) = split_at_space(paths);
+        write_name(buffer, path)?;
         if !known.has(buffer.as_slice()) {
             return Ok(false);
         }
-        rest = after;
+        next = others;
     }
     Ok(true)
 }
@@ -150,10 +151,18 @@ fn name_of(alloc: Global, path: &[u8]) -> Result<Name, AllocError>
 fn after_space(text: &[u8]) -> Option<&[u8]>
     ensures { IsAfterSpace text.now (option_copied result) }
 {
+    split_at_space(text).1
+}
+
+/// What stands before the first space of a text, and what follows it, where there is one.
+fn split_at_space(text: &[u8]) -> (&[u8], Option<&[u8]>)
+    ensures before { result.0.now ≡ before_first (λ b. b == 32) text.now }
+    ensures after { IsAfterSpace text.now (option_copied result.1) }
+{
     let (before, after) = split_at_byte(text, b' ');
     if before.len() < text.len() {
-        Some(after)
+        (before, Some(after))
     } else {
-        None
+        (before, None)
     }
 }
