@@ -1,7 +1,7 @@
 -- The paths of a dependency line, taken off one by one.
 use Rattle.std.proofs.Common.{◌≡◌, ℕ, suc, ◌+◌, ◌<◌, ◌≤◌, Bool, true, false, cond, List, [], ◌∷◌, Option, Some, None, length, take, drop, map, refl, sym, ap, ◌∙◌, arith}
-use Rattle.std.specs.Prelude.{◌&&◌, ◌||◌, ◌==◌}
-use Rattle.std.specs.List.{slice_split, onto_first, before_first, after_first, position_or_len, list_all, list_any}
+use Rattle.std.specs.Prelude.{◌||◌, ◌==◌}
+use Rattle.std.specs.List.{slice_split, onto_first, before_first, after_first, position_or_len, list_any}
 use Rattle.std.proofs.lemmas.Bool.{true≢false}
 use Rattle.std.proofs.lemmas.List.Splits.{slice_split-cons_no, slice_split-cons_yes}
 use Rattle.mod_tree.specs.DependencyLine.{needed_paths, line_needs, line_path, is_dependency_line, own_path}

@@ -106,11 +106,7 @@ fn names_module(buffer: &mut Vec<u8>, path: &[u8], name: &[u8]) -> Result<bool, 
 }
 
 /// Whether each module that a dependency line needs is known.
-fn all_known<K: Known>(
-    buffer: &mut Vec<u8>,
-    known: &K,
-    line: &[u8],
-) -> Result<bool, AllocError>
+fn all_known<K: Known>(buffer: &mut Vec<u8>, known: &K, line: &[u8]) -> Result<bool, AllocError>
     ensures { IfOk result (λ all. all ≡ list_all (K.has known.now) (needed_names_of line.now)) }
 {
     let mut next = after_space(split_at_byte(line, b':').1);

@@ -1,4 +1,4 @@
-use Rattle.std.proofs.Common.{◌≡◌, ◌==◌, Some, true, false, map, ap, sym, ◌∙◌}
+use Rattle.std.proofs.Common.{◌==◌, map, ap, sym, ◌∙◌}
 use Rattle.std.specs.Prelude.{◌&&◌, option_copied}
 use Rattle.std.specs.List.{list_all, slice_split}
 use Rattle.km_names.specs.Path.{module_name}
