@@ -6,3 +6,4 @@ pub mod ListingSteps
 pub mod PieceSteps
 pub mod PlaceSteps
 pub mod SearchSteps
+pub mod SeparatorSteps

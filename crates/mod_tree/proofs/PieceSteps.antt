@@ -15,7 +15,7 @@ record Cut (p : ℕ → Bool) (xs : List ℕ) : Type 0 where
 take_next : (n x : ℕ) (xs : List ℕ) → take (1 + n) (x ∷ xs) ≡ x ∷ take n xs
 take_next n x xs = let e : 1 + n ≡ suc n = omega arith in ap (λ m. take m (x ∷ xs)) e
 
-front_no : (p : ℕ → Bool) (x : ℕ) (xs : List ℕ) → p x ≡ false → before_first p (x ∷ xs) ≡ x ∷ before_first p xs
+pub front_no : (p : ℕ → Bool) (x : ℕ) (xs : List ℕ) → p x ≡ false → before_first p (x ∷ xs) ≡ x ∷ before_first p xs
 front_no p x xs e = rw e (take_next (position_or_len p xs) x xs)
 
 cut : (p : ℕ → Bool) (xs : List ℕ) → Cut p xs

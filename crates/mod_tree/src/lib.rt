@@ -2,7 +2,7 @@
 //! first, in the order of the kernel's build; and what a dependency line says of the module's own path.
 //! depmod.d(5), "search"; modules.order; modules.dep(5).
 //!
-//! It stands on `km_names` for names, lines and configuration files.
+//! It stands on `km_names` for names, lines and configuration files, and on `memchr` for the ends of paths.
 #![tactic(auto)]
 
 mod chosen;

@@ -1,6 +1,6 @@
 -- What the tests of a plan say together, and where cycles lie.
 use Rattle.std.proofs.Common.{◌≡◌, ℕ, zero, suc, ◌<◌, Bool, true, false, cond, eqb, List, [], ◌∷◌, ◌++◌, length, map, Option, Some, None, refl, sym, ap, ◌∙◌, subst, inl, inr, arith}
-use Rattle.std.specs.Prelude.{All, ◌||◌, ◌⊎◌, nat_eq, not}
+use Rattle.std.specs.Prelude.{All, ◌⊎◌, nat_eq, not}
 use Rattle.std.specs.List.{find}
 use Rattle.std.proofs.lemmas.Bool.{true≢false, or_cases, eqb-true}
 use Rattle.km_names.specs.First.{first}

@@ -1,7 +1,7 @@
 -- Places of modules are below their count.
 use Rattle.std.proofs.Common.{◌≡◌, ℕ, ◌<◌, Bool, true, false, cond, List, [], ◌∷◌, ◌++◌, length, Option, Some, None, refl, sym, ◌∙◌, inl, inr}
 use Rattle.std.specs.Prelude.{◌||◌, ◌⊎◌, ◌&&◌, ◌==◌, not, All, nat_lt, nat_eq}
-use Rattle.std.specs.List.{flat_map, position, position_or_len, list_any}
+use Rattle.std.specs.List.{flat_map, position, position_or_len}
 use Rattle.std.specs.Option.{option_to_list}
 use Rattle.std.specs.Str.{bytes_eq}
 use Rattle.std.proofs.lemmas.Bool.{true≢false, or_cases, eqb-true, ltb-true}

@@ -17,4 +17,5 @@ pub mod PlanTests
 pub mod Sorting
 pub mod StepLaws
 pub mod StepModules
+pub mod Stems
 pub mod Troubled

@@ -7,7 +7,7 @@ use Rattle.std.proofs.Math.Seq.{drop-append_seam}
 use Rattle.km_names.specs.First.{first}
 use Rattle.name_lookup.specs.declared.found.Found.{Found}
 use Rattle.plan_order.specs.Lists.{among}
-use Rattle.plan_order.specs.Plan.{plan, with_groups}
+use Rattle.plan_order.specs.Plan.{with_groups}
 use Rattle.plan_order.specs.Answer.{IsPlan}
 use Rattle.plan_order.specs.declared.plan.GroupedOrder.{GroupedOrder}
 use Rattle.plan_builder.specs.declared.request.Request.{Request}

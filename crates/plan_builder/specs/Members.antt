@@ -1,5 +1,5 @@
 -- What the names of a request stand for. modprobe(8).
-use Rattle.std.specs.Prelude.{ℕ, ◌&&◌, Bool, List, [], map, Option, Some, None, if◌then◌else◌}
+use Rattle.std.specs.Prelude.{ℕ, Bool, List, map, Option, Some, None, if◌then◌else◌}
 use Rattle.std.specs.List.{list_any}
 use Rattle.std.specs.Str.{bytes_eq}
 use Rattle.km_names.specs.First.{first}

@@ -1,6 +1,6 @@
 -- What each module needs: the modules of its dependency line, and those that its soft dependencies name, where they can
 -- be loaded. modules.dep(5), modprobe.d(5), "softdep".
-use Rattle.std.specs.Prelude.{ℕ, ◌==◌, ◌&&◌, ◌||◌, not, Bool, List, [], ◌++◌, filter, length, if◌then◌else◌}
+use Rattle.std.specs.Prelude.{ℕ, ◌==◌, ◌&&◌, not, Bool, List, [], ◌++◌, filter, length, if◌then◌else◌}
 use Rattle.std.specs.List.{list_any, flat_map}
 use Rattle.std.specs.Str.{bytes_eq}
 use Rattle.index_format.specs.Listing.{KeyValue}

@@ -36,9 +36,10 @@ pub(crate) fn check_lines<K: Known>(
     ensures passed { OnOk result (bad_among (K.has known.now) (shown pairs.now) ≡ None) }
     ensures err { IfErr result (λ o. (o ≡ Obstacle.Memory) ⊎ (option_map Obstacle.BadDepLine (bad_among (K.has known.now) (shown pairs.now)) ≡ Some o)) }
 {
+    let mut buffer = Vec::new(alloc);
     for pair in pairs {
         if !is_line(
-            alloc,
+            &mut buffer,
             known,
             pair.key.as_bytes(),
             pair.value.text.as_bytes(),

@@ -3,8 +3,9 @@
 //!
 //! The definitions speak of the maps that a folder's index files stand for, of the rules of the configuration, of the
 //! lines of modules.unmet and of the list of loaded modules. The crate stands on `name_lookup` for what a name stands
-//! for, on `mod_tree` for dependency lines, and on `plan_order` for the order of modules by their places in the tree. A
-//! plan looks once at each dependency line of the folder, and asks only planned modules for what they need.
+//! for, on `mod_tree` for dependency lines, on `memchr` for the names in paths, and on `plan_order` for the order of
+//! modules by their places in the tree. A plan looks once at each dependency line of the folder, and asks only planned
+//! modules for what they need.
 #![tactic(auto)]
 
 mod check;
@@ -13,6 +14,7 @@ mod members;
 mod modules;
 mod needs;
 mod obstacle;
+mod path_name;
 mod planning;
 mod request;
 mod rule_table;

@@ -1,6 +1,6 @@
 // Dependency lines by what they name.
 ghost use Rattle.std.specs.Prelude.{◌≡◌, ◌<◌, ◌==◌, ℕ, List, Bool, IfOk, option_copied};
-ghost use Rattle.std.specs.List.{list_all, list_any};
+ghost use Rattle.std.specs.List.{before_first, list_all};
 ghost use Rattle.std.specs.Str.{bytes_eq};
 ghost use Rattle.km_names.specs.Path.{module_name as module_name_of};
 ghost use Rattle.index_read.specs.Contents.{contents};
@@ -8,8 +8,9 @@ ghost use Rattle.name_lookup.specs.Maps.{has_value};
 ghost use Rattle.plan_builder.specs.Modules.{needed_names as needed_names_of, is_line_of, is_well_formed};
 ghost use Rattle.plan_builder.specs.Pairs.{IsAfterSpace};
 
+use crate::path_name::write_name;
 use index_read::{Index, Steps};
-use km_names::{Name, Names, PathText, module_name, split_at_byte};
+use km_names::{Name, Names, split_at_byte};
 use mod_tree::line_path;
 use name_lookup::Indexes;
 use std::alloc::{AllocError, Global};
@@ -67,14 +68,18 @@ fn well_formed_over<L: Ledger>(
 {
     let mut steps = Steps::<L>::new(blank);
     match index.find_one(name, &mut steps) {
-        Some(place) => is_line(alloc, index, name, index.text(&place)),
+        Some(place) => {
+            let mut buffer = Vec::new(alloc);
+            is_line(&mut buffer, index, name, index.text(&place))
+        }
         None => Ok(false),
     }
 }
 
-/// Whether a text is the dependency line of the module of this name, and each module that it needs is known.
+/// Whether a text is the dependency line of the module of this name, and each module that it needs is known. The names of
+/// its modules are written to a buffer, one after the other.
 pub(crate) fn is_line<K: Known>(
-    alloc: Global,
+    buffer: &mut Vec<u8>,
     known: &K,
     name: &[u8],
     line: &[u8],
@@ -83,45 +88,37 @@ pub(crate) fn is_line<K: Known>(
 {
     match line_path(line) {
         Some(path) => {
-            if !names_module(alloc, path, name)? {
+            if !names_module(buffer, path, name)? {
                 return Ok(false);
             }
-            all_known(alloc, known, line)
+            all_known(buffer, known, line)
         }
         None => Ok(false),
     }
 }
 
 /// Whether the module at a path has this name.
-fn names_module(alloc: Global, path: &[u8], name: &[u8]) -> Result<bool, AllocError>
+fn names_module(buffer: &mut Vec<u8>, path: &[u8], name: &[u8]) -> Result<bool, AllocError>
     ensures { IfOk result (λ same. same ≡ bytes_eq (module_name_of path.now) name.now) }
 {
-    let own = name_of(alloc, path)?;
-    Ok(own.as_bytes() == name)
-}
-
-/// The name of the module at a path.
-fn name_of(alloc: Global, path: &[u8]) -> Result<Name, AllocError>
-    ensures { IfOk result (λ name. name ≡ module_name_of path.now) }
-{
-    module_name(alloc, &PathText::from_slice(alloc, path)?)
+    write_name(buffer, path)?;
+    Ok(buffer.as_slice() == name)
 }
 
 /// Whether each module that a dependency line needs is known.
-fn all_known<K: Known>(alloc: Global, known: &K, line: &[u8]) -> Result<bool, AllocError>
+fn all_known<K: Known>(buffer: &mut Vec<u8>, known: &K, line: &[u8]) -> Result<bool, AllocError>
     ensures { IfOk result (λ all. all ≡ list_all (K.has known.now) (needed_names_of line.now)) }
 {
-    let names = needed_names(alloc, line)?;
-    Ok(are_known(known, &names))
-}
-
-fn are_known<K: Known>(known: &K, names: &Names) -> bool
-    ensures { result ≡ list_all (K.has known.now) names.now }
-{
-    names
-        .as_slice()
-        .iter()
-        .all(|name| known.has(name.as_bytes()))
+    let mut next = after_space(split_at_byte(line, b':').1);
+    while let Some(paths) = next {
+        let (path, others) = split_at_space(paths);
+        write_name(buffer, path)?;
+        if !known.has(buffer.as_slice()) {
+            return Ok(false);
+        }
+        next = others;
+    }
+    Ok(true)
 }
 
 /// The names of the modules that a dependency line needs.
@@ -137,19 +134,31 @@ pub(crate) fn needed_names(alloc: Global, line: &[u8]) -> Result<Names, AllocErr
     Ok(names)
 }
 
+/// The name of the module at a path.
+fn name_of(alloc: Global, path: &[u8]) -> Result<Name, AllocError>
+    ensures { IfOk result (λ name. name ≡ module_name_of path.now) }
+{
+    let mut name = Vec::new(alloc);
+    write_name(&mut name, path)?;
+    Ok(Name::from_vec(name))
+}
+
 /// What follows the first space of a text, where there is one.
 fn after_space(text: &[u8]) -> Option<&[u8]>
     ensures { IsAfterSpace text.now (option_copied result) }
 {
-    if has_space(text) {
-        Some(split_at_byte(text, b' ').1)
-    } else {
-        None
-    }
+    split_at_space(text).1
 }
 
-fn has_space(text: &[u8]) -> bool
-    ensures { result ≡ list_any (λ b. b == 32) text.now }
+/// What stands before the first space of a text, and what follows it, where there is one.
+fn split_at_space(text: &[u8]) -> (&[u8], Option<&[u8]>)
+    ensures before { result.0.now ≡ before_first (λ b. b == 32) text.now }
+    ensures after { IsAfterSpace text.now (option_copied result.1) }
 {
-    text.iter().any(|b| *b == b' ')
+    let (before, after) = split_at_byte(text, b' ');
+    if before.len() < text.len() {
+        (before, Some(after))
+    } else {
+        (before, None)
+    }
 }

@@ -1,4 +1,4 @@
-use Rattle.std.proofs.Common.{◌≡◌, Some, ap, sym, ◌∙◌, inr, take, not}
+use Rattle.std.proofs.Common.{Some, ap, sym, ◌∙◌, inr, take, not}
 use Rattle.std.specs.List.{find}
 use Rattle.std.specs.Option.{option_map}
 use Rattle.index_format.specs.Listing.{KeyValue}

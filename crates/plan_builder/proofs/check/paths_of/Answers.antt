@@ -1,4 +1,4 @@
-use Rattle.std.proofs.Common.{◌≡◌, ◌||◌, get_or, ap, sym, ◌∙◌, arith}
+use Rattle.std.proofs.Common.{◌||◌, get_or, ap, sym, ◌∙◌, arith}
 use Rattle.std.specs.Str.{bytes_eq}
 use Rattle.std.proofs.lemmas.List.Folds.{list_any_more}
 use Rattle.plan_builder.specs.Modules.{path_at}

@@ -1,4 +1,4 @@
-use Rattle.std.proofs.Common.{◌≡◌, ◌++◌, ◌∷◌, [], ◌==◌, map, ap, sym, ◌∙◌, append_assoc, append-nil}
+use Rattle.std.proofs.Common.{◌++◌, ◌∷◌, [], ◌==◌, map, ap, sym, ◌∙◌, append_assoc, append-nil}
 use Rattle.std.specs.List.{slice_split, before_first}
 use Rattle.km_names.specs.Path.{module_name}
 use Rattle.mod_tree.specs.DependencyLine.{needed_paths}

@@ -1,4 +1,4 @@
-use Rattle.std.proofs.Common.{◌≡◌, Some, ap, sym, ◌∙◌, inr}
+use Rattle.std.proofs.Common.{Some, ap, sym, ◌∙◌, inr}
 use Rattle.std.specs.List.{find}
 use Rattle.std.specs.Option.{option_map}
 use Rattle.plan_builder.specs.Obstacles.{is_unknown, not_found}

@@ -1,4 +1,4 @@
-use Rattle.std.proofs.Common.{◌≡◌, ◌+◌, ◌++◌, take, ap, sym, ◌∙◌, append_assoc}
+use Rattle.std.proofs.Common.{◌+◌, ◌++◌, take, ap, sym, ◌∙◌, append_assoc}
 use Rattle.plan_builder.specs.Steps.{own_step_unless, own_steps}
 use Rattle.plan_builder.specs.Planner.{sources_of}
 use Rattle.plan_builder.proofs.Finds.{flat-more}
