@@ -13,8 +13,6 @@ mod file;
 mod files;
 mod index;
 mod stated;
-#[cfg(test)]
-mod tests;
 mod text;
 mod unmet;
 mod worked;

@@ -12,8 +12,6 @@ mod modinfo;
 mod modprobe;
 mod numbers;
 mod region;
-#[cfg(test)]
-mod tests;
 mod trial;
 
 pub use depmod::{DepmodWords, read_depmod};

@@ -20,8 +20,6 @@ mod request;
 mod rule_table;
 mod step;
 mod steps;
-#[cfg(test)]
-mod tests;
 mod text;
 
 pub use line::well_formed;

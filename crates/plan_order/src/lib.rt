@@ -12,8 +12,6 @@ mod group;
 mod groups;
 mod needs;
 mod plan;
-#[cfg(test)]
-mod tests;
 
 pub use needs::{Needed, Needs, Planned, find_planned};
 pub use plan::{GroupedOrder, PlanOrCycle, plan_or_cycle};

@@ -10,6 +10,5 @@ pub mod ProviderLaw
 pub mod UseLaw
 pub mod DoubleLaw
 pub mod MakeSteps
-pub mod TreeSteps
 pub mod Laws
 pub mod ClosedLaw

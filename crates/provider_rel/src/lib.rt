@@ -19,8 +19,6 @@ mod map;
 mod provider;
 mod relation;
 mod symvers;
-#[cfg(test)]
-mod tests;
 mod unmet;
 
 pub use fault::{KernelFault, RelationFault};

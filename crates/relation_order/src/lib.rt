@@ -12,8 +12,6 @@ mod cycle;
 mod order;
 mod placed;
 mod reach;
-#[cfg(test)]
-mod tests;
 
 pub use closures::Closures;
 pub use cycle::named_cycle;

@@ -1,8 +1,17 @@
-//! Tests of the relation of trees of two thousand modules: chains, a star and cliques, up to the limit of dependencies and
-//! past it.
+//! Tests of relations: orders, reach and cycles, orders of plans, kernel tables with the relation of a tree, the files of
+//! small trees, and trees of two thousand modules, up to the limit of dependencies and past it.
 //!
-//! It stands on `provider_rel`. The trees are made of facts, without files.
+//! It stands on `relation_order`, `plan_order`, `provider_rel` and `depmod_core`. The trees are made of facts, without
+//! files.
 #![tactic(auto)]
 
 #[cfg(test)]
+mod files;
+#[cfg(test)]
+mod kernels;
+#[cfg(test)]
 mod limits;
+#[cfg(test)]
+mod orders;
+#[cfg(test)]
+mod plan_orders;

@@ -2,7 +2,7 @@
 ghost use Rattle.std.specs.Prelude.{IfOk};
 ghost use Rattle.provider_rel.specs.Tree.{IsTree, IsTreeModule};
 
-use crate::{OutputFile, OutputFiles, outputs};
+use depmod_core::{OutputFile, OutputFiles, outputs};
 use km_names::{Blob, Name, Names, PathText, Texts};
 use module_facts::{Export, Exports, Facts, Need, Needs};
 use provider_rel::{Kernel, Relation, TreeFacts};

@@ -4,8 +4,8 @@ use Rattle.std.specs.List.{list_any}
 use Rattle.km_names.specs.Ascii.{is_graphic}
 use Rattle.module_facts.specs.declared.facts.Export.{Export}
 use Rattle.module_facts.specs.declared.facts.Need.{Need}
-use Rattle.provider_rel.proofs.TreeSteps.{no-pair}
-use Rattle.provider_rel.proofs.tests.needing.Goals as goal
+use Rattle.relation_rows.proofs.TreeSteps.{no-pair}
+use Rattle.relation_rows.proofs.kernels.needing.Goals as goal
 
 pub returns : goal.returns
 unfolding is_graphic

@@ -1,6 +1,6 @@
 use Rattle.std.proofs.Common.{◌≡◌, length}
 use Rattle.relation_order.specs.Search.{Inside}
-use Rattle.relation_order.proofs.tests.lists.Given as goal
+use Rattle.relation_rows.proofs.orders.lists.Given as goal
 
 abbrev pub invariant-loop-item : goal.invariant-loop-item
 invariant-loop-item l =

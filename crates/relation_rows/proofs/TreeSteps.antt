@@ -11,14 +11,6 @@ one-pair R x i j d before within = absurd (omega arith)
 pub no-pair : {X : Type 0} (R : X → X → Type 0) → AllPairs {X = X} R []
 no-pair R i j d before within = absurd (omega arith)
 
--- no module
-pub no-tree : (tree : List Facts) → tree ≡ [] → IsTree tree
-no-tree tree is = subst IsTree (sym is) (record {
-  few = omega arith;
-  distinct = no-pair (λ (a b : Facts). a.name ≡ b.name → ⊥);
-  modules = All-nil IsTreeModule;
-})
-
 -- one module
 pub one-tree : (tree : List Facts) (f : Facts) → IsTreeModule f → tree ≡ f ∷ [] → IsTree tree
 one-tree tree f good is = subst IsTree (sym is) (record {

@@ -1,4 +1,4 @@
-use crate::{read_depmod, read_modinfo, read_modprobe, read_trial};
+use kmod_words::{read_depmod, read_modinfo, read_modprobe, read_trial};
 use km_names::Word;
 use std::alloc::{AllocError, Global};
 use std::test::Fail;

@@ -1,7 +1,7 @@
 ghost use Rattle.std.specs.Prelude.{◌≡◌, ◌<◌, length, All, IfOk};
 ghost use Rattle.relation_order.specs.Search.{Inside};
 
-use crate::{Closures, OrderOrCycle, all_members, order_or_cycle, reachable};
+use relation_order::{Closures, OrderOrCycle, all_members, order_or_cycle, reachable};
 use std::alloc::{AllocError, Global};
 use std::test::Fail;
 

@@ -3,7 +3,7 @@ ghost use Rattle.std.specs.Prelude.{◌≡◌, ◌≤◌, ◌↔◌, length, All
 ghost use Rattle.km_names.specs.Limit.{file_limit};
 ghost use Rattle.index_format.specs.Map.{IsKey, IsText};
 
-use crate::{PlanStep, PlanSteps, Request, plan, well_formed};
+use plan_builder::{PlanStep, PlanSteps, Request, plan, well_formed};
 use index_read::Index;
 use index_write::{KeyMap, encode};
 use km_names::{Blob, ConfFile, ConfFiles, Name, Names, PathText};

@@ -1,6 +1,6 @@
 ghost use Rattle.std.specs.Prelude.{◌≡◌, ◌-◌, ◌==◌, ◌∷◌, [], if◌then◌else◌};
 
-use crate::{Needed, Needs, PlanOrCycle, find_planned, plan_or_cycle};
+use plan_order::{Needed, Needs, PlanOrCycle, find_planned, plan_or_cycle};
 use std::alloc::{AllocError, Global};
 use std::test::Fail;
 

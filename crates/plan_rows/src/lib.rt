@@ -1,0 +1,7 @@
+//! Tests of plans, by the maps of a folder.
+//!
+//! It stands on `plan_builder`, and on `index_write` for the indexes.
+#![tactic(auto)]
+
+#[cfg(test)]
+mod plans;

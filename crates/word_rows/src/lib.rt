@@ -1,0 +1,7 @@
+//! Tests of the words of all commands, with what they ask for.
+//!
+//! It stands on `kmod_words`.
+#![tactic(auto)]
+
+#[cfg(test)]
+mod words;
