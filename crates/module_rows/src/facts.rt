@@ -1,23 +1,14 @@
-use crate::sheet_row::{ExportRow, NeedRow, PlaceRow, SheetRow, VersionRow, object_of};
 use elf_object::ObjectFault;
 use km_names::{Blob, PathText, le_u64_at};
 use module_facts::{Export, Facts, ModuleFault, Need, read_module};
+use sheet_rows::{ExportRow, NOTHING, NeedRow, PlaceRow, SheetRow, VersionRow, object_of};
 use std::alloc::Global;
 use std::process::Abort;
 use std::test::Fail;
 
-/// Nothing at all.
-const EMPTY: SheetRow = SheetRow {
-    texts: &[],
-    versions: &[],
-    exports: &[],
-    needs: &[],
-    places: &[],
-};
-
 /// Exports with and without versions, a strong and a weak need, a version of a name that isn't needed, texts
 /// that stand twice, and names with dashes.
-const VARIED: SheetRow = SheetRow {
+static VARIED: SheetRow = SheetRow {
     texts: &[
         b"license=GPL",
         b"alias=pci-x:v*",
@@ -82,7 +73,7 @@ const VARIED: SheetRow = SheetRow {
 };
 
 /// A module that needs one symbol.
-const ONE_NEED: SheetRow = SheetRow {
+static ONE_NEED: SheetRow = SheetRow {
     texts: &[],
     versions: &[],
     exports: &[],
@@ -98,7 +89,7 @@ const ONE_NEED: SheetRow = SheetRow {
 };
 
 /// The same with a relocation type that isn't known.
-const UNKNOWN_TYPE: SheetRow = SheetRow {
+static UNKNOWN_TYPE: SheetRow = SheetRow {
     texts: &[],
     versions: &[],
     exports: &[],
@@ -114,7 +105,7 @@ const UNKNOWN_TYPE: SheetRow = SheetRow {
 };
 
 /// Two needs and two words.
-const TWO_WORDS: SheetRow = SheetRow {
+static TWO_WORDS: SheetRow = SheetRow {
     texts: &[],
     versions: &[],
     exports: &[],
@@ -169,22 +160,12 @@ pub(crate) fn facts_at(
 #[test]
 fn objects_of_sheets_are_read_back(rt: HostRuntime) -> Result<(), Fail> {
     let alloc = rt.alloc();
-    let facts = facts_at(
-        &rt,
-        alloc,
-        b"kernel/em-pty.ko",
-        object_of(&rt, alloc, &EMPTY)?,
-    )?;
+    let facts = facts_at(&rt, alloc, b"kernel/em-pty.ko", object_of(alloc, &NOTHING)?)?;
     assert_eq!(rt; facts.name.as_bytes(), b"em_pty".as_slice());
     assert!(rt; facts.exports.is_empty() && facts.needs.is_empty());
     assert!(rt; facts.aliases.is_empty() && facts.softdeps.is_empty());
 
-    let facts = facts_at(
-        &rt,
-        alloc,
-        b"kernel/varied.ko",
-        object_of(&rt, alloc, &VARIED)?,
-    )?;
+    let facts = facts_at(&rt, alloc, b"kernel/varied.ko", object_of(alloc, &VARIED)?)?;
     let exports = facts.exports.as_slice();
     assert_eq!(rt; exports.len(), 2);
     assert_export(&rt, &exports[0], b"z-last", Some(0x0001_1234_5678));
@@ -203,7 +184,7 @@ fn objects_of_sheets_are_read_back(rt: HostRuntime) -> Result<(), Fail> {
 #[test]
 fn a_need_has_its_place(rt: HostRuntime) -> Result<(), Fail> {
     let path = PathText::from_slice(rt.alloc(), b"kernel/b.ko")?;
-    let bytes = object_of(&rt, rt.alloc(), &ONE_NEED)?;
+    let bytes = object_of(rt.alloc(), &ONE_NEED)?;
     assert!(rt; bytes.len() <= 67_108_864);
     let module = read_module(rt.alloc(), &path, bytes)?;
     assert!(rt; module.facts.exports.is_empty());
@@ -237,20 +218,10 @@ pub(crate) fn fault_at(
 #[test]
 fn faults_of_objects_are_named(rt: HostRuntime) -> Result<(), Fail> {
     let alloc = rt.alloc();
-    let fault = fault_at(
-        &rt,
-        alloc,
-        b"/m/x.ko.zst",
-        object_of(&rt, alloc, &ONE_NEED)?,
-    )?;
+    let fault = fault_at(&rt, alloc, b"/m/x.ko.zst", object_of(alloc, &ONE_NEED)?)?;
     assert!(rt; matches!(&fault, ModuleFault::Compressed));
 
-    let fault = fault_at(
-        &rt,
-        alloc,
-        b"/m/x.ko",
-        object_of(&rt, alloc, &UNKNOWN_TYPE)?,
-    )?;
+    let fault = fault_at(&rt, alloc, b"/m/x.ko", object_of(alloc, &UNKNOWN_TYPE)?)?;
     assert!(rt;
         matches!(
             &fault,
@@ -263,7 +234,7 @@ fn faults_of_objects_are_named(rt: HostRuntime) -> Result<(), Fail> {
     );
 
     // The second word's place moves into the first.
-    let mut bytes = object_of(&rt, alloc, &TWO_WORDS)?.into_vec();
+    let mut bytes = object_of(alloc, &TWO_WORDS)?.into_vec();
     let entry = second_relocation(&rt, bytes.as_slice());
     assert!(rt; entry < bytes.len());
     assert_eq!(rt; bytes[entry], 8);

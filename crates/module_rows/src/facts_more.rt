@@ -1,10 +1,11 @@
 use crate::facts::{facts_at, fault_at};
-use crate::sheet_row::{
-    ExportRow, MoreRow, NeedRow, PlaceRow, SheetRow, SpaceRow, VersionRow, object_of, object_with,
-};
 use elf_object::Object;
 use km_names::{Blob, FILE_LIMIT};
 use module_facts::Export;
+use sheet_rows::{
+    EMPTY_SHEET, ExportRow, MoreRow, NeedRow, PlaceRow, SheetRow, SpaceRow, VersionRow, object_of,
+    object_with,
+};
 use std::alloc::Global;
 use std::process::Abort;
 use std::test::Fail;
@@ -13,7 +14,7 @@ use std::test::Fail;
 const LONG: [u8; 60] = [b'x'; 60];
 
 /// A module that exports the long name.
-const LONG_EXPORT: SheetRow = SheetRow {
+static LONG_EXPORT: SheetRow = SheetRow {
     texts: &[],
     versions: &[],
     exports: &[ExportRow {
@@ -25,7 +26,7 @@ const LONG_EXPORT: SheetRow = SheetRow {
 };
 
 /// A module that needs the long name.
-const LONG_NEED: SheetRow = SheetRow {
+static LONG_NEED: SheetRow = SheetRow {
     texts: &[],
     versions: &[],
     exports: &[],
@@ -41,7 +42,7 @@ const LONG_NEED: SheetRow = SheetRow {
 };
 
 /// The version that this one was built against.
-const BUILT_AGAINST_11: MoreRow = MoreRow {
+static BUILT_AGAINST_11: MoreRow = MoreRow {
     ext: &[VersionRow {
         name: &LONG,
         crc: 0x11,
@@ -51,7 +52,7 @@ const BUILT_AGAINST_11: MoreRow = MoreRow {
 };
 
 /// Another one.
-const BUILT_AGAINST_12: MoreRow = MoreRow {
+static BUILT_AGAINST_12: MoreRow = MoreRow {
     ext: &[VersionRow {
         name: &LONG,
         crc: 0x12,
@@ -61,7 +62,7 @@ const BUILT_AGAINST_12: MoreRow = MoreRow {
 };
 
 /// A need with a version among entries, which extended versions hide.
-const HIDDEN_ENTRY: SheetRow = SheetRow {
+static HIDDEN_ENTRY: SheetRow = SheetRow {
     texts: &[],
     versions: &[VersionRow {
         name: b"fa",
@@ -76,7 +77,7 @@ const HIDDEN_ENTRY: SheetRow = SheetRow {
 };
 
 /// Three exports.
-const THREE: SheetRow = SheetRow {
+static THREE: SheetRow = SheetRow {
     texts: &[],
     versions: &[],
     exports: &[
@@ -98,7 +99,7 @@ const THREE: SheetRow = SheetRow {
 };
 
 /// Of these the second is GPL-only, and the last two have namespaces.
-const GPL_AND_SPACES: MoreRow = MoreRow {
+static GPL_AND_SPACES: MoreRow = MoreRow {
     ext: &[],
     gpl: &[b"fb"],
     spaces: &[
@@ -120,7 +121,7 @@ fn need_version(
     sheet: &SheetRow,
     more: &MoreRow,
 ) -> Result<Option<u64>, Fail> {
-    let bytes = object_with(rt, alloc, sheet, more)?;
+    let bytes = object_with(alloc, sheet, more)?;
     let facts = facts_at(rt, alloc, b"kernel/b.ko", bytes)?;
     let needs = facts.needs.as_slice();
     assert_eq!(rt; needs.len(), 1);
@@ -144,7 +145,7 @@ fn long_names_have_versions(rt: HostRuntime) -> Result<(), Fail> {
 /// The long name is exported with its version.
 #[test]
 fn a_long_name_is_exported(rt: HostRuntime) -> Result<(), Fail> {
-    let bytes = object_of(&rt, rt.alloc(), &LONG_EXPORT)?;
+    let bytes = object_of(rt.alloc(), &LONG_EXPORT)?;
     let facts = facts_at(&rt, rt.alloc(), b"kernel/a.ko", bytes)?;
     let exports = facts.exports.as_slice();
     assert_eq!(rt; exports.len(), 1);
@@ -187,7 +188,7 @@ fn fault_without_nul(
     more: &MoreRow,
     section: &[u8],
 ) -> Result<Blob, Fail> {
-    let bytes = object_with(rt, alloc, sheet, more)?;
+    let bytes = object_with(alloc, sheet, more)?;
     let end = section_end(rt, alloc, &bytes, section)?;
     let changed = with_byte_before(rt, bytes, end, b'x');
     let fault = fault_at(rt, alloc, b"kernel/b.ko", changed)?;
@@ -228,7 +229,7 @@ fn assert_export(rt: &impl Abort, export: &Export, name: &[u8], gpl: bool, space
 #[test]
 fn exports_may_be_gpl_only_and_have_namespaces(rt: HostRuntime) -> Result<(), Fail> {
     let alloc = rt.alloc();
-    let bytes = object_with(&rt, alloc, &THREE, &GPL_AND_SPACES)?;
+    let bytes = object_with(alloc, &THREE, &GPL_AND_SPACES)?;
     let facts = facts_at(&rt, alloc, b"kernel/a.ko", bytes)?;
     let exports = facts.exports.as_slice();
     assert_eq!(rt; exports.len(), 3);
@@ -248,7 +249,7 @@ fn is_free(rt: &impl Abort, alloc: Global, texts: &'static [&'static [u8]]) -> R
         needs: &[],
         places: &[],
     };
-    let bytes = object_of(rt, alloc, &sheet)?;
+    let bytes = object_of(alloc, &sheet)?;
     Ok(facts_at(rt, alloc, b"kernel/b.ko", bytes)?.free)
 }
 
@@ -290,7 +291,7 @@ fn modules_import_namespaces(rt: HostRuntime) -> Result<(), Fail> {
         needs: &[],
         places: &[],
     };
-    let bytes = object_of(&rt, alloc, &sheet)?;
+    let bytes = object_of(alloc, &sheet)?;
     let facts = facts_at(&rt, alloc, b"kernel/b.ko", bytes)?;
     let imports = facts.imports.as_slice();
     assert_eq!(rt; imports.len(), 2);

@@ -1,8 +1,8 @@
-use crate::sheet_row::{MoreRow, NO_MORE, SheetRow, object_with};
 use km_names::{Blob, PathText, le_u64_at};
 use model_loader::{LoadFault, LoadedAt, Machine, Region};
 use module_facts::{Module, read_module};
 use provider_rel::Kernel;
+use sheet_rows::{MoreRow, NO_MORE, SheetRow, object_with};
 use std::alloc::Global;
 use std::process::Abort;
 use std::test::Fail;
@@ -28,7 +28,7 @@ pub(crate) enum Answer {
 #[derive(Drop)]
 pub(crate) struct LoadRow {
     pub(crate) path: &'static [u8],
-    pub(crate) sheet: SheetRow,
+    pub(crate) sheet: &'static SheetRow,
     pub(crate) more: &'static MoreRow,
     pub(crate) changes: &'static [(usize, u8)],
     pub(crate) answer: Answer,
@@ -37,7 +37,7 @@ pub(crate) struct LoadRow {
 /// A module of a sheet that loads, with its base and size and words of its image.
 pub(crate) fn loads(
     path: &'static [u8],
-    sheet: SheetRow,
+    sheet: &'static SheetRow,
     base: u64,
     size: u64,
     words: &'static [(usize, u64)],
@@ -52,7 +52,11 @@ pub(crate) fn loads(
 }
 
 /// A module of a sheet that is refused with this text.
-pub(crate) fn refuses(path: &'static [u8], sheet: SheetRow, text: &'static [u8]) -> LoadRow {
+pub(crate) fn refuses(
+    path: &'static [u8],
+    sheet: &'static SheetRow,
+    text: &'static [u8],
+) -> LoadRow {
     LoadRow {
         path,
         sheet,
@@ -89,7 +93,7 @@ fn changed(rt: &impl Abort, bytes: Blob, changes: &[(usize, u8)]) -> Blob {
 /// The module of a row.
 fn module_of(rt: &impl Abort, alloc: Global, row: &LoadRow) -> Result<Module, Fail> {
     let path = PathText::from_slice(alloc, row.path)?;
-    let object = object_with(rt, alloc, &row.sheet, row.more)?;
+    let object = object_with(alloc, row.sheet, row.more)?;
     let bytes = changed(rt, object, row.changes);
     assert!(rt; bytes.len() <= 67_108_864);
     Ok(read_module(alloc, &path, bytes)?)
