@@ -1,14 +1,19 @@
-use elf_object::ObjectFault;
-use km_names::{Blob, PathText, le_u64_at};
-use module_facts::{Export, Facts, ModuleFault, Need, read_module};
-use sheet_rows::{ExportRow, NOTHING, NeedRow, PlaceRow, SheetRow, VersionRow, object_of};
+//! What objects of sheets are read as.
+
+use crate::facts_row::{
+    ExportFact, FactsRow, NO_FACTS, NeedFact, expect_facts, expect_needs, module_at,
+};
+use sheet_rows::{
+    EMPTY_SHEET, ExportRow, MoreRow, NEEDS, NeedRow, PlaceRow, SheetRow, SpaceRow, VersionRow,
+    object_of,
+};
 use std::alloc::Global;
 use std::process::Abort;
 use std::test::Fail;
 
 /// Exports with and without versions, a strong and a weak need, a version of a name that isn't needed, texts
 /// that stand twice, and names with dashes.
-static VARIED: SheetRow = SheetRow {
+const VARIED: SheetRow = SheetRow {
     texts: &[
         b"license=GPL",
         b"alias=pci-x:v*",
@@ -72,192 +77,328 @@ static VARIED: SheetRow = SheetRow {
     ],
 };
 
-/// A module that needs one symbol.
-static ONE_NEED: SheetRow = SheetRow {
-    texts: &[],
-    versions: &[],
-    exports: &[],
-    needs: &[NeedRow {
-        name: b"fa",
-        weak: false,
-    }],
-    places: &[PlaceRow {
-        kind: 1,
-        symbol: b"fa",
-        addend: 0,
-    }],
-};
-
-/// The same with a relocation type that isn't known.
-static UNKNOWN_TYPE: SheetRow = SheetRow {
-    texts: &[],
-    versions: &[],
-    exports: &[],
-    needs: &[NeedRow {
-        name: b"fa",
-        weak: false,
-    }],
-    places: &[PlaceRow {
-        kind: 9,
-        symbol: b"fa",
-        addend: 0,
-    }],
-};
-
-/// Two needs and two words.
-static TWO_WORDS: SheetRow = SheetRow {
-    texts: &[],
-    versions: &[],
-    exports: &[],
-    needs: &[
-        NeedRow {
-            name: b"fa",
-            weak: false,
-        },
-        NeedRow {
-            name: b"fb",
-            weak: false,
-        },
-    ],
-    places: &[
-        PlaceRow {
-            kind: 1,
-            symbol: b"fa",
-            addend: 0,
-        },
-        PlaceRow {
-            kind: 1,
-            symbol: b"fb",
-            addend: 0,
-        },
-    ],
-};
-
-fn assert_export(rt: &impl Abort, export: &Export, name: &[u8], crc: Option<u64>) {
-    assert_eq!(rt; export.name.as_bytes(), name);
-    assert_eq!(rt; export.crc, crc);
-}
-
-fn assert_need(rt: &impl Abort, need: &Need, name: &[u8], weak: bool, crc: Option<u64>) {
-    assert_eq!(rt; need.name.as_bytes(), name);
-    assert_eq!(rt; need.weak, weak);
-    assert_eq!(rt; need.crc, crc);
-}
-
-/// The facts of the object at the path.
-pub(crate) fn facts_at(
-    rt: &impl Abort,
-    alloc: Global,
-    path: &[u8],
-    bytes: Blob,
-) -> Result<Facts, ModuleFault> {
-    let path = PathText::from_slice(alloc, path)?;
-    assert!(rt; bytes.len() <= 67_108_864);
-    Ok(read_module(alloc, &path, bytes)?.facts)
-}
+/// A sheet of nothing, and the varied one.
+static SHEETS: [FactsRow; 2] = [
+    FactsRow {
+        path: b"kernel/em-pty.ko",
+        name: b"em_pty",
+        ..NO_FACTS
+    },
+    FactsRow {
+        path: b"kernel/varied.ko",
+        sheet: VARIED,
+        name: b"varied",
+        exports: &[
+            ExportFact {
+                name: b"z-last",
+                crc: Some(0x0001_1234_5678),
+                gpl: false,
+                space: b"",
+            },
+            ExportFact {
+                name: b"a_first",
+                crc: None,
+                gpl: false,
+                space: b"",
+            },
+        ],
+        needs: &[
+            NeedFact {
+                name: b"printk",
+                weak: false,
+                crc: Some(0x1234_5678),
+            },
+            NeedFact {
+                name: b"may-be",
+                weak: true,
+                crc: Some(3),
+            },
+            NeedFact {
+                name: b"kfree",
+                weak: false,
+                crc: None,
+            },
+        ],
+        aliases: &[b"pci-x:v*", b"pci-x:v*"],
+        softdeps: &[b"pre: crc32c"],
+        free: true,
+        ..NO_FACTS
+    },
+];
 
 /// The sheet's exports, needs, versions and texts are what its object is read as.
 #[test]
 fn objects_of_sheets_are_read_back(rt: HostRuntime) -> Result<(), Fail> {
-    let alloc = rt.alloc();
-    let facts = facts_at(&rt, alloc, b"kernel/em-pty.ko", object_of(alloc, &NOTHING)?)?;
-    assert_eq!(rt; facts.name.as_bytes(), b"em_pty".as_slice());
-    assert!(rt; facts.exports.is_empty() && facts.needs.is_empty());
-    assert!(rt; facts.aliases.is_empty() && facts.softdeps.is_empty());
-
-    let facts = facts_at(&rt, alloc, b"kernel/varied.ko", object_of(alloc, &VARIED)?)?;
-    let exports = facts.exports.as_slice();
-    assert_eq!(rt; exports.len(), 2);
-    assert_export(&rt, &exports[0], b"z-last", Some(0x0001_1234_5678));
-    assert_export(&rt, &exports[1], b"a_first", None);
-    let needs = facts.needs.as_slice();
-    assert_eq!(rt; needs.len(), 3);
-    assert_need(&rt, &needs[0], b"printk", false, Some(0x1234_5678));
-    assert_need(&rt, &needs[1], b"may-be", true, Some(3));
-    assert_need(&rt, &needs[2], b"kfree", false, None);
-    assert_eq!(rt; facts.aliases.len(), 2);
-    assert_eq!(rt; facts.softdeps.len(), 1);
-    Ok(())
+    expect_facts(&rt, rt.alloc(), &SHEETS)
 }
+
+/// A need without a version.
+static NEEDED: [NeedFact; 1] = [NeedFact {
+    name: b"fa",
+    weak: false,
+    crc: None,
+}];
 
 /// A need is found in the facts, and the word that it fills in the object.
 #[test]
 fn a_need_has_its_place(rt: HostRuntime) -> Result<(), Fail> {
-    let path = PathText::from_slice(rt.alloc(), b"kernel/b.ko")?;
-    let bytes = object_of(rt.alloc(), &ONE_NEED)?;
-    assert!(rt; bytes.len() <= 67_108_864);
-    let module = read_module(rt.alloc(), &path, bytes)?;
+    let bytes = object_of(rt.alloc(), &NEEDS)?;
+    let module = module_at(&rt, rt.alloc(), b"kernel/b.ko", bytes)?;
     assert!(rt; module.facts.exports.is_empty());
-    let needs = module.facts.needs.as_slice();
-    assert_eq!(rt; needs.len(), 1);
-    assert_need(&rt, &needs[0], b"fa", false, None);
+    expect_needs(&rt, &module.facts.needs, &NEEDED);
     assert_eq!(rt; module.object.place_count(), 1);
     let place = module.object.place(0);
-    assert_eq!(rt; place.target, 2);
-    assert_eq!(rt; place.offset, 0);
-    assert_eq!(rt; place.kind, 1);
+    assert_eq!(rt; (place.target, place.offset, place.kind), (2, 0, 1));
     Ok(())
 }
 
-/// The fault of the object at the path.
-pub(crate) fn fault_at(
-    rt: &impl Abort,
-    alloc: Global,
-    path: &[u8],
-    bytes: Blob,
-) -> Result<ModuleFault, Fail> {
-    let path = PathText::from_slice(alloc, path)?;
-    assert!(rt; bytes.len() <= 67_108_864);
-    match read_module(alloc, &path, bytes) {
-        Ok(_) => Err("the module was read".into()),
-        Err(fault) => Ok(fault),
-    }
-}
+/// A name that is too long for an entry of `__versions`.
+const LONG: [u8; 60] = [b'x'; 60];
 
-/// A module's fault is the first one: its path's, then its object's.
+/// A module that needs the long name.
+pub(crate) const LONG_NEED: SheetRow = SheetRow {
+    texts: &[],
+    versions: &[],
+    exports: &[],
+    needs: &[NeedRow {
+        name: &LONG,
+        weak: false,
+    }],
+    places: &[PlaceRow {
+        kind: 1,
+        symbol: &LONG,
+        addend: 0,
+    }],
+};
+
+/// The version that this one was built against.
+pub(crate) const BUILT_AGAINST_11: MoreRow = MoreRow {
+    ext: &[VersionRow {
+        name: &LONG,
+        crc: 0x11,
+    }],
+    gpl: &[],
+    spaces: &[],
+};
+
+/// Another one.
+const BUILT_AGAINST_12: MoreRow = MoreRow {
+    ext: &[VersionRow {
+        name: &LONG,
+        crc: 0x12,
+    }],
+    gpl: &[],
+    spaces: &[],
+};
+
+/// A need with a version among entries, which extended versions hide.
+const HIDDEN_ENTRY: SheetRow = SheetRow {
+    texts: &[],
+    versions: &[VersionRow {
+        name: b"fa",
+        crc: 0x21,
+    }],
+    exports: &[],
+    needs: &[NeedRow {
+        name: b"fa",
+        weak: false,
+    }],
+    places: &[],
+};
+
+/// A need of the long name is read with this version.
+const LONG_READ: FactsRow = FactsRow {
+    sheet: LONG_NEED,
+    more: BUILT_AGAINST_11,
+    needs: &[NeedFact {
+        name: &LONG,
+        weak: false,
+        crc: Some(0x11),
+    }],
+    ..NO_FACTS
+};
+
+/// Modules with extended versions.
+static EXTENDED: [FactsRow; 3] = [
+    LONG_READ,
+    FactsRow {
+        more: BUILT_AGAINST_12,
+        needs: &[NeedFact {
+            name: &LONG,
+            weak: false,
+            crc: Some(0x12),
+        }],
+        ..LONG_READ
+    },
+    FactsRow {
+        sheet: HIDDEN_ENTRY,
+        needs: &[NeedFact {
+            name: b"fa",
+            weak: false,
+            crc: None,
+        }],
+        ..LONG_READ
+    },
+];
+
+/// A name of 60 bytes has a version on both sides, which may be another one; extended versions hide the entries.
 #[test]
-fn faults_of_objects_are_named(rt: HostRuntime) -> Result<(), Fail> {
-    let alloc = rt.alloc();
-    let fault = fault_at(&rt, alloc, b"/m/x.ko.zst", object_of(alloc, &ONE_NEED)?)?;
-    assert!(rt; matches!(&fault, ModuleFault::Compressed));
+fn long_names_have_versions(rt: HostRuntime) -> Result<(), Fail> {
+    expect_facts(&rt, rt.alloc(), &EXTENDED)
+}
 
-    let fault = fault_at(&rt, alloc, b"/m/x.ko", object_of(alloc, &UNKNOWN_TYPE)?)?;
-    assert!(rt;
-        matches!(
-            &fault,
-            ModuleFault::Object(ObjectFault::UnknownType {
-                section: 5,
-                entry: 0,
-                kind: 9
-            })
-        )
-    );
+/// A module that exports the long name.
+const LONG_EXPORT: SheetRow = SheetRow {
+    texts: &[],
+    versions: &[],
+    exports: &[ExportRow {
+        name: &LONG,
+        crc: Some(0x11),
+    }],
+    needs: &[],
+    places: &[],
+};
 
-    // The second word's place moves into the first.
-    let mut bytes = object_of(alloc, &TWO_WORDS)?.into_vec();
-    let entry = second_relocation(&rt, bytes.as_slice());
-    assert!(rt; entry < bytes.len());
-    assert_eq!(rt; bytes[entry], 8);
-    bytes[entry] = 4;
-    let fault = fault_at(&rt, alloc, b"/m/x.ko", Blob::from_vec(bytes))?;
-    assert!(rt;
-        matches!(
-            &fault,
-            ModuleFault::Object(ObjectFault::OverlappingPlaces {
-                section: 2,
-                offset: 4
-            })
-        )
-    );
+/// What it is read with.
+static LONG_EXPORTED: [FactsRow; 1] = [FactsRow {
+    sheet: LONG_EXPORT,
+    exports: &[ExportFact {
+        name: &LONG,
+        crc: Some(0x11),
+        gpl: false,
+        space: b"",
+    }],
+    ..NO_FACTS
+}];
+
+/// The long name is exported with its version.
+#[test]
+fn a_long_name_is_exported(rt: HostRuntime) -> Result<(), Fail> {
+    expect_facts(&rt, rt.alloc(), &LONG_EXPORTED)
+}
+
+/// Three exports.
+pub(crate) const THREE: SheetRow = SheetRow {
+    texts: &[],
+    versions: &[],
+    exports: &[
+        ExportRow {
+            name: b"fa",
+            crc: None,
+        },
+        ExportRow {
+            name: b"fb",
+            crc: Some(1),
+        },
+        ExportRow {
+            name: b"fc",
+            crc: None,
+        },
+    ],
+    needs: &[],
+    places: &[],
+};
+
+/// Of these the second is GPL-only, and the last two have namespaces.
+pub(crate) const GPL_AND_SPACES: MoreRow = MoreRow {
+    ext: &[],
+    gpl: &[b"fb"],
+    spaces: &[
+        SpaceRow {
+            name: b"fc",
+            space: b"NS",
+        },
+        SpaceRow {
+            name: b"fb",
+            space: b"OTHER",
+        },
+    ],
+};
+
+/// What they are read with.
+static EXPORTED: [FactsRow; 1] = [FactsRow {
+    sheet: THREE,
+    more: GPL_AND_SPACES,
+    exports: &[
+        ExportFact {
+            name: b"fa",
+            crc: None,
+            gpl: false,
+            space: b"",
+        },
+        ExportFact {
+            name: b"fb",
+            crc: Some(1),
+            gpl: true,
+            space: b"OTHER",
+        },
+        ExportFact {
+            name: b"fc",
+            crc: None,
+            gpl: false,
+            space: b"NS",
+        },
+    ],
+    ..NO_FACTS
+}];
+
+/// Exports are GPL-only by the section of their entry, and in the namespace that stands for them.
+#[test]
+fn exports_may_be_gpl_only_and_have_namespaces(rt: HostRuntime) -> Result<(), Fail> {
+    expect_facts(&rt, rt.alloc(), &EXPORTED)
+}
+
+/// Texts, and whether a module with them is free.
+static LICENSES: [(&[&[u8]], bool); 12] = [
+    (&[], false),
+    (&[b"license=GPL"], true),
+    (&[b"license=GPL v2"], true),
+    (&[b"license=GPL and additional rights"], true),
+    (&[b"license=Dual BSD/GPL"], true),
+    (&[b"license=Dual MIT/GPL"], true),
+    (&[b"license=Dual MPL/GPL"], true),
+    (&[b"license=GPL v3"], false),
+    (&[b"license=Proprietary"], false),
+    (&[b"license="], false),
+    (
+        &[b"author=GPL", b"license=Proprietary", b"license=GPL"],
+        false,
+    ),
+    (&[b"license=GPL", b"license=Proprietary"], true),
+];
+
+/// Whether a module with these texts is free.
+fn is_free(rt: &impl Abort, alloc: Global, texts: &'static [&'static [u8]]) -> Result<bool, Fail> {
+    let sheet = SheetRow {
+        texts,
+        ..EMPTY_SHEET
+    };
+    let bytes = object_of(alloc, &sheet)?;
+    Ok(module_at(rt, alloc, b"kernel/b.ko", bytes)?.facts.free)
+}
+
+/// The first license decides, and without one a module isn't free.
+#[test]
+fn modules_are_free_by_their_first_license(rt: HostRuntime) -> Result<(), Fail> {
+    for (texts, want) in &LICENSES {
+        assert_eq!(rt; is_free(&rt, rt.alloc(), texts)?, *want);
+    }
     Ok(())
 }
 
-/// Where the second entry of the section `.rela.data`, the fifth, stands in the file.
-fn second_relocation(rt: &impl Abort, bytes: &[u8]) -> usize {
-    assert!(rt; bytes.len() >= 48);
-    let header = le_u64_at(bytes, 40).saturating_add(64 * 5 + 24);
-    assert!(rt; header < 4096 && header as usize + 8 <= bytes.len());
-    let content = le_u64_at(bytes, header as usize);
-    assert!(rt; content < 4096);
-    content as usize + 24
+/// A module that imports two namespaces.
+static IMPORTED: [FactsRow; 1] = [FactsRow {
+    sheet: SheetRow {
+        texts: &[b"import_ns=NS", b"license=GPL", b"import_ns=OTHER"],
+        ..EMPTY_SHEET
+    },
+    free: true,
+    imports: &[b"NS", b"OTHER"],
+    ..NO_FACTS
+}];
+
+/// The namespaces that a module imports, in order.
+#[test]
+fn modules_import_namespaces(rt: HostRuntime) -> Result<(), Fail> {
+    expect_facts(&rt, rt.alloc(), &IMPORTED)
 }

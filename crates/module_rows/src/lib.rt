@@ -7,7 +7,9 @@
 #[cfg(test)]
 mod facts;
 #[cfg(test)]
-mod facts_more;
+mod facts_row;
+#[cfg(test)]
+mod faults;
 #[cfg(test)]
 mod load_row;
 #[cfg(test)]

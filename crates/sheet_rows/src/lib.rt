@@ -13,9 +13,9 @@ mod sheets;
 pub use fault::RowFault;
 pub use object::{object_of, object_with};
 pub use row::{
-    EMPTY_SHEET, ExportRow, MoreRow, NO_MORE, NeedRow, PlaceRow, SheetRow, SpaceRow, VersionRow,
+    EMPTY_MORE, EMPTY_SHEET, ExportRow, MoreRow, NeedRow, PlaceRow, SheetRow, SpaceRow, VersionRow,
 };
 pub use sheets::{
     FREE, GIVES, GIVES_ALONE, GIVES_VERSION_1, GPL_ONLY, IMPORTS, IN_SPACE, MAY_NEED,
-    MAY_NEED_VERSION_2, NEEDS, NOTHING,
+    MAY_NEED_VERSION_2, NEEDS, NO_MORE, NOTHING,
 };

@@ -7,7 +7,8 @@ ghost use Rattle.sheet_rows.specs.declared.fault.RowFault.TheVariants.{Memory};
 
 use crate::fault::RowFault;
 use crate::lists::{exports, needs, places, spaces, texts, versions};
-use crate::row::{MoreRow, NO_MORE, SheetRow};
+use crate::row::{MoreRow, SheetRow};
+use crate::sheets::NO_MORE;
 use km_names::Blob;
 use std::alloc::{AllocError, Global};
 use tree_gen::{Sheet, SheetMore, is_sheet, object_more};

@@ -83,7 +83,7 @@ pub struct MoreRow {
 }
 
 /// Nothing besides a sheet.
-pub static NO_MORE: MoreRow = MoreRow {
+pub const EMPTY_MORE: MoreRow = MoreRow {
     ext: &[],
     gpl: &[],
     spaces: &[],

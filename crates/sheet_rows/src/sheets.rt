@@ -1,10 +1,13 @@
 // Small modules, which rows share.
 use crate::row::{
-    EMPTY_SHEET, ExportRow, MoreRow, NeedRow, PlaceRow, SheetRow, SpaceRow, VersionRow,
+    EMPTY_MORE, EMPTY_SHEET, ExportRow, MoreRow, NeedRow, PlaceRow, SheetRow, SpaceRow, VersionRow,
 };
 
 /// A module of nothing at all.
 pub static NOTHING: SheetRow = EMPTY_SHEET;
+
+/// Nothing besides a sheet.
+pub static NO_MORE: MoreRow = EMPTY_MORE;
 
 /// A module that exports `fa` and needs `printk` of the kernel.
 pub static GIVES: SheetRow = SheetRow {
