@@ -9,6 +9,7 @@
 
 mod closures;
 mod cycle;
+mod laws;
 mod order;
 mod placed;
 mod reach;
@@ -17,6 +18,7 @@ mod tests;
 
 pub use closures::Closures;
 pub use cycle::named_cycle;
+pub use laws::walks_reach;
 pub use order::{OrderBuilder, least};
 pub use placed::{OrderOrCycle, order_or_cycle};
 pub use reach::{all_members, find_all, marked, reachable, unmarked};
