@@ -22,7 +22,7 @@ use Rattle.depmod_core.specs.Text.{with_piece}
 use Rattle.depmod_core.specs.Dependencies.{path_at, line_of}
 use Rattle.depmod_core.specs.Maps.{map_of}
 use Rattle.depmod_core.specs.Stated.{is_usable_alias, symbols_of, alias_text, softdep_text, symbols_text, alias_map, symbols_map, symbol_values}
-use Rattle.depmod_core.specs.Kinds.{key_of, texts_of, text_by, text_of, map_by, map_for, values_by}
+use Rattle.depmod_core.specs.Kinds.{heading, key_of, texts_of, text_of, map_by, map_for, values_by}
 use Rattle.depmod_core.specs.Kinds.{line_of as stated_line}
 use Rattle.depmod_core.proofs.TextSteps.{with_piece-append}
 use Rattle.depmod_core.proofs.KeySteps.{both, graphic-text, key-of, characters}
@@ -139,6 +139,14 @@ text-of-lists f (x ∷ xs) =
 pub tree-module : (tree items : List Facts) (i : ℕ) (f : Facts) → items ≡ tree → i < length items → f ≡ get_or items i f → All IsTreeModule tree → IsTreeModule f
 tree-module tree items i f same inside is good =
     subst IsTreeModule (sym (is ∙ ap (λ l. get_or l i f) same)) (good i f (omega (arith, ap length same)))
+
+-- The lines of a module.
+abbrev pub lines_by : Kind → Facts → List (List ℕ)
+lines_by kind f = map (stated_line kind f.name) (texts_of kind f)
+
+-- The lines of the file, put one after the other.
+abbrev pub text_by : Kind → List Facts → List ℕ
+text_by kind tree = lines_text (heading kind ∷ flat_map (lines_by kind) tree)
 
 -- what modules state, by its kind
 pub kind-text : (kind : Kind) (tree : List Facts) → text_by kind tree ≡ text_of kind tree

@@ -1,5 +1,5 @@
 -- What modules state, by its kind, and what indexes stand for, by their files.
-use Rattle.std.specs.Prelude.{⊤, ℕ, List, ◌∷◌, ◌++◌, map, flat_map, codes, Option, Some, None, option_map}
+use Rattle.std.specs.Prelude.{⊤, ℕ, List, ◌++◌, flat_map, codes, Option, Some, None, option_map}
 use Rattle.std.specs.List.{filter_map, enumerate_from}
 use Rattle.km_names.specs.AliasForm.{normal_alias}
 use Rattle.index_format.specs.Map.{KeyValues}
@@ -8,7 +8,6 @@ use Rattle.index_format.specs.Listing.{KeyValue}
 use Rattle.module_facts.specs.declared.facts.Facts.{Facts}
 use Rattle.depmod_core.specs.declared.stated.Kind.{Kind}
 use Rattle.depmod_core.specs.declared.stated.Kind.TheVariants.{Alias, Softdep, Symbol}
-use Rattle.depmod_core.specs.Lines.{lines_text}
 use Rattle.depmod_core.specs.Maps.{map_of}
 use Rattle.depmod_core.specs.declared.file.OutputFile.{OutputFile}
 use Rattle.depmod_core.specs.declared.file.OutputFile.TheVariants.{DepBin, AliasBin, SymbolsBin, BuiltinBin}
@@ -33,14 +32,6 @@ abbrev pub line_of : Kind → List ℕ → List ℕ → List ℕ
 line_of Alias name text = codes "alias " ++ (text ++ (codes " " ++ name))
 line_of Softdep name text = codes "softdep " ++ (name ++ (codes " " ++ text))
 line_of Symbol name text = codes "alias symbol:" ++ (text ++ (codes " " ++ name))
-
--- The lines of a module.
-abbrev pub lines_by : Kind → Facts → List (List ℕ)
-lines_by kind f = map (line_of kind f.name) (texts_of kind f)
-
--- The lines of the file, put one after the other.
-abbrev pub text_by : Kind → List Facts → List ℕ
-text_by kind tree = lines_text (heading kind ∷ flat_map (lines_by kind) tree)
 
 -- The key by which the index has what is stated; softdeps have no index.
 abbrev pub key_of : Kind → List ℕ → Option (List ℕ)

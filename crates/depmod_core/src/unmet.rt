@@ -1,6 +1,6 @@
 // What stands in the way of loading modules.
-ghost use Rattle.std.specs.Prelude.{◌≡◌, ◌⊎◌, Some, None, OnOk, IfOk, IfErr};
-ghost use Rattle.unmet_file.specs.Line.{line_text};
+ghost use Rattle.std.specs.Prelude.{◌≡◌, ◌⊎◌, ◌++◌, Some, None, OnOk, IfOk, IfErr};
+ghost use Rattle.unmet_file.specs.Line.{line_text, three_text};
 ghost use Rattle.unmet_file.specs.Unmet.{file_text};
 ghost use Rattle.depmod_core.specs.Files.{size_fault};
 ghost use Rattle.depmod_core.specs.Lines.{ended};
@@ -12,57 +12,74 @@ use km_names::{Blob, Name, PathText};
 use provider_rel::{Obstacles, Unbound};
 use std::alloc::{AllocError, Global};
 
+/// Puts a line of a word and three names, with its line end.
+fn put_three(
+    text: &mut Text,
+    word: &[u8],
+    first: &[u8],
+    second: &[u8],
+    third: &[u8],
+) -> Result<(), AllocError>
+    ensures { OnOk result (text.new ≡ with_piece text.old (ended (word.now ++ three_text first.now second.now third.now))) }
+{
+    text.put_all(&[word, first, b" ", second, b" ", third, b"\n"])
+}
+
+/// Puts a line that names a module, a symbol and the module that provides it.
+fn put_use(
+    text: &mut Text,
+    word: &[u8],
+    path: &PathText,
+    symbol: &Name,
+    provider: &PathText,
+) -> Result<(), AllocError>
+    ensures { OnOk result (text.new ≡ with_piece text.old (ended (word.now ++ three_text path.now symbol.now provider.now))) }
+{
+    put_three(
+        text,
+        word,
+        path.as_bytes(),
+        symbol.as_bytes(),
+        provider.as_bytes(),
+    )
+}
+
 /// Puts a line of modules.unmet, with its line end.
 #[tactic(auto, unfolding(unmet_file::specs::Line::line_text))]
 fn put_line(text: &mut Text, line: &Unbound) -> Result<(), AllocError>
     ensures { OnOk result (text.new ≡ with_piece text.old (ended (line_text line.now))) }
 {
-    let (word, first, second, third) = match line {
+    match line {
         Unbound::Missing { path, symbol } => {
-            return text.put_all(&[b"missing ", path.as_bytes(), b" ", symbol.as_bytes(), b"\n"]);
+            text.put_all(&[b"missing ", path.as_bytes(), b" ", symbol.as_bytes(), b"\n"])
         }
         Unbound::Gpl {
             path,
             symbol,
             provider,
-        } => (
-            b"gpl ".as_slice(),
-            path.as_bytes(),
-            symbol.as_bytes(),
-            provider.as_bytes(),
-        ),
+        } => put_use(text, b"gpl ", path, symbol, provider),
         Unbound::Version {
             path,
             symbol,
             provider,
-        } => (
-            b"version ".as_slice(),
-            path.as_bytes(),
-            symbol.as_bytes(),
-            provider.as_bytes(),
-        ),
+        } => put_use(text, b"version ", path, symbol, provider),
         Unbound::Namespace {
             path,
             symbol,
             provider,
-        } => (
-            b"namespace ".as_slice(),
-            path.as_bytes(),
-            symbol.as_bytes(),
-            provider.as_bytes(),
-        ),
+        } => put_use(text, b"namespace ", path, symbol, provider),
         Unbound::Double {
             symbol,
             first,
             second,
-        } => (
-            b"double ".as_slice(),
+        } => put_three(
+            text,
+            b"double ",
             symbol.as_bytes(),
             first.as_bytes(),
             second.as_bytes(),
         ),
-    };
-    text.put_all(&[word, first, b" ", second, b" ", third, b"\n"])
+    }
 }
 
 /// Puts the text of modules.unmet.

@@ -4,6 +4,7 @@ pub mod OrderLemmas
 pub mod ListingLemmas
 pub mod CountLemmas
 pub mod RoundLemmas
+pub mod PlaceValues
 pub mod FrontLemmas
 pub mod MatchLemmas
 pub mod SortLemmas

@@ -1,9 +1,24 @@
--- A step of the walk, round by round.
-use Rattle.std.proofs.Common.{◌≡◌, ℕ, ◌≤◌, List, length, Option, Some, None, arith}
+-- A step of the walk, round by round: what a node and the walk leave to do, and what is owed for it.
+use Rattle.std.proofs.Common.{◌≡◌, ℕ, ◌≤◌, List, [], ◌∷◌, length, Option, Some, None, arith}
+use Rattle.index_nodes.specs.Fields.{link_of, IsNodeOf}
 use Rattle.index_nodes.specs.declared.node.Node.{Node}
 use Rattle.index_read.specs.declared.walk.KeyWalk.{KeyWalk}
-use Rattle.index_read.specs.Walks.{left, GoesOn}
-use Rattle.index_read.specs.Rounds.{to_do, owed, IsGoing}
+use Rattle.index_read.specs.Keys.{Item}
+use Rattle.index_read.specs.Walks.{left, GoesOn, IsWalking, IsAtNode}
+
+-- The node that the walk came to and those after it; none where it came to none.
+abbrev pub to_do : List ℕ → KeyWalk → Option Node → List Item
+to_do b w None = []
+to_do b w (Some n) = (w.key.items, link_of n) ∷ left b w
+
+-- The steps for the nodes after it.
+abbrev pub owed : List ℕ → KeyWalk → Option Node → ℕ
+owed b w None = 0
+owed b w (Some n) = length (left b w)
+
+abbrev pub IsGoing : List ℕ → KeyWalk → Option Node → Type 0
+IsGoing b w None = Unit {0}
+IsGoing b w (Some n) = IsNodeOf b n × (IsWalking b w × IsAtNode w)
 
 pub still_to_do : (b : List ℕ) (old new : KeyWalk) (o : Option Node) → GoesOn b old new o → left b old ≡ to_do b new o
 still_to_do b old new None h = h

@@ -2,5 +2,4 @@ pub mod Values
 pub mod Keys
 pub mod Walks
 pub mod Fronts
-pub mod Rounds
 pub mod Contents

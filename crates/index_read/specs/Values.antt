@@ -1,10 +1,8 @@
 -- The values and pairs of lookups as those of an index, and the values of all keys that match a text.
-use Rattle.std.specs.Prelude.{◌≡◌, ℕ, List, [], map, Option, Some, None}
+use Rattle.std.specs.Prelude.{◌≡◌, ℕ, List, map}
 use Rattle.index_format.specs.Map.{Value}
 use Rattle.index_format.specs.Listing.{KeyValue, IsSelection, IsByPriority}
 use Rattle.glob_match.specs.Pattern.{Matches}
-use Rattle.index_nodes.specs.declared.place.Place.{Place}
-use Rattle.index_nodes.specs.Places.{values_left}
 use Rattle.index_read.specs.declared.value.Value.{Value as Found}
 use Rattle.index_read.specs.declared.value.Pair.{Pair}
 
@@ -33,8 +31,3 @@ pub record IsWild (values : List ℕ → List Value) (text : List ℕ) (found : 
   pub unordered : List Value
   pub matching : IsMatching values text unordered
   pub ordered : IsByPriority unordered found
-
--- The values that are left from a place on, none where there is no place.
-abbrev pub values_at_place : List ℕ → Option Place → List Value
-values_at_place b None = []
-values_at_place b (Some p) = values_left b p

@@ -1,7 +1,7 @@
 -- What the entries, groups and nodes of the writer are in the tree of an index.
-use Rattle.std.specs.Prelude.{ℕ, suc, ◌≤◌, ◌<◌, ◌==◌, List, [], ◌∷◌, length, map, if◌then◌else◌}
+use Rattle.std.specs.Prelude.{ℕ, suc, ◌<◌, ◌==◌, List, [], ◌∷◌, length, map, if◌then◌else◌}
 use Rattle.std.specs.List.{AllByRecursion}
-use Rattle.index_format.specs.Tree.{Entry, common_prefix, cut, ending, groups, Rises}
+use Rattle.index_format.specs.Tree.{Entry, common_prefix, cut, ending, groups}
 use Rattle.index_write.specs.declared.node.KeyEntry.{KeyEntry}
 use Rattle.index_write.specs.declared.node.Group.{Group}
 use Rattle.index_write.specs.declared.node.TreeNode.{TreeNode}
@@ -51,14 +51,6 @@ below es = cut (length (common_prefix es)) es
 abbrev pub part_for : ℕ → List Entry → Part
 part_for byte es =
     record { byte = byte; prefix = common_prefix es; values = ending (below es); children = span_of (map (λ g. g.0) (groups (below es))) }
-
--- A group of which a node can be made: its keys rise, and have at most so many bytes.
-pub record IsReady (most : ℕ) (g : ℕ × List Entry) : Type 0 where
-  pub rises : Rises g.1
-  pub within : AllByRecursion (λ e. length e.0 ≤ most) g.1
-
-abbrev pub AreReady : ℕ → List (ℕ × List Entry) → Type 0
-AreReady most gs = AllByRecursion (IsReady most) gs
 
 -- The root of the tree of entries.
 abbrev pub root_part : List Entry → Part

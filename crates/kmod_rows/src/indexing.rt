@@ -1,10 +1,10 @@
-use crate::sheet_row::NO_MORE;
-use crate::sheets::{
-    ALIASES, CIRCLE_A, CIRCLE_B, CIRCLE_C, CIRCLE_P, FREE, GIVES, GIVES_ALONE, GIVES_VERSION_1,
-    GPL_ONLY, IMPORTS, IN_SPACE, MAY_NEED_VERSION_2, NEEDS, NEEDS_NOSUCH,
-};
+use crate::sheets::{ALIASES, CIRCLE_A, CIRCLE_B, CIRCLE_C, CIRCLE_P, NEEDS_NOSUCH};
 use crate::tree_row::{Failing, FileRow, SYMVERS, TreeRow, USUAL, expect_tree};
 use km_outside::CallKind;
+use sheet_rows::{
+    FREE, GIVES, GIVES_ALONE, GIVES_VERSION_1, GPL_ONLY, IMPORTS, IN_SPACE, MAY_NEED_VERSION_2,
+    NEEDS, NO_MORE,
+};
 use std::test::Fail;
 
 /// A tree without modules: the texts have their headings, and each index is that of an empty map.
@@ -72,8 +72,8 @@ fn one_module_needs_another(rt: HostRuntime) -> Result<(), Fail> {
         rt.alloc(),
         &TreeRow {
             modules: &[
-                ("kernel/a.ko", GIVES, &NO_MORE),
-                ("kernel/b.ko", NEEDS, &NO_MORE),
+                ("kernel/a.ko", &GIVES, &NO_MORE),
+                ("kernel/b.ko", &NEEDS, &NO_MORE),
             ],
             after: &[
                 FileRow {
@@ -106,8 +106,8 @@ fn text_files_go_to_the_output(rt: HostRuntime) -> Result<(), Fail> {
         rt.alloc(),
         &TreeRow {
             modules: &[
-                ("kernel/a.ko", GIVES, &NO_MORE),
-                ("kernel/b.ko", NEEDS, &NO_MORE),
+                ("kernel/a.ko", &GIVES, &NO_MORE),
+                ("kernel/b.ko", &NEEDS, &NO_MORE),
             ],
             failing: Failing::Call(CallKind::Replace, 0),
             words: "depmod -n -b /r -E /r/Module.symvers 6.1.0",
@@ -124,7 +124,7 @@ fn files_go_to_another_folder(rt: HostRuntime) -> Result<(), Fail> {
         &rt,
         rt.alloc(),
         &TreeRow {
-            modules: &[("kernel/a.ko", GIVES, &NO_MORE)],
+            modules: &[("kernel/a.ko", &GIVES, &NO_MORE)],
             words: "depmod -b /r// -o /o/ -E /r/Module.symvers 6.1.0",
             after: &[FileRow {
                 path: "/o/lib/modules/6.1.0/modules.dep",
@@ -142,7 +142,7 @@ fn an_alias_that_cannot_be_used(rt: HostRuntime) -> Result<(), Fail> {
         &rt,
         rt.alloc(),
         &TreeRow {
-            modules: &[("kernel/x.ko", ALIASES, &NO_MORE)],
+            modules: &[("kernel/x.ko", &ALIASES, &NO_MORE)],
             after: &[
                 FileRow {
                     path: "/r/lib/modules/6.1.0/modules.alias",
@@ -166,10 +166,10 @@ fn modules_in_a_circle(rt: HostRuntime) -> Result<(), Fail> {
         rt.alloc(),
         &TreeRow {
             modules: &[
-                ("kernel/p.ko", CIRCLE_P, &NO_MORE),
-                ("kernel/a.ko", CIRCLE_A, &NO_MORE),
-                ("kernel/b.ko", CIRCLE_B, &NO_MORE),
-                ("kernel/c.ko", CIRCLE_C, &NO_MORE),
+                ("kernel/p.ko", &CIRCLE_P, &NO_MORE),
+                ("kernel/a.ko", &CIRCLE_A, &NO_MORE),
+                ("kernel/b.ko", &CIRCLE_B, &NO_MORE),
+                ("kernel/c.ko", &CIRCLE_C, &NO_MORE),
             ],
             files: &[
                 SYMVERS,
@@ -201,9 +201,9 @@ fn two_modules_export_one_name(rt: HostRuntime) -> Result<(), Fail> {
         rt.alloc(),
         &TreeRow {
             modules: &[
-                ("kernel/a.ko", GIVES_ALONE, &NO_MORE),
-                ("kernel/b.ko", GIVES_ALONE, &NO_MORE),
-                ("kernel/c.ko", NEEDS, &NO_MORE),
+                ("kernel/a.ko", &GIVES_ALONE, &NO_MORE),
+                ("kernel/b.ko", &GIVES_ALONE, &NO_MORE),
+                ("kernel/c.ko", &NEEDS, &NO_MORE),
             ],
             after: &[
                 FileRow {
@@ -227,7 +227,7 @@ fn a_symbol_is_missing(rt: HostRuntime) -> Result<(), Fail> {
         &rt,
         rt.alloc(),
         &TreeRow {
-            modules: &[("kernel/n.ko", NEEDS_NOSUCH, &NO_MORE)],
+            modules: &[("kernel/n.ko", &NEEDS_NOSUCH, &NO_MORE)],
             words: "depmod -e -b /r -E /r/Module.symvers 6.1.0",
             err: "kmod: warning: kernel/n.ko needs unknown symbol nosuch\n",
             after: &[FileRow {
@@ -247,8 +247,8 @@ fn a_version_differs(rt: HostRuntime) -> Result<(), Fail> {
         rt.alloc(),
         &TreeRow {
             modules: &[
-                ("kernel/p.ko", GIVES_VERSION_1, &NO_MORE),
-                ("kernel/w.ko", MAY_NEED_VERSION_2, &NO_MORE),
+                ("kernel/p.ko", &GIVES_VERSION_1, &NO_MORE),
+                ("kernel/w.ko", &MAY_NEED_VERSION_2, &NO_MORE),
             ],
             words: "depmod -e -b /r -E /r/Module.symvers 6.1.0",
             err: "kmod: warning: kernel/w.ko disagrees about version of symbol fa\n",
@@ -274,7 +274,7 @@ fn an_unknown_kernel_exports_all(rt: HostRuntime) -> Result<(), Fail> {
         &rt,
         rt.alloc(),
         &TreeRow {
-            modules: &[("kernel/n.ko", NEEDS_NOSUCH, &NO_MORE)],
+            modules: &[("kernel/n.ko", &NEEDS_NOSUCH, &NO_MORE)],
             words: "depmod -e -b /r 6.1.0",
             after: &[FileRow {
                 path: "/r/lib/modules/6.1.0/modules.unmet",
@@ -293,8 +293,8 @@ fn a_system_map_is_a_table(rt: HostRuntime) -> Result<(), Fail> {
         rt.alloc(),
         &TreeRow {
             modules: &[
-                ("kernel/a.ko", GIVES, &NO_MORE),
-                ("kernel/b.ko", NEEDS, &NO_MORE),
+                ("kernel/a.ko", &GIVES, &NO_MORE),
+                ("kernel/b.ko", &NEEDS, &NO_MORE),
             ],
             files: &[FileRow {
                 path: "/r/System.map",
@@ -324,9 +324,9 @@ fn a_gpl_only_export_has_a_line(rt: HostRuntime) -> Result<(), Fail> {
         rt.alloc(),
         &TreeRow {
             modules: &[
-                ("kernel/a.ko", GIVES_ALONE, &GPL_ONLY),
-                ("kernel/b.ko", NEEDS, &NO_MORE),
-                ("kernel/c.ko", FREE, &NO_MORE),
+                ("kernel/a.ko", &GIVES_ALONE, &GPL_ONLY),
+                ("kernel/b.ko", &NEEDS, &NO_MORE),
+                ("kernel/c.ko", &FREE, &NO_MORE),
             ],
             after: &[
                 FileRow {
@@ -351,9 +351,9 @@ fn a_namespace_has_a_line(rt: HostRuntime) -> Result<(), Fail> {
         rt.alloc(),
         &TreeRow {
             modules: &[
-                ("kernel/a.ko", GIVES_ALONE, &IN_SPACE),
-                ("kernel/b.ko", NEEDS, &NO_MORE),
-                ("kernel/c.ko", IMPORTS, &NO_MORE),
+                ("kernel/a.ko", &GIVES_ALONE, &IN_SPACE),
+                ("kernel/b.ko", &NEEDS, &NO_MORE),
+                ("kernel/c.ko", &IMPORTS, &NO_MORE),
             ],
             after: &[FileRow {
                 path: "/r/lib/modules/6.1.0/modules.unmet",
@@ -372,9 +372,9 @@ fn an_update_is_chosen(rt: HostRuntime) -> Result<(), Fail> {
         rt.alloc(),
         &TreeRow {
             modules: &[
-                ("kernel/a.ko", GIVES, &NO_MORE),
-                ("kernel/b.ko", NEEDS, &NO_MORE),
-                ("updates/a.ko", GIVES, &NO_MORE),
+                ("kernel/a.ko", &GIVES, &NO_MORE),
+                ("kernel/b.ko", &NEEDS, &NO_MORE),
+                ("updates/a.ko", &GIVES, &NO_MORE),
             ],
             after: &[FileRow {
                 path: "/r/lib/modules/6.1.0/modules.dep",
@@ -393,8 +393,8 @@ fn a_bad_module_is_named(rt: HostRuntime) -> Result<(), Fail> {
         rt.alloc(),
         &TreeRow {
             modules: &[
-                ("kernel/a.ko", GIVES, &NO_MORE),
-                ("kernel/c.ko", NEEDS, &NO_MORE),
+                ("kernel/a.ko", &GIVES, &NO_MORE),
+                ("kernel/c.ko", &NEEDS, &NO_MORE),
             ],
             files: &[
                 SYMVERS,
@@ -429,7 +429,7 @@ fn a_compressed_module_is_refused(rt: HostRuntime) -> Result<(), Fail> {
         &rt,
         rt.alloc(),
         &TreeRow {
-            modules: &[("kernel/a.ko", GIVES, &NO_MORE)],
+            modules: &[("kernel/a.ko", &GIVES, &NO_MORE)],
             files: &[
                 SYMVERS,
                 FileRow {
@@ -452,8 +452,8 @@ fn a_compressed_module_may_be_passed_over(rt: HostRuntime) -> Result<(), Fail> {
         rt.alloc(),
         &TreeRow {
             modules: &[
-                ("kernel/a.ko", GIVES, &NO_MORE),
-                ("updates/b.ko", NEEDS, &NO_MORE),
+                ("kernel/a.ko", &GIVES, &NO_MORE),
+                ("updates/b.ko", &NEEDS, &NO_MORE),
             ],
             files: &[
                 SYMVERS,
@@ -478,7 +478,7 @@ fn the_search_list_is_the_configurations(rt: HostRuntime) -> Result<(), Fail> {
         &rt,
         rt.alloc(),
         &TreeRow {
-            modules: &[("kernel/a.ko", GIVES, &NO_MORE)],
+            modules: &[("kernel/a.ko", &GIVES, &NO_MORE)],
             files: &[
                 SYMVERS,
                 FileRow {
@@ -508,7 +508,7 @@ fn the_third_replacement_fails(rt: HostRuntime) -> Result<(), Fail> {
         &rt,
         rt.alloc(),
         &TreeRow {
-            modules: &[("kernel/a.ko", GIVES, &NO_MORE)],
+            modules: &[("kernel/a.ko", &GIVES, &NO_MORE)],
             files: &[
                 SYMVERS,
                 FileRow {
@@ -610,7 +610,7 @@ fn a_bad_line_of_the_kernels_table(rt: HostRuntime) -> Result<(), Fail> {
         &rt,
         rt.alloc(),
         &TreeRow {
-            modules: &[("kernel/a.ko", GIVES, &NO_MORE)],
+            modules: &[("kernel/a.ko", &GIVES, &NO_MORE)],
             files: &[FileRow {
                 path: "/r/Module.symvers",
                 bytes: b"0x1\tprintk\tvmlinux\nprintk\n",

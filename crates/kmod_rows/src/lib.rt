@@ -3,15 +3,7 @@
 #![tactic(auto)]
 
 #[cfg(test)]
-mod facts;
-#[cfg(test)]
-mod facts_more;
-#[cfg(test)]
 mod indexing;
-#[cfg(test)]
-mod load_row;
-#[cfg(test)]
-mod loading;
 #[cfg(test)]
 mod loads;
 #[cfg(test)]
@@ -23,13 +15,9 @@ mod modprobe_names;
 #[cfg(test)]
 mod object;
 #[cfg(test)]
-mod placement;
-#[cfg(test)]
 mod plans;
 #[cfg(test)]
 mod row;
-#[cfg(test)]
-mod sheet_row;
 #[cfg(test)]
 mod sheets;
 #[cfg(test)]

@@ -1,16 +1,18 @@
-use crate::sheet_row::NO_MORE;
-use crate::sheets::{EXT4, GIVES, JBD2, MAY_NEED, MBCACHE, NEEDS};
+use crate::sheets::{EXT4, JBD2, MBCACHE};
 use crate::tree_row::{Failing, FileRow, INDEXED, IndexedRow, ModuleRow, SYMVERS, expect_indexed};
 use km_outside::CallKind;
+use sheet_rows::{GIVES, MAY_NEED, NEEDS, NO_MORE};
 use std::alloc::Global;
 use std::process::Abort;
 use std::test::Fail;
 
 /// Two modules, of which `b` needs `a`.
-const TWO: [ModuleRow<'static>; 2] = [
-    ("kernel/a.ko", GIVES, &NO_MORE),
-    ("kernel/b.ko", NEEDS, &NO_MORE),
-];
+fn two() -> [ModuleRow<'static>; 2] {
+    [
+        ("kernel/a.ko", &GIVES, &NO_MORE),
+        ("kernel/b.ko", &NEEDS, &NO_MORE),
+    ]
+}
 
 /// The addresses of a kernel that exports `printk`.
 const SYSTEM_MAP: FileRow = FileRow {
@@ -25,7 +27,7 @@ fn two_modules_are_loaded(rt: HostRuntime) -> Result<(), Fail> {
         &rt,
         rt.alloc(),
         &IndexedRow {
-            modules: &TWO,
+            modules: &two(),
             files: &[SYMVERS, SYSTEM_MAP],
             rows: &[
                 (
@@ -53,7 +55,7 @@ fn a_weak_need_is_loaded(rt: HostRuntime) -> Result<(), Fail> {
         &rt,
         rt.alloc(),
         &IndexedRow {
-            modules: &[("kernel/w.ko", MAY_NEED, &NO_MORE)],
+            modules: &[("kernel/w.ko", &MAY_NEED, &NO_MORE)],
             files: &[SYMVERS, SYSTEM_MAP],
             rows: &[(
                 "modprobe -d /r -S 6.1.0 --system-map /r/System.map --symvers /r/Module.symvers w",
@@ -73,7 +75,7 @@ fn listed_modules_are_refused(rt: HostRuntime) -> Result<(), Fail> {
         &rt,
         rt.alloc(),
         &IndexedRow {
-            modules: &TWO,
+            modules: &two(),
             files: &[
                 SYMVERS,
                 SYSTEM_MAP,
@@ -112,7 +114,7 @@ fn loads_need_addresses(rt: HostRuntime) -> Result<(), Fail> {
         &rt,
         rt.alloc(),
         &IndexedRow {
-            modules: &TWO,
+            modules: &two(),
             files: &[
                 SYMVERS,
                 FileRow {
@@ -153,7 +155,7 @@ const A_LOADED: &str =
 
 /// The calls of such a load in their order, each with its kind and number, the path, and what was written before. Five
 /// folders were listed and five files read, and nine replaced, when the tree was indexed.
-const CALLS: [(CallKind, u8, &str, &str); 17] = [
+static CALLS: [(CallKind, u8, &str, &str); 17] = [
     (CallKind::ListConf, 5, "/etc/modprobe.d", ""),
     (CallKind::ListConf, 6, "/run/modprobe.d", ""),
     (CallKind::ListConf, 7, "/usr/local/lib/modprobe.d", ""),
@@ -220,7 +222,7 @@ fn expect_failing(
         rt,
         alloc,
         &IndexedRow {
-            modules: &TWO,
+            modules: &two(),
             files: &[SYMVERS, SYSTEM_MAP],
             failing,
             rows: &[(LOAD, 3, out, err)],
@@ -232,9 +234,9 @@ fn expect_failing(
 #[test]
 fn each_call_can_fail(rt: HostRuntime) -> Result<(), Fail> {
     let alloc = rt.alloc();
-    for (kind, number, path, out) in CALLS {
+    for (kind, number, path, out) in &CALLS {
         let err = format!(in alloc; "kmod: file fault {path}\n")?;
-        expect_failing(&rt, alloc, Failing::Call(kind, number), out, err.as_str())?;
+        expect_failing(&rt, alloc, Failing::Call(*kind, *number), out, err.as_str())?;
     }
     for (number, out) in [(0, ""), (1, PLANNED), (2, A_LOADED)] {
         expect_failing(
@@ -256,9 +258,9 @@ fn a_file_system_is_loaded(rt: HostRuntime) -> Result<(), Fail> {
         rt.alloc(),
         &IndexedRow {
             modules: &[
-                ("kernel/fs/mbcache.ko", MBCACHE, &NO_MORE),
-                ("kernel/fs/ext4/ext4.ko", EXT4, &NO_MORE),
-                ("kernel/fs/jbd2/jbd2.ko", JBD2, &NO_MORE),
+                ("kernel/fs/mbcache.ko", &MBCACHE, &NO_MORE),
+                ("kernel/fs/ext4/ext4.ko", &EXT4, &NO_MORE),
+                ("kernel/fs/jbd2/jbd2.ko", &JBD2, &NO_MORE),
             ],
             files: &[
                 FileRow {

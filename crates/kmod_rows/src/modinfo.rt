@@ -1,15 +1,14 @@
 use crate::object::LICENSE_OBJECT;
 use crate::row::{Objects, Row, USAGE};
-use crate::sheet_row::{SheetRow, object_of};
 use crate::tree_row::{Failing, set_failing};
-use km_names::Blob;
 use km_outside::CallKind;
-use std::alloc::{AllocError, Global};
+use sheet_rows::{SheetRow, object_of};
+use std::alloc::Global;
 use std::process::Abort;
 use std::test::Fail;
 
 /// A module with two parameters, one of them without a text.
-const PARAMETERS: SheetRow = SheetRow {
+static PARAMETERS: SheetRow = SheetRow {
     texts: &[
         b"license=GPL",
         b"parm=depth:how deep",
@@ -24,7 +23,7 @@ const PARAMETERS: SheetRow = SheetRow {
 };
 
 /// A module with empty texts and one that is a key alone.
-const LONE_KEY: SheetRow = SheetRow {
+static LONE_KEY: SheetRow = SheetRow {
     texts: &[b"license=GPL", b"", b"", b"lone", b"author=A"],
     versions: &[],
     exports: &[],
@@ -33,7 +32,7 @@ const LONE_KEY: SheetRow = SheetRow {
 };
 
 /// What is shown of modules by their paths.
-const BY_PATH: [Row; 25] = [
+static BY_PATH: [Row; 25] = [
     ("modinfo -F license /m/a.ko", 0, "GPL\n", ""),
     (
         "modinfo /m/a.ko",
@@ -117,7 +116,7 @@ const BY_PATH: [Row; 25] = [
 ];
 
 /// Words that aren't understood.
-const NOT_UNDERSTOOD: [&str; 24] = [
+static NOT_UNDERSTOOD: [&str; 24] = [
     "",
     " ",
     "modprobe",
@@ -145,34 +144,47 @@ const NOT_UNDERSTOOD: [&str; 24] = [
 ];
 
 /// Puts the modules at paths.
-fn put_modules(rt: &impl Abort, alloc: Global, objects: &mut Objects) -> Result<(), AllocError> {
+fn put_modules(alloc: Global, objects: &mut Objects) -> Result<(), Fail> {
     objects.put(alloc, "/m/a.ko", &LICENSE_OBJECT)?;
     objects.put(alloc, "/m/cut.ko", &LICENSE_OBJECT[..287])?;
-    let parameters: Blob = object_of(rt, alloc, &PARAMETERS)?;
-    objects.put(alloc, "/m/p.ko", parameters.as_bytes())?;
-    let lone: Blob = object_of(rt, alloc, &LONE_KEY)?;
-    objects.put(alloc, "/m/lone.ko", lone.as_bytes())
+    objects.put(alloc, "/m/p.ko", object_of(alloc, &PARAMETERS)?.as_bytes())?;
+    objects.put(alloc, "/m/lone.ko", object_of(alloc, &LONE_KEY)?.as_bytes())?;
+    Ok(())
 }
 
-#[test]
-fn modules_are_shown_by_their_paths(rt: HostRuntime) -> Result<(), Fail> {
-    let alloc = rt.alloc();
-    for row in BY_PATH {
+/// Runs each row over the modules.
+fn expect_rows(rt: &impl Abort, alloc: Global, rows: &[Row]) -> Result<(), Fail> {
+    for row in rows {
         let mut objects = Objects::new(alloc)?;
-        put_modules(&rt, alloc, &mut objects)?;
-        objects.expect_row(&rt, alloc, row)?;
-    }
-    for words in NOT_UNDERSTOOD {
-        let mut objects = Objects::new(alloc)?;
-        objects.put(alloc, "/m/a.ko", &LICENSE_OBJECT)?;
-        objects.expect_row(&rt, alloc, (words, 2, "", USAGE))?;
+        put_modules(alloc, &mut objects)?;
+        objects.expect_row(rt, alloc, *row)?;
     }
     Ok(())
 }
 
+/// Each line of words isn't understood.
+fn expect_usage(rt: &impl Abort, alloc: Global, lines: &[&str]) -> Result<(), Fail> {
+    for words in lines {
+        let mut objects = Objects::new(alloc)?;
+        objects.put(alloc, "/m/a.ko", &LICENSE_OBJECT)?;
+        objects.expect_row(rt, alloc, (words, 2, "", USAGE))?;
+    }
+    Ok(())
+}
+
+#[test]
+fn modules_are_shown_by_their_paths(rt: HostRuntime) -> Result<(), Fail> {
+    expect_rows(&rt, rt.alloc(), &BY_PATH)
+}
+
+#[test]
+fn words_that_are_not_understood(rt: HostRuntime) -> Result<(), Fail> {
+    expect_usage(&rt, rt.alloc(), &NOT_UNDERSTOOD)
+}
+
 /// What fails while modules are shown, and the row then. The first module is printed before the second is read, and where the
 /// line of a refusal can't be written there is none.
-const FAILING: [(Failing, Row); 4] = [
+static FAILING: [(Failing, Row); 4] = [
     (
         Failing::Call(CallKind::Read, 0),
         (
@@ -217,8 +229,8 @@ fn expect_failing(rt: &impl Abort, alloc: Global, failing: Failing, row: Row) ->
 
 #[test]
 fn failing_calls_have_status_3(rt: HostRuntime) -> Result<(), Fail> {
-    for (failing, row) in FAILING {
-        expect_failing(&rt, rt.alloc(), failing, row)?;
+    for (failing, row) in &FAILING {
+        expect_failing(&rt, rt.alloc(), *failing, *row)?;
     }
     Ok(())
 }

@@ -28,7 +28,7 @@ pub(crate) const CUT_VALUE: &[u8] =
     b"\xb0\x07\xf4\x57\x00\x02\x00\x01\x40\x00\x00\x0c\x00\x00\x00\x01\x00\x00\x00\x00x";
 
 /// What is shown of modules by their names.
-const BY_NAME: [Row; 10] = [
+static BY_NAME: [Row; 10] = [
     (
         "modinfo -l -k 6.1.0 -b /r nosuch",
         1,
@@ -87,7 +87,7 @@ const BY_NAME: [Row; 10] = [
 ];
 
 /// Indexes in place of modules.dep.bin, and why `a` can't be shown.
-const REFUSED: [(&[u8], &str); 5] = [
+static REFUSED: [(&[u8], &str); 5] = [
     (NO_LINE, "kmod: not found a\n"),
     (
         COMPRESSED,
@@ -118,12 +118,12 @@ fn kernel(alloc: Global, index: &[u8]) -> Result<Objects, AllocError> {
 #[test]
 fn modules_are_shown_by_their_names(rt: HostRuntime) -> Result<(), Fail> {
     let alloc = rt.alloc();
-    for row in BY_NAME {
+    for row in &BY_NAME {
         let mut objects = kernel(alloc, TWO_NAMES)?;
-        objects.expect_row(&rt, alloc, row)?;
+        objects.expect_row(&rt, alloc, *row)?;
     }
     let words = "modinfo -k 6.1.0 -b /r a";
-    for (index, err) in REFUSED {
+    for (index, err) in &REFUSED {
         let mut objects = kernel(alloc, index)?;
         objects.expect_row(&rt, alloc, (words, 1, "", err))?;
     }

@@ -45,7 +45,7 @@ const BLACKLIST: FileRow = FileRow {
 type FilesRow = (&'static [FileRow], Row);
 
 /// What names stand for.
-const NAMES: [FilesRow; 9] = [
+static NAMES: [FilesRow; 9] = [
     (
         &[DEP, ALIAS, SYMBOLS, BUILTIN],
         ("modprobe -d /r -S 6.1.0 -R symbol:fa", 0, "a\n", ""),
@@ -100,7 +100,7 @@ const NAMES: [FilesRow; 9] = [
 ];
 
 /// Configurations, and the names of their aliases.
-const CONFIGURED: [FilesRow; 5] = [
+static CONFIGURED: [FilesRow; 5] = [
     (
         &[FileRow {
             path: "/etc/modprobe.d/a.conf",
@@ -180,7 +180,7 @@ const CONFIGURED: [FilesRow; 5] = [
 ];
 
 /// Files that aren't understood, of which the first in the order of work is told.
-const IN_ORDER: [FilesRow; 4] = [
+static IN_ORDER: [FilesRow; 4] = [
     (
         &[DEP, SYMBOLS],
         (
@@ -242,7 +242,7 @@ const IN_ORDER: [FilesRow; 4] = [
 ];
 
 /// Indexes in place of modules.dep.bin, and why nothing is looked up.
-const BAD_INDEXES: [(&[u8], &str); 3] = [
+static BAD_INDEXES: [(&[u8], &str); 3] = [
     (
         FORWARD_CHILD,
         "kmod: /r/lib/modules/6.1.0/modules.dep.bin: bad index node at 18\n",
@@ -288,7 +288,7 @@ fn each_file_is_understood_before_the_next(rt: HostRuntime) -> Result<(), Fail> 
 fn bad_indexes_are_refused(rt: HostRuntime) -> Result<(), Fail> {
     let alloc = rt.alloc();
     let words = "modprobe -d /r -S 6.1.0 -R a";
-    for (index, err) in BAD_INDEXES {
+    for (index, err) in &BAD_INDEXES {
         let mut objects = Objects::new(alloc)?;
         objects.put(alloc, DEP.path, index)?;
         objects.expect_row(&rt, alloc, (words, 1, "", err))?;

@@ -1,21 +1,25 @@
-use crate::sheet_row::{EMPTY_SHEET, NO_MORE};
-use crate::sheets::{
-    ASKS_FOR_MORE, GIVES, GIVES_ALONE, GIVES_VERSION_1, MAY_NEED_VERSION_2, NEEDS, NEEDS_NOSUCH,
-};
+use crate::sheets::{ASKS_FOR_MORE, NEEDS_NOSUCH};
 use crate::tree_row::{FileRow, INDEXED, IndexedRow, ModuleRow, SYMVERS, expect_indexed};
+use sheet_rows::{
+    GIVES, GIVES_ALONE, GIVES_VERSION_1, MAY_NEED_VERSION_2, NEEDS, NO_MORE, NOTHING,
+};
 use std::test::Fail;
 
 /// Two modules, of which `b` needs `a`.
-const TWO: [ModuleRow<'static>; 2] = [
-    ("kernel/a.ko", GIVES, &NO_MORE),
-    ("kernel/b.ko", NEEDS, &NO_MORE),
-];
+fn two() -> [ModuleRow<'static>; 2] {
+    [
+        ("kernel/a.ko", &GIVES, &NO_MORE),
+        ("kernel/b.ko", &NEEDS, &NO_MORE),
+    ]
+}
 
 /// Two modules that need nothing.
-const ALONE: [ModuleRow<'static>; 2] = [
-    ("kernel/a.ko", EMPTY_SHEET, &NO_MORE),
-    ("kernel/b.ko", EMPTY_SHEET, &NO_MORE),
-];
+fn alone() -> [ModuleRow<'static>; 2] {
+    [
+        ("kernel/a.ko", &NOTHING, &NO_MORE),
+        ("kernel/b.ko", &NOTHING, &NO_MORE),
+    ]
+}
 
 /// A module comes after what it needs, with its own parameters and those of the configuration.
 #[test]
@@ -24,7 +28,7 @@ fn a_plan_of_two_modules(rt: HostRuntime) -> Result<(), Fail> {
         &rt,
         rt.alloc(),
         &IndexedRow {
-            modules: &TWO,
+            modules: &two(),
             files: &[
                 SYMVERS,
                 FileRow {
@@ -50,7 +54,7 @@ fn a_bad_line_of_the_configuration(rt: HostRuntime) -> Result<(), Fail> {
         &rt,
         rt.alloc(),
         &IndexedRow {
-            modules: &TWO,
+            modules: &two(),
             files: &[
                 SYMVERS,
                 FileRow {
@@ -76,7 +80,7 @@ fn loaded_modules_are_left_out(rt: HostRuntime) -> Result<(), Fail> {
         &rt,
         rt.alloc(),
         &IndexedRow {
-            modules: &TWO,
+            modules: &two(),
             files: &[
                 SYMVERS,
                 FileRow {
@@ -111,7 +115,7 @@ fn commands_stand_for_modules(rt: HostRuntime) -> Result<(), Fail> {
         &rt,
         rt.alloc(),
         &IndexedRow {
-            modules: &TWO,
+            modules: &two(),
             files: &[
                 SYMVERS,
                 FileRow {
@@ -162,9 +166,9 @@ fn two_modules_export_one_symbol(rt: HostRuntime) -> Result<(), Fail> {
         rt.alloc(),
         &IndexedRow {
             modules: &[
-                ("kernel/a.ko", GIVES_ALONE, &NO_MORE),
-                ("kernel/b.ko", GIVES_ALONE, &NO_MORE),
-                ("kernel/c.ko", NEEDS, &NO_MORE),
+                ("kernel/a.ko", &GIVES_ALONE, &NO_MORE),
+                ("kernel/b.ko", &GIVES_ALONE, &NO_MORE),
+                ("kernel/c.ko", &NEEDS, &NO_MORE),
             ],
             rows: &[
                 (
@@ -199,9 +203,9 @@ fn needs_that_are_not_met(rt: HostRuntime) -> Result<(), Fail> {
         rt.alloc(),
         &IndexedRow {
             modules: &[
-                ("kernel/n.ko", NEEDS_NOSUCH, &NO_MORE),
-                ("kernel/p.ko", GIVES_VERSION_1, &NO_MORE),
-                ("kernel/w.ko", MAY_NEED_VERSION_2, &NO_MORE),
+                ("kernel/n.ko", &NEEDS_NOSUCH, &NO_MORE),
+                ("kernel/p.ko", &GIVES_VERSION_1, &NO_MORE),
+                ("kernel/w.ko", &MAY_NEED_VERSION_2, &NO_MORE),
             ],
             rows: &[
                 (
@@ -230,10 +234,10 @@ fn soft_dependencies_are_planned(rt: HostRuntime) -> Result<(), Fail> {
         rt.alloc(),
         &IndexedRow {
             modules: &[
-                ("kernel/avail.ko", EMPTY_SHEET, &NO_MORE),
-                ("kernel/late.ko", GIVES_ALONE, &NO_MORE),
-                ("kernel/m.ko", ASKS_FOR_MORE, &NO_MORE),
-                ("kernel/zed.ko", EMPTY_SHEET, &NO_MORE),
+                ("kernel/avail.ko", &NOTHING, &NO_MORE),
+                ("kernel/late.ko", &GIVES_ALONE, &NO_MORE),
+                ("kernel/m.ko", &ASKS_FOR_MORE, &NO_MORE),
+                ("kernel/zed.ko", &NOTHING, &NO_MORE),
             ],
             rows: &[(
                 "modprobe -d /r -S 6.1.0 -n m",
@@ -253,7 +257,7 @@ fn a_circle_of_soft_dependencies(rt: HostRuntime) -> Result<(), Fail> {
         &rt,
         rt.alloc(),
         &IndexedRow {
-            modules: &ALONE,
+            modules: &alone(),
             files: &[
                 SYMVERS,
                 FileRow {
@@ -279,7 +283,7 @@ fn built_in_and_unknown_names(rt: HostRuntime) -> Result<(), Fail> {
         &rt,
         rt.alloc(),
         &IndexedRow {
-            modules: &ALONE,
+            modules: &alone(),
             files: &[
                 SYMVERS,
                 FileRow {

@@ -1,7 +1,7 @@
 use crate::row::{Objects, RowOf};
-use crate::sheet_row::{MoreRow, SheetRow, object_with};
 use km_names::PathText;
 use km_outside::CallKind;
+use sheet_rows::{MoreRow, SheetRow, object_with};
 use std::alloc::Global;
 use std::process::Abort;
 use std::test::Fail;
@@ -14,7 +14,7 @@ pub(crate) struct FileRow {
 }
 
 /// A module of a tree: its path in the tree, its sheet, and what more its object is to have.
-pub(crate) type ModuleRow<'a> = (&'static str, SheetRow, &'a MoreRow);
+pub(crate) type ModuleRow<'a> = (&'static str, &'a SheetRow, &'a MoreRow);
 
 /// What is made to fail. Calls are counted from 0, those of a kind on their own.
 #[derive(Clone, Copy)]
@@ -63,13 +63,12 @@ pub(crate) const USUAL: TreeRow<'static> = TreeRow {
 
 /// Puts the modules of a row into the folder of the kernel.
 fn put_modules(
-    rt: &impl Abort,
     alloc: Global,
     objects: &mut Objects,
     modules: &[ModuleRow<'_>],
 ) -> Result<(), Fail> {
     for (path, sheet, more) in modules {
-        let object = object_with(rt, alloc, sheet, more)?;
+        let object = object_with(alloc, sheet, more)?;
         let path = format!(in alloc; "/r/lib/modules/6.1.0/{path}")?;
         objects.put(alloc, path.as_str(), object.as_bytes())?;
     }
@@ -113,7 +112,7 @@ fn expect_files(
 /// Runs a command over a tree, and compares what came of it.
 pub(crate) fn expect_tree(rt: &impl Abort, alloc: Global, row: &TreeRow<'_>) -> Result<(), Fail> {
     let mut objects = Objects::new(alloc)?;
-    put_modules(rt, alloc, &mut objects, row.modules)?;
+    put_modules(alloc, &mut objects, row.modules)?;
     put_files(alloc, &mut objects, row.files)?;
     set_failing(&mut objects, row.failing)?;
     objects.expect_row(rt, alloc, (row.words, row.status, row.out, row.err))?;
@@ -146,7 +145,7 @@ fn expect_command(
     row: RowOf<'_>,
 ) -> Result<(), Fail> {
     let mut objects = Objects::new(alloc)?;
-    put_modules(rt, alloc, &mut objects, tree.modules)?;
+    put_modules(alloc, &mut objects, tree.modules)?;
     put_files(alloc, &mut objects, tree.files)?;
     set_failing(&mut objects, tree.failing)?;
     objects.expect_row(rt, alloc, (USUAL.words, 0, "", ""))?;

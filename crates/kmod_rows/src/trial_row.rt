@@ -6,7 +6,7 @@ use std::process::Abort;
 use std::test::Fail;
 
 /// Trees of one, two and three modules.
-const TRIALS: [Row; 3] = [
+static TRIALS: [Row; 3] = [
     (
         "trial 1 1",
         0,
@@ -28,7 +28,7 @@ const TRIALS: [Row; 3] = [
 ];
 
 /// Words that aren't understood.
-const NOT_UNDERSTOOD: [Row; 4] = [
+static NOT_UNDERSTOOD: [Row; 4] = [
     ("trial 1 0", 2, "", USAGE),
     ("trial 1 2001", 2, "", USAGE),
     ("trial 18446744073709551616 1", 2, "", USAGE),

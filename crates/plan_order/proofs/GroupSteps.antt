@@ -1,22 +1,14 @@
 -- A group is listed among all that was found as it would be alone.
-use Rattle.std.proofs.Common.{◌≡◌, ℕ, zero, suc, ◌<◌, ◌≤◌, Bool, true, false, cond, eqb, List, [], ◌∷◌, ◌++◌, length, take, drop, ◌-◌, Some, sym, refl, ap, ◌∙◌, subst, inl, inr, arith}
-use Rattle.std.specs.Prelude.{◌||◌, ◌&&◌, ◌⊎◌, not, filter, slice_index_or}
-use Rattle.std.specs.List.{list_all, find, IsDistinct, AllByRecursion}
-use Rattle.std.specs.Option.{option_to_list}
-use Rattle.std.specs.Cmp.{nat_eq_equiv}
-use Rattle.std.proofs.lemmas.Bool.{true≢false, or_cases, or_left, or_right, eqb-true, eq-eqb, false_from_ne_true, not_from_false}
-use Rattle.std.proofs.lemmas.List.{append-nil, append_assoc, take_all, length-append}
+use Rattle.std.proofs.Common.{◌≡◌, ℕ, Bool, true, false, List, ◌++◌, length, take, drop, ◌-◌, sym, ap, ◌∙◌, subst, inl, inr, arith}
+use Rattle.std.specs.Prelude.{◌||◌, ◌⊎◌, not, slice_index_or}
+use Rattle.std.proofs.lemmas.Bool.{true≢false, or_cases, or_right}
+use Rattle.std.proofs.lemmas.List.{take_all, length-append}
 use Rattle.std.proofs.Math.Seq.{drop-append_seam}
-use Rattle.std.proofs.lemmas.Map.Made.{length-le_from_is_member}
-use Rattle.relation_order.specs.Sets.{Relation, has, times, marked, below}
-use Rattle.relation_order.specs.Search.{Marks}
-use Rattle.relation_order.specs.Placing.{Placing, Closed}
-use Rattle.relation_order.specs.Least.{is_ready, with_next}
+use Rattle.relation_order.specs.Sets.{Relation, has, marked, below}
 use Rattle.relation_order.specs.Spread.{spread}
-use Rattle.relation_order.proofs.Saturation.{filter-same, filter-within}
-use Rattle.relation_order.proofs.Lists.{has-marked}
-use Rattle.relation_order.proofs.LeastLaws.{least-times, least-members, all-at, implied}
-use Rattle.relation_order.proofs.Placing.{Rising, rising-filter, rising-range, all-from, either}
+use Rattle.relation_order.proofs.Saturation.{filter-same}
+use Rattle.relation_order.proofs.LeastLaws.{least-members}
+use Rattle.relation_order.proofs.Placing.{Rising, rising-filter, rising-range}
 use Rattle.relation_order.proofs.SpreadLaws.{spread-within, spread-members}
 use Rattle.plan_order.specs.Plan.{undone, members, group, with_group}
 use Rattle.plan_order.specs.Finding.{FoundMore}

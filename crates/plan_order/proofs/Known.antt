@@ -1,24 +1,20 @@
 -- What is planned by lists that have only what is planned is planned by the needs that they were made of.
-use Rattle.std.proofs.Common.{◌≡◌, ℕ, zero, suc, ◌<◌, true, List, [], ◌∷◌, length, take, sym, ap, ◌∙◌, subst, inl, inr}
-use Rattle.std.specs.Prelude.{nat_eq}
-use Rattle.std.specs.List.{IsDistinct}
+use Rattle.std.proofs.Common.{◌≡◌, ℕ, zero, suc, true, List, [], ◌∷◌, length, take, sym, ap, ◌∙◌, subst, inl, inr}
 use Rattle.std.proofs.lemmas.Bool.{true≢false, or_cases, or_left, or_right}
-use Rattle.relation_order.specs.Sets.{Relation, has, goes, marked, successors}
+use Rattle.relation_order.specs.Sets.{has, goes, marked, successors}
 use Rattle.relation_order.specs.Cycle.{cycle}
-use Rattle.relation_order.specs.Least.{least_order}
 use Rattle.relation_order.specs.Answer.{After, Closes}
 use Rattle.relation_order.proofs.Placing.{Rising}
 use Rattle.relation_order.proofs.Answering.{order-empty, cycle-is}
 use Rattle.relation_order.proofs.SpreadLaws.{spread-first}
-use Rattle.plan_order.specs.Plan.{plan, planned, needs, requested, with_groups}
+use Rattle.plan_order.specs.Plan.{plan, planned, needs, requested}
 use Rattle.plan_order.specs.Answer.{IsPlan}
 use Rattle.plan_order.specs.Lists.{among, IsPlanned}
 use Rattle.plan_order.specs.declared.needs.Planned.{Planned}
 use Rattle.plan_order.specs.declared.plan.GroupedOrder.{GroupedOrder}
-use Rattle.plan_order.proofs.Complete.{plan-is_planned}
-use Rattle.plan_order.proofs.PlanLaws.{plan-distinct, plan-after}
+use Rattle.plan_order.proofs.PlanLaws.{plan-after}
 use Rattle.plan_order.proofs.QueueLaws.{queue-plans}
-use Rattle.plan_order.proofs.Same.{Alike, alike-back, planned-same, plan-same, groups-same, cycle-same, least-same}
+use Rattle.plan_order.proofs.Same.{Alike, planned-same, plan-same, groups-same, cycle-same, least-same}
 
 requested-front : (requests : List (List ℕ)) (n y : ℕ) → requested (take n requests) y ≡ true → requested requests y ≡ true
 requested-front [] zero y h = h

@@ -1,13 +1,12 @@
 -- Searches and rising lists.
-use Rattle.std.proofs.Common.{◌≡◌, ℕ, zero, suc, ◌+◌, ◌<◌, Bool, true, false, cond, eqb, List, [], ◌∷◌, length, map, get_or, Option, Some, None, sym, refl, ap, ◌∙◌, subst, inl, inr, arith}
+use Rattle.std.proofs.Common.{◌≡◌, ℕ, zero, suc, ◌<◌, Bool, true, false, cond, eqb, List, [], ◌∷◌, length, map, get_or, Option, Some, None, sym, refl, ap, ◌∙◌, inl, inr, arith}
 use Rattle.std.specs.Prelude.{◌||◌, ◌⊎◌, ◌&&◌}
-use Rattle.std.specs.List.{list_all, find, range_with_len}
+use Rattle.std.specs.List.{list_all, find}
 use Rattle.std.specs.Option.{option_map, option_to_list}
 use Rattle.std.proofs.lemmas.Bool.{true≢false, or_cases, or_left, or_right, eqb-true, eq-eqb, false_from_ne_true, ne_eqb, cases_eq}
 use Rattle.relation_order.specs.Sets.{has}
 use Rattle.relation_order.proofs.Lists.{has-at}
 use Rattle.relation_order.proofs.Placing.{Rising}
-use Rattle.relation_order.proofs.Restricted.{same-tests}
 use Rattle.std.proofs.lemmas.List.{get_or_default}
 use Rattle.plan_order.specs.Finding.{Rises}
 

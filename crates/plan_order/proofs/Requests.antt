@@ -1,11 +1,10 @@
 -- Requests as the code has them.
-use Rattle.std.proofs.Common.{◌≡◌, ℕ, zero, suc, ◌<◌, ◌≤◌, Bool, true, false, eqb, List, [], ◌∷◌, length, take, get_or, sym, refl, ap, ◌∙◌, inl, inr, arith, replicate}
-use Rattle.std.specs.Prelude.{slice_index_or}
+use Rattle.std.proofs.Common.{◌≡◌, ℕ, zero, suc, ◌<◌, ◌≤◌, Bool, true, false, eqb, List, [], ◌∷◌, length, take, get_or, sym, refl, ap, ◌∙◌, inl, inr, arith}
 use Rattle.std.specs.Global.{Vec}
 use Rattle.std.proofs.lemmas.Bool.{true≢false, cases_eq, or_cases, or_left, or_right, eqb-true}
 use Rattle.std.proofs.lemmas.List.{get_or_default}
 use Rattle.relation_order.specs.Sets.{Relation, has, marked}
-use Rattle.relation_order.proofs.Lists.{has-at, has-marked}
+use Rattle.relation_order.proofs.Lists.{has-at}
 use Rattle.relation_order.proofs.PlaceSteps.{member-inside}
 use Rattle.plan_order.specs.Plan.{requested, members, group, with_group, with_groups, singles, post_at, plan_after, plan}
 use Rattle.relation_order.specs.Sets.{successors}

@@ -1,23 +1,23 @@
 -- Relations that are the same on what is planned give the same plan and the same cycle.
-use Rattle.std.proofs.Common.{◌≡◌, ℕ, zero, suc, Bool, true, false, cond, eqb, List, [], ◌∷◌, ◌++◌, length, Option, Some, None, sym, refl, ap, ◌∙◌, subst, inl, inr}
-use Rattle.std.specs.Prelude.{◌||◌, ◌&&◌, ◌⊎◌, not, nat_le, nat_eq, filter}
+use Rattle.std.proofs.Common.{◌≡◌, ℕ, zero, suc, Bool, true, cond, List, [], ◌∷◌, ◌++◌, length, Option, Some, None, sym, refl, ap, ◌∙◌}
+use Rattle.std.specs.Prelude.{◌||◌, ◌&&◌, not, nat_le, nat_eq, filter}
 use Rattle.std.specs.List.{list_any, list_all, find, position_or_len}
 use Rattle.std.specs.Option.{option_to_list}
 use Rattle.std.proofs.Math.Path.{fun_ext}
-use Rattle.std.proofs.lemmas.Bool.{true≢false, or_cases, or_left, or_right}
+use Rattle.std.proofs.lemmas.Bool.{or_left, or_right}
 use Rattle.relation_order.specs.Sets.{Relation, has, below, times}
 use Rattle.relation_order.specs.Reached.{reached}
 use Rattle.relation_order.specs.Spread.{spread}
 use Rattle.relation_order.specs.Least.{is_ready, with_next, least_order}
 use Rattle.relation_order.specs.Cycle.{cycle, cycle_at, way_to, next, near, is_near, is_nearest, distance}
 use Rattle.relation_order.proofs.Saturation.{filter-same}
-use Rattle.relation_order.proofs.SpreadLaws.{spread-first, spread-further, spread-only, spread-within, spread-members, reached-spread}
+use Rattle.relation_order.proofs.SpreadLaws.{spread-first, spread-further, spread-only, spread-members, reached-spread}
 use Rattle.relation_order.proofs.LeastLaws.{find-some}
 use Rattle.relation_order.proofs.Restricted.{same-tests}
-use Rattle.plan_order.specs.Plan.{requested, needs, planned, undone, members, group, with_group, with_groups, singles, post_at, plan_after, plan}
+use Rattle.plan_order.specs.Plan.{requested, needs, planned, undone, members, with_group, with_groups, singles, post_at, plan_after, plan}
 use Rattle.plan_order.proofs.Lists.{find-same}
 use Rattle.plan_order.proofs.PlanKeeps.{undone-is}
-use Rattle.plan_order.proofs.Complete.{planned-before, planned-asked, planned-post, after-within, group-within, post_at-whose}
+use Rattle.plan_order.proofs.Complete.{planned-before, planned-asked, planned-post, after-within}
 
 -- The relations are the same from the members of a set.
 abbrev pub Alike : List ℕ → Relation → Relation → Type 0

@@ -1,5 +1,5 @@
 -- A plan for some requests, or the cycle that keeps them from having one.
-use Rattle.std.specs.Prelude.{ℕ, suc, List, [], true, ◌≡◌, ◌<◌, ◌≤◌, length, take, nat_eq, slice_index}
+use Rattle.std.specs.Prelude.{ℕ, suc, List, [], ◌≡◌, ◌<◌, ◌≤◌, length, take, nat_eq, slice_index}
 use Rattle.std.specs.List.{IsDistinct}
 use Rattle.relation_order.specs.Sets.{Relation, has}
 use Rattle.relation_order.specs.Cycle.{cycle}

@@ -1,7 +1,7 @@
 -- The closure of a module has whatever provides its needs and those of its members, where no walk leads back.
-use Rattle.std.proofs.Common.{◌≡◌, ℕ, suc, ◌+◌, ◌<◌, Bool, true, false, cond, subst, inl, inr, List, [], ◌∷◌, ◌++◌, length, map, Option, Some, None, option_map, option_and_then, find, refl, sym, ap, ◌∙◌, arith, eqb}
+use Rattle.std.proofs.Common.{◌≡◌, ℕ, suc, ◌+◌, ◌<◌, Bool, true, false, cond, subst, inl, inr, List, [], ◌∷◌, ◌++◌, length, map, Option, Some, None, option_map, option_and_then, find, refl, sym, ap, ◌∙◌, arith}
 use Rattle.std.specs.Prelude.{not, ◌⊎◌}
-use Rattle.std.specs.List.{list_any, cons_option, filter, filter_map, position_or_len, slice_get}
+use Rattle.std.specs.List.{cons_option, filter_map, position_or_len, slice_get}
 use Rattle.std.specs.Option.{option_map_or}
 use Rattle.std.specs.Str.{bytes_eq}
 use Rattle.std.proofs.lemmas.Bool.{true≢false, or_left, or_right, eq-eqb}
@@ -19,7 +19,7 @@ use Rattle.relation_order.proofs.ReachedLaws.{reached-step, reached-further, rea
 use Rattle.relation_order.proofs.LeastLaws.{least-members}
 use Rattle.relation_order.proofs.Restricted.{least-part}
 use Rattle.symbol_binding.specs.Symbols.{Export, Need, Module, Kernel}
-use Rattle.symbol_binding.specs.Provider.{Owner, ByKernel, ByModule, Provided, of_kernel, of_first, of_one, of_unknown, given, module_exports, provider, uses, owning_module}
+use Rattle.symbol_binding.specs.Provider.{Owner, ByKernel, ByModule, Provided, of_first, of_one, module_exports, provider, uses, owning_module}
 use Rattle.provider_rel.specs.Relation.{place, uses_at}
 
 -- all that is reached stands in the closure

@@ -1,5 +1,5 @@
 -- The lines of a table, one after the other.
-use Rattle.std.proofs.Common.{◌≡◌, ℕ, ◌+◌, Bool, true, false, ◌&&◌, not, List, [], ◌∷◌, ◌++◌, length, eqb, cond, Option, Some, None, option_map, refl, sym, ap, ◌∙◌, append_assoc, length-append, ◌<◌, ◌≤◌, arith}
+use Rattle.std.proofs.Common.{◌≡◌, ℕ, ◌+◌, Bool, true, false, ◌&&◌, not, List, [], ◌∷◌, ◌++◌, length, cond, Option, Some, None, option_map, refl, sym, ap, ◌∙◌, append_assoc, length-append, ◌<◌, ◌≤◌, arith}
 use Rattle.std.proofs.lemmas.Iterator.Adapters.{position_from-zero}
 use Rattle.std.specs.List.{cons_option, position_from, filter_map}
 use Rattle.std.specs.Option.{is_none}

@@ -1,5 +1,5 @@
 -- Items that share a name, an item more at a time.
-use Rattle.std.proofs.Common.{◌≡◌, ◌≢◌, ℕ, zero, suc, ◌+◌, ◌<◌, ◌≤◌, Bool, true, false, ◌||◌, not, List, [], ◌∷◌, ◌++◌, length, map, take, set, get_or, cond, eqb, Option, Some, None, is_some, All, refl, sym, ap, ◌∙◌, append_assoc, append-nil, add-one, add-zero, arith}
+use Rattle.std.proofs.Common.{◌≡◌, ◌≢◌, ℕ, zero, suc, ◌+◌, ◌<◌, ◌≤◌, Bool, true, false, ◌||◌, ◌==◌, not, List, [], ◌∷◌, ◌++◌, length, map, take, set, get_or, cond, eqb, Option, Some, None, is_some, All, refl, sym, ap, ◌∙◌, append_assoc, append-nil, add-one, add-zero, arith}
 use Rattle.std.specs.Global.{Vec}
 use Rattle.std.specs.List.{filter, list_any, range_with_len, slice_get}
 use Rattle.std.specs.Option.{option_map_or}
@@ -15,8 +15,21 @@ use Rattle.name_table.specs.NameTable.{Table, IsTableOf, states, place_of}
 use Rattle.relation_order.specs.Sets.{below}
 use Rattle.symbol_binding.specs.declared.unbound.Unbound.TheVariants.{Double}
 use Rattle.provider_rel.specs.Items.{Item, item_name, is_named, doubles_with, item_doubles}
-use Rattle.provider_rel.specs.Sharing.{stands_at, earlier_at, row_at, AreEarlier}
+use Rattle.provider_rel.specs.Sharing.{row_at}
 use Rattle.provider_rel.proofs.NameSteps.{table-any, bytes-refl, bytes-same}
+
+-- The name of an item is first exported at this place.
+abbrev pub stands_at : Table → ℕ → Item → Bool
+stands_at names p i = option_map_or (λ q. q == p) (place_of names i.export.name) false
+
+-- The places below a number of the items whose name is first exported at this place.
+abbrev pub earlier_at : List Item → Table → ℕ → ℕ → List ℕ
+earlier_at is names k p = filter (λ j. option_map_or (stands_at names p) (slice_get is j) false) (below k)
+
+-- For each place the list of these.
+pub record AreEarlier (is : List Item) (names : Table) (k : ℕ) (rows : List (Vec ℕ)) : Type 0 where
+  pub long : length rows ≡ length is
+  pub rows_are : (p : ℕ) → p < length is → row_at rows p ≡ earlier_at is names k p
 
 -- lists by their place
 pub row-at : (rows : List (Vec ℕ)) (x : ℕ) (v : Vec ℕ) → x < length rows → v ≡ get_or rows x v → row_at rows x ≡ v.items

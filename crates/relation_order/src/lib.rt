@@ -9,12 +9,14 @@
 
 mod closures;
 mod cycle;
+mod laws;
 mod order;
 mod placed;
 mod reach;
 
 pub use closures::Closures;
 pub use cycle::named_cycle;
+pub use laws::walks_reach;
 pub use order::{OrderBuilder, least};
 pub use placed::{OrderOrCycle, order_or_cycle};
 pub use reach::{all_members, find_all, marked, reachable, unmarked};

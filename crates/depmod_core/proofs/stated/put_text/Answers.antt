@@ -2,10 +2,10 @@ use Rattle.std.proofs.Common.{◌++◌, ◌∷◌, [], List, ℕ, Bor, sym, ap, 
 use Rattle.std.proofs.lemmas.Simd.{map-map}
 use Rattle.module_facts.specs.declared.facts.Facts.{Facts}
 use Rattle.depmod_core.specs.Lines.{ended, lines_text}
-use Rattle.depmod_core.specs.Kinds.{heading, line_of, lines_by}
+use Rattle.depmod_core.specs.Kinds.{heading, line_of}
 use Rattle.depmod_core.specs.Text.{with_piece}
 use Rattle.depmod_core.proofs.TextSteps.{with-nothing, with_piece-append, put-next, put-whole}
-use Rattle.depmod_core.proofs.LineSteps.{text-of-lists, kind-text}
+use Rattle.depmod_core.proofs.LineSteps.{lines_by, text-of-lists, kind-text}
 use Rattle.depmod_core.proofs.stated.put_text.Goals as goal
 
 pub loop-facts-init : goal.loop-facts-init

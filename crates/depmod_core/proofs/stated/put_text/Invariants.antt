@@ -1,7 +1,7 @@
 use Rattle.std.proofs.Common.{◌≡◌, flat_map, take}
 use Rattle.depmod_core.specs.Lines.{lines_text}
-use Rattle.depmod_core.specs.Kinds.{lines_by}
 use Rattle.depmod_core.specs.Text.{with_piece}
+use Rattle.depmod_core.proofs.LineSteps.{lines_by}
 use Rattle.depmod_core.proofs.stated.put_text.Given as goal
 
 abbrev pub invariant-loop-facts : goal.invariant-loop-facts

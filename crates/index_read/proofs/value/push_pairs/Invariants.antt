@@ -5,7 +5,8 @@ use Rattle.index_format.specs.Node.{values}
 use Rattle.index_nodes.specs.declared.place.Place.{Place}
 use Rattle.index_nodes.specs.Fields.{link_of}
 use Rattle.index_nodes.specs.Places.{IsPlaceOf}
-use Rattle.index_read.specs.Values.{shown_pairs, values_at_place}
+use Rattle.index_read.specs.Values.{shown_pairs}
+use Rattle.index_read.proofs.PlaceValues.{values_at_place}
 use Rattle.index_read.proofs.value.push_pairs.Given as goal
 
 -- the values so far and those that are left are the ones that are wanted

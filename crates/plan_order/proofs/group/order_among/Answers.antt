@@ -1,6 +1,6 @@
-use Rattle.std.proofs.Common.{◌≡◌, ◌<◌, length, map, get_or, arith, ap, sym, ◌∙◌, subst}
+use Rattle.std.proofs.Common.{◌≡◌, ◌<◌, length, map, ap, sym, ◌∙◌, subst}
 use Rattle.std.specs.Prelude.{All, slice_index}
-use Rattle.relation_order.specs.Sets.{has, goes, marked, below}
+use Rattle.relation_order.specs.Sets.{goes, marked, below}
 use Rattle.relation_order.specs.Least.{least_order}
 use Rattle.relation_order.proofs.PlaceSteps.{all-within}
 use Rattle.plan_order.proofs.Places.{order-places, order-low}

@@ -1,4 +1,4 @@
-use Rattle.std.proofs.Common.{◌∷◌, [], ◌++◌, ◌+◌, arith, ap, sym, ◌∙◌, subst, take, get_or}
+use Rattle.std.proofs.Common.{◌+◌, arith, ap, sym, ◌∙◌, subst, take, get_or}
 use Rattle.std.proofs.lemmas.List.{get_or_default}
 use Rattle.std.specs.Prelude.{All, ◌<◌, length}
 use Rattle.plan_order.proofs.Places.{PlacesOf, places-more, places-past, all-more}

@@ -1,10 +1,8 @@
-use Rattle.std.proofs.Common.{◌≡◌, ◌<◌, ◌≤◌, ◌+◌, length, take, arith, refl, ap, sym, ◌∙◌, subst, set}
+use Rattle.std.proofs.Common.{◌≡◌, ◌<◌, ◌≤◌, ◌+◌, length, arith, refl, ap, sym, ◌∙◌, subst}
 use Rattle.std.specs.Prelude.{All, filter, slice_index_or, false}
-use Rattle.std.specs.Global.{Vec}
-use Rattle.std.proofs.lemmas.List.{length-set, take_all}
-use Rattle.relation_order.specs.Sets.{has}
+use Rattle.std.proofs.lemmas.List.{length-set}
 use Rattle.relation_order.specs.Search.{with_items, Inside}
-use Rattle.plan_order.proofs.Planning.{started, followed, ended, all-found, inside-at, follows-none, follows-more, front-stays, inside-set, planned-follows}
+use Rattle.plan_order.proofs.Planning.{started, followed, ended, inside-at, follows-none, follows-more, front-stays, inside-set, planned-follows}
 use Rattle.plan_order.proofs.needs.find_planned.Goals as goal
 
 pub loop-next-init : goal.loop-next-init

@@ -1,4 +1,4 @@
-use Rattle.std.proofs.Common.{◌≡◌, ℕ, List, [], length, ap, sym, ◌∙◌, subst}
+use Rattle.std.proofs.Common.{◌≡◌, [], length, ap, sym, ◌∙◌, subst}
 use Rattle.std.specs.Prelude.{slice_index_or, false}
 use Rattle.relation_order.specs.Sets.{goes, marked, below, successors}
 use Rattle.relation_order.specs.Cycle.{cycle}

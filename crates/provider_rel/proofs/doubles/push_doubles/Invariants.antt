@@ -1,6 +1,6 @@
 use Rattle.std.proofs.Common.{◌≡◌, ◌++◌, [], take}
 use Rattle.provider_rel.specs.Items.{item_doubles}
-use Rattle.provider_rel.specs.Sharing.{AreEarlier}
+use Rattle.provider_rel.proofs.RowSteps.{AreEarlier}
 use Rattle.provider_rel.proofs.doubles.push_doubles.Given as goal
 
 abbrev pub invariant-loop-k : goal.invariant-loop-k

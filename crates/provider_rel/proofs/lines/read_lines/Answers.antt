@@ -1,4 +1,4 @@
-use Rattle.std.proofs.Common.{◌≡◌, ◌++◌, false, eqb, length, refl, sym, ap, inr, ◌∙◌, arith, append-nil}
+use Rattle.std.proofs.Common.{◌≡◌, ◌++◌, false, length, refl, sym, ap, inr, ◌∙◌, arith, append-nil}
 use Rattle.std.specs.List.{filter_map}
 use Rattle.km_names.specs.Lines.{lines_of}
 use Rattle.provider_rel.specs.TableLines.{is_blank}

@@ -4,7 +4,7 @@ use Rattle.index_format.specs.Listing.{KeyValue}
 use Rattle.index_nodes.specs.declared.node.Node.{Node}
 use Rattle.index_read.specs.declared.walk.KeyWalk.{KeyWalk}
 use Rattle.index_read.specs.Keys.{all_items}
-use Rattle.index_read.specs.Rounds.{to_do, owed, IsGoing}
+use Rattle.index_read.proofs.RoundLemmas.{to_do, owed, IsGoing}
 use Rattle.index_read.specs.Values.{shown_pairs}
 use Rattle.index_read.proofs.ListingLemmas.{Chosen}
 use Rattle.index_read.proofs.index.Index.all.Given as goal

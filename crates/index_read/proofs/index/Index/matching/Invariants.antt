@@ -5,7 +5,7 @@ use Rattle.index_nodes.specs.declared.node.Node.{Node}
 use Rattle.index_read.specs.declared.walk.KeyWalk.{KeyWalk}
 use Rattle.index_read.specs.Fronts.{Agrees}
 use Rattle.index_read.specs.Keys.{all_items}
-use Rattle.index_read.specs.Rounds.{to_do, owed, IsGoing}
+use Rattle.index_read.proofs.RoundLemmas.{to_do, owed, IsGoing}
 use Rattle.index_read.specs.Values.{shown}
 use Rattle.index_read.proofs.MatchLemmas.{Onward}
 use Rattle.index_read.proofs.index.Index.matching.Given as goal

@@ -1,5 +1,5 @@
-use Rattle.std.proofs.Common.{◌≡◌, ◌-◌, ◌<◌, ◌++◌, length, take, drop, arith, refl, ap, sym, ◌∙◌, subst}
-use Rattle.std.specs.Prelude.{All, slice_index_or, false}
+use Rattle.std.proofs.Common.{◌≡◌, ◌-◌, ◌<◌, ◌++◌, length, arith, refl, ap, sym, ◌∙◌, subst}
+use Rattle.std.specs.Prelude.{All}
 use Rattle.std.proofs.lemmas.Bool.{or_right}
 use Rattle.relation_order.specs.Sets.{has, goes, marked}
 use Rattle.relation_order.specs.Least.{least_order}

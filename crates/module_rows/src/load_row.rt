@@ -1,9 +1,10 @@
-use crate::sheet_row::{MoreRow, NO_MORE, SheetRow, object_with};
-use km_names::{Blob, PathText, le_u64_at};
+use crate::facts_row::module_at;
+use km_names::{Blob, le_u64_at};
 use model_loader::{LoadFault, LoadedAt, Machine, Region};
-use module_facts::{Module, read_module};
+use module_facts::Module;
 use provider_rel::Kernel;
-use std::alloc::Global;
+use sheet_rows::{MoreRow, NO_MORE, SheetRow, object_with};
+use std::alloc::{AllocError, Global};
 use std::process::Abort;
 use std::test::Fail;
 
@@ -28,7 +29,7 @@ pub(crate) enum Answer {
 #[derive(Drop)]
 pub(crate) struct LoadRow {
     pub(crate) path: &'static [u8],
-    pub(crate) sheet: SheetRow,
+    pub(crate) sheet: &'static SheetRow,
     pub(crate) more: &'static MoreRow,
     pub(crate) changes: &'static [(usize, u8)],
     pub(crate) answer: Answer,
@@ -37,7 +38,7 @@ pub(crate) struct LoadRow {
 /// A module of a sheet that loads, with its base and size and words of its image.
 pub(crate) fn loads(
     path: &'static [u8],
-    sheet: SheetRow,
+    sheet: &'static SheetRow,
     base: u64,
     size: u64,
     words: &'static [(usize, u64)],
@@ -52,7 +53,11 @@ pub(crate) fn loads(
 }
 
 /// A module of a sheet that is refused with this text.
-pub(crate) fn refuses(path: &'static [u8], sheet: SheetRow, text: &'static [u8]) -> LoadRow {
+pub(crate) fn refuses(
+    path: &'static [u8],
+    sheet: &'static SheetRow,
+    text: &'static [u8],
+) -> LoadRow {
     LoadRow {
         path,
         sheet,
@@ -88,11 +93,9 @@ fn changed(rt: &impl Abort, bytes: Blob, changes: &[(usize, u8)]) -> Blob {
 
 /// The module of a row.
 fn module_of(rt: &impl Abort, alloc: Global, row: &LoadRow) -> Result<Module, Fail> {
-    let path = PathText::from_slice(alloc, row.path)?;
-    let object = object_with(rt, alloc, &row.sheet, row.more)?;
+    let object = object_with(alloc, row.sheet, row.more)?;
     let bytes = changed(rt, object, row.changes);
-    assert!(rt; bytes.len() <= 67_108_864);
-    Ok(read_module(alloc, &path, bytes)?)
+    Ok(module_at(rt, alloc, row.path, bytes)?)
 }
 
 /// The image has these words.
@@ -103,6 +106,34 @@ fn expect_words(rt: &impl Abort, image: &[u8], words: &[(usize, u64)]) {
     }
 }
 
+/// The module that was loaded last has this base and size, and these words in its image.
+fn expect_loaded(
+    rt: &impl Abort,
+    machine: &Machine,
+    before: usize,
+    at: LoadedAt,
+    (base, size): (u64, u64),
+    words: &[(usize, u64)],
+) {
+    assert_eq!(rt; (at.base, at.size), (base, size));
+    assert!(rt; before < machine.module_count());
+    let name = machine.module_at(before).name.as_bytes();
+    let image = machine.image(name).expect(rt, "an image");
+    assert_eq!(rt; image.len() as u64, size);
+    expect_words(rt, image, words);
+}
+
+/// The load was refused with this text.
+fn expect_refused(
+    rt: &impl Abort,
+    alloc: Global,
+    fault: LoadFault,
+    text: &[u8],
+) -> Result<(), AllocError> {
+    assert_eq!(rt; fault.text(alloc)?.as_bytes(), text);
+    Ok(())
+}
+
 /// The answer of a load is the one of the row, and the machine has one module more or is as it was.
 fn expect_answer(
     rt: &impl Abort,
@@ -111,23 +142,31 @@ fn expect_answer(
     before: usize,
     loaded: Result<LoadedAt, LoadFault>,
     answer: &Answer,
-) -> Result<(), Fail> {
+) -> Result<(), AllocError> {
     match (loaded, answer) {
         (Ok(at), Answer::Loaded { base, size, words }) => {
-            assert_eq!(rt; (at.base, at.size), (*base, *size));
-            let after = machine.module_count();
-            assert!(rt; before < after);
-            let name = machine.module_at(before).name.as_bytes();
-            let image = machine.image(name).expect(rt, "an image");
-            assert_eq!(rt; image.len() as u64, *size);
-            expect_words(rt, image, words);
+            expect_loaded(rt, machine, before, at, (*base, *size), words);
         }
         (Err(fault), Answer::Refused(text)) => {
-            assert_eq!(rt; fault.text(alloc)?.as_bytes(), *text);
+            expect_refused(rt, alloc, fault, text)?;
             assert_eq!(rt; machine.module_count(), before);
         }
         _ => panic!(rt; "another answer"),
     }
+    Ok(())
+}
+
+/// Loads the module of a row.
+fn expect_load(
+    rt: &impl Abort,
+    alloc: Global,
+    machine: &mut Machine,
+    row: &LoadRow,
+) -> Result<(), Fail> {
+    let module = module_of(rt, alloc, row)?;
+    let before = machine.module_count();
+    let loaded = machine.load(&module);
+    expect_answer(rt, alloc, machine, before, loaded, &row.answer)?;
     Ok(())
 }
 
@@ -140,10 +179,7 @@ pub(crate) fn expect_loads(
 ) -> Result<(), Fail> {
     let mut machine = machine(rt, alloc, size)?;
     for row in rows {
-        let module = module_of(rt, alloc, row)?;
-        let before = machine.module_count();
-        let loaded = machine.load(&module);
-        expect_answer(rt, alloc, &machine, before, loaded, &row.answer)?;
+        expect_load(rt, alloc, &mut machine, row)?;
     }
     Ok(())
 }

@@ -1,7 +1,6 @@
 use crate::load_row::{BASE, LoadRow, expect_loads, loads};
-use crate::sheets::{
-    GIVES_ALONE, HAS_VERSIONS, NEEDS, NEEDS_OFFSET_TABLE, NEEDS_TWICE, USES_ITS_OWN,
-};
+use crate::sheets::{HAS_VERSIONS, NEEDS_OFFSET_TABLE, NEEDS_TWICE, USES_ITS_OWN};
+use sheet_rows::{GIVES_ALONE, NEEDS};
 use std::test::Fail;
 
 /// Code, what is only read, and what is written each begin on a page.
@@ -15,7 +14,7 @@ fn classes_begin_on_pages(rt: HostRuntime) -> Result<(), Fail> {
             changes: &[(600, 0x2)],
             ..loads(
                 b"kernel/a.ko",
-                HAS_VERSIONS,
+                &HAS_VERSIONS,
                 BASE,
                 0x3000,
                 &[(0, 0), (0x1000, 1), (0x1008, 0x6166), (0x2000, BASE + 3)],
@@ -35,7 +34,7 @@ fn sections_of_a_class_are_aligned(rt: HostRuntime) -> Result<(), Fail> {
             changes: &[(600, 0x2), (608, 0x3)],
             ..loads(
                 b"kernel/a.ko",
-                HAS_VERSIONS,
+                &HAS_VERSIONS,
                 BASE,
                 0x2000,
                 &[(0x1000, BASE + 3), (0x1020, 1)],
@@ -55,7 +54,7 @@ fn a_section_is_aligned_to_a_page(rt: HostRuntime) -> Result<(), Fail> {
             changes: &[(600, 0x2), (608, 0x3), (648, 0x0), (649, 0x10)],
             ..loads(
                 b"kernel/a.ko",
-                HAS_VERSIONS,
+                &HAS_VERSIONS,
                 BASE,
                 0x3000,
                 &[(0x1000, BASE + 3), (0x1020, 0), (0x2000, 1)],
@@ -73,7 +72,7 @@ fn bytes_of_a_section_are_loaded(rt: HostRuntime) -> Result<(), Fail> {
         0x1_0000,
         &[LoadRow {
             changes: &[(64, 0xaa)],
-            ..loads(b"kernel/a.ko", GIVES_ALONE, BASE, 0x1000, &[(0, 0xaa)])
+            ..loads(b"kernel/a.ko", &GIVES_ALONE, BASE, 0x1000, &[(0, 0xaa)])
         }],
     )
 }
@@ -87,7 +86,7 @@ fn nobits_is_zeros(rt: HostRuntime) -> Result<(), Fail> {
         0x1_0000,
         &[LoadRow {
             changes: &[(64, 0xaa), (316, 0x8)],
-            ..loads(b"kernel/a.ko", GIVES_ALONE, BASE, 0x1000, &[(0, 0)])
+            ..loads(b"kernel/a.ko", &GIVES_ALONE, BASE, 0x1000, &[(0, 0)])
         }],
     )
 }
@@ -104,13 +103,19 @@ fn an_absolute_symbol_is_its_value(rt: HostRuntime) -> Result<(), Fail> {
                 changes: &[(166, 0xf1), (167, 0xff), (168, 0x34), (169, 0x12)],
                 ..loads(
                     b"kernel/a.ko",
-                    USES_ITS_OWN,
+                    &USES_ITS_OWN,
                     BASE,
                     0x2000,
                     &[(0x1000, 0x1237)],
                 )
             },
-            loads(b"kernel/b.ko", NEEDS, BASE + 0x2000, 0x1000, &[(0, 0x1234)]),
+            loads(
+                b"kernel/b.ko",
+                &NEEDS,
+                BASE + 0x2000,
+                0x1000,
+                &[(0, 0x1234)],
+            ),
         ],
     )
 }
@@ -125,9 +130,9 @@ fn an_export_out_of_memory_is_its_value(rt: HostRuntime) -> Result<(), Fail> {
         &[
             LoadRow {
                 changes: &[(134, 0x3), (136, 0x40)],
-                ..loads(b"kernel/a.ko", GIVES_ALONE, BASE, 0x1000, &[])
+                ..loads(b"kernel/a.ko", &GIVES_ALONE, BASE, 0x1000, &[])
             },
-            loads(b"kernel/b.ko", NEEDS, BASE + 0x1000, 0x1000, &[(0, 0x40)]),
+            loads(b"kernel/b.ko", &NEEDS, BASE + 0x1000, 0x1000, &[(0, 0x40)]),
         ],
     )
 }
@@ -152,7 +157,7 @@ fn a_place_of_no_relocation_may_lie_anywhere(rt: HostRuntime) -> Result<(), Fail
             ],
             ..loads(
                 b"kernel/n.ko",
-                NEEDS_TWICE,
+                &NEEDS_TWICE,
                 BASE,
                 0x1000,
                 &[(0, 0), (8, 0xffff_ffff_8100_0000)],
@@ -168,6 +173,6 @@ fn the_table_of_global_offsets_is_0(rt: HostRuntime) -> Result<(), Fail> {
         &rt,
         rt.alloc(),
         0x1_0000,
-        &[loads(b"kernel/g.ko", NEEDS_OFFSET_TABLE, BASE, 0x1000, &[(0, 7)])],
+        &[loads(b"kernel/g.ko", &NEEDS_OFFSET_TABLE, BASE, 0x1000, &[(0, 7)])],
     )
 }

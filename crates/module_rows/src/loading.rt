@@ -1,8 +1,10 @@
 use crate::load_row::{BASE, LoadRow, expect_loads, loads, refuses};
 use crate::sheets::{
-    FREE, GIVES, GIVES_AGAIN, GIVES_ALONE, GIVES_PRINTK, GIVES_VERSION_1, GPL_ONLY, IMPORTS,
-    IN_SPACE, MAY_NEED, MAY_NEED_VERSION_2, NEEDS, NEEDS_BY_DISTANCE, NEEDS_IN_32_BITS,
-    NEEDS_VERSION_2_AND_MORE,
+    GIVES_AGAIN, GIVES_PRINTK, NEEDS_BY_DISTANCE, NEEDS_IN_32_BITS, NEEDS_VERSION_2_AND_MORE,
+};
+use sheet_rows::{
+    FREE, GIVES, GIVES_ALONE, GIVES_VERSION_1, GPL_ONLY, IMPORTS, IN_SPACE, MAY_NEED,
+    MAY_NEED_VERSION_2, NEEDS,
 };
 use std::test::Fail;
 
@@ -14,16 +16,16 @@ fn two_modules_load(rt: HostRuntime) -> Result<(), Fail> {
         rt.alloc(),
         0x3000,
         &[
-            refuses(b"kernel/b.ko", NEEDS, b"missing symbol fa"),
+            refuses(b"kernel/b.ko", &NEEDS, b"missing symbol fa"),
             loads(
                 b"kernel/a.ko",
-                GIVES,
+                &GIVES,
                 BASE,
                 0x2000,
                 &[(0, 0), (0x1000, 0xffff_ffff_8100_0000)],
             ),
-            refuses(b"kernel/a.ko", GIVES, b"already loaded"),
-            loads(b"kernel/b.ko", NEEDS, BASE + 0x2000, 0x1000, &[(0, BASE)]),
+            refuses(b"kernel/a.ko", &GIVES, b"already loaded"),
+            loads(b"kernel/b.ko", &NEEDS, BASE + 0x2000, 0x1000, &[(0, BASE)]),
         ],
     )
 }
@@ -36,8 +38,8 @@ fn a_module_has_no_room(rt: HostRuntime) -> Result<(), Fail> {
         rt.alloc(),
         0x2000,
         &[
-            loads(b"kernel/a.ko", GIVES, BASE, 0x2000, &[]),
-            refuses(b"kernel/b.ko", NEEDS, b"region full, 1 pages"),
+            loads(b"kernel/a.ko", &GIVES, BASE, 0x2000, &[]),
+            refuses(b"kernel/b.ko", &NEEDS, b"region full, 1 pages"),
         ],
     )
 }
@@ -52,10 +54,10 @@ fn a_word_does_not_fit(rt: HostRuntime) -> Result<(), Fail> {
         &[
             refuses(
                 b"kernel/o.ko",
-                NEEDS_IN_32_BITS,
+                &NEEDS_IN_32_BITS,
                 b"overflow at section 5 entry 1",
             ),
-            loads(b"kernel/a.ko", GIVES, BASE, 0x2000, &[]),
+            loads(b"kernel/a.ko", &GIVES, BASE, 0x2000, &[]),
         ],
     )
 }
@@ -68,10 +70,10 @@ fn a_distance_counts_from_its_place(rt: HostRuntime) -> Result<(), Fail> {
         rt.alloc(),
         0x3000,
         &[
-            loads(b"kernel/a.ko", GIVES, BASE, 0x2000, &[]),
+            loads(b"kernel/a.ko", &GIVES, BASE, 0x2000, &[]),
             loads(
                 b"kernel/b.ko",
-                NEEDS_BY_DISTANCE,
+                &NEEDS_BY_DISTANCE,
                 BASE + 0x2000,
                 0x1000,
                 &[(0, 0xffff_dffc)],
@@ -87,7 +89,7 @@ fn a_weak_need_alone_is_0(rt: HostRuntime) -> Result<(), Fail> {
         &rt,
         rt.alloc(),
         0x1000,
-        &[loads(b"kernel/w.ko", MAY_NEED, BASE, 0x1000, &[(0, 5)])],
+        &[loads(b"kernel/w.ko", &MAY_NEED, BASE, 0x1000, &[(0, 5)])],
     )
 }
 
@@ -99,11 +101,15 @@ fn a_weak_need_with_a_provider_is_bound(rt: HostRuntime) -> Result<(), Fail> {
         rt.alloc(),
         0x1_0000,
         &[
-            loads(b"kernel/p.ko", GIVES_VERSION_1, BASE, 0x1000, &[]),
-            refuses(b"kernel/v.ko", MAY_NEED_VERSION_2, b"version of fa differs"),
+            loads(b"kernel/p.ko", &GIVES_VERSION_1, BASE, 0x1000, &[]),
+            refuses(
+                b"kernel/v.ko",
+                &MAY_NEED_VERSION_2,
+                b"version of fa differs",
+            ),
             loads(
                 b"kernel/w.ko",
-                MAY_NEED,
+                &MAY_NEED,
                 BASE + 0x1000,
                 0x1000,
                 &[(0, BASE + 5)],
@@ -120,10 +126,10 @@ fn a_missing_symbol_comes_before_a_version(rt: HostRuntime) -> Result<(), Fail> 
         rt.alloc(),
         0x1_0000,
         &[
-            loads(b"kernel/p.ko", GIVES_VERSION_1, BASE, 0x1000, &[]),
+            loads(b"kernel/p.ko", &GIVES_VERSION_1, BASE, 0x1000, &[]),
             refuses(
                 b"kernel/m.ko",
-                NEEDS_VERSION_2_AND_MORE,
+                &NEEDS_VERSION_2_AND_MORE,
                 b"missing symbol nosuch",
             ),
         ],
@@ -138,9 +144,9 @@ fn an_exported_name_is_taken(rt: HostRuntime) -> Result<(), Fail> {
         rt.alloc(),
         0x1_0000,
         &[
-            loads(b"kernel/a.ko", GIVES, BASE, 0x2000, &[]),
-            refuses(b"kernel/c.ko", GIVES_AGAIN, b"fa is taken by a"),
-            refuses(b"kernel/k.ko", GIVES_PRINTK, b"printk is taken by vmlinux"),
+            loads(b"kernel/a.ko", &GIVES, BASE, 0x2000, &[]),
+            refuses(b"kernel/c.ko", &GIVES_AGAIN, b"fa is taken by a"),
+            refuses(b"kernel/k.ko", &GIVES_PRINTK, b"printk is taken by vmlinux"),
         ],
     )
 }
@@ -155,11 +161,11 @@ fn a_gpl_only_export_is_seen_by_free_modules(rt: HostRuntime) -> Result<(), Fail
         &[
             LoadRow {
                 more: &GPL_ONLY,
-                ..loads(b"kernel/a.ko", GIVES_ALONE, BASE, 0x2000, &[])
+                ..loads(b"kernel/a.ko", &GIVES_ALONE, BASE, 0x2000, &[])
             },
-            refuses(b"kernel/b.ko", NEEDS, b"fa is GPL-only"),
-            loads(b"kernel/w.ko", MAY_NEED, BASE + 0x2000, 0x1000, &[(0, 5)]),
-            loads(b"kernel/f.ko", FREE, BASE + 0x3000, 0x1000, &[(0, BASE)]),
+            refuses(b"kernel/b.ko", &NEEDS, b"fa is GPL-only"),
+            loads(b"kernel/w.ko", &MAY_NEED, BASE + 0x2000, 0x1000, &[(0, 5)]),
+            loads(b"kernel/f.ko", &FREE, BASE + 0x3000, 0x1000, &[(0, BASE)]),
         ],
     )
 }
@@ -174,11 +180,17 @@ fn a_namespace_is_imported(rt: HostRuntime) -> Result<(), Fail> {
         &[
             LoadRow {
                 more: &IN_SPACE,
-                ..loads(b"kernel/a.ko", GIVES_ALONE, BASE, 0x2000, &[])
+                ..loads(b"kernel/a.ko", &GIVES_ALONE, BASE, 0x2000, &[])
             },
-            refuses(b"kernel/b.ko", NEEDS, b"namespace of fa not imported"),
-            refuses(b"kernel/w.ko", MAY_NEED, b"namespace of fa not imported"),
-            loads(b"kernel/i.ko", IMPORTS, BASE + 0x2000, 0x1000, &[(0, BASE)]),
+            refuses(b"kernel/b.ko", &NEEDS, b"namespace of fa not imported"),
+            refuses(b"kernel/w.ko", &MAY_NEED, b"namespace of fa not imported"),
+            loads(
+                b"kernel/i.ko",
+                &IMPORTS,
+                BASE + 0x2000,
+                0x1000,
+                &[(0, BASE)],
+            ),
         ],
     )
 }

@@ -1,0 +1,134 @@
+// Small modules, which rows share.
+use crate::row::{
+    EMPTY_MORE, EMPTY_SHEET, ExportRow, MoreRow, NeedRow, PlaceRow, SheetRow, SpaceRow, VersionRow,
+};
+
+/// A module of nothing at all.
+pub static NOTHING: SheetRow = EMPTY_SHEET;
+
+/// Nothing besides a sheet.
+pub static NO_MORE: MoreRow = EMPTY_MORE;
+
+/// A module that exports `fa` and needs `printk` of the kernel.
+pub static GIVES: SheetRow = SheetRow {
+    exports: &[ExportRow {
+        name: b"fa",
+        crc: None,
+    }],
+    needs: &[NeedRow {
+        name: b"printk",
+        weak: false,
+    }],
+    places: &[PlaceRow {
+        kind: 1,
+        symbol: b"printk",
+        addend: 0,
+    }],
+    ..EMPTY_SHEET
+};
+
+/// A module that exports `fa` and needs nothing.
+pub static GIVES_ALONE: SheetRow = SheetRow {
+    exports: &[ExportRow {
+        name: b"fa",
+        crc: None,
+    }],
+    ..EMPTY_SHEET
+};
+
+/// A module that exports `fa` with a version.
+pub static GIVES_VERSION_1: SheetRow = SheetRow {
+    exports: &[ExportRow {
+        name: b"fa",
+        crc: Some(0x1),
+    }],
+    ..EMPTY_SHEET
+};
+
+/// A module that needs `fa`.
+pub static NEEDS: SheetRow = SheetRow {
+    needs: &[NeedRow {
+        name: b"fa",
+        weak: false,
+    }],
+    places: &[PlaceRow {
+        kind: 1,
+        symbol: b"fa",
+        addend: 0,
+    }],
+    ..EMPTY_SHEET
+};
+
+/// A module that needs `fa` weakly, with an addend.
+pub static MAY_NEED: SheetRow = SheetRow {
+    needs: &[NeedRow {
+        name: b"fa",
+        weak: true,
+    }],
+    places: &[PlaceRow {
+        kind: 1,
+        symbol: b"fa",
+        addend: 5,
+    }],
+    ..EMPTY_SHEET
+};
+
+/// A module that needs another version of `fa`, weakly.
+pub static MAY_NEED_VERSION_2: SheetRow = SheetRow {
+    versions: &[VersionRow {
+        name: b"fa",
+        crc: 0x2,
+    }],
+    needs: &[NeedRow {
+        name: b"fa",
+        weak: true,
+    }],
+    ..EMPTY_SHEET
+};
+
+/// A module that needs `fa` and has a free license.
+pub static FREE: SheetRow = SheetRow {
+    texts: &[b"license=Dual BSD/GPL"],
+    needs: &[NeedRow {
+        name: b"fa",
+        weak: false,
+    }],
+    places: &[PlaceRow {
+        kind: 1,
+        symbol: b"fa",
+        addend: 0,
+    }],
+    ..EMPTY_SHEET
+};
+
+/// A module that needs `fa` and imports a namespace.
+pub static IMPORTS: SheetRow = SheetRow {
+    texts: &[b"import_ns=NS"],
+    needs: &[NeedRow {
+        name: b"fa",
+        weak: false,
+    }],
+    places: &[PlaceRow {
+        kind: 1,
+        symbol: b"fa",
+        addend: 0,
+    }],
+    ..EMPTY_SHEET
+};
+
+/// `fa` is for modules with a free license alone.
+pub static GPL_ONLY: MoreRow = MoreRow {
+    ext: &[],
+    gpl: &[b"fa"],
+    spaces: &[],
+};
+
+/// `fa` is in a namespace.
+pub static IN_SPACE: MoreRow = MoreRow {
+    ext: &[],
+    gpl: &[],
+    spaces: &[SpaceRow {
+        name: b"fa",
+        space: b"NS",
+    }],
+};
