@@ -3,13 +3,13 @@ ghost use Rattle.std.specs.Prelude.{◌≡◌, ◌≤◌, ◌↔◌, length, All
 ghost use Rattle.km_names.specs.Limit.{file_limit};
 ghost use Rattle.index_format.specs.Map.{IsKey, IsText};
 
-use plan_builder::{PlanStep, PlanSteps, Request, plan, well_formed};
 use index_read::Index;
 use index_write::{KeyMap, encode};
 use km_names::{Blob, ConfFile, ConfFiles, Name, Names, PathText};
 use loaded_list::Loaded;
 use modprobe_conf::{Rules, parse};
 use name_lookup::Indexes;
+use plan_builder::{PlanStep, PlanSteps, Request, plan, well_formed};
 use std::alloc::Global;
 use std::process::Abort;
 use std::test::Fail;

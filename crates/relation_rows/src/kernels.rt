@@ -1,9 +1,9 @@
 ghost use Rattle.std.specs.Prelude.{IfOk};
 ghost use Rattle.provider_rel.specs.Tree.{IsTree, IsTreeModule};
 
-use provider_rel::{Kernel, KernelFault, Provider, Relation, TreeFacts, Unbound, agree};
 use km_names::{Name, Names, PathText, Texts};
 use module_facts::{Exports, Facts, Need, Needs};
+use provider_rel::{Kernel, KernelFault, Provider, Relation, TreeFacts, Unbound, agree};
 use std::alloc::{AllocError, Global};
 use std::test::Fail;
 

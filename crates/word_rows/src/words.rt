@@ -1,5 +1,5 @@
-use kmod_words::{read_depmod, read_modinfo, read_modprobe, read_trial};
 use km_names::Word;
+use kmod_words::{read_depmod, read_modinfo, read_modprobe, read_trial};
 use std::alloc::{AllocError, Global};
 use std::test::Fail;
 
