@@ -1,24 +1,12 @@
 use crate::sheets::{EXT4, JBD2, MBCACHE};
-use crate::tree_row::{Failing, FileRow, INDEXED, IndexedRow, ModuleRow, SYMVERS, expect_indexed};
+use crate::tree_row::{
+    Failing, FileRow, INDEXED, IndexedRow, SYMVERS, SYSTEM_MAP, expect_indexed, two,
+};
 use km_outside::CallKind;
-use sheet_rows::{GIVES, MAY_NEED, NEEDS, NO_MORE};
+use sheet_rows::{MAY_NEED, NO_MORE};
 use std::alloc::Global;
 use std::process::Abort;
 use std::test::Fail;
-
-/// Two modules, of which `b` needs `a`.
-fn two() -> [ModuleRow<'static>; 2] {
-    [
-        ("kernel/a.ko", &GIVES, &NO_MORE),
-        ("kernel/b.ko", &NEEDS, &NO_MORE),
-    ]
-}
-
-/// The addresses of a kernel that exports `printk`.
-const SYSTEM_MAP: FileRow = FileRow {
-    path: "/r/System.map",
-    bytes: b"ffffffff81000000 T printk\n",
-};
 
 /// Two modules are loaded: the lines of the plan, and then those of the loads with the digests of the images.
 #[test]

@@ -1,6 +1,6 @@
 use crate::object::LICENSE_OBJECT;
-use crate::row::{Objects, Row, USAGE};
-use crate::tree_row::{Failing, set_failing};
+use crate::row::{Objects, Row, RowOf, USAGE};
+use crate::tree_row::{Failing, FileRow, expect_over};
 use km_outside::CallKind;
 use sheet_rows::{SheetRow, object_of};
 use std::alloc::Global;
@@ -162,14 +162,18 @@ fn expect_rows(rt: &impl Abort, alloc: Global, rows: &[Row]) -> Result<(), Fail>
     Ok(())
 }
 
-/// Each line of words isn't understood.
-fn expect_usage(rt: &impl Abort, alloc: Global, lines: &[&str]) -> Result<(), Fail> {
-    for words in lines {
-        let mut objects = Objects::new(alloc)?;
-        objects.put(alloc, "/m/a.ko", &LICENSE_OBJECT)?;
-        objects.expect_row(rt, alloc, (words, 2, "", USAGE))?;
-    }
-    Ok(())
+/// Runs a row over one module while something fails.
+fn expect_one(
+    rt: &impl Abort,
+    alloc: Global,
+    failing: Failing,
+    row: RowOf<'_>,
+) -> Result<(), Fail> {
+    let module = FileRow {
+        path: "/m/a.ko",
+        bytes: &LICENSE_OBJECT,
+    };
+    expect_over(rt, alloc, &[module], failing, row)
 }
 
 #[test]
@@ -179,7 +183,10 @@ fn modules_are_shown_by_their_paths(rt: HostRuntime) -> Result<(), Fail> {
 
 #[test]
 fn words_that_are_not_understood(rt: HostRuntime) -> Result<(), Fail> {
-    expect_usage(&rt, rt.alloc(), &NOT_UNDERSTOOD)
+    for words in &NOT_UNDERSTOOD {
+        expect_one(&rt, rt.alloc(), Failing::Nothing, (words, 2, "", USAGE))?;
+    }
+    Ok(())
 }
 
 /// What fails while modules are shown, and the row then. The first module is printed before the second is read, and where the
@@ -218,19 +225,10 @@ static FAILING: [(Failing, Row); 4] = [
     ),
 ];
 
-/// Runs a row over a module while something fails.
-fn expect_failing(rt: &impl Abort, alloc: Global, failing: Failing, row: Row) -> Result<(), Fail> {
-    let mut objects = Objects::new(alloc)?;
-    objects.put(alloc, "/m/a.ko", &LICENSE_OBJECT)?;
-    set_failing(&mut objects, failing)?;
-    objects.expect_row(rt, alloc, row)?;
-    Ok(())
-}
-
 #[test]
 fn failing_calls_have_status_3(rt: HostRuntime) -> Result<(), Fail> {
     for (failing, row) in &FAILING {
-        expect_failing(&rt, rt.alloc(), *failing, *row)?;
+        expect_one(&rt, rt.alloc(), *failing, *row)?;
     }
     Ok(())
 }

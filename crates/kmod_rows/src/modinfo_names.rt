@@ -1,6 +1,9 @@
 use crate::object::LICENSE_OBJECT;
-use crate::row::{Objects, Row};
-use std::alloc::{AllocError, Global};
+use crate::row::{Row, RowOf};
+use crate::tree_row::{Failing, FileRow, expect_over};
+use km_outside::CallKind;
+use std::alloc::Global;
+use std::process::Abort;
 use std::test::Fail;
 
 /// A modules.dep.bin: `a` with the line `kernel/a.ko:`, and `b` with `kernel/b.ko: kernel/a.ko`.
@@ -107,50 +110,66 @@ static REFUSED: [(&[u8], &str); 5] = [
     ),
 ];
 
-/// A kernel of the version 6.1.0 below `/r` with this modules.dep.bin, and its module `a`.
-fn kernel(alloc: Global, index: &[u8]) -> Result<Objects, AllocError> {
-    let mut objects = Objects::new(alloc)?;
-    objects.put(alloc, "/r/lib/modules/6.1.0/modules.dep.bin", index)?;
-    objects.put(alloc, "/r/lib/modules/6.1.0/kernel/a.ko", &LICENSE_OBJECT)?;
-    Ok(objects)
+/// Runs a row over a kernel of the version 6.1.0 below `/r` with this modules.dep.bin, and its module `a`, while something
+/// fails.
+fn expect_shown(
+    rt: &impl Abort,
+    alloc: Global,
+    index: &'static [u8],
+    failing: Failing,
+    row: RowOf<'_>,
+) -> Result<(), Fail> {
+    let files = [
+        FileRow {
+            path: "/r/lib/modules/6.1.0/modules.dep.bin",
+            bytes: index,
+        },
+        FileRow {
+            path: "/r/lib/modules/6.1.0/kernel/a.ko",
+            bytes: &LICENSE_OBJECT,
+        },
+    ];
+    expect_over(rt, alloc, &files, failing, row)
 }
 
 #[test]
 fn modules_are_shown_by_their_names(rt: HostRuntime) -> Result<(), Fail> {
-    let alloc = rt.alloc();
     for row in &BY_NAME {
-        let mut objects = kernel(alloc, TWO_NAMES)?;
-        objects.expect_row(&rt, alloc, *row)?;
-    }
-    let words = "modinfo -k 6.1.0 -b /r a";
-    for (index, err) in &REFUSED {
-        let mut objects = kernel(alloc, index)?;
-        objects.expect_row(&rt, alloc, (words, 1, "", err))?;
+        expect_shown(&rt, rt.alloc(), TWO_NAMES, Failing::Nothing, *row)?;
     }
     Ok(())
 }
 
 #[test]
+fn indexes_are_refused(rt: HostRuntime) -> Result<(), Fail> {
+    for (index, err) in &REFUSED {
+        let row = ("modinfo -k 6.1.0 -b /r a", 1, "", *err);
+        expect_shown(&rt, rt.alloc(), index, Failing::Nothing, row)?;
+    }
+    Ok(())
+}
+
+/// Which read fails, and what is written to the output and to err then.
+static FAILING: [(u8, &str, &str); 3] = [
+    (
+        0,
+        "",
+        "kmod: file fault /r/lib/modules/6.1.0/modules.dep.bin\n",
+    ),
+    (1, "", "kmod: file fault /r/lib/modules/6.1.0/kernel/a.ko\n"),
+    (
+        2,
+        "GPL\n",
+        "kmod: file fault /r/lib/modules/6.1.0/kernel/a.ko\n",
+    ),
+];
+
+#[test]
 fn the_index_is_read_once_and_first(rt: HostRuntime) -> Result<(), Fail> {
-    let alloc = rt.alloc();
-    let words = "modinfo -l -k 6.1.0 -b /r a a";
-    let rows = [
-        (
-            0,
-            "",
-            "kmod: file fault /r/lib/modules/6.1.0/modules.dep.bin\n",
-        ),
-        (1, "", "kmod: file fault /r/lib/modules/6.1.0/kernel/a.ko\n"),
-        (
-            2,
-            "GPL\n",
-            "kmod: file fault /r/lib/modules/6.1.0/kernel/a.ko\n",
-        ),
-    ];
-    for (read, out, err) in rows {
-        let mut objects = kernel(alloc, TWO_NAMES)?;
-        objects.fail_read(read)?;
-        objects.expect_row(&rt, alloc, (words, 3, out, err))?;
+    for (read, out, err) in &FAILING {
+        let row = ("modinfo -l -k 6.1.0 -b /r a a", 3, *out, *err);
+        let failing = Failing::Call(CallKind::Read, *read);
+        expect_shown(&rt, rt.alloc(), TWO_NAMES, failing, row)?;
     }
     Ok(())
 }

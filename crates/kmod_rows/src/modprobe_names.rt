@@ -1,6 +1,6 @@
 use crate::modinfo_names::{CUT_VALUE, FORWARD_CHILD, REACHED_TWICE};
-use crate::row::{Objects, Row};
-use crate::tree_row::FileRow;
+use crate::row::Row;
+use crate::tree_row::{Failing, FileRow, expect_over};
 use std::alloc::Global;
 use std::process::Abort;
 use std::test::Fail;
@@ -260,11 +260,7 @@ static BAD_INDEXES: [(&[u8], &str); 3] = [
 /// Runs the words of each row over its files.
 fn expect_rows(rt: &impl Abort, alloc: Global, rows: &[FilesRow]) -> Result<(), Fail> {
     for (files, row) in rows {
-        let mut objects = Objects::new(alloc)?;
-        for file in *files {
-            objects.put(alloc, file.path, file.bytes)?;
-        }
-        objects.expect_row(rt, alloc, *row)?;
+        expect_over(rt, alloc, files, Failing::Nothing, *row)?;
     }
     Ok(())
 }
@@ -286,12 +282,13 @@ fn each_file_is_understood_before_the_next(rt: HostRuntime) -> Result<(), Fail> 
 
 #[test]
 fn bad_indexes_are_refused(rt: HostRuntime) -> Result<(), Fail> {
-    let alloc = rt.alloc();
-    let words = "modprobe -d /r -S 6.1.0 -R a";
     for (index, err) in &BAD_INDEXES {
-        let mut objects = Objects::new(alloc)?;
-        objects.put(alloc, DEP.path, index)?;
-        objects.expect_row(&rt, alloc, (words, 1, "", err))?;
+        let file = FileRow {
+            path: DEP.path,
+            bytes: index,
+        };
+        let row = ("modprobe -d /r -S 6.1.0 -R a", 1, "", *err);
+        expect_over(&rt, rt.alloc(), &[file], Failing::Nothing, row)?;
     }
     Ok(())
 }

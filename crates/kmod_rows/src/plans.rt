@@ -1,17 +1,9 @@
 use crate::sheets::{ASKS_FOR_MORE, NEEDS_NOSUCH};
-use crate::tree_row::{FileRow, INDEXED, IndexedRow, ModuleRow, SYMVERS, expect_indexed};
-use sheet_rows::{
-    GIVES, GIVES_ALONE, GIVES_VERSION_1, MAY_NEED_VERSION_2, NEEDS, NO_MORE, NOTHING,
+use crate::tree_row::{
+    FileRow, INDEXED, IndexedRow, ModuleRow, SYMVERS, SYSTEM_MAP, expect_indexed, two,
 };
+use sheet_rows::{GIVES_ALONE, GIVES_VERSION_1, MAY_NEED_VERSION_2, NEEDS, NO_MORE, NOTHING};
 use std::test::Fail;
-
-/// Two modules, of which `b` needs `a`.
-fn two() -> [ModuleRow<'static>; 2] {
-    [
-        ("kernel/a.ko", &GIVES, &NO_MORE),
-        ("kernel/b.ko", &NEEDS, &NO_MORE),
-    ]
-}
 
 /// Two modules that need nothing.
 fn alone() -> [ModuleRow<'static>; 2] {
@@ -122,10 +114,7 @@ fn commands_stand_for_modules(rt: HostRuntime) -> Result<(), Fail> {
                     path: "/etc/modprobe.d/a.conf",
                     bytes: b"install a /bin/true\n",
                 },
-                FileRow {
-                    path: "/r/System.map",
-                    bytes: b"ffffffff81000000 T printk\n",
-                },
+                SYSTEM_MAP,
             ],
             rows: &[
                 (

@@ -1,5 +1,5 @@
 use km_names::{List, PathText, Word};
-use km_outside::{CallKind, MemFiles, MemOut};
+use km_outside::{MemFiles, MemOut};
 use kmod_cli::run;
 use std::alloc::{AllocError, Global};
 use std::process::Abort;
@@ -31,11 +31,6 @@ impl Objects {
     ) -> Result<(), AllocError> {
         self.files
             .put(&PathText::from_slice(alloc, path.as_bytes())?, bytes)
-    }
-
-    /// Makes the read of this number fail, counted from 0.
-    pub(crate) fn fail_read(&mut self, number: u8) -> Result<(), AllocError> {
-        self.files.fail_call(CallKind::Read, u64::from(number))
     }
 
     /// Runs the words of a row, and compares the status and what was written.

@@ -1,7 +1,7 @@
 use crate::row::{Objects, RowOf};
 use km_names::PathText;
 use km_outside::CallKind;
-use sheet_rows::{MoreRow, SheetRow, object_with};
+use sheet_rows::{GIVES, MoreRow, NEEDS, NO_MORE, SheetRow, object_with};
 use std::alloc::Global;
 use std::process::Abort;
 use std::test::Fail;
@@ -49,6 +49,20 @@ pub(crate) const SYMVERS: FileRow = FileRow {
     bytes: b"0x11111111\tprintk\tvmlinux\tEXPORT_SYMBOL\n",
 };
 
+/// The addresses of that kernel.
+pub(crate) const SYSTEM_MAP: FileRow = FileRow {
+    path: "/r/System.map",
+    bytes: b"ffffffff81000000 T printk\n",
+};
+
+/// Two modules, of which `b` needs `a`.
+pub(crate) fn two() -> [ModuleRow<'static>; 2] {
+    [
+        ("kernel/a.ko", &GIVES, &NO_MORE),
+        ("kernel/b.ko", &NEEDS, &NO_MORE),
+    ]
+}
+
 /// The usual words over the usual table.
 pub(crate) const USUAL: TreeRow<'static> = TreeRow {
     modules: &[],
@@ -76,7 +90,7 @@ fn put_modules(
 }
 
 /// Makes fail what a row says.
-pub(crate) fn set_failing(objects: &mut Objects, failing: Failing) -> Result<(), Fail> {
+fn set_failing(objects: &mut Objects, failing: Failing) -> Result<(), Fail> {
     match failing {
         Failing::Nothing => {}
         Failing::Call(kind, number) => objects.files.fail_call(kind, u64::from(number))?,
@@ -91,6 +105,33 @@ fn put_files(alloc: Global, objects: &mut Objects, files: &[FileRow]) -> Result<
     for file in files {
         objects.put(alloc, file.path, file.bytes)?;
     }
+    Ok(())
+}
+
+/// The objects of a row: its modules and other files, and what fails.
+fn objects_with(
+    alloc: Global,
+    modules: &[ModuleRow<'_>],
+    files: &[FileRow],
+    failing: Failing,
+) -> Result<Objects, Fail> {
+    let mut objects = Objects::new(alloc)?;
+    put_modules(alloc, &mut objects, modules)?;
+    put_files(alloc, &mut objects, files)?;
+    set_failing(&mut objects, failing)?;
+    Ok(objects)
+}
+
+/// Runs the words of a row over files while something fails, and compares what came of it.
+pub(crate) fn expect_over(
+    rt: &impl Abort,
+    alloc: Global,
+    files: &[FileRow],
+    failing: Failing,
+    row: RowOf<'_>,
+) -> Result<(), Fail> {
+    let mut objects = objects_with(alloc, &[], files, failing)?;
+    objects.expect_row(rt, alloc, row)?;
     Ok(())
 }
 
@@ -111,10 +152,7 @@ fn expect_files(
 
 /// Runs a command over a tree, and compares what came of it.
 pub(crate) fn expect_tree(rt: &impl Abort, alloc: Global, row: &TreeRow<'_>) -> Result<(), Fail> {
-    let mut objects = Objects::new(alloc)?;
-    put_modules(alloc, &mut objects, row.modules)?;
-    put_files(alloc, &mut objects, row.files)?;
-    set_failing(&mut objects, row.failing)?;
+    let mut objects = objects_with(alloc, row.modules, row.files, row.failing)?;
     objects.expect_row(rt, alloc, (row.words, row.status, row.out, row.err))?;
     expect_files(rt, alloc, &objects, row.after)
 }
@@ -144,10 +182,7 @@ fn expect_command(
     tree: &IndexedRow<'_>,
     row: RowOf<'_>,
 ) -> Result<(), Fail> {
-    let mut objects = Objects::new(alloc)?;
-    put_modules(alloc, &mut objects, tree.modules)?;
-    put_files(alloc, &mut objects, tree.files)?;
-    set_failing(&mut objects, tree.failing)?;
+    let mut objects = objects_with(alloc, tree.modules, tree.files, tree.failing)?;
     objects.expect_row(rt, alloc, (USUAL.words, 0, "", ""))?;
     objects.expect_row(rt, alloc, row)?;
     Ok(())

@@ -1,6 +1,7 @@
 // Trials, whole. The digests of images were worked out from the made trees by a program of its own: an image is of 8192
 // bytes, which are 0 but for the address of `printk` at byte 4096 and, after the first, that of `s0000` at byte 4104.
-use crate::row::{Objects, Row, USAGE};
+use crate::row::{Row, USAGE};
+use crate::tree_row::{Failing, expect_over};
 use std::alloc::Global;
 use std::process::Abort;
 use std::test::Fail;
@@ -38,8 +39,7 @@ static NOT_UNDERSTOOD: [Row; 4] = [
 /// Runs the rows, each over no file.
 fn expect_rows(rt: &impl Abort, alloc: Global, rows: &[Row]) -> Result<(), Fail> {
     for row in rows {
-        let mut objects = Objects::new(alloc)?;
-        objects.expect_row(rt, alloc, *row)?;
+        expect_over(rt, alloc, &[], Failing::Nothing, *row)?;
     }
     Ok(())
 }
