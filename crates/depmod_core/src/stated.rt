@@ -175,7 +175,7 @@ fn key(alloc: Global, kind: Kind, stated: &[u8]) -> Result<Option<Blob>, AllocEr
 {
     match kind {
         Kind::Alias => match normal_alias(alloc, stated)? {
-            Some(alias) => Ok(Some(Blob::from_vec(alias.into_vec()?))),
+            Some(alias) => Ok(Some(Blob::from_vec(alias.into_vec()))),
             None => Ok(None),
         },
         Kind::Softdep => Ok(None),

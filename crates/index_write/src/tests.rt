@@ -49,7 +49,7 @@ fn file_of(rt: &impl Abort, alloc: Global, values: &[(&str, u32, &str)]) -> Resu
         map.add(key.as_bytes(), *priority, text.as_bytes())?;
     }
     let file = encode(alloc, &map)?;
-    Ok(file.into_vec()?)
+    Ok(file.into_vec())
 }
 
 #[test]

@@ -1,7 +1,6 @@
 pub mod NumberSums
 pub mod AliasRun
 pub mod Ends
-pub mod HeldLemmas
 pub mod LineSteps
 pub mod StatementSteps
 pub mod Trims

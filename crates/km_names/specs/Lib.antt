@@ -1,7 +1,6 @@
 pub mod AliasForm
 pub mod Ascii
 pub mod First
-pub mod Held
 pub mod Limit
 pub mod Lines
 pub mod Number

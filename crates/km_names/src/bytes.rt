@@ -1,37 +1,24 @@
-ghost use Rattle.std.specs.Prelude.{◌≡◌, ◌≤◌, ◌↔◌, ◌==◌, [], ◌∷◌, ◌++◌, length, min, take, IsNone, IsSome, IfSome, OnOk, OnErr, IfOk, slice_get, option_copied};
-ghost use Rattle.km_names.specs.Held.{held};
+ghost use Rattle.std.specs.Prelude.{◌≡◌, ◌≤◌, ◌↔◌, ◌==◌, [], ◌∷◌, ◌++◌, length, IsNone, OnOk, OnErr, IfOk, slice_get, option_copied};
 
 use bstr::BStr;
 use std::alloc::{AllocError, Global};
 use std::fmt;
 use std::marker::{Model, PhantomData};
 
-/// How many bytes are kept in the value itself. Nine of ten names of symbols have no more.
-const SHORT: usize = 31;
-
 /// A growing list of bytes of the kind `K`, an empty enum that tells paths, names and texts apart.
 /// Contracts see it as the list of its bytes.
-///
-/// Up to 31 bytes that are copied at once take no memory of their own: the modules of a kernel have a million names,
-/// nearly all of them that short.
 #[derive(Drop)]
 pub struct Bytes<K> {
-    /// All bytes, or none where they are kept in the value.
-    long: Vec<u8>,
-    /// The bytes where `long` has none, and then zeros.
-    short: [u8; SHORT],
-    /// How many of those there are.
-    length: u8,
+    bytes: Vec<u8>,
     kind: PhantomData<K>,
 }
 
 impl<K> Model for Bytes<K> {
-    ghost use Rattle.std.specs.Prelude.{List, ℕ, min, take};
-    ghost use Rattle.km_names.specs.Held.{held};
+    ghost use Rattle.std.specs.Prelude.{List, ℕ};
 
     ghost Value = { List ℕ };
 
-    ghost view = { λ b. held b.long.items (take (min b.length 31) b.short) };
+    ghost view = { λ b. b.bytes.items };
 }
 
 /// Shown as text in quotes, with escapes where it isn't UTF-8.
@@ -69,58 +56,25 @@ pub type PathText = Bytes<PathKind>;
 /// The bytes of a module alias in its normal form, maybe a pattern.
 pub type Alias = Bytes<AliasKind>;
 
-/// The first bytes of an array: a copy of these, if they fit.
-fn short_copy(bytes: &[u8]) -> Option<[u8; SHORT]>
-    ensures copy { IfSome result (λ short. take (length bytes.now) short ≡ bytes.now) }
-    ensures fits { IsSome result ↔ (length bytes.now ≤ 31) }
-{
-    let mut short = [0; SHORT];
-    if bytes.len() > SHORT {
-        return None;
-    }
-    short[..bytes.len()].copy_from_slice(bytes);
-    Some(short)
-}
-
-/// The first so many bytes of an array, and all where it has fewer.
-fn first(short: &[u8; SHORT], length: u8) -> &[u8]
-    ensures { result.now ≡ take (min length 31) short.now }
-{
-    &short[..usize::from(length).min(SHORT)]
-}
-
-/// Gives bytes that are kept in the value memory of their own, so that more can be put behind them.
-fn lengthen(long: &mut Vec<u8>, short: &[u8]) -> Result<(), AllocError>
-    ensures ok { OnOk result (long.new.items ≡ held long.old.items short.now) }
-    ensures err { OnErr result (long.new.items ≡ long.old.items) }
-{
-    if long.is_empty() {
-        long.extend_from_slice(short)?;
-    }
-    Ok(())
-}
-
 impl<K> Bytes<K> {
     /// The empty list of bytes. It takes no memory.
     pub fn new(alloc: Global) -> Self
         ensures { result ≡ [] }
     {
-        Self::from_vec(Vec::new(alloc))
+        Bytes {
+            bytes: Vec::new(alloc),
+            kind: PhantomData,
+        }
     }
 
     /// A copy of these bytes.
     pub fn from_slice(alloc: Global, bytes: &[u8]) -> Result<Self, AllocError>
         ensures { IfOk result (λ b. b ≡ bytes.now) }
     {
-        match short_copy(bytes) {
-            Some(short) => Ok(Bytes {
-                long: Vec::new(alloc),
-                short,
-                length: bytes.len() as u8,
-                kind: PhantomData,
-            }),
-            None => Ok(Self::from_vec(Vec::from_slice(alloc, bytes)?)),
-        }
+        Ok(Bytes {
+            bytes: Vec::from_slice(alloc, bytes)?,
+            kind: PhantomData,
+        })
     }
 
     /// The bytes of a vector. It takes no memory.
@@ -128,19 +82,17 @@ impl<K> Bytes<K> {
         ensures { result ≡ bytes.items }
     {
         Bytes {
-            long: bytes,
-            short: [0; SHORT],
-            length: 0,
+            bytes,
             kind: PhantomData,
         }
     }
 
-    /// The vector of the bytes. Bytes that have memory of their own keep it, others are copied.
-    pub fn into_vec(mut self) -> Result<Vec<u8>, AllocError>
-        ensures { IfOk result (λ vec. vec.items ≡ self) }
+    /// The vector of the bytes. It takes no memory.
+    pub fn into_vec(self) -> Vec<u8>
+        ensures { result.items ≡ self }
     {
-        lengthen(&mut self.long, first(&self.short, self.length))?;
-        Ok(self.long)
+        let Bytes { bytes, kind: _ } = self;
+        bytes
     }
 
     /// Puts a byte at the end. After a refusal the list is as before.
@@ -148,7 +100,8 @@ impl<K> Bytes<K> {
         ensures ok { OnOk result (self.new ≡ self.old ++ item ∷ []) }
         ensures err { OnErr result (self.new ≡ self.old) }
     {
-        self.extend(&[item])
+        self.bytes.push(item)?;
+        Ok(())
     }
 
     /// Puts bytes at the end. After a refusal the list is as before.
@@ -156,9 +109,7 @@ impl<K> Bytes<K> {
         ensures ok { OnOk result (self.new ≡ self.old ++ bytes.now) }
         ensures err { OnErr result (self.new ≡ self.old) }
     {
-        lengthen(&mut self.long, first(&self.short, self.length))?;
-        self.long.extend_from_slice(bytes)?;
-        Ok(())
+        self.bytes.extend_from_slice(bytes)
     }
 
     /// The byte at place `i`, from 0.
@@ -166,31 +117,27 @@ impl<K> Bytes<K> {
         ensures item { option_copied result ≡ slice_get self.now i }
         ensures past_end { IsNone result ↔ (length self.now ≤ i) }
     {
-        self.as_bytes().get(i)
+        self.bytes.get(i)
     }
 
     /// How many bytes there are.
     pub fn len(&self) -> usize
         ensures { result ≡ length self.now }
     {
-        self.as_bytes().len()
+        self.bytes.len()
     }
 
     /// Whether there is no byte.
     pub fn is_empty(&self) -> bool
         ensures { result ≡ (length self.now == 0) }
     {
-        self.as_bytes().is_empty()
+        self.bytes.is_empty()
     }
 
     /// The bytes as a slice.
     pub fn as_bytes(&self) -> &[u8]
         ensures { result.now ≡ self.now }
     {
-        if self.long.is_empty() {
-            first(&self.short, self.length)
-        } else {
-            self.long.as_slice()
-        }
+        self.bytes.as_slice()
     }
 }

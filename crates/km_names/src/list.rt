@@ -110,7 +110,7 @@ mod tests {
         assert_eq!(rt; path.as_bytes(), b"/lib".as_slice());
         assert_eq!(rt; path.get(3).copied(), Some(b'b'));
         assert!(rt; path.get(4).is_none());
-        assert_eq!(rt; Blob::from_vec(path.into_vec()?).len(), 4);
+        assert_eq!(rt; Blob::from_vec(path.into_vec()).len(), 4);
 
         let word = Word::from_text(alloc, "größe")?;
         assert_eq!(rt; word.as_str(), "größe");

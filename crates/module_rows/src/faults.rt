@@ -5,7 +5,7 @@ use crate::facts_row::module_at;
 use elf_object::Object;
 use km_names::{Blob, FILE_LIMIT, le_u64_at};
 use sheet_rows::{MoreRow, NEEDS, NeedRow, PlaceRow, SheetRow, object_of, object_with};
-use std::alloc::{AllocError, Global};
+use std::alloc::Global;
 use std::process::Abort;
 use std::test::Fail;
 
@@ -101,7 +101,7 @@ fn second_relocation(rt: &impl Abort, bytes: &[u8]) -> usize {
 /// The second word's place moves into the first.
 #[test]
 fn places_that_overlap_are_refused(rt: HostRuntime) -> Result<(), Fail> {
-    let mut bytes = object_of(rt.alloc(), &TWO_WORDS)?.into_vec()?;
+    let mut bytes = object_of(rt.alloc(), &TWO_WORDS)?.into_vec();
     let entry = second_relocation(&rt, bytes.as_slice());
     assert!(rt; entry < bytes.len());
     assert_eq!(rt; bytes[entry], 8);
@@ -131,13 +131,13 @@ fn section_end(rt: &impl Abort, alloc: Global, bytes: &Blob, section: &[u8]) -> 
 }
 
 /// The object with another byte before this place.
-fn with_byte_before(rt: &impl Abort, bytes: Blob, end: u64, byte: u8) -> Result<Blob, AllocError> {
-    let mut changed = bytes.into_vec()?;
+fn with_byte_before(rt: &impl Abort, bytes: Blob, end: u64, byte: u8) -> Blob {
+    let mut changed = bytes.into_vec();
     assert!(rt; end > 0 && end <= 65536 && end as usize <= changed.len());
     let last = end as usize - 1;
     assert_eq!(rt; changed[last], 0);
     changed[last] = byte;
-    Ok(Blob::from_vec(changed))
+    Blob::from_vec(changed)
 }
 
 /// The module without the NUL that ends a section has this fault.
@@ -150,7 +150,7 @@ fn expect_fault_without_nul(
 ) -> Result<(), Fail> {
     let bytes = object_with(alloc, sheet, more)?;
     let end = section_end(rt, alloc, &bytes, section)?;
-    let changed = with_byte_before(rt, bytes, end, b'x')?;
+    let changed = with_byte_before(rt, bytes, end, b'x');
     let text = fault_at(rt, alloc, b"kernel/b.ko", changed)?;
     assert_eq!(rt; text.as_bytes(), want);
     Ok(())

@@ -82,19 +82,19 @@ fn machine(rt: &impl Abort, alloc: Global, size: u64) -> Result<Machine, Fail> {
 }
 
 /// The bytes with some of them changed.
-fn changed(rt: &impl Abort, bytes: Blob, changes: &[(usize, u8)]) -> Result<Blob, AllocError> {
-    let mut bytes = bytes.into_vec()?;
+fn changed(rt: &impl Abort, bytes: Blob, changes: &[(usize, u8)]) -> Blob {
+    let mut bytes = bytes.into_vec();
     for (at, byte) in changes {
         assert!(rt; *at < bytes.len());
         bytes[*at] = *byte;
     }
-    Ok(Blob::from_vec(bytes))
+    Blob::from_vec(bytes)
 }
 
 /// The module of a row.
 fn module_of(rt: &impl Abort, alloc: Global, row: &LoadRow) -> Result<Module, Fail> {
     let object = object_with(alloc, row.sheet, row.more)?;
-    let bytes = changed(rt, object, row.changes)?;
+    let bytes = changed(rt, object, row.changes);
     Ok(module_at(rt, alloc, row.path, bytes)?)
 }
 
