@@ -20,18 +20,23 @@ use Rattle.sheet_rows.specs.declared.row.VersionRow.{VersionRow}
 abbrev pub slices_of : List (Bor (List ℕ)) → List (List ℕ)
 slices_of rows = map (λ (row : Bor (List ℕ)). row.now) rows
 
+-- The version that a row writes out.
 abbrev pub version_of : VersionRow → SheetVersion
 version_of row = record { name = row.name.now; crc = row.crc }
 
+-- The export that a row writes out.
 abbrev pub export_of : ExportRow → SheetExport
 export_of row = record { name = row.name.now; crc = row.crc }
 
+-- The need that a row writes out.
 abbrev pub need_of : NeedRow → SheetNeed
 need_of row = record { name = row.name.now; weak = row.weak }
 
+-- The relocated word that a row writes out.
 abbrev pub place_of : PlaceRow → SheetPlace
 place_of row = record { kind = row.kind; symbol = row.symbol.now; addend = row.addend }
 
+-- The namespace that a row writes out.
 abbrev pub space_of : SpaceRow → SheetSpace
 space_of row = record { name = row.name.now; space = row.space.now }
 
