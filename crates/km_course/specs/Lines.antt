@@ -70,6 +70,15 @@ refusal_text (OutputTooLarge file) = file ++ codes ": output too large"
 refusal_text (BadPath path) = codes "bad path " ++ path
 refusal_text InnerOutputFull = codes "inner output full"
 
+-- What a refusal says of a symbol between modules, and nothing where it speaks of something else.
+abbrev pub symbol_text : Refusal → List ℕ
+symbol_text (Missing path symbol) = refusal_text (Missing path symbol)
+symbol_text (Version path symbol provider) = refusal_text (Version path symbol provider)
+symbol_text (Gpl path symbol provider) = refusal_text (Gpl path symbol provider)
+symbol_text (Namespace path symbol provider) = refusal_text (Namespace path symbol provider)
+symbol_text (Double symbol first second) = refusal_text (Double symbol first second)
+symbol_text refusal = []
+
 -- The line of an end.
 abbrev pub end_line : End → List ℕ
 end_line (Refused refusal) = line (refusal_text refusal)

@@ -1,5 +1,5 @@
 ghost use Rattle.std.specs.Prelude.{◌≡◌, ◌++◌, IfOk, codes};
-ghost use Rattle.km_course.specs.Lines.{cycle_text, refusal_text};
+ghost use Rattle.km_course.specs.Lines.{cycle_text, refusal_text, symbol_text};
 
 use km_names::{Blob, Name, Names, PathText};
 use std::alloc::{AllocError, Global};
@@ -116,47 +116,11 @@ impl Refusal {
         ensures { IfOk result (λ text. text ≡ refusal_text self.now) }
     {
         match self {
-            Refusal::BadModule { path, text } => three(
-                alloc,
-                path.as_bytes(),
-                b": ",
-                text.as_bytes(),
-            ),
+            Refusal::BadModule { path, text } => faulty(alloc, path.as_bytes(), text.as_bytes()),
             Refusal::Compressed { path } => two(alloc, path.as_bytes(), b": compressed"),
             Refusal::Cycle { names } => two(alloc, b"cycle ", cycle_text(alloc, names)?.as_bytes()),
             Refusal::NotFound { name } => two(alloc, b"not found ", name.as_bytes()),
-            Refusal::Missing { path, symbol } => {
-                spaced(alloc, b"missing ", path.as_bytes(), symbol.as_bytes())
-            }
-            Refusal::Gpl {
-                path,
-                symbol,
-                provider,
-            } => unmet(alloc, b"gpl ", path, symbol, provider),
-            Refusal::Version {
-                path,
-                symbol,
-                provider,
-            } => unmet(alloc, b"version ", path, symbol, provider),
-            Refusal::Namespace {
-                path,
-                symbol,
-                provider,
-            } => unmet(alloc, b"namespace ", path, symbol, provider),
-            Refusal::Double {
-                symbol,
-                first,
-                second,
-            } => {
-                let sides = three(alloc, first.as_bytes(), b" ", second.as_bytes())?;
-                spaced(alloc, b"double ", symbol.as_bytes(), sides.as_bytes())
-            }
-            Refusal::BadIndex { file, text } => three(
-                alloc,
-                file.as_bytes(),
-                b": ",
-                text.as_bytes(),
-            ),
+            Refusal::BadIndex { file, text } => faulty(alloc, file.as_bytes(), text.as_bytes()),
             Refusal::BadDependencyLine { name } => {
                 two(alloc, b"bad dependency line ", name.as_bytes())
             }
@@ -172,21 +136,52 @@ impl Refusal {
                 three(alloc, b"listed module ", name.as_bytes(), b": not found")
             }
             Refusal::ListedRefused { name, text } => {
-                let load = three(alloc, name.as_bytes(), b": ", text.as_bytes())?;
+                let load = faulty(alloc, name.as_bytes(), text.as_bytes())?;
                 two(alloc, b"listed module ", load.as_bytes())
             }
-            Refusal::LoadRefused { name, text } => three(
-                alloc,
-                name.as_bytes(),
-                b": ",
-                text.as_bytes(),
-            ),
+            Refusal::LoadRefused { name, text } => faulty(alloc, name.as_bytes(), text.as_bytes()),
             Refusal::TooManyModules => Blob::from_slice(alloc, b"too many modules"),
             Refusal::TooManyDependencies => Blob::from_slice(alloc, b"too many dependencies"),
             Refusal::TooManyDoubles => Blob::from_slice(alloc, b"too many doubles"),
             Refusal::OutputTooLarge { file } => two(alloc, file.as_bytes(), b": output too large"),
             Refusal::BadPath { path } => two(alloc, b"bad path ", path.as_bytes()),
             Refusal::InnerOutputFull => Blob::from_slice(alloc, b"inner output full"),
+            _ => self.symbol_text(alloc),
+        }
+    }
+
+    /// What the refusal says of a symbol between modules, and nothing where it speaks of something else.
+    fn symbol_text(&self, alloc: Global) -> Result<Blob, AllocError>
+        ensures { IfOk result (λ text. text ≡ symbol_text self.now) }
+    {
+        match self {
+            Refusal::Missing { path, symbol } => {
+                spaced(alloc, b"missing ", path.as_bytes(), symbol.as_bytes())
+            }
+            Refusal::Version {
+                path,
+                symbol,
+                provider,
+            } => unmet(alloc, b"version ", path, symbol, provider),
+            Refusal::Gpl {
+                path,
+                symbol,
+                provider,
+            } => unmet(alloc, b"gpl ", path, symbol, provider),
+            Refusal::Namespace {
+                path,
+                symbol,
+                provider,
+            } => unmet(alloc, b"namespace ", path, symbol, provider),
+            Refusal::Double {
+                symbol,
+                first,
+                second,
+            } => {
+                let sides = three(alloc, first.as_bytes(), b" ", second.as_bytes())?;
+                spaced(alloc, b"double ", symbol.as_bytes(), sides.as_bytes())
+            }
+            _ => Ok(Blob::new(alloc)),
         }
     }
 }
@@ -208,6 +203,13 @@ fn three(alloc: Global, first: &[u8], second: &[u8], third: &[u8]) -> Result<Blo
     text.extend(second)?;
     text.extend(third)?;
     Ok(text)
+}
+
+/// What is refused, and the text of its fault.
+fn faulty(alloc: Global, what: &[u8], fault: &[u8]) -> Result<Blob, AllocError>
+    ensures { IfOk result (λ text. text ≡ what.now ++ (codes ": " ++ fault.now)) }
+{
+    three(alloc, what, b": ", fault)
 }
 
 /// A word and two texts with a space between them.
