@@ -12,12 +12,12 @@ use Rattle.km_course.specs.Course.Outcome.{value, end}
 use Rattle.km_course.specs.World.{World, world, Shown, Tells, FitsRooms, done}
 use Rattle.km_course.specs.Follows.{Answers, Follows}
 use Rattle.km_course.specs.Carries.{Concludes, closed_status, stop_status, unwritten_status}
-use Rattle.km_course.specs.Inner.{Left, InnerCame, bare, inner_outcome}
+use Rattle.km_course.specs.Inner.{Left, bare, inner_outcome}
 use Rattle.km_course.specs.declared.end.End.TheVariants.{Inner, NoFile, NotUnderstood, Refused, TooLarge}
 use Rattle.km_course.specs.declared.stop.Stop.{Stop}
 use Rattle.km_course.specs.declared.stop.Stop.TheVariants.{Ended, FileFault, OutputFault, WarningFault, Memory}
 use Rattle.km_course.proofs.Carried.{carried}
-use Rattle.km_course.proofs.Inside.{Handed, done-calls, inner_came}
+use Rattle.km_course.proofs.Inside.{Handed, InnerCame, done-calls, inner_came}
 use Rattle.command_trial.specs.Inside.{Came}
 use Rattle.command_trial.specs.Trial.{inner_room}
 

@@ -10,7 +10,7 @@ use Rattle.km_course.specs.Course.Act.{warn}
 use Rattle.km_course.specs.Course.Outcome.{value, end}
 use Rattle.km_course.specs.World.{World, Shown, Tells, act_done, calls_done, done}
 use Rattle.km_course.specs.Carries.{Carries, HasEnded, HasRoomFor, closing_acts, outcome_status, whole_acts}
-use Rattle.km_course.specs.Inner.{Left, bare, inner_told, inner_end, inner_fitting, inner_outcome, InnerCame}
+use Rattle.km_course.specs.Inner.{Left, bare, inner_told, inner_end, inner_fitting, inner_outcome}
 use Rattle.km_course.specs.declared.end.End.{End}
 use Rattle.km_course.specs.declared.end.End.TheVariants as ends
 use Rattle.km_course.specs.declared.refusal.Refusal.TheVariants.{InnerOutputFull}
@@ -81,6 +81,17 @@ inner-line ends.NotUnderstood h = absurd (omega (arith, h))
 inner-line (ends.NoFile path) h = refl
 inner-line (ends.TooLarge path) h = refl
 inner-line (ends.Inner line) h = refl
+
+-- What the status of an inner call says of the inner course, where new is what the call left: with 0 what the
+-- course left is told; with 1 it came to an end, whose line ends what err tells; with 2 its words weren't
+-- understood; with 3 an output was full.
+pub record InnerCame (room : ℕ) (run : Run ⊤) (files : Contents) (new : World) (status : ℕ) : Type 0 where
+  pub ended : status ≡ 0 → (left : Left) × (inner_outcome room run files ≡ value left)
+      × (new.files.contents ≡ Some left.files) × (new.out.told ≡ Some left.out)
+  pub refused : status ≡ 1 → (whole : List ℕ) × (inner_outcome room run files ≡ end (ends.Inner whole))
+      × (new.err.told ≡ Some ((done run.acts (bare files)).err ++ whole))
+  pub misunderstood : status ≡ 2 → inner_outcome room run files ≡ end ends.NotUnderstood
+  pub full : status ≡ 3 → inner_outcome room run files ≡ end (ends.Refused InnerOutputFull)
 
 -- A call that carries a course over what it was handed says by its status what the inner course came to.
 pub inner_came : (room : ℕ) (course : Stage ⊤) (files : Contents) (old new : World) (status : ℕ) → Handed room files old → Carries course old new status → InnerCame room (course.run files) files new status

@@ -1,10 +1,10 @@
 -- A course inside another: over files that were made for it, with outputs of its own whose rooms are told.
-use Rattle.std.specs.Prelude.{◌≡◌, ℕ, nat_lt, Bool, ◌||◌, if◌then◌else◌, List, [], ◌++◌, length, Some, ⊤}
+use Rattle.std.specs.Prelude.{ℕ, nat_lt, Bool, ◌||◌, if◌then◌else◌, List, [], length, ⊤}
 use Rattle.km_outside.specs.Contents.{Contents}
 use Rattle.km_course.specs.Lines.{end_line}
 use Rattle.km_course.specs.Course.{Outcome, Run, Stage, given}
 use Rattle.km_course.specs.Course.Outcome.{value, end}
-use Rattle.km_course.specs.World.{World, Shown, done}
+use Rattle.km_course.specs.World.{Shown, done}
 use Rattle.km_course.specs.Carries.{whole_acts}
 use Rattle.km_course.specs.declared.end.End.{End}
 use Rattle.km_course.specs.declared.end.End.TheVariants as ends
@@ -47,14 +47,3 @@ inner_outcome room run files =
 -- The stage of an inner course, which does nothing to the objects outside.
 abbrev pub inner : ℕ → Stage ⊤ → Contents → Stage Left
 inner room course files = given (inner_outcome room (course.run files) files)
-
--- What the status of an inner call says of the inner course, where new is what the call left: with 0 what the
--- course left is told; with 1 it came to an end, whose line ends what err tells; with 2 its words weren't
--- understood; with 3 an output was full.
-pub record InnerCame (room : ℕ) (run : Run ⊤) (files : Contents) (new : World) (status : ℕ) : Type 0 where
-  pub ended : status ≡ 0 → (left : Left) × (inner_outcome room run files ≡ value left)
-      × (new.files.contents ≡ Some left.files) × (new.out.told ≡ Some left.out)
-  pub refused : status ≡ 1 → (whole : List ℕ) × (inner_outcome room run files ≡ end (ends.Inner whole))
-      × (new.err.told ≡ Some ((done run.acts (bare files)).err ++ whole))
-  pub misunderstood : status ≡ 2 → inner_outcome room run files ≡ end ends.NotUnderstood
-  pub full : status ≡ 3 → inner_outcome room run files ≡ end (ends.Refused InnerOutputFull)
