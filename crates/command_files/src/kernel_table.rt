@@ -60,7 +60,7 @@ fn map_table(alloc: Global, bytes: Blob, file: PathText) -> Result<Kernel, Stop>
 {
     match Kernel::from_map(alloc, bytes.as_bytes()) {
         Ok(kernel) => Ok(kernel),
-        Err(fault) => Err(refused(fault, file)),
+        Err(fault) => Err(stop_of_table(fault, file)),
     }
 }
 
@@ -71,12 +71,12 @@ fn symvers_table(alloc: Global, bytes: Blob, file: PathText) -> Result<Kernel, S
 {
     match Kernel::from_symvers(alloc, bytes.as_bytes()) {
         Ok(kernel) => Ok(kernel),
-        Err(fault) => Err(refused(fault, file)),
+        Err(fault) => Err(stop_of_table(fault, file)),
     }
 }
 
-/// How a fault of the table in the file at the path stops the command.
-fn refused(fault: KernelFault, file: PathText) -> Stop
+/// How a fault of the kernel's table in the file at the path stops a command.
+pub fn stop_of_table(fault: KernelFault, file: PathText) -> Stop
     ensures { result ≡ table_stop file fault }
 {
     match fault {

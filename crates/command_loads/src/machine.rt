@@ -6,15 +6,15 @@ ghost use Rattle.km_course.specs.World.{world};
 ghost use Rattle.km_course.specs.Follows.{Answers, Follows};
 ghost use Rattle.provider_rel.specs.KernelTable.{exports_of_map, exports_with_addresses};
 ghost use Rattle.model_loader.specs.Machine.{kernel_fault};
-ghost use Rattle.command_files.specs.KernelTable.{table_of, table_outcome, table_stop};
+ghost use Rattle.command_files.specs.KernelTable.{table_of, table_outcome};
 ghost use Rattle.command_loads.specs.Tables.{addressed_outcome, machine_outcome, reads_addressed, reads_machine};
 
-use command_files::{read_map, read_symvers};
+use command_files::{read_map, read_symvers, stop_of_table};
 use km_course::{Refusal, Stop, read_needed};
 use km_names::{Blob, PathText};
 use km_outside::Reads;
 use model_loader::{Machine, MachineFault, Region};
-use provider_rel::{Kernel, KernelFault};
+use provider_rel::Kernel;
 use std::alloc::Global;
 
 /// The machine of a kernel, with no module, into whose region modules are to be loaded. Its exports are those of the
@@ -78,7 +78,7 @@ fn check_map(alloc: Global, file: &PathText, bytes: &Blob) -> Result<Kernel, Sto
         Ok(kernel) => Ok(kernel),
         Err(fault) => {
             let file = PathText::from_slice(alloc, file.as_bytes())?;
-            Err(refused(fault, file))
+            Err(stop_of_table(fault, file))
         }
     }
 }
@@ -90,17 +90,7 @@ fn with_addresses(mut kernel: Kernel, file: PathText, bytes: &Blob) -> Result<Ke
 {
     match kernel.add_addresses(bytes.as_bytes()) {
         Ok(()) => Ok(kernel),
-        Err(fault) => Err(refused(fault, file)),
-    }
-}
-
-/// How a fault of the table in the file at the path stops the command.
-fn refused(fault: KernelFault, file: PathText) -> Stop
-    ensures { result ≡ table_stop file fault }
-{
-    match fault {
-        KernelFault::BadKernelLine { line } => Stop::from(Refusal::BadLine { file, number: line }),
-        KernelFault::Memory => Stop::Memory,
+        Err(fault) => Err(stop_of_table(fault, file)),
     }
 }
 

@@ -12,5 +12,5 @@ returns-in-Ok c =
 
 pub returns : goal.returns
 returns c =
-    subst (λ bytes. Answers table_of (table_outcome c.args.file (exports_of_map bytes)) (Err c.refused.result)) c.as_bytes.ensures
-    (tabled_not c.args.file _ c.in-Err.fault c.refused.result c.in-Err.ensures.err c.refused.ensures)
+    subst (λ bytes. Answers table_of (table_outcome c.args.file (exports_of_map bytes)) (Err c.stop_of_table.result)) c.as_bytes.ensures
+    (tabled_not c.args.file _ c.in-Err.fault c.stop_of_table.result c.in-Err.ensures.err c.stop_of_table.ensures)

@@ -12,6 +12,6 @@ returns-in-Ok c =
 
 pub returns-in_ok-file-in-Err : goal.returns-in_ok-file-in-Err
 returns-in_ok-file-in-Err c =
-    subst (λ bytes. Answers table_of (table_outcome c.args.file.now (exports_of_map bytes)) (Err c.refused.result)) c.as_bytes.ensures
-    (tabled_not c.args.file.now _ c.in-Err.fault c.refused.result c.in-Err.ensures.err
-    (c.refused.ensures ∙ ap (λ file. table_stop file c.in-Err.fault) (c.in_ok-file-in-Err.ensures ∙ c.as_bytes-in-Err.ensures)))
+    subst (λ bytes. Answers table_of (table_outcome c.args.file.now (exports_of_map bytes)) (Err c.stop_of_table.result)) c.as_bytes.ensures
+    (tabled_not c.args.file.now _ c.in-Err.fault c.stop_of_table.result c.in-Err.ensures.err
+    (c.stop_of_table.ensures ∙ ap (λ file. table_stop file c.in-Err.fault) (c.in_ok-file-in-Err.ensures ∙ c.as_bytes-in-Err.ensures)))

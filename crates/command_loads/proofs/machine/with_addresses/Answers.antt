@@ -14,5 +14,5 @@ returns-in-Ok c =
 
 pub returns-in-Err : goal.returns-in-Err
 returns-in-Err c =
-    subst (λ bytes. Answers table_of (addressed_outcome c.args.file c.args.kernel.known (exports_with_addresses bytes c.args.kernel.exports)) (Err c.refused.result)) c.as_bytes.ensures
-    (addressed_not c.args.file c.args.kernel.known _ c.in-Err.fault c.refused.result c.in-Err.ensures.err c.refused.ensures)
+    subst (λ bytes. Answers table_of (addressed_outcome c.args.file c.args.kernel.known (exports_with_addresses bytes c.args.kernel.exports)) (Err c.stop_of_table.result)) c.as_bytes.ensures
+    (addressed_not c.args.file c.args.kernel.known _ c.in-Err.fault c.stop_of_table.result c.in-Err.ensures.err c.stop_of_table.ensures)
