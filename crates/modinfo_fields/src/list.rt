@@ -121,6 +121,9 @@ fn value_of<'a>(piece: &'a [u8], key: &[u8]) -> Option<&'a [u8]>
     if piece.is_empty() {
         return None;
     }
+    if !piece.starts_with(key) {
+        return None;
+    }
     let (name, value) = split_at_byte(piece, b'=');
     if name == key { Some(value) } else { None }
 }
