@@ -8,15 +8,18 @@ use Rattle.std.specs.Option.{option_map_or}
 use Rattle.elf_object.proofs.ShapeLemmas.{length-contents, length-sections_of, section_of-within, sections_of-slice_get}
 use Rattle.elf_object.specs.FaultText.{object_fault_from}
 use Rattle.elf_object.specs.declared.fault.SectionFault.TheVariants.{Memory}
-use Rattle.std.proofs.Common.{◌≡◌, ℕ, List, [], ◌∷◌, Option, Some, None, refl, ◌⊎◌, inl, inr, length, ◌≤◌, ◌<◌, ◌^◌, ◌&&◌, not, true, arith}
+use Rattle.std.proofs.Common.{◌≡◌, ℕ, List, [], ◌∷◌, Option, Some, None, refl, ◌⊎◌, inl, inr, length, ◌≤◌, ◌<◌, ◌^◌, ◌&&◌, not, true, ◌∙◌, arith}
 use Rattle.km_names.specs.First.{first}
 use Rattle.elf_object.specs.declared.fault.SectionFault.{SectionFault}
 use Rattle.elf_object.specs.declared.fault.ObjectFault.{ObjectFault}
 use Rattle.elf_object.specs.declared.fault.ObjectFault.TheVariants.{Shape, BadAlign, Memory as OutOfMemory}
-use Rattle.elf_object.specs.Shape.{AllInFile, each, section_count, shape_fault, contents}
+use Rattle.elf_object.specs.Shape.{AllInFile, HasTable, each, section_count, shape_fault, contents}
 use Rattle.elf_object.specs.Symbols.{entries, rel_test, symbol_bytes, symbol_test, symbol_tests, table_test, symbols_of, symbols_in, symbol_in, symbol_names, symbol_table}
 use Rattle.elf_object.specs.Places.{align_test, is_alignment, overlap_test, place_tests, places_of, rela_test}
-use Rattle.elf_object.specs.Object.{IsLoadable, IsPlaceIn, IsSectionIn, IsSymbolIn, file_object, object_fault, object_tests}
+use Rattle.elf_object.specs.Object.{IsLoadable, IsPlaceIn, IsSectionIn, IsSymbolIn, content_tests, file_object, object_fault, object_tests}
+use Rattle.elf_object.specs.declared.overlap.Order.{Order}
+use Rattle.elf_object.specs.Overlap.{IsOrderOf}
+use Rattle.elf_object.proofs.OverlapLemmas.{overlaps-none}
 use Rattle.elf_object.proofs.TestLemmas.{All-range, each-none, fault_if-none, first-failed, first-parts, first-passed}
 use Rattle.elf_object.specs.Inner.{TablesFit}
 use Rattle.elf_object.proofs.ApartLemmas.{AllPairs-places_of}
@@ -60,13 +63,20 @@ pub object_fault-shape : (b : List ℕ) (fault : SectionFault) → shape_fault b
 unfolding object_fault object_tests
 object_fault-shape b fault shape = rw shape refl
 
-pub object_fault-symbols : (b : List ℕ) (fault : ObjectFault) → shape_fault b ≡ None → first (symbol_tests b) ≡ Some fault → object_fault b ≡ Some fault
+pub object_fault-content : (b : List ℕ) → shape_fault b ≡ None → object_fault b ≡ first (content_tests b)
 unfolding object_fault object_tests
-object_fault-symbols b fault shape symbols = rw shape (first-failed (symbol_tests b) (place_tests b) fault symbols)
+object_fault-content b shape = rw shape refl
 
-pub object_fault-places : (b : List ℕ) → shape_fault b ≡ None → first (symbol_tests b) ≡ None → object_fault b ≡ first (place_tests b)
-unfolding object_fault object_tests
-object_fault-places b shape symbols = rw shape (first-passed (symbol_tests b) (place_tests b) symbols)
+pub content_tests-symbols : (b : List ℕ) (fault : ObjectFault) → first (symbol_tests b) ≡ Some fault → first (content_tests b) ≡ Some fault
+content_tests-symbols b fault symbols = first-failed (symbol_tests b) (place_tests b) fault symbols
+
+pub content_tests-places : (b : List ℕ) → first (symbol_tests b) ≡ None → first (content_tests b) ≡ first (place_tests b)
+content_tests-places b symbols = first-passed (symbol_tests b) (place_tests b) symbols
+
+-- places that stand in order pass the last of their tests
+pub place_tests-ordered : (b : List ℕ) (order : Order) → length b ≤ file_limit → HasTable b → AllInFile b → TablesFit b → first (each (section_count b) (align_test b)) ≡ None → first (each (section_count b) (rela_test b)) ≡ None → IsOrderOf order (places_of b) → order.holds ≡ true → first (place_tests b) ≡ None
+place_tests-ordered b order small has within fit align rela ordered holds =
+    place_tests-overlaps b align rela ∙ overlaps-none b small (All-places_of b has within fit rela) (ordered holds).once
 
 -- a fault of the sections, as one of the object
 pub object_fault-from : (b : List ℕ) (fault : SectionFault) → (fault ≡ Memory) ⊎ (shape_fault b ≡ Some fault) → (object_fault_from fault ≡ OutOfMemory) ⊎ (object_fault b ≡ Some (object_fault_from fault))

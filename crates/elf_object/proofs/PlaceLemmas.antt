@@ -1,5 +1,5 @@
 -- The places of one section, where it is applied and where it isn't.
-use Rattle.elf_object.specs.Inner.{TablesFit}
+use Rattle.elf_object.specs.Inner.{TablesFit, unkept_flags}
 use Rattle.elf_object.proofs.TestLemmas.{All-range, each-none, fault_if-none, first-parts}
 use Rattle.std.specs.Prelude.{◌≢◌, is_none, nat_le, All, IsSome}
 use Rattle.elf_object.specs.declared.fault.ObjectFault.TheVariants.{BadRela, UnknownType}
@@ -7,7 +7,7 @@ use Rattle.elf_object.specs.declared.place.RelaPlace.{RelaPlace}
 use Rattle.elf_object.proofs.ShapeLemmas.{has_content-kept, section_of-within}
 use Rattle.elf_object.specs.declared.symbol.Symbol.{Symbol}
 use Rattle.elf_object.specs.declared.section.Section.{Section}
-use Rattle.std.proofs.Common.{◌≡◌, ℕ, zero, suc, ◌+◌, ◌<◌, ◌≤◌, ◌==◌, ◌&&◌, ◌||◌, nat_lt, not, true, false, length, inl, inr, List, [], ◌∷◌, ◌++◌, map, None, Some, refl, sym, ap, ◌∙◌, subst, arith}
+use Rattle.std.proofs.Common.{◌≡◌, ℕ, zero, suc, ◌+◌, ◌<◌, ◌≤◌, ◌==◌, ◌&&◌, nat_lt, not, Bool, true, false, get_or, length, inl, inr, List, [], ◌∷◌, ◌++◌, map, None, Some, refl, sym, ap, ◌∙◌, subst, arith}
 use Rattle.std.proofs.lemmas.List.Elements.{All-append, All-map, All-nil}
 use Rattle.std.proofs.lemmas.Bool.{cases_Bool, and_cases, and_parts, eqb-false, eqb-true, ltb-false, not-false, or_parts, leb-false}
 use Rattle.std.proofs.lemmas.List.{append-nil, map-id}
@@ -22,7 +22,7 @@ use Rattle.elf_object.proofs.Inside.{IsInSection}
 use Rattle.elf_object.specs.Shape.{AllInFile, HasTable, contents, each, fault_if, section_count}
 use Rattle.elf_object.specs.Sections.{section_of, sections_of}
 use Rattle.elf_object.specs.Symbols.{entries, symbols_of}
-use Rattle.elf_object.specs.Places.{is_applied, is_bad_place, is_unkept, place_in, place_width, place_of, place_test, places_of, rela_test, section_places}
+use Rattle.elf_object.specs.Places.{entry_test, is_applied, is_bad_place, is_unkept, place_in, place_width, place_of, place_test, places_of, rela_test, room_in, section_places}
 
 pub section_places-none : (b : List ℕ) (i : ℕ) → is_applied b i ≡ false → section_places b i ≡ []
 unfolding section_places
@@ -36,7 +36,7 @@ pub section_places-some : (b : List ℕ) (i : ℕ) → is_applied b i ≡ true �
 unfolding section_places
 section_places-some b i applied = rw applied refl
 
-pub rela_test-some : (b : List ℕ) (i : ℕ) → is_applied b i ≡ true → rela_test b i ≡ first (each (entries (contents b i)) (λ j. place_test (sections_of b) (symbols_of b) (section_of b (section_of b i).info) (place_of b i j)))
+pub rela_test-some : (b : List ℕ) (i : ℕ) → is_applied b i ≡ true → rela_test b i ≡ first (each (entries (contents b i)) (entry_test b i))
 unfolding rela_test
 rela_test-some b i applied = rw applied refl
 
@@ -68,22 +68,22 @@ IsKnown-some : (kind : ℕ) → is_none (width kind) ≡ false → IsKnown kind
 IsKnown-some kind some = elim (width kind) as (λ w. is_none w ≡ false → IsSome w) [ None ↦ λ none. absurd (cc) | Some n ↦ λ _. refl ] some
 
 -- what the tests of a place in its section say
-record IsPassed (sections : List Section) (symbols : List Symbol) (target : Section) (p : RelaPlace) : Type 0 where
-  symbol : p.symbol < length symbols
+record IsPassed (count : ℕ) (unkept : Bool) (room : ℕ) (p : RelaPlace) : Type 0 where
+  symbol : p.symbol < count
   known : IsKnown p.kind
-  bytes : 0 < place_width p → (p.offset + place_width p ≤ target.size) × (target.kind ≢ SHT_NOBITS) × (is_unkept sections symbols p.symbol ≡ false)
+  bytes : 0 < place_width p → (p.offset + place_width p ≤ room) × (unkept ≡ false)
 
-place_test-passed : (sections : List Section) (symbols : List Symbol) (target : Section) (p : RelaPlace) → place_test sections symbols target p ≡ None → IsPassed sections symbols target p
+place_test-passed : (count : ℕ) (unkept : Bool) (room : ℕ) (p : RelaPlace) → place_test count unkept room p ≡ None → IsPassed count unkept room p
 unfolding place_test is_bad_place
-place_test-passed sections symbols target p passed =
-    let unknown = nat_le (length symbols) p.symbol in
+place_test-passed count unkept room p passed =
+    let unknown = nat_le count p.symbol in
     let untyped = is_none (width p.kind) in
-    let bad = is_bad_place sections symbols target p in
+    let bad = is_bad_place unkept room p in
     let one = first-parts (fault_if unknown (BadRela p.section p.entry)) _ passed in
     let two = first-parts (fault_if untyped (UnknownType p.section p.entry p.kind)) _ one.1 in
     let three = first-parts (fault_if (not (p.kind == R_X86_64_NONE) && bad) (BadRela p.section p.entry)) [] two.1 in
     record {
-      symbol = leb-false (length symbols) p.symbol (fault_if-none unknown (BadRela p.section p.entry) one.0);
+      symbol = leb-false count p.symbol (fault_if-none unknown (BadRela p.section p.entry) one.0);
       known = IsKnown-some p.kind (fault_if-none untyped (UnknownType p.section p.entry p.kind) two.0);
       bytes = λ some. elim (and_cases (not (p.kind == R_X86_64_NONE)) bad (fault_if-none _ (BadRela p.section p.entry) three.0)) [
         | inl none ↦
@@ -91,18 +91,25 @@ place_test-passed sections symbols target p passed =
             let empty = rw kind at some in
             absurd (omega arith)
         | inr good ↦
-            let parts = or_parts (nat_lt target.size (p.offset + place_width p) || target.kind == SHT_NOBITS) (is_unkept sections symbols p.symbol) good in
-            let both = or_parts (nat_lt target.size (p.offset + place_width p)) (target.kind == SHT_NOBITS) parts.0 in
-            (ltb-false target.size (p.offset + place_width p) both.0, eqb-false target.kind SHT_NOBITS both.1, parts.1)
+            let parts = or_parts (nat_lt room (p.offset + place_width p)) unkept good in
+            (ltb-false room (p.offset + place_width p) parts.0, parts.1)
       ];
     }
 
+-- a section with room has bytes, and all of them
+has_room : (s : Section) (n : ℕ) → 0 < n → n ≤ room_in s → (n ≤ s.size) × (s.kind ≢ SHT_NOBITS)
+has_room s n some fits = elim (cases_Bool (s.kind == SHT_NOBITS)) [
+  | inl absent ↦ let none : n ≤ 0 = rw absent at fits in absurd (omega arith)
+  | inr there ↦ (rw there at fits, eqb-false s.kind SHT_NOBITS there)
+]
+
 -- a place of an applied section that passed its tests
-pub IsInSection-place : (b : List ℕ) (i j : ℕ) → HasTable b → AllInFile b → is_applied b i ≡ true → (section_of b i).info < section_count b → place_test (sections_of b) (symbols_of b) (section_of b (section_of b i).info) (place_of b i j) ≡ None → IsInSection b (place_of b i j)
+pub IsInSection-place : (b : List ℕ) (i j : ℕ) → HasTable b → AllInFile b → is_applied b i ≡ true → (section_of b i).info < section_count b → entry_test b i j ≡ None → IsInSection b (place_of b i j)
 unfolding place_in
 IsInSection-place b i j has within applied target passed =
     let t = (section_of b i).info in
-    let said = place_test-passed (sections_of b) (symbols_of b) (section_of b t) (place_of b i j) passed in
+    let said = place_test-passed (length (symbols_of b)) (is_unkept (sections_of b) (symbols_of b) (place_of b i j).symbol) (room_in (section_of b t)) (place_of b i j) passed in
+    let room = λ (some : 0 < place_width (place_of b i j)). has_room (section_of b t) ((place_of b i j).offset + place_width (place_of b i j)) (omega arith) (said.bytes some).0 in
     let few = has.count in
     let kept = is_applied-kept b i applied in
     record {
@@ -111,12 +118,13 @@ IsInSection-place b i j has within applied target passed =
       near = omega arith;
       symbol = said.symbol;
       kept = kept;
-      bytes = λ some. (said.bytes some).1;
-      within = λ some. (said.bytes some).0;
+      bytes = λ some. (room some).1;
+      within = λ some. (room some).0;
       in_file = λ some.
-          let inside = section_of-within b t target within (has_content-kept b t kept (said.bytes some).1) in
+          let fits = (room some).0 in
+          let inside = section_of-within b t target within (has_content-kept b t kept (room some).1) in
           omega arith;
-      linked = λ some. (said.bytes some).2;
+      linked = λ some. (said.bytes some).1;
     }
 
 -- the places of the section i, where they passed their tests
@@ -127,7 +135,7 @@ All-section_places b i has within fit less passed = elim (cases_Bool (is_applied
       (All-map (IsInSection b) (place_of b i) (range_with_len 0 (entries (contents b i)))
       (All-range (λ j. IsInSection b (place_of b i j)) (entries (contents b i))
       (λ j below. IsInSection-place b i j has within applied (fit.targets i less (is_applied-kind b i applied))
-      (each-none (entries (contents b i)) (λ j. place_test (sections_of b) (symbols_of b) (section_of b (section_of b i).info) (place_of b i j)) (sym (rela_test-some b i applied) ∙ passed) j below))))
+      (each-none (entries (contents b i)) (entry_test b i) (sym (rela_test-some b i applied) ∙ passed) j below))))
   | inr unapplied ↦ rw (section_places-none b i unapplied) (All-nil (IsInSection b))
 ]
 
@@ -145,3 +153,10 @@ unfolding places_of
 All-places_of b has within fit passed =
     places_below b (section_count b)
     (λ i less. All-section_places b i has within fit less (each-none (section_count b) (rela_test b) passed i less))
+
+-- whether the symbol k lies in a section that isn't kept
+pub is_unkept-flag : (sections : List Section) (symbols : List Symbol) (k : ℕ) → get_or (unkept_flags sections symbols) k false ≡ is_unkept sections symbols k
+unfolding is_unkept
+is_unkept-flag sections [] k = refl
+is_unkept-flag sections (s ∷ symbols) zero = refl
+is_unkept-flag sections (s ∷ symbols) (suc k) = is_unkept-flag sections symbols k

@@ -69,13 +69,18 @@ pub record IsLoadable (o : FileObject) : Type 0 where
 
 -- What is known of the parts of every object that was read.
 pub record IsObject (sections : FileSections) (symbols : List Symbol) (places : List RelaPlace) : Type 0 where
+  pub listed : places ≡ places_of sections.file
   pub small : length sections.file ≤ file_limit
   pub few : length symbols < 2 ^ 32
   pub loadable : IsLoadable (record { file = sections.file; sections = sections.list; symbols = symbols; places = places })
 
+-- The tests of what the sections of a file have, in order.
+abbrev pub content_tests : List ℕ → List (Option ObjectFault)
+content_tests b = symbol_tests b ++ place_tests b
+
 -- The tests that an object file passes, in order.
 unfoldable pub object_tests : List ℕ → List (Option ObjectFault)
-object_tests b = option_map (λ fault. Shape fault) (shape_fault b) ∷ symbol_tests b ++ place_tests b
+object_tests b = option_map (λ fault. Shape fault) (shape_fault b) ∷ content_tests b
 
 -- What is wrong with an object file: the first test that fails.
 unfoldable pub object_fault : List ℕ → Option ObjectFault

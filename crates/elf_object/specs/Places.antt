@@ -45,28 +45,32 @@ place_in table section target j =
 abbrev pub place_width : RelaPlace → ℕ
 place_width p = known_width p.kind
 
--- The symbol k lies in a section that isn't kept. An undefined one lies in none, nor does one with a reserved
--- number.
+-- A symbol lies in a section that isn't kept. An undefined one lies in none, nor does one with a reserved number.
+abbrev pub lies_unkept : List Section → Symbol → Bool
+lies_unkept sections s =
+    not (s.section == SHN_UNDEF) && option_map_or (λ t. not t.kept) (slice_get sections s.section) false
+
+-- The symbol k does.
 unfoldable pub is_unkept : List Section → List Symbol → ℕ → Bool
-is_unkept sections symbols k =
-    option_map_or
-    (λ s. not (s.section == SHN_UNDEF) && option_map_or (λ t. not t.kept) (slice_get sections s.section) false)
-    (slice_get symbols k)
-    false
+is_unkept sections symbols k = option_map_or (lies_unkept sections) (slice_get symbols k) false
 
--- A place that changes bytes can't be as it is: it leaves its section, or that one has no bytes, or its
--- symbol lies in a section that isn't kept.
-unfoldable pub is_bad_place : List Section → List Symbol → Section → RelaPlace → Bool
-is_bad_place sections symbols target p =
-    nat_lt target.size (p.offset + place_width p) || target.kind == SHT_NOBITS || is_unkept sections symbols p.symbol
+-- How many bytes of a section a file can have changed: none of one whose bytes aren't there.
+abbrev pub room_in : Section → ℕ
+room_in s = if s.kind == SHT_NOBITS then 0 else s.size
 
--- The tests of a place in its section, in order.
-unfoldable pub place_test : List Section → List Symbol → Section → RelaPlace → Option ObjectFault
-place_test sections symbols target p =
+-- A place that changes bytes can't be as it is: it leaves the bytes that its section has, or its symbol lies in a section
+-- that isn't kept. Both are said beside it.
+unfoldable pub is_bad_place : Bool → ℕ → RelaPlace → Bool
+is_bad_place unkept room p = nat_lt room (p.offset + place_width p) || unkept
+
+-- The tests of a place in its section, in order, by the count of symbols, by whether its own lies in a section that
+-- isn't kept, and by how many bytes its section has.
+unfoldable pub place_test : ℕ → Bool → ℕ → RelaPlace → Option ObjectFault
+place_test count unkept room p =
     first (
-    fault_if (nat_le (length symbols) p.symbol) (BadRela p.section p.entry)
+    fault_if (nat_le count p.symbol) (BadRela p.section p.entry)
     ∷ fault_if (is_none (width p.kind)) (UnknownType p.section p.entry p.kind)
-    ∷ fault_if (not (p.kind == R_X86_64_NONE) && is_bad_place sections symbols target p) (BadRela p.section p.entry)
+    ∷ fault_if (not (p.kind == R_X86_64_NONE) && is_bad_place unkept room p) (BadRela p.section p.entry)
     ∷ [])
 
 -- The section i holds relocations of a section that is kept.
@@ -85,12 +89,15 @@ section_places b i = if is_applied b i then map (place_of b i) (range_with_len 0
 unfoldable pub places_of : List ℕ → List RelaPlace
 places_of b = flat_map (section_places b) (range_with_len 0 (section_count b))
 
+-- The tests of the place that the relocation j of the section i changes.
+abbrev pub entry_test : List ℕ → ℕ → ℕ → Option ObjectFault
+entry_test b i j =
+    let p = place_of b i j in
+    place_test (length (symbols_of b)) (is_unkept (sections_of b) (symbols_of b) p.symbol) (room_in (section_of b (section_of b i).info)) p
+
 -- The tests of the places of the section i, by rising entry.
 unfoldable pub rela_test : List ℕ → ℕ → Option ObjectFault
-rela_test b i =
-    if is_applied b i then first (each (entries (contents b i)) (λ j.
-    place_test (sections_of b) (symbols_of b) (section_of b (section_of b i).info) (place_of b i j)))
-    else None
+rela_test b i = if is_applied b i then first (each (entries (contents b i)) (entry_test b i)) else None
 
 -- The place p changes the byte at x of the section `target`.
 unfoldable pub covers : ℕ → ℕ → RelaPlace → Bool

@@ -1,8 +1,8 @@
 -- The sections of an object file. gABI 4, "Sections".
-use Rattle.std.specs.Prelude.{◌≡◌, ℕ, List, map}
+use Rattle.std.specs.Prelude.{◌≡◌, ℕ, List, map, None}
 use Rattle.std.specs.List.{range_with_len}
 use Rattle.elf_object.specs.declared.section.Section.{Section}
-use Rattle.elf_object.specs.Shape.{AllInFile, HasTable, content, is_kept, name_in, name_table, section_count, section_header, contents}
+use Rattle.elf_object.specs.Shape.{AllInFile, HasTable, content, is_kept, name_in, name_table, section_count, section_header, shape_fault, contents}
 
 -- The section i of the file.
 unfoldable pub section_of : List ℕ → ℕ → Section
@@ -42,8 +42,9 @@ file_sections b = record { file = b; list = sections_of b }
 abbrev pub bytes_of : List ℕ → Section → List ℕ
 bytes_of file s = content file s.kind s.offset s.size
 
--- The list has the sections of the file, and these lie in it.
+-- The file passed the tests of its shape, the list has its sections, and these lie in it.
 pub record IsRead (file : List ℕ) (list : List Section) : Type 0 where
+  pub passed : shape_fault file ≡ None
   pub list_is : list ≡ sections_of file
   pub table : HasTable file
   pub within : AllInFile file

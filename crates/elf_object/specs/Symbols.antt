@@ -9,11 +9,16 @@ use Rattle.elf_format.specs.declared.section.TheConstants.{SHT_SYMTAB, SHT_STRTA
 use Rattle.elf_format.specs.declared.symbol.TheConstants.{SHN_UNDEF, SHN_LORESERVE, SHN_ABS, SHN_COMMON, SHN_XINDEX, STB_LOCAL, STB_WEAK}
 use Rattle.elf_object.specs.declared.symbol.Symbol.{Symbol}
 use Rattle.elf_object.specs.declared.symbol.SymbolEntry.{SymbolEntry}
+use Rattle.elf_object.specs.declared.symbol.SymbolRef.{SymbolRef}
 use Rattle.elf_object.specs.declared.fault.ObjectFault.{ObjectFault}
 use Rattle.elf_object.specs.declared.fault.ObjectFault.TheVariants.{Shape, RelSection, BadTable, ExtendedIndex, CommonSymbol, BadSymbol}
 use Rattle.elf_object.specs.declared.fault.SectionFault.TheVariants.{BadString}
 use Rattle.elf_object.specs.Shape.{each, contents, fault_if, section_count}
 use Rattle.elf_object.specs.Sections.{entry_size, section_of}
+
+-- The symbol with a name of its own.
+abbrev pub owned : SymbolRef → Symbol
+owned s = record { name = s.name.now; binding = s.binding; section = s.section; value = s.value }
 
 -- The test that the section i holds no relocations without addends.
 unfoldable pub rel_test : List ℕ → ℕ → Option ObjectFault

@@ -12,13 +12,17 @@
 //! memory, before more than that was searched or copied. Time is linear in the file and those bytes, but for the
 //! sorting of places that don't stand in order.
 //!
+//! An `ObjectView` shows what passed the same tests to those who don't load it: the names of symbols stay in the file,
+//! and the places are tested and not kept.
+//!
 //! The crate stands on `elf_format` for the numbers of the format, on `km_names` for names and numbers, on
 //! `memchr` for the ends of names, and on `thiserror` for the error traits. The bytes of sections aren't copied;
-//! the names are, once, and each table is read in place.
+//! names are, once, where they are owned, and each table is read in place.
 #![tactic(auto)]
 
 mod fault;
 mod header;
+mod met;
 mod object;
 mod overlap;
 mod place;
@@ -31,6 +35,7 @@ mod symbol;
 mod tables;
 #[cfg(test)]
 mod tests;
+mod view;
 
 pub use fault::{ObjectFault, SectionFault};
 pub use object::Object;
@@ -38,4 +43,5 @@ pub use place::RelaPlace;
 pub use section::Section;
 pub use sections::Sections;
 pub use strings::NAME_LIMIT;
-pub use symbol::Symbol;
+pub use symbol::{Symbol, SymbolRef};
+pub use view::ObjectView;

@@ -5,20 +5,18 @@ ghost use Rattle.std.specs.List.{position};
 ghost use Rattle.std.specs.Str.{bytes_eq};
 ghost use Rattle.km_names.specs.Limit.{file_limit};
 ghost use Rattle.km_names.specs.First.{first};
-ghost use Rattle.elf_object.specs.Shape.{section_count};
-ghost use Rattle.elf_object.specs.Sections.{IsRead};
-ghost use Rattle.elf_object.specs.Object.{object_fault};
+ghost use Rattle.elf_object.specs.Object.{content_tests, object_fault};
 ghost use Rattle.elf_object.specs.Symbols.{symbol_tests, symbols_of};
 ghost use Rattle.elf_object.specs.Places.{place_tests, places_of};
 ghost use Rattle.elf_object.specs.Inner.{TablesFit};
 
-use crate::places::{check_alignments, check_overlaps, read_places};
-use crate::strings::up_to_last_nul;
-use crate::symbol::{check_name_sum, read_symbols};
-use crate::tables::{check_rel, check_tables, symbol_table, symbol_tables};
-use crate::{ObjectFault, RelaPlace, Section, Sections, Symbol};
+use crate::place::unkept_symbols;
+use crate::places::read_places;
+use crate::symbol::{borrowed_symbols, owned_symbols};
+use crate::tables::read_symbol_table;
+use crate::{ObjectFault, ObjectView, RelaPlace, Section, Sections, Symbol};
 use km_names::{Blob, List};
-use std::alloc::Global;
+use std::alloc::{AllocError, Global};
 use std::marker::Model;
 
 /// The sections, the symbols and the places of an object file, with its bytes. Contracts see all four.
@@ -44,44 +42,24 @@ impl Model for Object {
     ghost invariant = { λ o. IsObject o.sections o.symbols o.places };
 }
 
-/// Reads the symbols of a file, after the tests of its tables.
-fn read_symbol_table(alloc: Global, sections: &Sections) -> Result<List<Symbol>, ObjectFault>
-    requires { length sections.now.file ≤ file_limit }
-    ensures symbols { IfOk result (λ l. l ≡ symbols_of sections.now.file) }
-    ensures fit { OnOk result (TablesFit sections.now.file) }
-    ensures passed { OnOk result (first (symbol_tests sections.now.file) ≡ None) }
-    ensures fault { IfErr result
-        (λ e. (e ≡ ObjectFault.Memory) ⊎ (first (symbol_tests sections.now.file) ≡ Some e)) }
-{
-    let count = sections.section_count();
-    check_rel(sections)?;
-    let number = symbol_table(sections);
-    check_tables(sections, number)?;
-    let (table, strings) = symbol_tables(sections, number);
-    let names = up_to_last_nul(strings);
-    check_name_sum(table, names)?;
-    read_symbols(alloc, table, names, count)
-}
-
-/// Reads the places of a file, with the tests of the sections that they change.
-fn read_all_places(
+/// Reads the symbols and the places of a file.
+fn read_lists(
     alloc: Global,
     sections: &Sections,
-    symbols: &[Symbol],
-) -> Result<List<RelaPlace>, ObjectFault>
-    requires small { length sections.now.file ≤ file_limit }
-    requires read { IsRead sections.now.file sections.now.list }
-    requires fit { TablesFit sections.now.file }
-    requires symbols { symbols.now ≡ symbols_of sections.now.file }
-    ensures places { IfOk result (λ l. l ≡ places_of sections.now.file) }
-    ensures passed { OnOk result (first (place_tests sections.now.file) ≡ None) }
-    ensures fault { IfErr result
-        (λ e. (e ≡ ObjectFault.Memory) ⊎ (first (place_tests sections.now.file) ≡ Some e)) }
+) -> Result<(List<Symbol>, List<RelaPlace>), ObjectFault>
+    requires { length sections.now.file ≤ file_limit }
+    ensures symbols { IfOk result (λ r. r.0 ≡ symbols_of sections.now.file) }
+    ensures places { IfOk result (λ r. r.1 ≡ places_of sections.now.file) }
+    ensures fit { OnOk result (TablesFit sections.now.file) }
+    ensures passed { OnOk result (first (symbol_tests sections.now.file) ≡ None) }
+    ensures placed { OnOk result (first (place_tests sections.now.file) ≡ None) }
+    ensures fault { IfErr result (λ e. (e ≡ ObjectFault.Memory)
+        ⊎ (first (content_tests sections.now.file) ≡ Some e)) }
 {
-    check_alignments(sections)?;
-    let (places, order) = read_places(alloc, sections, symbols)?;
-    check_overlaps(alloc, sections, places.as_slice(), &order)?;
-    Ok(places)
+    let symbols = read_symbol_table(alloc, sections)?;
+    let unkept = unkept_symbols(alloc, sections.list(), symbols.as_slice())?;
+    let places = read_places(alloc, sections, &unkept)?;
+    Ok((owned_symbols(alloc, symbols.as_slice())?, places))
 }
 
 impl Object {
@@ -105,12 +83,22 @@ impl Object {
             ⊎ (object_fault bytes ≡ Some e)) }
     {
         let sections = Sections::read(alloc, bytes)?;
-        let symbols = read_symbol_table(alloc, &sections)?;
-        let places = read_all_places(alloc, &sections, symbols.as_slice())?;
+        let (symbols, places) = read_lists(alloc, &sections)?;
         Ok(Object {
             sections,
             symbols,
             places,
+        })
+    }
+
+    /// The object with the names of its symbols where these are, and without its places.
+    pub fn view(&self, alloc: Global) -> Result<ObjectView<'_>, AllocError>
+        ensures { IfOk result (λ view. view ≡ self.now) }
+    {
+        let symbols = borrowed_symbols(alloc, self.symbols.as_slice())?;
+        Ok(ObjectView {
+            sections: &self.sections,
+            symbols,
         })
     }
 

@@ -1,14 +1,17 @@
 // One place that a relocation changes.
 
-ghost use Rattle.std.specs.Prelude.{◌≡◌, ◌+◌, ◌*◌, ◌<◌, ◌≤◌, length, IfOk, Some};
+ghost use Rattle.std.specs.Prelude.{◌≡◌, ◌+◌, ◌*◌, ◌<◌, ◌≤◌, false, get_or, length, map, IfOk, Some};
 ghost use Rattle.std.specs.Result.{result_err};
 ghost use Rattle.km_names.specs.Number.{signed};
 ghost use Rattle.elf_format.specs.Relocation.{width};
-ghost use Rattle.elf_object.specs.Places.{is_bad_place, is_unkept, place_in, place_test, place_width};
+ghost use Rattle.elf_object.specs.Inner.{unkept_flags};
+ghost use Rattle.elf_object.specs.Places.{is_bad_place, lies_unkept, place_in, place_test, place_width, room_in};
+ghost use Rattle.elf_object.specs.Symbols.{owned};
 
-use crate::{ObjectFault, Section, Symbol};
+use crate::{ObjectFault, Section, SymbolRef};
 use elf_format::{R_X86_64_NONE, RELA_SIZE, SHN_UNDEF, SHT_NOBITS, width};
 use km_names::le_u64_at;
+use std::alloc::{AllocError, Global};
 
 /// A place that a relocation changes. gABI 4, "Relocation", Elf64_Rela.
 #[derive(Clone, Copy, Debug, PartialEq, Eq)]
@@ -54,53 +57,64 @@ pub(crate) fn place_at(table: &[u8], section: u32, target: u32, entry: u32) -> R
     }
 }
 
-/// Whether the symbol `index` lies in a section that isn't kept.
-#[tactic(auto, unfolding(crate::specs::Places::is_unkept))]
-fn is_unkept(sections: &[Section], symbols: &[Symbol], index: u32) -> bool
-    requires { index < length symbols.now }
-    ensures { result ≡ is_unkept sections.now symbols.now index }
+/// Whether a symbol lies in a section that isn't kept.
+fn is_unkept(sections: &[Section], symbol: &SymbolRef) -> bool
+    ensures { result ≡ lies_unkept sections.now (owned symbol.now) }
 {
-    let section = symbols[index as usize].section;
-    match sections.get(usize::from(section)) {
-        Some(found) => section != SHN_UNDEF && !found.kept,
+    match sections.get(usize::from(symbol.section)) {
+        Some(found) => symbol.section != SHN_UNDEF && !found.kept,
         None => false,
     }
 }
 
-/// Whether a place that changes `size` bytes can't be as it is in its section.
-#[tactic(auto, unfolding(crate::specs::Places::is_bad_place))]
-fn is_bad_place(
+/// For each symbol whether it lies in a section that isn't kept. Relocations are far more than symbols, so that is
+/// asked once for each symbol.
+pub(crate) fn unkept_symbols(
+    alloc: Global,
     sections: &[Section],
-    symbols: &[Symbol],
-    target: &Section,
-    place: &RelaPlace,
-    size: u8,
-) -> bool
-    requires symbol { place.now.symbol < length symbols.now }
-    requires size { width place.now.kind ≡ Some size }
-    ensures { result ≡ is_bad_place sections.now symbols.now target.now place.now }
+    symbols: &[SymbolRef],
+) -> Result<Vec<bool>, AllocError>
+    ensures { IfOk result (λ flags. flags.items ≡ unkept_flags sections.now (map owned symbols.now)) }
 {
-    let size = u64::from(size);
-    target.size < size
-        || target.size - size < place.offset
-        || target.kind == SHT_NOBITS
-        || is_unkept(sections, symbols, place.symbol)
+    let mut flags = Vec::with_capacity(alloc, symbols.len())?;
+    for symbol in symbols {
+        flags.push(is_unkept(sections, symbol))?;
+    }
+    Ok(flags)
 }
 
-/// Tests a place in its section, and answers how many bytes it changes.
+/// How many bytes of a section a file can have changed: none of one whose bytes aren't there.
+pub(crate) fn room_in(section: &Section) -> u64
+    ensures { result ≡ room_in section.now }
+{
+    if section.kind == SHT_NOBITS {
+        0
+    } else {
+        section.size
+    }
+}
+
+/// Whether a place that changes `size` bytes can't be as it is in a section that has `room` bytes, by whether its symbol
+/// lies in a section that isn't kept.
+#[tactic(auto, unfolding(crate::specs::Places::is_bad_place))]
+fn is_bad_place(unkept: bool, room: u64, place: &RelaPlace, size: u8) -> bool
+    requires { width place.now.kind ≡ Some size }
+    ensures { result ≡ is_bad_place unkept room place.now }
+{
+    let size = u64::from(size);
+    room < size || room - size < place.offset || unkept
+}
+
+/// Tests a place in a section that has `room` bytes, by what is known of the symbols, and answers how many bytes it
+/// changes.
 #[tactic(auto, unfolding(crate::specs::Places::place_test))]
-pub(crate) fn check_place(
-    sections: &[Section],
-    symbols: &[Symbol],
-    target: &Section,
-    place: &RelaPlace,
-) -> Result<u8, ObjectFault>
+pub(crate) fn check_place(unkept: &[bool], room: u64, place: &RelaPlace) -> Result<u8, ObjectFault>
     ensures fault { result_err result
-        ≡ place_test sections.now symbols.now target.now place.now }
+        ≡ place_test (length unkept.now) (get_or unkept.now place.now.symbol false) room place.now }
     ensures width { IfOk result (λ size. place_width place.now ≡ size) }
 {
     let (section, entry) = (place.section, place.entry);
-    if symbols.len() <= place.symbol as usize {
+    if unkept.len() <= place.symbol as usize {
         return Err(ObjectFault::BadRela { section, entry });
     }
     let Some(size) = width(place.kind) else {
@@ -110,7 +124,8 @@ pub(crate) fn check_place(
             kind: place.kind,
         });
     };
-    if place.kind != R_X86_64_NONE && is_bad_place(sections, symbols, target, place, size) {
+    let unkept = unkept[place.symbol as usize];
+    if place.kind != R_X86_64_NONE && is_bad_place(unkept, room, place, size) {
         return Err(ObjectFault::BadRela { section, entry });
     }
     Ok(size)

@@ -1,19 +1,21 @@
 // The places of an object file, and the tests of its sections' alignments.
 
-ghost use Rattle.std.specs.Prelude.{◌≡◌, ◌<◌, ◌≤◌, ◌⊎◌, ◌++◌, length, None, Some, IfOk, IfErr, OnOk};
+ghost use Rattle.std.specs.Prelude.{◌≡◌, ◌<◌, ◌≤◌, ◌⊎◌, ◌++◌, [], length, List, None, Some, IfOk, IfErr, OnOk};
 ghost use Rattle.std.specs.Result.{result_err};
 ghost use Rattle.km_names.specs.Limit.{file_limit};
 ghost use Rattle.km_names.specs.First.{first};
 ghost use Rattle.elf_object.specs.Shape.{each, section_count};
-ghost use Rattle.elf_object.specs.Sections.{IsRead};
+ghost use Rattle.elf_object.specs.declared.place.RelaPlace.{RelaPlace};
+ghost use Rattle.elf_object.specs.Sections.{IsRead, sections_of};
 ghost use Rattle.elf_object.specs.Symbols.{symbols_of};
-ghost use Rattle.elf_object.specs.Places.{align_test, is_alignment, is_applied, overlap_test, places_of, rela_test, section_places};
-ghost use Rattle.elf_object.specs.Inner.{TablesFit};
+ghost use Rattle.elf_object.specs.Places.{align_test, is_alignment, is_applied, overlap_test, place_tests, places_of, rela_test, section_places};
+ghost use Rattle.elf_object.specs.Inner.{HasMet, TablesFit, unkept_flags};
 ghost use Rattle.elf_object.specs.Overlap.{IsOrderOf};
 
+use crate::met::MetPlaces;
 use crate::overlap::{Order, SECTION, find_shared};
-use crate::place::{check_place, place_at};
-use crate::{ObjectFault, RelaPlace, Sections, Symbol};
+use crate::place::{check_place, place_at, room_in};
+use crate::{ObjectFault, RelaPlace, Sections};
 use elf_format::{PAGE, RELA_SIZE, SHT_RELA};
 use km_names::{FILE_LIMIT, List};
 use std::alloc::{AllocError, Global};
@@ -32,7 +34,7 @@ fn is_alignment(align: u64) -> bool
 
 /// Tests the alignments of the sections that are kept.
 #[tactic(auto, unfolding(crate::specs::Places::align_test))]
-pub(crate) fn check_alignments(sections: &Sections) -> Result<(), ObjectFault>
+fn check_alignments(sections: &Sections) -> Result<(), ObjectFault>
     ensures { result_err result
         ≡ first (each (section_count sections.now.file) (align_test sections.now.file)) }
 {
@@ -77,74 +79,64 @@ fn relocation_count(sections: &Sections) -> Result<usize, AllocError>
     Ok((TABLE_LIMIT - left) / RELA_SIZE)
 }
 
-/// Adds the places of the section `index`, where it holds relocations of a section that is kept, and answers the
-/// order of all places by that of the places before. Almost all time of a read goes to its loop, so it stays a
-/// function of its own.
+/// Meets the places of the section `index`, where it holds relocations of a section that is kept. Almost all time of a
+/// read goes to its loop, so it stays a function of its own.
 #[inline(never)]
-fn read_section_places(
+fn meet_section_places(
     sections: &Sections,
-    symbols: &[Symbol],
+    unkept: &[bool],
     index: u32,
-    places: &mut Vec<RelaPlace>,
-    before: Order,
-) -> Result<Order, ObjectFault>
+    met: &mut MetPlaces,
+) -> Result<(), ObjectFault>
     requires small { length sections.now.file ≤ file_limit }
     requires read { IsRead sections.now.file sections.now.list }
-    requires order { IsOrderOf before places.old.items }
     requires fit { TablesFit sections.now.file }
     requires index { index < length sections.now.list }
-    requires symbols { symbols.now ≡ symbols_of sections.now.file }
-    ensures places { OnOk result
-        (places.new.items ≡ places.old.items ++ section_places sections.now.file index) }
-    ensures order { IfOk result (λ order. IsOrderOf order places.new.items) }
+    requires unkept { unkept.now ≡ unkept_flags (sections_of sections.now.file) (symbols_of sections.now.file) }
+    ensures met { OnOk result ((before : List RelaPlace) → HasMet met.old before
+        → HasMet met.new (before ++ section_places sections.now.file index)) }
+    ensures keeps { OnOk result (met.new.keeps ≡ met.old.keeps) }
     ensures passed { OnOk result (rela_test sections.now.file index ≡ None) }
     ensures fault { IfErr result (λ e. (e ≡ ObjectFault.Memory)
         ⊎ (rela_test sections.now.file index ≡ Some e)) }
 {
     if !is_applied(sections, index) {
-        return Ok(before);
+        return Ok(());
     }
-    let mut order = before;
     let number = sections.section(index).info;
-    let target = sections.section(number);
+    let room = room_in(sections.section(number));
     let table = sections.section_bytes(index);
     for entry in 0..(table.len() / RELA_SIZE) as u32 {
         let place = place_at(table, index, number, entry);
-        let width = check_place(sections.list(), symbols, target, &place)?;
-        order.meet(&place, width);
-        places.push(place)?;
+        let width = check_place(unkept, room, &place)?;
+        met.meet(place, width)?;
     }
-    Ok(order)
+    Ok(())
 }
 
-/// Reads the places of a file, and says whether they stand in order.
-pub(crate) fn read_places(
-    alloc: Global,
-    sections: &Sections,
-    symbols: &[Symbol],
-) -> Result<(List<RelaPlace>, Order), ObjectFault>
+/// Meets the places of a file, of which none was met.
+fn meet_places(sections: &Sections, unkept: &[bool], met: &mut MetPlaces) -> Result<(), ObjectFault>
     requires small { length sections.now.file ≤ file_limit }
     requires read { IsRead sections.now.file sections.now.list }
     requires fit { TablesFit sections.now.file }
-    requires symbols { symbols.now ≡ symbols_of sections.now.file }
-    ensures places { IfOk result (λ r. r.0 ≡ places_of sections.now.file) }
-    ensures order { IfOk result (λ r. IsOrderOf r.1 r.0) }
+    requires unkept { unkept.now ≡ unkept_flags (sections_of sections.now.file) (symbols_of sections.now.file) }
+    requires none { HasMet met.old [] }
+    ensures met { OnOk result (HasMet met.new (places_of sections.now.file)) }
+    ensures keeps { OnOk result (met.new.keeps ≡ met.old.keeps) }
     ensures passed { OnOk result
         (first (each (section_count sections.now.file) (rela_test sections.now.file)) ≡ None) }
     ensures fault { IfErr result
         (λ e. (e ≡ ObjectFault.Memory)
         ⊎ (first (each (section_count sections.now.file) (rela_test sections.now.file)) ≡ Some e)) }
 {
-    let mut places = Vec::with_capacity(alloc, relocation_count(sections)?)?;
-    let mut order = Order::new();
     for index in 0..sections.section_count() {
-        order = read_section_places(sections, symbols, index, &mut places, order)?;
+        meet_section_places(sections, unkept, index, met)?;
     }
-    Ok((List::from_vec(places), order))
+    Ok(())
 }
 
 /// Tests that no byte is changed by two places.
-pub(crate) fn check_overlaps(
+fn check_overlaps(
     alloc: Global,
     sections: &Sections,
     places: &[RelaPlace],
@@ -170,4 +162,51 @@ pub(crate) fn check_overlaps(
             offset: byte % SECTION,
         }),
     }
+}
+
+/// Reads the places of a file, by what is known of its symbols, with the tests of the sections that they change.
+pub(crate) fn read_places(
+    alloc: Global,
+    sections: &Sections,
+    unkept: &[bool],
+) -> Result<List<RelaPlace>, ObjectFault>
+    requires small { length sections.now.file ≤ file_limit }
+    requires read { IsRead sections.now.file sections.now.list }
+    requires fit { TablesFit sections.now.file }
+    requires unkept { unkept.now ≡ unkept_flags (sections_of sections.now.file) (symbols_of sections.now.file) }
+    ensures places { IfOk result (λ l. l ≡ places_of sections.now.file) }
+    ensures passed { OnOk result (first (place_tests sections.now.file) ≡ None) }
+    ensures fault { IfErr result
+        (λ e. (e ≡ ObjectFault.Memory) ⊎ (first (place_tests sections.now.file) ≡ Some e)) }
+{
+    check_alignments(sections)?;
+    let mut met = MetPlaces::listing(alloc, relocation_count(sections)?)?;
+    meet_places(sections, unkept, &mut met)?;
+    check_overlaps(alloc, sections, &met.list, &met.order)?;
+    let MetPlaces { list, .. } = met;
+    Ok(List::from_vec(list))
+}
+
+/// Tests the places of a file, by what is known of its symbols, and the sections that they change. Places in order
+/// take no memory.
+pub(crate) fn check_places(
+    alloc: Global,
+    sections: &Sections,
+    unkept: &[bool],
+) -> Result<(), ObjectFault>
+    requires small { length sections.now.file ≤ file_limit }
+    requires read { IsRead sections.now.file sections.now.list }
+    requires fit { TablesFit sections.now.file }
+    requires unkept { unkept.now ≡ unkept_flags (sections_of sections.now.file) (symbols_of sections.now.file) }
+    ensures passed { OnOk result (first (place_tests sections.now.file) ≡ None) }
+    ensures fault { IfErr result
+        (λ e. (e ≡ ObjectFault.Memory) ⊎ (first (place_tests sections.now.file) ≡ Some e)) }
+{
+    check_alignments(sections)?;
+    let mut met = MetPlaces::testing(alloc);
+    meet_places(sections, unkept, &mut met)?;
+    if !met.order.holds {
+        read_places(alloc, sections, unkept)?;
+    }
+    Ok(())
 }

@@ -1,11 +1,11 @@
 // One symbol, and the symbol table.
 
-ghost use Rattle.std.specs.Prelude.{◌≡◌, ◌+◌, ◌*◌, ◌≤◌, ◌⊎◌, length, None, Some, IfOk, IfErr, OnOk};
+ghost use Rattle.std.specs.Prelude.{◌≡◌, ◌+◌, ◌*◌, ◌≤◌, ◌⊎◌, length, map, None, Some, IfOk, IfErr, OnOk};
 ghost use Rattle.std.specs.Result.{result_err};
 ghost use Rattle.km_names.specs.Limit.{file_limit};
 ghost use Rattle.km_names.specs.First.{first};
 ghost use Rattle.elf_object.specs.Shape.{each};
-ghost use Rattle.elf_object.specs.Symbols.{entries, is_bad_symbol, kind_test, symbol_entry, symbol_in, symbol_test_in, symbols_in};
+ghost use Rattle.elf_object.specs.Symbols.{entries, is_bad_symbol, kind_test, owned, symbol_entry, symbol_in, symbol_test_in, symbols_in};
 
 use crate::strings::{NAME_LIMIT, are_within_limit, left_after};
 use crate::{ObjectFault, SectionFault};
@@ -20,6 +20,19 @@ use std::alloc::{AllocError, Global};
 pub struct Symbol {
     /// The text at `st_name` of the symbol table's string table.
     pub name: Name,
+    /// The binding: 0 local, 1 global, 2 weak.
+    pub binding: u8,
+    /// The number of its section; 0 where it is undefined, 0xfff1 where its value is absolute.
+    pub section: u16,
+    /// Its value: its place in its section, or the absolute value.
+    pub value: u64,
+}
+
+/// A symbol of a file whose name stands elsewhere, as in the file's string table. gABI 4, "Symbol Table", Elf64_Sym.
+#[derive(Clone, Copy, Debug)]
+pub struct SymbolRef<'a> {
+    /// The text at `st_name` of the symbol table's string table.
+    pub name: &'a [u8],
     /// The binding: 0 local, 1 global, 2 weak.
     pub binding: u8,
     /// The number of its section; 0 where it is undefined, 0xfff1 where its value is absolute.
@@ -98,23 +111,19 @@ pub(crate) fn check_name_sum(table: &[u8], names: &[u8]) -> Result<(), AllocErro
 
 /// The symbol `index` of a table, by its string table and the count of sections.
 #[tactic(auto, unfolding(crate::specs::Symbols::symbol_in, crate::specs::Symbols::symbol_test_in))]
-fn read_symbol(
-    alloc: Global,
+fn read_symbol<'a>(
     table: &[u8],
-    names: &[u8],
+    names: &'a [u8],
     count: u32,
     index: u32,
-) -> Result<Symbol, ObjectFault>
+) -> Result<SymbolRef<'a>, ObjectFault>
     requires { 24 * index + 24 ≤ length table.now }
-    ensures symbol { IfOk result (λ s. s ≡ symbol_in table.now names.now index) }
-    ensures passed { OnOk result (symbol_test_in table.now names.now count index ≡ None) }
-    ensures fault { IfErr result
-        (λ e. (e ≡ ObjectFault.Memory)
-        ⊎ (symbol_test_in table.now names.now count index ≡ Some e)) }
+    ensures symbol { IfOk result (λ s. owned s ≡ symbol_in table.now names.now index) }
+    ensures fault { result_err result ≡ symbol_test_in table.now names.now count index }
 {
     if index == 0 {
-        return Ok(Symbol {
-            name: Name::new(alloc),
+        return Ok(SymbolRef {
+            name: &[],
             binding: 0,
             section: 0,
             value: 0,
@@ -127,8 +136,8 @@ fn read_symbol(
         }));
     };
     check_kind(count, name, index, &entry)?;
-    Ok(Symbol {
-        name: Name::from_slice(alloc, name)?,
+    Ok(SymbolRef {
+        name,
         binding: entry.info / 16,
         section: entry.section,
         value: entry.value,
@@ -136,14 +145,14 @@ fn read_symbol(
 }
 
 /// The symbols of a table, by its string table and the count of sections.
-pub(crate) fn read_symbols(
+pub(crate) fn read_symbols<'a>(
     alloc: Global,
     table: &[u8],
-    names: &[u8],
+    names: &'a [u8],
     count: u32,
-) -> Result<List<Symbol>, ObjectFault>
+) -> Result<List<SymbolRef<'a>>, ObjectFault>
     requires { length table.now ≤ file_limit }
-    ensures symbols { IfOk result (λ l. l ≡ symbols_in table.now names.now) }
+    ensures symbols { IfOk result (λ l. map owned l ≡ symbols_in table.now names.now) }
     ensures passed { OnOk result
         (first (each (entries table.now) (symbol_test_in table.now names.now count)) ≡ None) }
     ensures fault { IfErr result
@@ -153,7 +162,45 @@ pub(crate) fn read_symbols(
     let entries = table.len() / SYM_SIZE;
     let mut symbols = Vec::with_capacity(alloc, entries)?;
     for index in 0..entries as u32 {
-        symbols.push(read_symbol(alloc, table, names, count, index)?)?;
+        symbols.push(read_symbol(table, names, count, index)?)?;
     }
     Ok(List::from_vec(symbols))
+}
+
+/// Symbols with names of their own.
+pub(crate) fn owned_symbols(
+    alloc: Global,
+    symbols: &[SymbolRef],
+) -> Result<List<Symbol>, AllocError>
+    ensures { IfOk result (λ l. l ≡ map owned symbols.now) }
+{
+    let mut list = Vec::with_capacity(alloc, symbols.len())?;
+    for symbol in symbols {
+        list.push(Symbol {
+            name: Name::from_slice(alloc, symbol.name)?,
+            binding: symbol.binding,
+            section: symbol.section,
+            value: symbol.value,
+        })?;
+    }
+    Ok(List::from_vec(list))
+}
+
+/// Symbols with their names where these are.
+pub(crate) fn borrowed_symbols<'a>(
+    alloc: Global,
+    symbols: &'a [Symbol],
+) -> Result<List<SymbolRef<'a>>, AllocError>
+    ensures { IfOk result (λ l. map owned l ≡ symbols.now) }
+{
+    let mut list = Vec::with_capacity(alloc, symbols.len())?;
+    for symbol in symbols {
+        list.push(SymbolRef {
+            name: symbol.name.as_bytes(),
+            binding: symbol.binding,
+            section: symbol.section,
+            value: symbol.value,
+        })?;
+    }
+    Ok(List::from_vec(list))
 }

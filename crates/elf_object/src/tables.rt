@@ -1,19 +1,24 @@
 // The tables of an object file: that of its symbols, and those of its relocations.
 
-ghost use Rattle.std.specs.Prelude.{◌≡◌, ◌<◌, ◌≤◌, length, None, OnOk};
+ghost use Rattle.std.specs.Prelude.{◌≡◌, ◌<◌, ◌≤◌, ◌⊎◌, length, map, None, Some, IfErr, IfOk, OnOk};
 ghost use Rattle.std.specs.Result.{result_err};
 ghost use Rattle.km_names.specs.First.{first};
+ghost use Rattle.km_names.specs.Limit.{file_limit};
 ghost use Rattle.elf_object.specs.Shape.{each, section_count};
 ghost use Rattle.elf_object.specs.Inner.{TablesFit};
 ghost use Rattle.elf_object.specs.Sections.{IsRead};
-ghost use Rattle.elf_object.specs.Symbols.{has_entries, is_good_table, is_string_table, is_symbol_table, rel_test, symbol_bytes, symbol_names, symbol_table, table_test};
+ghost use Rattle.elf_object.specs.Symbols.{has_entries, is_good_table, is_string_table, is_symbol_table, owned, rel_test, symbol_bytes, symbol_names, symbol_table, symbol_tests, symbols_of, table_test};
 
-use crate::{ObjectFault, Sections};
+use crate::strings::up_to_last_nul;
+use crate::symbol::{check_name_sum, read_symbols};
+use crate::{ObjectFault, Sections, SymbolRef};
 use elf_format::{SHT_REL, SHT_RELA, SHT_STRTAB, SHT_SYMTAB, SYM_SIZE};
+use km_names::List;
+use std::alloc::Global;
 
 /// Tests that no section holds relocations without addends.
 #[tactic(auto, unfolding(crate::specs::Symbols::rel_test))]
-pub(crate) fn check_rel(sections: &Sections) -> Result<(), ObjectFault>
+fn check_rel(sections: &Sections) -> Result<(), ObjectFault>
     ensures { result_err result
         ≡ first (each (section_count sections.now.file) (rel_test sections.now.file)) }
 {
@@ -26,7 +31,7 @@ pub(crate) fn check_rel(sections: &Sections) -> Result<(), ObjectFault>
 }
 
 /// The symbol table: the first section of that type.
-pub(crate) fn symbol_table(sections: &Sections) -> Option<u32>
+fn symbol_table(sections: &Sections) -> Option<u32>
     ensures { result ≡ symbol_table sections.now.file }
 {
     for index in 0..sections.section_count() {
@@ -80,7 +85,7 @@ fn is_good_table(sections: &Sections, symbols: Option<u32>, index: u32) -> bool
 }
 
 /// Tests that each table can be one, by the number of the symbol table.
-pub(crate) fn check_tables(sections: &Sections, symbols: Option<u32>) -> Result<(), ObjectFault>
+fn check_tables(sections: &Sections, symbols: Option<u32>) -> Result<(), ObjectFault>
     requires { symbols ≡ symbol_table sections.now.file }
     ensures fault { result_err result
         ≡ first (each (section_count sections.now.file) (table_test sections.now.file)) }
@@ -95,7 +100,7 @@ pub(crate) fn check_tables(sections: &Sections, symbols: Option<u32>) -> Result<
 }
 
 /// The bytes of the symbol table, and those of its string table; none where there is no symbol table.
-pub(crate) fn symbol_tables(sections: &Sections, symbols: Option<u32>) -> (&[u8], &[u8])
+fn symbol_tables(sections: &Sections, symbols: Option<u32>) -> (&[u8], &[u8])
     requires read { IsRead sections.now.file sections.now.list }
     requires symbols { symbols ≡ symbol_table sections.now.file }
     requires fit { TablesFit sections.now.file }
@@ -110,4 +115,27 @@ pub(crate) fn symbol_tables(sections: &Sections, symbols: Option<u32>) -> (&[u8]
         }
         None => (&[], &[]),
     }
+}
+
+/// Reads the symbols of a file, after the tests of its tables.
+pub(crate) fn read_symbol_table<'a>(
+    alloc: Global,
+    sections: &'a Sections,
+) -> Result<List<SymbolRef<'a>>, ObjectFault>
+    requires { length sections.now.file ≤ file_limit }
+    ensures symbols { IfOk result (λ l. map owned l ≡ symbols_of sections.now.file) }
+    ensures read { IsRead sections.now.file sections.now.list }
+    ensures fit { OnOk result (TablesFit sections.now.file) }
+    ensures passed { OnOk result (first (symbol_tests sections.now.file) ≡ None) }
+    ensures fault { IfErr result
+        (λ e. (e ≡ ObjectFault.Memory) ⊎ (first (symbol_tests sections.now.file) ≡ Some e)) }
+{
+    let count = sections.section_count();
+    check_rel(sections)?;
+    let number = symbol_table(sections);
+    check_tables(sections, number)?;
+    let (table, strings) = symbol_tables(sections, number);
+    let names = up_to_last_nul(strings);
+    check_name_sum(table, names)?;
+    read_symbols(alloc, table, names, count)
 }

@@ -2,9 +2,10 @@
 
 ghost use Rattle.std.specs.Prelude.{◌≡◌, length, IfOk};
 
-use crate::{Object, ObjectFault, RelaPlace, SectionFault, Sections};
+use crate::{Object, ObjectFault, ObjectView, RelaPlace, SectionFault, Sections};
 use km_names::Blob;
 use std::alloc::{AllocError, Global};
+use std::process::Abort;
 use std::test::Fail;
 
 /// A file with two sections: the texts of a module, and the names of sections.
@@ -261,6 +262,28 @@ fn an_object_is_read(rt: HostRuntime) -> Result<(), Fail> {
     };
     assert_eq!(rt; *object.place(0), call);
     assert_eq!(rt; *object.place(1), word);
+    Ok(())
+}
+
+/// A view shows the sections and the symbols of `CODE`.
+fn assert_shown(rt: &impl Abort, view: &ObjectView) {
+    assert_eq!(rt; view.section_count(), 6);
+    assert_eq!(rt; view.section_named(b".rela.text"), Some(2));
+    assert!(rt; view.section(1).kept && !view.section(2).kept);
+    assert_eq!(rt; view.section_bytes(4), b"\0f\0g\0\0\0\0".as_slice());
+    assert_eq!(rt; view.symbol_count(), 3);
+    let symbol = view.symbol(1);
+    assert_eq!(rt; symbol.name, b"f".as_slice());
+    assert_eq!(rt; (symbol.binding, symbol.section, symbol.value), (1, 1, 4));
+}
+
+#[test]
+fn an_object_is_viewed(rt: HostRuntime) -> Result<(), Fail> {
+    let alloc = rt.alloc();
+    let sections = ObjectView::read_sections(alloc, Blob::from_slice(alloc, &CODE)?)?;
+    assert_shown(&rt, &ObjectView::read(alloc, &sections)?);
+    let object = Object::read(alloc, Blob::from_slice(alloc, &CODE)?)?;
+    assert_shown(&rt, &object.view(alloc)?);
     Ok(())
 }
 

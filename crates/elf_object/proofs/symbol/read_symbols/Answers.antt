@@ -1,7 +1,8 @@
-use Rattle.std.proofs.Common.{◌≡◌, sym, ◌∙◌, inl, inr, below_more, arith}
+use Rattle.std.proofs.Common.{◌≡◌, map, sym, ap, ◌∙◌, inr, below_more, arith}
+use Rattle.std.proofs.lemmas.List.{map-append}
 use Rattle.std.proofs.lemmas.Result.{err_from_is_err_and}
 use Rattle.std.proofs.lemmas.List.FromFn.{map-range_with_len_more}
-use Rattle.elf_object.specs.Symbols.{entries, symbol_in, symbol_test_in, symbols_in}
+use Rattle.elf_object.specs.Symbols.{entries, owned, symbol_in, symbol_test_in, symbols_in}
 use Rattle.elf_object.proofs.TestLemmas.{each-failed, each-passed}
 use Rattle.elf_object.proofs.symbol.read_symbols.Goals as goal
 
@@ -10,18 +11,16 @@ returns-in_err-read_symbol-clause-fault c =
     let test = symbol_test_in c.args.table.now c.args.names.now c.args.count in
     let p = err_from_is_err_and c.from_residual-in_err-read_symbol.result c.from_residual-in_err-read_symbol.ensures.1 in
     rw (p.1, p.2)
-    (elim c.in_err-read_symbol.ensures.fault [
-      | inl memory ↦ inl memory
-      | inr failed ↦ inr (each-failed (entries c.args.table.now) test c.loop-index.index _ (omega arith) c.loop-index.invariant.tests failed)
-    ])
+    (inr (each-failed (entries c.args.table.now) test c.loop-index.index _ (omega arith) c.loop-index.invariant.tests (sym c.in_err-read_symbol.ensures.fault)))
 
 pub loop-index-preserved : goal.loop-index-preserved
 loop-index-preserved c =
     let i = c.loop-index.index in
     record {
-      tests = below_more _ _ c.loop-index.invariant.tests c.in_ok-read_symbol.ensures.passed;
+      tests = below_more _ _ c.loop-index.invariant.tests (sym c.in_ok-read_symbol.ensures.fault);
       symbols_are =
-          c.in_ok-push.ensures.items
+          ap (map owned) c.in_ok-push.ensures.items
+          ∙ map-append owned c.loop-index.symbols.items _
           ∙ rw (c.loop-index.invariant.symbols_are, c.in_ok-read_symbol.ensures.symbol)
           (sym (map-range_with_len_more (symbol_in c.args.table.now c.args.names.now) 0 i i (omega arith)));
     }
@@ -30,7 +29,7 @@ pub returns-clause-symbols : goal.returns-clause-symbols
 unfolding symbols_in
 returns-clause-symbols c =
     let end : c.loop-index.index ≡ entries c.args.table.now = omega arith in
-    c.from_vec.ensures ∙ rw end at c.loop-index.invariant.symbols_are
+    ap (map owned) c.from_vec.ensures ∙ rw end at c.loop-index.invariant.symbols_are
 
 pub returns-clause-passed : goal.returns-clause-passed
 returns-clause-passed c =
