@@ -14,7 +14,7 @@ use crate::seen::SeenNames;
 use crate::tables::{SymbolTables, symbol_of};
 use crate::versions::is_bad_list;
 use crate::{Export, Facts, ModuleFault, Need};
-use elf_object::Object;
+use elf_object::ObjectView;
 use km_names::{Name, is_graphic};
 use std::alloc::{AllocError, Global};
 
@@ -86,7 +86,7 @@ fn check_once(alloc: Global, exports: &[Export]) -> Result<(), ModuleFault>
 
 /// Whether no symbol defines an export.
 #[tactic(auto, unfolding(crate::specs::Faults::is_undefined))]
-fn is_undefined(object: &Object, tables: &SymbolTables, export: &Export) -> bool
+fn is_undefined(object: &ObjectView, tables: &SymbolTables, export: &Export) -> bool
     requires { HasTables tables.now object.now }
     ensures { result ≡ is_undefined object.now export.now }
 {
@@ -97,7 +97,7 @@ fn is_undefined(object: &Object, tables: &SymbolTables, export: &Export) -> bool
 
 /// The first export that no symbol defines.
 fn first_undefined<'a>(
-    object: &Object,
+    object: &ObjectView,
     tables: Option<&SymbolTables>,
     exports: &'a [Export],
 ) -> Option<&'a Export>
@@ -113,7 +113,7 @@ fn first_undefined<'a>(
 /// Tests that each export is defined.
 fn check_defined(
     alloc: Global,
-    object: &Object,
+    object: &ObjectView,
     tables: Option<&SymbolTables>,
     exports: &[Export],
 ) -> Result<(), ModuleFault>
@@ -131,7 +131,7 @@ fn check_defined(
 
 /// Whether the symbol that gives the export's version lies where its section has no 4 bytes.
 #[tactic(auto, unfolding(crate::specs::Faults::has_bad_version))]
-fn has_bad_version(object: &Object, tables: &SymbolTables, export: &Export) -> bool
+fn has_bad_version(object: &ObjectView, tables: &SymbolTables, export: &Export) -> bool
     requires { HasTables tables.now object.now }
     ensures { result ≡ has_bad_version object.now export.now }
 {
@@ -143,7 +143,7 @@ fn has_bad_version(object: &Object, tables: &SymbolTables, export: &Export) -> b
 
 /// Whether one of the exports has such a version.
 fn has_bad_export_version(
-    object: &Object,
+    object: &ObjectView,
     tables: Option<&SymbolTables>,
     exports: &[Export],
 ) -> bool
@@ -160,7 +160,7 @@ fn has_bad_export_version(
 
 /// Whether the versions of the needs or of the exports can't be as they are.
 #[tactic(auto, unfolding(crate::specs::Faults::has_bad_versions))]
-fn has_bad_versions(object: &Object, tables: Option<&SymbolTables>, exports: &[Export]) -> bool
+fn has_bad_versions(object: &ObjectView, tables: Option<&SymbolTables>, exports: &[Export]) -> bool
     requires { AreTablesFor exports.now object.now (option_copied tables) }
     ensures { result ≡ has_bad_versions object.now exports.now }
 {
@@ -169,7 +169,7 @@ fn has_bad_versions(object: &Object, tables: Option<&SymbolTables>, exports: &[E
 
 /// Whether the symbol that is to give the export's namespace gives none.
 #[tactic(auto, unfolding(crate::specs::Faults::has_bad_space))]
-fn has_bad_space(object: &Object, tables: &SymbolTables, export: &Export) -> bool
+fn has_bad_space(object: &ObjectView, tables: &SymbolTables, export: &Export) -> bool
     requires { HasTables tables.now object.now }
     ensures { result ≡ has_bad_space object.now export.now }
 {
@@ -181,7 +181,7 @@ fn has_bad_space(object: &Object, tables: &SymbolTables, export: &Export) -> boo
 
 /// The first export of which that is so.
 fn first_bad_space<'a>(
-    object: &Object,
+    object: &ObjectView,
     tables: Option<&SymbolTables>,
     exports: &'a [Export],
 ) -> Option<&'a Export>
@@ -197,7 +197,7 @@ fn first_bad_space<'a>(
 /// Tests that each symbol for a namespace gives one.
 fn check_spaces(
     alloc: Global,
-    object: &Object,
+    object: &ObjectView,
     tables: Option<&SymbolTables>,
     exports: &[Export],
 ) -> Result<(), ModuleFault>
@@ -217,7 +217,7 @@ fn check_spaces(
 #[tactic(auto, unfolding(crate::specs::Faults::facts_tests))]
 pub(crate) fn check_facts(
     alloc: Global,
-    object: &Object,
+    object: &ObjectView,
     tables: Option<&SymbolTables>,
     facts: &Facts,
 ) -> Result<(), ModuleFault>

@@ -5,11 +5,11 @@ ghost use Rattle.km_names.specs.Limit.{file_limit};
 ghost use Rattle.module_facts.specs.Contents.{modinfo_bytes, named_bytes, section_contents};
 
 use elf_format::SHT_NOBITS;
-use elf_object::Object;
+use elf_object::ObjectView;
 
 /// The bytes of the section `i`; none where there is no such section.
 #[tactic(auto, unfolding(crate::specs::Contents::section_contents))]
-pub(crate) fn section_contents(object: &Object, i: u32) -> &[u8]
+pub(crate) fn section_contents<'a>(object: &ObjectView<'a>, i: u32) -> &'a [u8]
     ensures { result.now ≡ section_contents object.now i }
 {
     if i < object.section_count() {
@@ -22,7 +22,7 @@ pub(crate) fn section_contents(object: &Object, i: u32) -> &[u8]
 /// The bytes of the first section of this name; `None` where no section has the name, and where that one is of type
 /// NOBITS.
 #[tactic(auto, unfolding(crate::specs::Contents::named_section, crate::specs::Contents::named_bytes))]
-pub(crate) fn named_bytes<'a>(object: &'a Object, name: &[u8]) -> Option<&'a [u8]>
+pub(crate) fn named_bytes<'a>(object: &ObjectView<'a>, name: &[u8]) -> Option<&'a [u8]>
     ensures bytes { option_copied result ≡ named_bytes object.now name.now }
     ensures short { IfSome result (λ bytes. length bytes.now ≤ file_limit) }
 {
@@ -35,7 +35,7 @@ pub(crate) fn named_bytes<'a>(object: &'a Object, name: &[u8]) -> Option<&'a [u8
 
 /// The bytes of the section `.modinfo`.
 #[tactic(auto, unfolding(crate::specs::Contents::modinfo_bytes))]
-pub(crate) fn modinfo_bytes(object: &Object) -> &[u8]
+pub(crate) fn modinfo_bytes<'a>(object: &ObjectView<'a>) -> &'a [u8]
     ensures { result.now ≡ modinfo_bytes object.now }
 {
     named_bytes(object, b".modinfo").unwrap_or(&[])

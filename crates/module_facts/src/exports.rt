@@ -2,6 +2,7 @@
 
 ghost use Rattle.std.specs.Prelude.{◌≡◌, ◌≤◌, [], false, length, IfOk, option_and_then, option_copied, unwrap_or};
 ghost use Rattle.std.specs.Option.{option_map_or};
+ghost use Rattle.elf_object.specs.Symbols.{owned};
 ghost use Rattle.module_facts.specs.Roles.{symbol_of};
 ghost use Rattle.module_facts.specs.Exports.{export_of, exports_of, given_space, given_version, is_gpl_entry};
 ghost use Rattle.module_facts.specs.SymbolTables.{AreTablesFor, HasTables};
@@ -11,15 +12,15 @@ use crate::role::{Role, stated_name};
 use crate::tables::{SymbolTables, symbol_of};
 use crate::{Export, Exports};
 use elf_format::SHN_ABS;
-use elf_object::{Object, Symbol};
+use elf_object::{ObjectView, SymbolRef};
 use km_names::{FILE_LIMIT, Name, le_u32_at, string_at};
 use std::alloc::{AllocError, Global};
 
 /// The version that a symbol gives: its value where it is absolute, else the number in the 4 bytes at its
 /// value in its section, where that one has them.
 #[tactic(auto, unfolding(crate::specs::Exports::given_version))]
-pub(crate) fn given_version(object: &Object, symbol: &Symbol) -> Option<u64>
-    ensures { result ≡ given_version object.now symbol.now }
+pub(crate) fn given_version(object: &ObjectView, symbol: SymbolRef) -> Option<u64>
+    ensures { result ≡ given_version object.now (owned symbol.entry) }
 {
     if symbol.section == SHN_ABS {
         return Some(symbol.value);
@@ -35,8 +36,8 @@ pub(crate) fn given_version(object: &Object, symbol: &Symbol) -> Option<u64>
 
 /// Whether a symbol lies in the section for exports that modules of a free license alone may use.
 #[tactic(auto, unfolding(crate::specs::Exports::is_gpl_entry))]
-fn is_gpl_entry(object: &Object, symbol: &Symbol) -> bool
-    ensures { result ≡ is_gpl_entry object.now symbol.now }
+fn is_gpl_entry(object: &ObjectView, symbol: SymbolRef) -> bool
+    ensures { result ≡ is_gpl_entry object.now (owned symbol.entry) }
 {
     let i = u32::from(symbol.section);
     i < object.section_count() && object.section(i).name.as_bytes() == b"__ksymtab_gpl".as_slice()
@@ -45,15 +46,15 @@ fn is_gpl_entry(object: &Object, symbol: &Symbol) -> bool
 /// The namespace that a symbol gives: the text at its value in its section. An absolute symbol gives none, nor does
 /// one whose section has no bytes in the file.
 #[tactic(auto, unfolding(crate::specs::Exports::given_space))]
-pub(crate) fn given_space<'a>(object: &'a Object, symbol: &Symbol) -> Option<&'a [u8]>
-    ensures { option_copied result ≡ given_space object.now symbol.now }
+pub(crate) fn given_space<'a>(object: &ObjectView<'a>, symbol: SymbolRef) -> Option<&'a [u8]>
+    ensures { option_copied result ≡ given_space object.now (owned symbol.entry) }
 {
     let bytes = section_contents(object, u32::from(symbol.section));
     string_at(bytes, symbol.value as usize)
 }
 
 /// The namespace of an export, empty where no symbol gives one.
-fn space_of<'a>(object: &'a Object, tables: &SymbolTables, name: &[u8]) -> &'a [u8]
+fn space_of<'a>(object: &ObjectView<'a>, tables: &SymbolTables, name: &[u8]) -> &'a [u8]
     requires { HasTables tables.now object.now }
     ensures { result.now ≡ unwrap_or (option_and_then (given_space object.now) (symbol_of Role.Space object.now name.now)) [] }
 {
@@ -64,7 +65,7 @@ fn space_of<'a>(object: &'a Object, tables: &SymbolTables, name: &[u8]) -> &'a [
 }
 
 /// The version of an export, where a symbol gives one.
-fn version_of(object: &Object, tables: &SymbolTables, name: &[u8]) -> Option<u64>
+fn version_of(object: &ObjectView, tables: &SymbolTables, name: &[u8]) -> Option<u64>
     requires { HasTables tables.now object.now }
     ensures { result ≡ option_and_then (given_version object.now) (symbol_of Role.Version object.now name.now) }
 {
@@ -73,7 +74,7 @@ fn version_of(object: &Object, tables: &SymbolTables, name: &[u8]) -> Option<u64
 }
 
 /// Whether an export is for modules of a free license alone.
-fn is_gpl(object: &Object, tables: &SymbolTables, name: &[u8]) -> bool
+fn is_gpl(object: &ObjectView, tables: &SymbolTables, name: &[u8]) -> bool
     requires { HasTables tables.now object.now }
     ensures { result ≡ option_map_or (is_gpl_entry object.now) (symbol_of Role.Export object.now name.now) false }
 {
@@ -91,7 +92,7 @@ fn is_gpl(object: &Object, tables: &SymbolTables, name: &[u8]) -> bool
 #[tactic(auto, unfolding(crate::specs::Exports::export_of))]
 fn read_export(
     alloc: Global,
-    object: &Object,
+    object: &ObjectView,
     tables: &SymbolTables,
     name: &[u8],
     left: usize,
@@ -119,7 +120,7 @@ fn read_export(
 #[tactic(auto, unfolding(crate::specs::Exports::exports_of))]
 fn read_exports(
     alloc: Global,
-    object: &Object,
+    object: &ObjectView,
     tables: &SymbolTables,
 ) -> Result<Exports, AllocError>
     requires { HasTables tables.now object.now }
@@ -140,7 +141,7 @@ fn read_exports(
 /// The exports, by the tables of the object; without tables there are none.
 pub(crate) fn exports_by(
     alloc: Global,
-    object: &Object,
+    object: &ObjectView,
     tables: Option<&SymbolTables>,
 ) -> Result<Exports, AllocError>
     requires { AreTablesFor (exports_of object.now) object.now (option_copied tables) }

@@ -3,7 +3,8 @@
 //!
 //! It stands on `km_names`, on `elf_object`, whose symbols and sections it reads, on `modinfo_fields` for the texts of
 //! the section `.modinfo`, and on `name_table`: for each thing that symbols state of names one table has the first
-//! symbol that states it. Facts own what they have, and are small beside the file.
+//! symbol that states it. Facts own what they have, and are small beside the file: `read_facts` keeps them alone,
+//! `read_module` has the object with them.
 #![tactic(auto)]
 
 mod checks;
@@ -25,4 +26,4 @@ mod versions;
 pub use facts::{Export, Exports, Facts, Need, Needs};
 pub use fault::ModuleFault;
 pub use module::Module;
-pub use read::read_module;
+pub use read::{read_facts, read_module};

@@ -2,25 +2,24 @@
 
 ghost use Rattle.std.specs.Prelude.{◌≡◌, length, map, Some, IfOk};
 ghost use Rattle.name_table.specs.NameTable.{IsTableOf};
+ghost use Rattle.elf_object.specs.Symbols.{owned};
 ghost use Rattle.module_facts.specs.Listed.{shown};
 ghost use Rattle.module_facts.specs.Needs.{is_need, need_of, needs_of};
 
 use crate::versions::{Versions, stated_version, version_list, version_table};
 use crate::{Need, Needs};
 use elf_format::{SHN_UNDEF, STB_WEAK};
-use elf_object::{Object, Symbol};
+use elf_object::{ObjectView, SymbolRef};
 use km_names::Name;
 use name_table::NameTable;
 use std::alloc::{AllocError, Global};
 
 /// Whether the symbol `i` is needed from elsewhere.
 #[tactic(auto, unfolding(crate::specs::Needs::is_need))]
-fn is_need(i: u32, symbol: &Symbol) -> bool
-    ensures { result ≡ is_need i symbol.now }
+fn is_need(i: u32, symbol: SymbolRef) -> bool
+    ensures { result ≡ is_need i (owned symbol.entry) }
 {
-    i > 0
-        && symbol.section == SHN_UNDEF
-        && symbol.name.as_bytes() != b"_GLOBAL_OFFSET_TABLE_".as_slice()
+    i > 0 && symbol.section == SHN_UNDEF && symbol.name != b"_GLOBAL_OFFSET_TABLE_".as_slice()
 }
 
 /// The need that the symbol `i` states, by a version list and the table of its names.
@@ -30,23 +29,22 @@ fn read_need(
     versions: &Versions,
     table: &NameTable,
     i: u32,
-    symbol: &Symbol,
+    symbol: SymbolRef,
 ) -> Result<Need, AllocError>
     requires { IsTableOf table.now (map (λ v. Some v.name.now) versions.now) }
-    ensures { IfOk result (λ need. need ≡ need_of (map shown versions.now) i symbol.now) }
+    ensures { IfOk result (λ need. need ≡ need_of (map shown versions.now) i (owned symbol.entry)) }
 {
-    let name = symbol.name.as_bytes();
     Ok(Need {
-        name: Name::from_slice(alloc, name)?,
+        name: Name::from_slice(alloc, symbol.name)?,
         symbol: i,
         weak: symbol.binding == STB_WEAK,
-        crc: stated_version(versions, table, name),
+        crc: stated_version(versions, table, symbol.name),
     })
 }
 
 /// The needs, in the order of their symbols.
 #[tactic(auto, unfolding(crate::specs::Needs::needs_of))]
-pub(crate) fn read_needs(alloc: Global, object: &Object) -> Result<Needs, AllocError>
+pub(crate) fn read_needs(alloc: Global, object: &ObjectView) -> Result<Needs, AllocError>
     ensures { IfOk result (λ needs. needs ≡ needs_of object.now) }
 {
     let versions = version_list(alloc, object)?;

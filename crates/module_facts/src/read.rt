@@ -17,17 +17,17 @@ use crate::needs::read_needs;
 use crate::tables::{SymbolTables, tables_of};
 use crate::texts::{is_free, names_of};
 use crate::{Facts, Module, ModuleFault};
-use elf_object::Object;
+use elf_object::{Object, ObjectView};
 use km_names::{Blob, PathText, is_compressed, module_name};
 use modinfo_fields::field_values;
 use std::alloc::{AllocError, Global};
 
 /// The facts of the module at a path, by its object and the tables of that, where it exports something.
 #[tactic(auto, unfolding(crate::specs::Facts::object_facts, crate::specs::Facts::texts_of))]
-fn read_facts(
+fn facts_by(
     alloc: Global,
     path: &PathText,
-    object: &Object,
+    object: &ObjectView,
     tables: Option<&SymbolTables>,
 ) -> Result<Facts, AllocError>
     requires { AreTablesFor (exports_of object.now) object.now (option_copied tables) }
@@ -48,16 +48,27 @@ fn read_facts(
 }
 
 /// The facts of the module at a path, after all tests that they must pass.
-fn checked_facts(alloc: Global, path: &PathText, object: &Object) -> Result<Facts, ModuleFault>
+fn checked_facts(alloc: Global, path: &PathText, object: &ObjectView) -> Result<Facts, ModuleFault>
     ensures facts { IfOk result (λ facts. facts ≡ object_facts path.now object.now) }
     ensures passed { OnOk result (first (facts_tests object.now (object_facts path.now object.now)) ≡ None) }
     ensures fault { IfErr result
         (λ e. (e ≡ ModuleFault.Memory) ⊎ (first (facts_tests object.now (object_facts path.now object.now)) ≡ Some e)) }
 {
     let tables = tables_of(alloc, object)?;
-    let facts = read_facts(alloc, path, object, tables.as_ref())?;
+    let facts = facts_by(alloc, path, object, tables.as_ref())?;
     check_facts(alloc, object, tables.as_ref(), &facts)?;
     Ok(facts)
+}
+
+/// The facts of the module at a path, by its object.
+fn facts_of_object(alloc: Global, path: &PathText, object: &Object) -> Result<Facts, ModuleFault>
+    ensures facts { IfOk result (λ facts. facts ≡ object_facts path.now object.now) }
+    ensures passed { OnOk result (first (facts_tests object.now (object_facts path.now object.now)) ≡ None) }
+    ensures fault { IfErr result
+        (λ e. (e ≡ ModuleFault.Memory) ⊎ (first (facts_tests object.now (object_facts path.now object.now)) ≡ Some e)) }
+{
+    let view = object.view(alloc)?;
+    checked_facts(alloc, path, &view)
 }
 
 /// Reads the module at a path from the bytes of its file, which it keeps. After a refusal the bytes are
@@ -80,6 +91,30 @@ pub fn read_module(alloc: Global, path: &PathText, bytes: Blob) -> Result<Module
         return Err(ModuleFault::Compressed);
     }
     let object = Object::read(alloc, bytes)?;
-    let facts = checked_facts(alloc, path, &object)?;
+    let facts = facts_of_object(alloc, path, &object)?;
     Ok(Module { object, facts })
+}
+
+/// Reads the facts of the module at a path from the bytes of its file, which are given up. All that
+/// [`read_module`](crate::read_module) tests of the file is tested, and only the facts are kept, so that it takes less
+/// time and memory. modinfo(8), depmod(8).
+///
+/// # Errors
+///
+/// Those of [`read_module`](crate::read_module).
+#[tactic(auto, unfolding(crate::specs::Faults::fact_fault, crate::specs::Faults::module_tests))]
+pub fn read_facts(alloc: Global, path: &PathText, bytes: Blob) -> Result<Facts, ModuleFault>
+    requires { length bytes ≤ file_limit }
+    ensures facts { IfOk result (λ facts. facts ≡ facts_of path.now bytes) }
+    ensures path { IfOk result (λ facts. facts.path ≡ path.now) }
+    ensures sound { IfOk result (λ facts. IsSound (file_object bytes) facts) }
+    ensures passed { OnOk result (fact_fault path.now bytes ≡ None) }
+    ensures fault { IfErr result (λ e. (e ≡ ModuleFault.Memory) ⊎ (fact_fault path.now bytes ≡ Some e)) }
+{
+    if is_compressed(path) {
+        return Err(ModuleFault::Compressed);
+    }
+    let sections = ObjectView::read_sections(alloc, bytes)?;
+    let object = ObjectView::read(alloc, &sections)?;
+    checked_facts(alloc, path, &object)
 }

@@ -1,10 +1,11 @@
 // What one symbol states of a name.
 
 ghost use Rattle.std.specs.Prelude.{◌≡◌, option_copied};
-ghost use Rattle.module_facts.specs.Roles.{stated_name};
+ghost use Rattle.elf_object.specs.Symbols.{owned};
+ghost use Rattle.module_facts.specs.Roles.{after_prefix, stated_name};
 
 use elf_format::{SHN_UNDEF, STB_GLOBAL, STB_WEAK};
-use elf_object::Symbol;
+use elf_object::SymbolRef;
 
 /// What a defined symbol may state of a name.
 #[derive(Clone, Copy)]
@@ -19,23 +20,30 @@ pub(crate) enum Role {
     Definition,
 }
 
+/// What follows a prefix in a name that begins with it.
+#[inline(always)]
+fn after_prefix<'a>(prefix: &[u8], name: &'a [u8]) -> Option<&'a [u8]>
+    ensures { option_copied result ≡ after_prefix prefix.now name.now }
+{
+    name.strip_prefix(prefix)
+}
+
 /// The name that a symbol states in a role.
 #[tactic(auto, unfolding(crate::specs::Roles::stated_name))]
 #[inline]
-pub(crate) fn stated_name(role: Role, symbol: &Symbol) -> Option<&[u8]>
-    ensures { option_copied result ≡ stated_name role symbol.now }
+pub(crate) fn stated_name<'a>(role: Role, symbol: SymbolRef<'a>) -> Option<&'a [u8]>
+    ensures { option_copied result ≡ stated_name role (owned symbol.entry) }
 {
     if symbol.section == SHN_UNDEF {
         return None;
     }
-    let name = symbol.name.as_bytes();
     match role {
-        Role::Export => name.strip_prefix(b"__ksymtab_"),
-        Role::Version => name.strip_prefix(b"__crc_"),
-        Role::Space => name.strip_prefix(b"__kstrtabns_"),
+        Role::Export => after_prefix(b"__ksymtab_", symbol.name),
+        Role::Version => after_prefix(b"__crc_", symbol.name),
+        Role::Space => after_prefix(b"__kstrtabns_", symbol.name),
         Role::Definition => {
             if symbol.binding == STB_GLOBAL || symbol.binding == STB_WEAK {
-                Some(name)
+                Some(symbol.name)
             } else {
                 None
             }

@@ -1,14 +1,15 @@
 // The tables of the names that an object's symbols state.
 
-ghost use Rattle.std.specs.Prelude.{◌≡◌, [], IfOk, IsTrue, option_copied};
+ghost use Rattle.std.specs.Prelude.{◌≡◌, [], IfOk, IsTrue, option_map};
 ghost use Rattle.name_table.specs.NameTable.{IsTableOf};
 ghost use Rattle.elf_object.specs.Object.{FileObject};
+ghost use Rattle.elf_object.specs.Symbols.{owned};
 ghost use Rattle.module_facts.specs.Roles.{first_symbol, stated_names, symbol_of};
 ghost use Rattle.module_facts.specs.Exports.{exports_of};
 ghost use Rattle.module_facts.specs.SymbolTables.{AreTablesFor, HasTables};
 
 use crate::role::{Role, stated_name};
-use elf_object::{Object, Symbol};
+use elf_object::{ObjectView, SymbolRef};
 use name_table::NameTable;
 use std::alloc::{AllocError, Global};
 
@@ -22,7 +23,11 @@ pub(crate) struct SymbolTables<'a> {
 }
 
 /// The table of the names that symbols state in a role.
-fn table_of<'a>(alloc: Global, object: &'a Object, role: Role) -> Result<NameTable<'a>, AllocError>
+fn table_of<'a>(
+    alloc: Global,
+    object: &ObjectView<'a>,
+    role: Role,
+) -> Result<NameTable<'a>, AllocError>
     ensures { IfOk result (λ table. IsTableOf table (stated_names role object.now)) }
 {
     let mut table = NameTable::new(alloc);
@@ -34,7 +39,10 @@ fn table_of<'a>(alloc: Global, object: &'a Object, role: Role) -> Result<NameTab
 
 impl<'a> SymbolTables<'a> {
     /// The tables of an object.
-    pub(crate) fn new(alloc: Global, object: &'a Object) -> Result<SymbolTables<'a>, AllocError>
+    pub(crate) fn new(
+        alloc: Global,
+        object: &ObjectView<'a>,
+    ) -> Result<SymbolTables<'a>, AllocError>
         ensures { IfOk result (λ tables. HasTables tables object.now) }
     {
         Ok(SymbolTables {
@@ -59,7 +67,7 @@ impl<'a> SymbolTables<'a> {
 }
 
 /// Whether no symbol states an export.
-fn exports_nothing(object: &Object) -> bool
+fn exports_nothing(object: &ObjectView) -> bool
     ensures { IsTrue result → exports_of object.now ≡ [] }
 {
     for i in 0..object.symbol_count() {
@@ -73,7 +81,7 @@ fn exports_nothing(object: &Object) -> bool
 /// The tables of an object that exports something. Most modules export nothing, and need none.
 pub(crate) fn tables_of<'a>(
     alloc: Global,
-    object: &'a Object,
+    object: &ObjectView<'a>,
 ) -> Result<Option<SymbolTables<'a>>, AllocError>
     ensures { IfOk result (AreTablesFor (exports_of object.now) object.now) }
 {
@@ -86,13 +94,13 @@ pub(crate) fn tables_of<'a>(
 /// The first symbol that states a name in a role.
 #[tactic(auto, unfolding(crate::specs::Roles::symbol_of))]
 pub(crate) fn symbol_of<'a>(
-    object: &'a Object,
+    object: &ObjectView<'a>,
     tables: &SymbolTables,
     role: Role,
     name: &[u8],
-) -> Option<&'a Symbol>
+) -> Option<SymbolRef<'a>>
     requires { HasTables tables.now object.now }
-    ensures { option_copied result ≡ symbol_of role object.now name.now }
+    ensures { option_map owned result ≡ symbol_of role object.now name.now }
 {
     match tables.first_symbol(role, name) {
         Some(i) => Some(object.symbol(i)),

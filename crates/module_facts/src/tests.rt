@@ -1,6 +1,6 @@
 // Modules as they read, and the texts of faults.
 
-use crate::{ModuleFault, read_module};
+use crate::{ModuleFault, read_facts, read_module};
 use elf_object::{ObjectFault, SectionFault};
 use km_names::{Blob, Name, PathText};
 use std::alloc::Global;
@@ -45,6 +45,9 @@ fn an_object_without_symbols_states_nothing(rt: HostRuntime) -> Result<(), Fail>
     assert!(rt; module.facts.free);
     assert!(rt; module.facts.imports.is_empty());
     assert_eq!(rt; module.object.section_count(), 3);
+    let facts = read_facts(alloc, &path, Blob::from_slice(alloc, &LICENSE_OBJECT)?)?;
+    assert_eq!(rt; facts.name.as_bytes(), b"a_b".as_slice());
+    assert!(rt; facts.free && facts.needs.is_empty());
     Ok(())
 }
 
@@ -64,7 +67,13 @@ fn paths_and_objects_are_refused(rt: HostRuntime) -> Result<(), Fail> {
         let path = PathText::from_slice(alloc, path)?;
         let bytes = Blob::from_slice(alloc, bytes)?;
         assert!(rt; bytes.len() <= 300);
+        let copy = Blob::from_slice(alloc, bytes.as_bytes())?;
+        assert!(rt; copy.len() <= 300);
         match read_module(alloc, &path, bytes) {
+            Ok(_) => assert!(rt; false, "read, and not {want}"),
+            Err(fault) => assert_text(&rt, alloc, &fault, want)?,
+        }
+        match read_facts(alloc, &path, copy) {
             Ok(_) => assert!(rt; false, "read, and not {want}"),
             Err(fault) => assert_text(&rt, alloc, &fault, want)?,
         }

@@ -8,7 +8,7 @@ ghost use Rattle.module_facts.specs.Listed.{shown};
 ghost use Rattle.module_facts.specs.Versions.{are_bad_entries, entry_bytes, entry_list, entry_name, extended_bytes, extended_list, is_bad_extended, is_bad_list, stated_version, version_list};
 
 use crate::contents::named_bytes;
-use elf_object::Object;
+use elf_object::ObjectView;
 use km_names::{List, first_string, le_u32_at, le_u64_at};
 use name_table::NameTable;
 use std::alloc::{AllocError, Global};
@@ -128,7 +128,7 @@ fn extended_list<'a>(
 
 /// The sections of extended versions, where both stand in the file.
 #[tactic(auto, unfolding(crate::specs::Versions::extended_bytes))]
-fn extended_sections(object: &Object) -> Option<Extended<'_>>
+fn extended_sections<'a>(object: &ObjectView<'a>) -> Option<Extended<'a>>
     ensures bytes { option_map (λ x. (x.crcs.now, x.names.now)) result ≡ extended_bytes object.now }
     ensures short { IfSome result (λ x. length x.crcs.now ≤ file_limit) }
 {
@@ -141,7 +141,7 @@ fn extended_sections(object: &Object) -> Option<Extended<'_>>
 #[tactic(auto, unfolding(crate::specs::Versions::version_list))]
 pub(crate) fn version_list<'a>(
     alloc: Global,
-    object: &'a Object,
+    object: &ObjectView<'a>,
 ) -> Result<Versions<'a>, AllocError>
     ensures list { IfOk result (λ list. map shown list ≡ version_list object.now) }
     ensures few { IfOk result (λ list. length list ≤ file_limit) }
@@ -157,7 +157,7 @@ pub(crate) fn version_list<'a>(
 
 /// Whether what gives the version list can't be as it is.
 #[tactic(auto, unfolding(crate::specs::Versions::is_bad_list))]
-pub(crate) fn is_bad_list(object: &Object) -> bool
+pub(crate) fn is_bad_list(object: &ObjectView) -> bool
     ensures { result ≡ is_bad_list object.now }
 {
     match extended_sections(object) {
