@@ -12,7 +12,7 @@ ghost use Rattle.command_depmod.specs.Modules.{AreFactsAt, facts_outcome, reads_
 use km_course::{Refusal, Stop, read_needed};
 use km_names::{Blob, PathText, is_compressed, join};
 use km_outside::Reads;
-use module_facts::{Facts, ModuleFault, read_module};
+use module_facts::{Facts, ModuleFault};
 use provider_rel::TreeFacts;
 use std::alloc::Global;
 
@@ -62,8 +62,8 @@ fn check_facts(alloc: Global, path: &PathText, bytes: Blob) -> Result<Facts, Sto
     ensures answers { Answers (λ x. x) (facts_outcome path.now bytes (fact_fault path.now bytes)) result }
     ensures facts { IfOk result (λ facts. AreFactsAt path.now facts) }
 {
-    match read_module(alloc, path, bytes) {
-        Ok(module) => Ok(module.facts),
+    match module_facts::read_facts(alloc, path, bytes) {
+        Ok(facts) => Ok(facts),
         Err(fault) => match fault {
             ModuleFault::Memory => Err(Stop::Memory),
             _ => {

@@ -1,5 +1,6 @@
 use Rattle.std.proofs.Common.{sym, subst, ◌∙◌}
 use Rattle.std.specs.Prelude.{Err}
+use Rattle.elf_object.specs.Object.{file_object}
 use Rattle.module_facts.specs.declared.facts.Facts.{Facts}
 use Rattle.module_facts.specs.Faults.{fact_fault}
 use Rattle.km_course.specs.Follows.{Answers}
@@ -8,10 +9,10 @@ use Rattle.command_depmod.proofs.ModuleSteps.{checked_ok, checked_not, facts-at}
 use Rattle.command_depmod.proofs.modules.check_facts.Goals as goal
 
 pub returns-in-Ok-clause-answers : goal.returns-in-Ok-clause-answers
-returns-in-Ok-clause-answers c = checked_ok c.args.path.now c.args.bytes c.in-Ok.module.facts _ c.in-Ok.ensures.facts c.in-Ok.ensures.passed
+returns-in-Ok-clause-answers c = checked_ok c.args.path.now c.args.bytes c.in-Ok.facts _ c.in-Ok.ensures.facts c.in-Ok.ensures.passed
 
 pub returns-in-Ok-clause-facts : goal.returns-in-Ok-clause-facts
-returns-in-Ok-clause-facts c = facts-at c.args.path.now c.args.bytes c.in-Ok.module.object c.in-Ok.module.facts c.in-Ok.ensures.facts c.in-Ok.ensures.path c.in-Ok.ensures.sound
+returns-in-Ok-clause-facts c = facts-at c.args.path.now c.args.bytes (file_object c.args.bytes) c.in-Ok.facts c.in-Ok.ensures.facts c.in-Ok.ensures.path c.in-Ok.ensures.sound
 
 pub returns-clause-answers : goal.returns-clause-answers
 returns-clause-answers c =
