@@ -1,5 +1,5 @@
 -- Tables, an item more at a time.
-use Rattle.std.proofs.Common.{◌≡◌, ℕ, ◌+◌, Bool, true, false, Bor, List, [], ◌∷◌, ◌++◌, cond, length, map, Option, Some, None, is_some, option_copied, not, refl, sym, ap, subst, ◌∙◌, arith, add-zero, zero-add, length-append}
+use Rattle.std.proofs.Common.{◌≡◌, ℕ, ◌+◌, Bool, true, false, Bor, List, [], ◌∷◌, ◌++◌, cond, length, map, Option, Some, None, is_some, option_copied, unwrap_or, not, refl, sym, ap, subst, ◌∙◌, arith, add-zero, zero-add, length-append}
 use Rattle.std.proofs.lemmas.Iterator.Adapters.{position_from-zero}
 use Rattle.std.proofs.lemmas.Cmp.{nat_list_eq_equiv}
 use Rattle.std.specs.List.{position_from}
@@ -37,6 +37,19 @@ put-last bytes old new k place name other is key =
     ∙ lookup-push (λ k. bytes_eq other (bytes k)) old k place
     ∙ ap (λ n. option_or (lookup (λ k. bytes_eq other (bytes k)) old) (cond (bytes_eq other n) (Some place) None)) key
     ∙ ap (λ b. option_or (lookup (λ k. bytes_eq other (bytes k)) old) (cond b (Some place) None)) (nat_list_eq_equiv.symm other name)
+
+-- an entry of a name that had one keeps it, and one that had none gets this place
+pub kept : (same : Bool) (new old held : Option ℕ) (first place : ℕ) → new ≡ cond same (Some first) old → first ≡ unwrap_or held place → (same ≡ true → old ≡ held)
+    → new ≡ option_or old (cond same (Some place) None)
+kept true new old None first place is value found = rw (found refl) (is ∙ ap Some value)
+kept true new old (Some v) first place is value found = rw (found refl) (is ∙ ap Some value)
+kept false new None held first place is value found = is
+kept false new (Some v) held first place is value found = is
+
+-- of two values that are put under one name the second stands
+pub put_twice : (same : Bool) (new between old first second : Option ℕ) → new ≡ cond same second between → between ≡ cond same first old → new ≡ cond same second old
+put_twice true new between old first second last once = last
+put_twice false new between old first second last once = last ∙ once
 
 position_from-push : {X : Type 0} (p : X → Bool) (i : ℕ) (xs : List X) (x : X)
     → position_from p i (xs ++ x ∷ []) ≡ option_or (position_from p i xs) (cond (p x) (Some (i + length xs)) None)

@@ -26,7 +26,8 @@ impl<'a> Model for NameTable<'a> {
     ghost view = { λ t. record { entries = map (λ e. (e.0.bytes.now, e.1)) t.places.entries; count = t.count } };
 }
 
-// Puts a name in with its place, unless it is there.
+// Puts a name in with its place; one that was there gets back the place that it had. So a new name, as most are, is
+// looked up once.
 fn keep_first<'a>(
     places: &mut IndexMap<Key<'a>, u32>,
     name: &'a [u8],
@@ -37,8 +38,8 @@ fn keep_first<'a>(
     ensures err { OnErr result (IsUnchanged places.old places.new) }
 {
     let key = Key::new(name);
-    if places.get(&key).is_none() {
-        places.insert(key, place)?;
+    if let Some(first) = places.insert(key, place)? {
+        places.insert(key, first)?;
     }
     Ok(())
 }
