@@ -2,7 +2,22 @@
 use Rattle.std.specs.Prelude.{◌≡◌, ℕ, List, map, None}
 use Rattle.std.specs.List.{range_with_len}
 use Rattle.elf_object.specs.declared.section.Section.{Section}
+use Rattle.elf_object.specs.declared.section.SectionRef.{SectionRef}
 use Rattle.elf_object.specs.Shape.{AllInFile, HasTable, content, is_kept, name_in, name_table, section_count, section_header, shape_fault, contents}
+
+-- The section with a name of its own.
+abbrev pub owned_section : SectionRef → Section
+owned_section s = record {
+  name = s.name.now;
+  kind = s.kind;
+  flags = s.flags;
+  offset = s.offset;
+  size = s.size;
+  link = s.link;
+  info = s.info;
+  align = s.align;
+  kept = s.kept;
+}
 
 -- The section i of the file.
 unfoldable pub section_of : List ℕ → ℕ → Section

@@ -17,8 +17,8 @@ use Rattle.elf_object.specs.Shape.{each, contents, fault_if, section_count}
 use Rattle.elf_object.specs.Sections.{entry_size, section_of}
 
 -- The symbol with a name of its own.
-abbrev pub owned : SymbolRef → Symbol
-owned s = record { name = s.name.now; binding = s.binding; section = s.section; value = s.value }
+abbrev pub owned_symbol : SymbolRef → Symbol
+owned_symbol s = record { name = s.name.now; binding = s.binding; section = s.section; value = s.value }
 
 -- The test that the section i holds no relocations without addends.
 unfoldable pub rel_test : List ℕ → ℕ → Option ObjectFault

@@ -12,8 +12,8 @@
 //! memory, before more than that was searched or copied. Time is linear in the file and those bytes, but for the
 //! sorting of places that don't stand in order.
 //!
-//! An `ObjectView` shows what passed the same tests to those who don't load it: the names of symbols stay in the file,
-//! and the places are tested and not kept.
+//! An `ObjectView` shows what passed the same tests to those who don't load it: names stay in the file, and the places
+//! are tested and not kept.
 //!
 //! The crate stands on `elf_format` for the numbers of the format, on `km_names` for names and numbers, on
 //! `memchr` for the ends of names, and on `thiserror` for the error traits. The bytes of sections aren't copied;
@@ -28,6 +28,7 @@ mod overlap;
 mod place;
 mod places;
 mod section;
+mod section_table;
 mod sections;
 mod shape;
 mod strings;
@@ -40,7 +41,7 @@ mod view;
 pub use fault::{ObjectFault, SectionFault};
 pub use object::Object;
 pub use place::RelaPlace;
-pub use section::Section;
+pub use section::{Section, SectionRef};
 pub use sections::Sections;
 pub use strings::NAME_LIMIT;
 pub use symbol::{Symbol, SymbolRef};

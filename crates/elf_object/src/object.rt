@@ -56,9 +56,10 @@ fn read_lists(
     ensures fault { IfErr result (λ e. (e ≡ ObjectFault.Memory)
         ⊎ (first (content_tests sections.now.file) ≡ Some e)) }
 {
-    let symbols = read_symbol_table(alloc, sections)?;
-    let unkept = unkept_symbols(alloc, sections.list(), symbols.as_slice())?;
-    let places = read_places(alloc, sections, &unkept)?;
+    let table = sections.table(alloc)?;
+    let symbols = read_symbol_table(alloc, &table)?;
+    let unkept = unkept_symbols(alloc, table.list(), symbols.as_slice())?;
+    let places = read_places(alloc, &table, &unkept)?;
     Ok((owned_symbols(alloc, symbols.as_slice())?, places))
 }
 
@@ -95,11 +96,9 @@ impl Object {
     pub fn view(&self, alloc: Global) -> Result<ObjectView<'_>, AllocError>
         ensures { IfOk result (λ view. view ≡ self.now) }
     {
+        let table = self.sections.table(alloc)?;
         let symbols = borrowed_symbols(alloc, self.symbols.as_slice())?;
-        Ok(ObjectView {
-            sections: &self.sections,
-            symbols,
-        })
+        Ok(ObjectView { table, symbols })
     }
 
     /// How many sections there are.

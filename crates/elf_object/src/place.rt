@@ -6,9 +6,10 @@ ghost use Rattle.km_names.specs.Number.{signed};
 ghost use Rattle.elf_format.specs.Relocation.{width};
 ghost use Rattle.elf_object.specs.Inner.{unkept_flags};
 ghost use Rattle.elf_object.specs.Places.{is_bad_place, lies_unkept, place_in, place_test, place_width, room_in};
-ghost use Rattle.elf_object.specs.Symbols.{owned};
+ghost use Rattle.elf_object.specs.Sections.{owned_section};
+ghost use Rattle.elf_object.specs.Symbols.{owned_symbol};
 
-use crate::{ObjectFault, Section, SymbolRef};
+use crate::{ObjectFault, SectionRef, SymbolRef};
 use elf_format::{R_X86_64_NONE, RELA_SIZE, SHN_UNDEF, SHT_NOBITS, width};
 use km_names::le_u64_at;
 use std::alloc::{AllocError, Global};
@@ -58,8 +59,8 @@ pub(crate) fn place_at(table: &[u8], section: u32, target: u32, entry: u32) -> R
 }
 
 /// Whether a symbol lies in a section that isn't kept.
-fn is_unkept(sections: &[Section], symbol: &SymbolRef) -> bool
-    ensures { result ≡ lies_unkept sections.now (owned symbol.now) }
+fn is_unkept(sections: &[SectionRef], symbol: &SymbolRef) -> bool
+    ensures { result ≡ lies_unkept (map owned_section sections.now) (owned_symbol symbol.now) }
 {
     match sections.get(usize::from(symbol.section)) {
         Some(found) => symbol.section != SHN_UNDEF && !found.kept,
@@ -71,10 +72,10 @@ fn is_unkept(sections: &[Section], symbol: &SymbolRef) -> bool
 /// asked once for each symbol.
 pub(crate) fn unkept_symbols(
     alloc: Global,
-    sections: &[Section],
+    sections: &[SectionRef],
     symbols: &[SymbolRef],
 ) -> Result<Vec<bool>, AllocError>
-    ensures { IfOk result (λ flags. flags.items ≡ unkept_flags sections.now (map owned symbols.now)) }
+    ensures { IfOk result (λ flags. flags.items ≡ unkept_flags (map owned_section sections.now) (map owned_symbol symbols.now)) }
 {
     let mut flags = Vec::with_capacity(alloc, symbols.len())?;
     for symbol in symbols {
@@ -84,8 +85,8 @@ pub(crate) fn unkept_symbols(
 }
 
 /// How many bytes of a section a file can have changed: none of one whose bytes aren't there.
-pub(crate) fn room_in(section: &Section) -> u64
-    ensures { result ≡ room_in section.now }
+pub(crate) fn room_in(section: SectionRef) -> u64
+    ensures { result ≡ room_in (owned_section section.entry) }
 {
     if section.kind == SHT_NOBITS {
         0

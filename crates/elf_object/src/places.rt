@@ -15,7 +15,8 @@ ghost use Rattle.elf_object.specs.Overlap.{IsOrderOf};
 use crate::met::MetPlaces;
 use crate::overlap::{Order, SECTION, find_shared};
 use crate::place::{check_place, place_at, room_in};
-use crate::{ObjectFault, RelaPlace, Sections};
+use crate::section_table::SectionTable;
+use crate::{ObjectFault, RelaPlace};
 use elf_format::{PAGE, RELA_SIZE, SHT_RELA};
 use km_names::{FILE_LIMIT, List};
 use std::alloc::{AllocError, Global};
@@ -34,7 +35,7 @@ fn is_alignment(align: u64) -> bool
 
 /// Tests the alignments of the sections that are kept.
 #[tactic(auto, unfolding(crate::specs::Places::align_test))]
-fn check_alignments(sections: &Sections) -> Result<(), ObjectFault>
+fn check_alignments(sections: &SectionTable) -> Result<(), ObjectFault>
     ensures { result_err result
         ≡ first (each (section_count sections.now.file) (align_test sections.now.file)) }
 {
@@ -49,7 +50,7 @@ fn check_alignments(sections: &Sections) -> Result<(), ObjectFault>
 
 /// Whether the section `index` holds relocations of a section that is kept.
 #[tactic(auto, unfolding(crate::specs::Places::is_applied))]
-fn is_applied(sections: &Sections, index: u32) -> bool
+fn is_applied(sections: &SectionTable, index: u32) -> bool
     requires fit { TablesFit sections.now.file }
     requires index { index < length sections.now.list }
     ensures { result ≡ is_applied sections.now.file index }
@@ -63,7 +64,7 @@ fn is_applied(sections: &Sections, index: u32) -> bool
 /// # Errors
 ///
 /// Where the tables together have more than `TABLE_LIMIT` bytes.
-fn relocation_count(sections: &Sections) -> Result<usize, AllocError>
+fn relocation_count(sections: &SectionTable) -> Result<usize, AllocError>
     requires { TablesFit sections.now.file }
 {
     let mut left = TABLE_LIMIT;
@@ -83,7 +84,7 @@ fn relocation_count(sections: &Sections) -> Result<usize, AllocError>
 /// read goes to its loop, so it stays a function of its own.
 #[inline(never)]
 fn meet_section_places(
-    sections: &Sections,
+    sections: &SectionTable,
     unkept: &[bool],
     index: u32,
     met: &mut MetPlaces,
@@ -115,7 +116,11 @@ fn meet_section_places(
 }
 
 /// Meets the places of a file, of which none was met.
-fn meet_places(sections: &Sections, unkept: &[bool], met: &mut MetPlaces) -> Result<(), ObjectFault>
+fn meet_places(
+    sections: &SectionTable,
+    unkept: &[bool],
+    met: &mut MetPlaces,
+) -> Result<(), ObjectFault>
     requires small { length sections.now.file ≤ file_limit }
     requires read { IsRead sections.now.file sections.now.list }
     requires fit { TablesFit sections.now.file }
@@ -138,7 +143,7 @@ fn meet_places(sections: &Sections, unkept: &[bool], met: &mut MetPlaces) -> Res
 /// Tests that no byte is changed by two places.
 fn check_overlaps(
     alloc: Global,
-    sections: &Sections,
+    sections: &SectionTable,
     places: &[RelaPlace],
     order: &Order,
 ) -> Result<(), ObjectFault>
@@ -167,7 +172,7 @@ fn check_overlaps(
 /// Reads the places of a file, by what is known of its symbols, with the tests of the sections that they change.
 pub(crate) fn read_places(
     alloc: Global,
-    sections: &Sections,
+    sections: &SectionTable,
     unkept: &[bool],
 ) -> Result<List<RelaPlace>, ObjectFault>
     requires small { length sections.now.file ≤ file_limit }
@@ -191,7 +196,7 @@ pub(crate) fn read_places(
 /// take no memory.
 pub(crate) fn check_places(
     alloc: Global,
-    sections: &Sections,
+    sections: &SectionTable,
     unkept: &[bool],
 ) -> Result<(), ObjectFault>
     requires small { length sections.now.file ≤ file_limit }

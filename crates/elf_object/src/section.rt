@@ -1,16 +1,16 @@
 // One section.
 
-ghost use Rattle.std.specs.Prelude.{◌≡◌, ◌<◌, ◌⊎◌, None, Some, IfOk, IfErr};
+ghost use Rattle.std.specs.Prelude.{◌≡◌, ◌<◌, map, IfOk};
 ghost use Rattle.std.specs.Result.{result_err};
 ghost use Rattle.elf_object.specs.Shape.{HasTable, contents, is_for_loading, is_kept, name_in, name_table, name_test, name_test_in, section_count};
-ghost use Rattle.elf_object.specs.Sections.{section_of};
+ghost use Rattle.elf_object.specs.Sections.{owned_section, section_of};
 ghost use Rattle.elf_object.specs.Inner.{HasStrings};
 
 use crate::SectionFault;
 use crate::header::section_header;
 use elf_format::{SHF_ALLOC, SHT_NULL};
-use km_names::{Name, string_at};
-use std::alloc::Global;
+use km_names::{List, Name, string_at};
+use std::alloc::{AllocError, Global};
 
 /// A section of a file. gABI 4, "Sections", Elf64_Shdr.
 #[derive(Debug, Drop)]
@@ -33,6 +33,29 @@ pub struct Section {
     pub align: u64,
     /// Whether it is in the memory of the running module: it is a section, has the flag ALLOC, and isn't there
     /// for the loading alone, as the module's texts and the versions of its needs are.
+    pub kept: bool,
+}
+
+/// A section of a file whose name stands elsewhere, as in the file's table of names. gABI 4, "Sections", Elf64_Shdr.
+#[derive(Clone, Copy, Debug)]
+pub struct SectionRef<'a> {
+    /// The text at `sh_name` of the names; empty for a section of type NULL.
+    pub name: &'a [u8],
+    /// The type, `sh_type`.
+    pub kind: u32,
+    /// The flags, `sh_flags`.
+    pub flags: u64,
+    /// Where its bytes begin in the file.
+    pub offset: u64,
+    /// How many bytes it has, in the file or when the module runs.
+    pub size: u64,
+    /// The section that belongs to it, `sh_link`.
+    pub link: u32,
+    /// The further number `sh_info`.
+    pub info: u32,
+    /// Its place in memory is a multiple of this; 0 counts as 1.
+    pub align: u64,
+    /// Whether it is in the memory of the running module, as of a [`Section`].
     pub kept: bool,
 }
 
@@ -74,24 +97,21 @@ fn section_name<'a>(names: &'a [u8], kind: u32, at: u32) -> Result<&'a [u8], Sec
 
 /// The section `index`, by the table of names.
 #[tactic(auto, unfolding(crate::specs::Sections::section_of))]
-pub(crate) fn read_section(
-    alloc: Global,
+pub(crate) fn read_section<'a>(
     bytes: &[u8],
-    names: &[u8],
+    names: &'a [u8],
     index: u16,
-) -> Result<Section, SectionFault>
+) -> Result<SectionRef<'a>, SectionFault>
     requires table { HasTable bytes.now }
     requires index { index < section_count bytes.now }
     requires names { HasStrings (contents bytes.now (name_table bytes.now)) names.now }
-    ensures section { IfOk result (λ s. s ≡ section_of bytes.now index) }
-    ensures passed { IfOk result (λ _. name_test bytes.now index ≡ None) }
-    ensures fault { IfErr result (λ e. (e ≡ SectionFault.Memory)
-        ⊎ (name_test bytes.now index ≡ Some e)) }
+    ensures section { IfOk result (λ s. owned_section s ≡ section_of bytes.now index) }
+    ensures fault { result_err result ≡ name_test bytes.now index }
 {
     let header = section_header(bytes, index);
     let name = section_name(names, header.kind, header.name)?;
-    Ok(Section {
-        name: Name::from_slice(alloc, name)?,
+    Ok(SectionRef {
+        name,
         kind: header.kind,
         flags: header.flags,
         offset: header.offset,
@@ -101,4 +121,52 @@ pub(crate) fn read_section(
         align: header.align,
         kept: is_kept(header.kind, header.flags, name),
     })
+}
+
+/// Sections with names of their own.
+pub(crate) fn owned_sections(
+    alloc: Global,
+    sections: &[SectionRef],
+) -> Result<List<Section>, AllocError>
+    ensures { IfOk result (λ l. l ≡ map owned_section sections.now) }
+{
+    let mut list = Vec::with_capacity(alloc, sections.len())?;
+    for section in sections {
+        list.push(Section {
+            name: Name::from_slice(alloc, section.name)?,
+            kind: section.kind,
+            flags: section.flags,
+            offset: section.offset,
+            size: section.size,
+            link: section.link,
+            info: section.info,
+            align: section.align,
+            kept: section.kept,
+        })?;
+    }
+    Ok(List::from_vec(list))
+}
+
+/// Sections with their names where these are.
+pub(crate) fn borrowed_sections<'a>(
+    alloc: Global,
+    sections: &'a [Section],
+) -> Result<List<SectionRef<'a>>, AllocError>
+    ensures { IfOk result (λ l. map owned_section l ≡ sections.now) }
+{
+    let mut list = Vec::with_capacity(alloc, sections.len())?;
+    for section in sections {
+        list.push(SectionRef {
+            name: section.name.as_bytes(),
+            kind: section.kind,
+            flags: section.flags,
+            offset: section.offset,
+            size: section.size,
+            link: section.link,
+            info: section.info,
+            align: section.align,
+            kept: section.kept,
+        })?;
+    }
+    Ok(List::from_vec(list))
 }

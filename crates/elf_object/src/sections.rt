@@ -3,13 +3,15 @@
 ghost use Rattle.std.specs.Prelude.{◌≡◌, ◌+◌, ◌<◌, ◌≤◌, ◌⊎◌, length, None, Some, IfOk, IfErr, IfSome, IsTrue, OnOk, slice_get};
 ghost use Rattle.std.specs.List.{position};
 ghost use Rattle.std.specs.Str.{bytes_eq};
+ghost use Rattle.elf_object.specs.Sections.{IsRead};
 ghost use Rattle.elf_object.specs.Shape.{contents, has_content, section_count, shape_fault};
 
-use crate::header::section_header;
+use crate::section::{borrowed_sections, owned_sections};
+use crate::section_table::SectionTable;
 use crate::shape::{contents, read_shape};
 use crate::{Section, SectionFault};
 use km_names::{Blob, List};
-use std::alloc::Global;
+use std::alloc::{AllocError, Global};
 use std::marker::Model;
 
 /// The sections of an object file, with its bytes. Contracts see both.
@@ -29,8 +31,19 @@ impl Model for Sections {
     ghost invariant = { λ s. IsRead s.bytes s.sections };
 }
 
+/// The sections of a file, with names of their own.
+fn read_owned(alloc: Global, bytes: &[u8]) -> Result<List<Section>, SectionFault>
+    ensures read { IfOk result (λ l. IsRead bytes.now l) }
+    ensures passed { OnOk result (shape_fault bytes.now ≡ None) }
+    ensures fault { IfErr result (λ e. (e ≡ SectionFault.Memory)
+        ⊎ (shape_fault bytes.now ≡ Some e)) }
+{
+    let table = read_shape(alloc, bytes)?;
+    Ok(owned_sections(alloc, table.list())?)
+}
+
 impl Sections {
-    ghost use Rattle.elf_object.specs.Sections.{IsRead, bytes_of, entry_size, file_sections, section_of, sections_of};
+    ghost use Rattle.elf_object.specs.Sections.{IsRead, bytes_of, file_sections, section_of, sections_of};
     ghost use Rattle.elf_format.specs.declared.symbol.TheConstants.{SHN_LORESERVE};
 
     /// Reads the sections of a file, which it keeps. After a refusal the bytes are given up.
@@ -46,7 +59,7 @@ impl Sections {
         ensures fault { IfErr result (λ e. (e ≡ SectionFault.Memory)
             ⊎ (shape_fault bytes ≡ Some e)) }
     {
-        let sections = read_shape(alloc, bytes.as_bytes())?;
+        let sections = read_owned(alloc, bytes.as_bytes())?;
         Ok(Sections { bytes, sections })
     }
 
@@ -97,18 +110,14 @@ impl Sections {
         None
     }
 
-    /// The sections, as the file has them.
-    pub(crate) fn list(&self) -> &[Section]
-        ensures { result.now ≡ sections_of self.now.file }
+    /// The sections with their names where these are.
+    pub(crate) fn table(&self, alloc: Global) -> Result<SectionTable<'_>, AllocError>
+        ensures { IfOk result (λ table. table ≡ self.now) }
     {
-        self.sections.as_slice()
-    }
-
-    /// The size of an entry of the section `i`, if it is a table. gABI 4, "Sections", sh_entsize.
-    pub(crate) fn entry_size(&self, i: u32) -> u64
-        requires { i < length self.now.list }
-        ensures { result ≡ entry_size self.now.file i }
-    {
-        section_header(self.bytes.as_bytes(), i as u16).entry_size
+        let sections = borrowed_sections(alloc, self.sections.as_slice())?;
+        Ok(SectionTable {
+            bytes: self.bytes.as_bytes(),
+            sections,
+        })
     }
 }

@@ -1,18 +1,19 @@
 // The sections of a file, and the tests that they pass.
 
-ghost use Rattle.std.specs.Prelude.{◌≡◌, ◌+◌, ◌<◌, ◌≤◌, ◌⊎◌, length, None, Some, IsTrue, OnOk, IfOk, IfErr};
+ghost use Rattle.std.specs.Prelude.{◌≡◌, ◌+◌, ◌<◌, ◌≤◌, ◌⊎◌, length, map, None, Some, IsTrue, OnOk, IfOk, IfErr};
 ghost use Rattle.std.specs.Result.{result_err};
 ghost use Rattle.km_names.specs.First.{first};
 ghost use Rattle.elf_object.specs.Shape.{AllInFile, HasTable, IsInFile, content, each, has_content, name_table, name_table_test, name_test, place_test, section_count, section_header, shape_fault, contents};
-ghost use Rattle.elf_object.specs.Sections.{IsRead, sections_of};
+ghost use Rattle.elf_object.specs.Sections.{IsRead, file_sections, owned_section, sections_of};
 ghost use Rattle.elf_object.specs.Inner.{HasStrings};
 
 use crate::header::{
     SectionHeader, check_header, is_within, name_table, section_count, section_header,
 };
 use crate::section::read_section;
+use crate::section_table::SectionTable;
 use crate::strings::{NAME_LIMIT, are_within_limit, left_after, up_to_last_nul};
-use crate::{Section, SectionFault};
+use crate::{SectionFault, SectionRef};
 use elf_format::{SHT_NOBITS, SHT_NULL, SHT_STRTAB};
 use km_names::List;
 use std::alloc::{AllocError, Global};
@@ -115,10 +116,14 @@ fn check_name_sum(bytes: &[u8], names: &[u8]) -> Result<(), AllocError>
 }
 
 /// Reads the sections, by the table of names.
-fn read_sections(alloc: Global, bytes: &[u8], names: &[u8]) -> Result<List<Section>, SectionFault>
+fn read_sections<'a>(
+    alloc: Global,
+    bytes: &[u8],
+    names: &'a [u8],
+) -> Result<List<SectionRef<'a>>, SectionFault>
     requires table { HasTable bytes.now }
     requires names { HasStrings (contents bytes.now (name_table bytes.now)) names.now }
-    ensures sections { IfOk result (λ l. l ≡ sections_of bytes.now) }
+    ensures sections { IfOk result (λ l. map owned_section l ≡ sections_of bytes.now) }
     ensures passed { OnOk result
         (first (each (section_count bytes.now) (name_test bytes.now)) ≡ None) }
     ensures fault { IfErr result
@@ -128,14 +133,18 @@ fn read_sections(alloc: Global, bytes: &[u8], names: &[u8]) -> Result<List<Secti
     let count = section_count(bytes);
     let mut sections = Vec::with_capacity(alloc, count as usize)?;
     for index in 0..count {
-        sections.push(read_section(alloc, bytes, names, index)?)?;
+        sections.push(read_section(bytes, names, index)?)?;
     }
     Ok(List::from_vec(sections))
 }
 
 /// Reads the sections of a file, after all tests that it must pass.
-pub(crate) fn read_shape(alloc: Global, bytes: &[u8]) -> Result<List<Section>, SectionFault>
-    ensures read { IfOk result (λ l. IsRead bytes.now l) }
+pub(crate) fn read_shape<'a>(
+    alloc: Global,
+    bytes: &'a [u8],
+) -> Result<SectionTable<'a>, SectionFault>
+    ensures sections { IfOk result (λ t. t ≡ file_sections bytes.now) }
+    ensures read { OnOk result (IsRead bytes.now (sections_of bytes.now)) }
     ensures passed { OnOk result (shape_fault bytes.now ≡ None) }
     ensures fault { IfErr result (λ e. (e ≡ SectionFault.Memory)
         ⊎ (shape_fault bytes.now ≡ Some e)) }
@@ -145,5 +154,6 @@ pub(crate) fn read_shape(alloc: Global, bytes: &[u8]) -> Result<List<Section>, S
     check_name_table(bytes)?;
     let names = up_to_last_nul(contents(bytes, name_table(bytes)));
     check_name_sum(bytes, names)?;
-    read_sections(alloc, bytes, names)
+    let sections = read_sections(alloc, bytes, names)?;
+    Ok(SectionTable { bytes, sections })
 }

@@ -5,7 +5,7 @@ ghost use Rattle.std.specs.Result.{result_err};
 ghost use Rattle.km_names.specs.Limit.{file_limit};
 ghost use Rattle.km_names.specs.First.{first};
 ghost use Rattle.elf_object.specs.Shape.{each};
-ghost use Rattle.elf_object.specs.Symbols.{entries, is_bad_symbol, kind_test, owned, symbol_entry, symbol_in, symbol_test_in, symbols_in};
+ghost use Rattle.elf_object.specs.Symbols.{entries, is_bad_symbol, kind_test, owned_symbol, symbol_entry, symbol_in, symbol_test_in, symbols_in};
 
 use crate::strings::{NAME_LIMIT, are_within_limit, left_after};
 use crate::{ObjectFault, SectionFault};
@@ -118,7 +118,7 @@ fn read_symbol<'a>(
     index: u32,
 ) -> Result<SymbolRef<'a>, ObjectFault>
     requires { 24 * index + 24 ≤ length table.now }
-    ensures symbol { IfOk result (λ s. owned s ≡ symbol_in table.now names.now index) }
+    ensures symbol { IfOk result (λ s. owned_symbol s ≡ symbol_in table.now names.now index) }
     ensures fault { result_err result ≡ symbol_test_in table.now names.now count index }
 {
     if index == 0 {
@@ -152,7 +152,7 @@ pub(crate) fn read_symbols<'a>(
     count: u32,
 ) -> Result<List<SymbolRef<'a>>, ObjectFault>
     requires { length table.now ≤ file_limit }
-    ensures symbols { IfOk result (λ l. map owned l ≡ symbols_in table.now names.now) }
+    ensures symbols { IfOk result (λ l. map owned_symbol l ≡ symbols_in table.now names.now) }
     ensures passed { OnOk result
         (first (each (entries table.now) (symbol_test_in table.now names.now count)) ≡ None) }
     ensures fault { IfErr result
@@ -172,7 +172,7 @@ pub(crate) fn owned_symbols(
     alloc: Global,
     symbols: &[SymbolRef],
 ) -> Result<List<Symbol>, AllocError>
-    ensures { IfOk result (λ l. l ≡ map owned symbols.now) }
+    ensures { IfOk result (λ l. l ≡ map owned_symbol symbols.now) }
 {
     let mut list = Vec::with_capacity(alloc, symbols.len())?;
     for symbol in symbols {
@@ -191,7 +191,7 @@ pub(crate) fn borrowed_symbols<'a>(
     alloc: Global,
     symbols: &'a [Symbol],
 ) -> Result<List<SymbolRef<'a>>, AllocError>
-    ensures { IfOk result (λ l. map owned l ≡ symbols.now) }
+    ensures { IfOk result (λ l. map owned_symbol l ≡ symbols.now) }
 {
     let mut list = Vec::with_capacity(alloc, symbols.len())?;
     for symbol in symbols {

@@ -7,18 +7,19 @@ ghost use Rattle.km_names.specs.Limit.{file_limit};
 ghost use Rattle.elf_object.specs.Shape.{each, section_count};
 ghost use Rattle.elf_object.specs.Inner.{TablesFit};
 ghost use Rattle.elf_object.specs.Sections.{IsRead};
-ghost use Rattle.elf_object.specs.Symbols.{has_entries, is_good_table, is_string_table, is_symbol_table, owned, rel_test, symbol_bytes, symbol_names, symbol_table, symbol_tests, symbols_of, table_test};
+ghost use Rattle.elf_object.specs.Symbols.{has_entries, is_good_table, is_string_table, is_symbol_table, owned_symbol, rel_test, symbol_bytes, symbol_names, symbol_table, symbol_tests, symbols_of, table_test};
 
+use crate::section_table::SectionTable;
 use crate::strings::up_to_last_nul;
 use crate::symbol::{check_name_sum, read_symbols};
-use crate::{ObjectFault, Sections, SymbolRef};
+use crate::{ObjectFault, SymbolRef};
 use elf_format::{SHT_REL, SHT_RELA, SHT_STRTAB, SHT_SYMTAB, SYM_SIZE};
 use km_names::List;
 use std::alloc::Global;
 
 /// Tests that no section holds relocations without addends.
 #[tactic(auto, unfolding(crate::specs::Symbols::rel_test))]
-fn check_rel(sections: &Sections) -> Result<(), ObjectFault>
+fn check_rel(sections: &SectionTable) -> Result<(), ObjectFault>
     ensures { result_err result
         ≡ first (each (section_count sections.now.file) (rel_test sections.now.file)) }
 {
@@ -31,7 +32,7 @@ fn check_rel(sections: &Sections) -> Result<(), ObjectFault>
 }
 
 /// The symbol table: the first section of that type.
-fn symbol_table(sections: &Sections) -> Option<u32>
+fn symbol_table(sections: &SectionTable) -> Option<u32>
     ensures { result ≡ symbol_table sections.now.file }
 {
     for index in 0..sections.section_count() {
@@ -44,7 +45,7 @@ fn symbol_table(sections: &Sections) -> Option<u32>
 
 /// Whether the section `index` is a string table.
 #[tactic(auto, unfolding(crate::specs::Symbols::is_string_table))]
-fn is_string_table(sections: &Sections, index: u32) -> bool
+fn is_string_table(sections: &SectionTable, index: u32) -> bool
     ensures { result ≡ is_string_table sections.now.file index }
 {
     index < sections.section_count() && sections.section(index).kind == SHT_STRTAB
@@ -52,7 +53,7 @@ fn is_string_table(sections: &Sections, index: u32) -> bool
 
 /// Whether the section `index` has entries of 24 bytes, each of them whole.
 #[tactic(auto, unfolding(crate::specs::Symbols::has_entries))]
-fn has_entries(sections: &Sections, index: u32) -> bool
+fn has_entries(sections: &SectionTable, index: u32) -> bool
     requires { index < length sections.now.list }
     ensures { result ≡ has_entries sections.now.file index }
 {
@@ -62,7 +63,7 @@ fn has_entries(sections: &Sections, index: u32) -> bool
 
 /// Whether the section `index`, if it is a table, can be one, by the number of the symbol table.
 #[tactic(auto, unfolding(crate::specs::Symbols::is_good_table, crate::specs::Symbols::is_symbol_table))]
-fn is_good_table(sections: &Sections, symbols: Option<u32>, index: u32) -> bool
+fn is_good_table(sections: &SectionTable, symbols: Option<u32>, index: u32) -> bool
     requires index { index < length sections.now.list }
     requires symbols { symbols ≡ symbol_table sections.now.file }
     ensures { result ≡ is_good_table sections.now.file index }
@@ -85,7 +86,7 @@ fn is_good_table(sections: &Sections, symbols: Option<u32>, index: u32) -> bool
 }
 
 /// Tests that each table can be one, by the number of the symbol table.
-fn check_tables(sections: &Sections, symbols: Option<u32>) -> Result<(), ObjectFault>
+fn check_tables(sections: &SectionTable, symbols: Option<u32>) -> Result<(), ObjectFault>
     requires { symbols ≡ symbol_table sections.now.file }
     ensures fault { result_err result
         ≡ first (each (section_count sections.now.file) (table_test sections.now.file)) }
@@ -100,7 +101,7 @@ fn check_tables(sections: &Sections, symbols: Option<u32>) -> Result<(), ObjectF
 }
 
 /// The bytes of the symbol table, and those of its string table; none where there is no symbol table.
-fn symbol_tables(sections: &Sections, symbols: Option<u32>) -> (&[u8], &[u8])
+fn symbol_tables<'a>(sections: &SectionTable<'a>, symbols: Option<u32>) -> (&'a [u8], &'a [u8])
     requires read { IsRead sections.now.file sections.now.list }
     requires symbols { symbols ≡ symbol_table sections.now.file }
     requires fit { TablesFit sections.now.file }
@@ -120,10 +121,10 @@ fn symbol_tables(sections: &Sections, symbols: Option<u32>) -> (&[u8], &[u8])
 /// Reads the symbols of a file, after the tests of its tables.
 pub(crate) fn read_symbol_table<'a>(
     alloc: Global,
-    sections: &'a Sections,
+    sections: &SectionTable<'a>,
 ) -> Result<List<SymbolRef<'a>>, ObjectFault>
     requires { length sections.now.file ≤ file_limit }
-    ensures symbols { IfOk result (λ l. map owned l ≡ symbols_of sections.now.file) }
+    ensures symbols { IfOk result (λ l. map owned_symbol l ≡ symbols_of sections.now.file) }
     ensures read { IsRead sections.now.file sections.now.list }
     ensures fit { OnOk result (TablesFit sections.now.file) }
     ensures passed { OnOk result (first (symbol_tests sections.now.file) ≡ None) }

@@ -280,8 +280,7 @@ fn assert_shown(rt: &impl Abort, view: &ObjectView) {
 #[test]
 fn an_object_is_viewed(rt: HostRuntime) -> Result<(), Fail> {
     let alloc = rt.alloc();
-    let sections = ObjectView::read_sections(alloc, Blob::from_slice(alloc, &CODE)?)?;
-    assert_shown(&rt, &ObjectView::read(alloc, &sections)?);
+    assert_shown(&rt, &ObjectView::read(alloc, &CODE)?);
     let object = Object::read(alloc, Blob::from_slice(alloc, &CODE)?)?;
     assert_shown(&rt, &object.view(alloc)?);
     Ok(())

@@ -2,7 +2,7 @@
 
 ghost use Rattle.std.specs.Prelude.{◌≡◌, ◌≤◌, [], false, length, IfOk, option_and_then, option_copied, unwrap_or};
 ghost use Rattle.std.specs.Option.{option_map_or};
-ghost use Rattle.elf_object.specs.Symbols.{owned};
+ghost use Rattle.elf_object.specs.Symbols.{owned_symbol};
 ghost use Rattle.module_facts.specs.Roles.{symbol_of};
 ghost use Rattle.module_facts.specs.Exports.{export_of, exports_of, given_space, given_version, is_gpl_entry};
 ghost use Rattle.module_facts.specs.SymbolTables.{AreTablesFor, HasTables};
@@ -20,7 +20,7 @@ use std::alloc::{AllocError, Global};
 /// value in its section, where that one has them.
 #[tactic(auto, unfolding(crate::specs::Exports::given_version))]
 pub(crate) fn given_version(object: &ObjectView, symbol: SymbolRef) -> Option<u64>
-    ensures { result ≡ given_version object.now (owned symbol.entry) }
+    ensures { result ≡ given_version object.now (owned_symbol symbol.entry) }
 {
     if symbol.section == SHN_ABS {
         return Some(symbol.value);
@@ -37,17 +37,17 @@ pub(crate) fn given_version(object: &ObjectView, symbol: SymbolRef) -> Option<u6
 /// Whether a symbol lies in the section for exports that modules of a free license alone may use.
 #[tactic(auto, unfolding(crate::specs::Exports::is_gpl_entry))]
 fn is_gpl_entry(object: &ObjectView, symbol: SymbolRef) -> bool
-    ensures { result ≡ is_gpl_entry object.now (owned symbol.entry) }
+    ensures { result ≡ is_gpl_entry object.now (owned_symbol symbol.entry) }
 {
     let i = u32::from(symbol.section);
-    i < object.section_count() && object.section(i).name.as_bytes() == b"__ksymtab_gpl".as_slice()
+    i < object.section_count() && object.section(i).name == b"__ksymtab_gpl".as_slice()
 }
 
 /// The namespace that a symbol gives: the text at its value in its section. An absolute symbol gives none, nor does
 /// one whose section has no bytes in the file.
 #[tactic(auto, unfolding(crate::specs::Exports::given_space))]
 pub(crate) fn given_space<'a>(object: &ObjectView<'a>, symbol: SymbolRef) -> Option<&'a [u8]>
-    ensures { option_copied result ≡ given_space object.now (owned symbol.entry) }
+    ensures { option_copied result ≡ given_space object.now (owned_symbol symbol.entry) }
 {
     let bytes = section_contents(object, u32::from(symbol.section));
     string_at(bytes, symbol.value as usize)

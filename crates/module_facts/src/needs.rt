@@ -2,7 +2,7 @@
 
 ghost use Rattle.std.specs.Prelude.{◌≡◌, length, map, Some, IfOk};
 ghost use Rattle.name_table.specs.NameTable.{IsTableOf};
-ghost use Rattle.elf_object.specs.Symbols.{owned};
+ghost use Rattle.elf_object.specs.Symbols.{owned_symbol};
 ghost use Rattle.module_facts.specs.Listed.{shown};
 ghost use Rattle.module_facts.specs.Needs.{is_need, need_of, needs_of};
 
@@ -17,7 +17,7 @@ use std::alloc::{AllocError, Global};
 /// Whether the symbol `i` is needed from elsewhere.
 #[tactic(auto, unfolding(crate::specs::Needs::is_need))]
 fn is_need(i: u32, symbol: SymbolRef) -> bool
-    ensures { result ≡ is_need i (owned symbol.entry) }
+    ensures { result ≡ is_need i (owned_symbol symbol.entry) }
 {
     i > 0 && symbol.section == SHN_UNDEF && symbol.name != b"_GLOBAL_OFFSET_TABLE_".as_slice()
 }
@@ -32,7 +32,7 @@ fn read_need(
     symbol: SymbolRef,
 ) -> Result<Need, AllocError>
     requires { IsTableOf table.now (map (λ v. Some v.name.now) versions.now) }
-    ensures { IfOk result (λ need. need ≡ need_of (map shown versions.now) i (owned symbol.entry)) }
+    ensures { IfOk result (λ need. need ≡ need_of (map shown versions.now) i (owned_symbol symbol.entry)) }
 {
     Ok(Need {
         name: Name::from_slice(alloc, symbol.name)?,

@@ -114,7 +114,6 @@ pub fn read_facts(alloc: Global, path: &PathText, bytes: Blob) -> Result<Facts, 
     if is_compressed(path) {
         return Err(ModuleFault::Compressed);
     }
-    let sections = ObjectView::read_sections(alloc, bytes)?;
-    let object = ObjectView::read(alloc, &sections)?;
+    let object = ObjectView::read(alloc, bytes.as_bytes())?;
     checked_facts(alloc, path, &object)
 }

@@ -1,7 +1,7 @@
 // What one symbol states of a name.
 
 ghost use Rattle.std.specs.Prelude.{◌≡◌, option_copied};
-ghost use Rattle.elf_object.specs.Symbols.{owned};
+ghost use Rattle.elf_object.specs.Symbols.{owned_symbol};
 ghost use Rattle.module_facts.specs.Roles.{after_prefix, stated_name};
 
 use elf_format::{SHN_UNDEF, STB_GLOBAL, STB_WEAK};
@@ -25,6 +25,12 @@ pub(crate) enum Role {
 fn after_prefix<'a>(prefix: &[u8], name: &'a [u8]) -> Option<&'a [u8]>
     ensures { option_copied result ≡ after_prefix prefix.now name.now }
 {
+    // Most names differ from it in their first byte, and are passed over at once.
+    if let (Some(first), Some(wanted)) = (name.first(), prefix.first()) {
+        if *first != *wanted {
+            return None;
+        }
+    }
     name.strip_prefix(prefix)
 }
 
@@ -32,7 +38,7 @@ fn after_prefix<'a>(prefix: &[u8], name: &'a [u8]) -> Option<&'a [u8]>
 #[tactic(auto, unfolding(crate::specs::Roles::stated_name))]
 #[inline]
 pub(crate) fn stated_name<'a>(role: Role, symbol: SymbolRef<'a>) -> Option<&'a [u8]>
-    ensures { option_copied result ≡ stated_name role (owned symbol.entry) }
+    ensures { option_copied result ≡ stated_name role (owned_symbol symbol.entry) }
 {
     if symbol.section == SHN_UNDEF {
         return None;

@@ -3,7 +3,7 @@
 ghost use Rattle.std.specs.Prelude.{◌≡◌, [], IfOk, IsTrue, option_map};
 ghost use Rattle.name_table.specs.NameTable.{IsTableOf};
 ghost use Rattle.elf_object.specs.Object.{FileObject};
-ghost use Rattle.elf_object.specs.Symbols.{owned};
+ghost use Rattle.elf_object.specs.Symbols.{owned_symbol};
 ghost use Rattle.module_facts.specs.Roles.{first_symbol, stated_names, symbol_of};
 ghost use Rattle.module_facts.specs.Exports.{exports_of};
 ghost use Rattle.module_facts.specs.SymbolTables.{AreTablesFor, HasTables};
@@ -100,7 +100,7 @@ pub(crate) fn symbol_of<'a>(
     name: &[u8],
 ) -> Option<SymbolRef<'a>>
     requires { HasTables tables.now object.now }
-    ensures { option_map owned result ≡ symbol_of role object.now name.now }
+    ensures { option_map owned_symbol result ≡ symbol_of role object.now name.now }
 {
     match tables.first_symbol(role, name) {
         Some(i) => Some(object.symbol(i)),

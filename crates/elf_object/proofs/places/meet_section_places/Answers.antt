@@ -29,13 +29,13 @@ pub returns-then-not-is_applied-clause-passed : goal.returns-then-not-is_applied
 returns-then-not-is_applied-clause-passed c =
     rela_test-none c.args.sections.now.file c.args.index (sym c.is_applied.ensures ∙ c.if-not-is_applied.true)
 
-pub section-requires-2 : goal.section-requires-2
-section-requires-2 c =
+pub section-requires : goal.section-requires
+section-requires c =
     let b = c.args.sections.now.file in
     let applied = sym c.is_applied.ensures ∙ c.if-not-is_applied.false in
-    let count = c.section.ensures.count in
+    let count = c.section-number.ensures.count in
     let index = c.requires.index in
-    rw (← count, c.section.ensures.header) (c.requires.fit.targets c.args.index (omega arith) (is_applied-kind b c.args.index applied))
+    rw (← count, ap (λ (s : Section). s.info) c.section-number.ensures.header) (c.requires.fit.targets c.args.index (omega arith) (is_applied-kind b c.args.index applied))
 
 pub returns-in_err-width-clause-fault : goal.returns-in_err-width-clause-fault
 returns-in_err-width-clause-fault c =
@@ -43,8 +43,8 @@ returns-in_err-width-clause-fault c =
     let i = c.args.index in
     let n = c.loop-entry.entry in
     let applied = sym c.is_applied.ensures ∙ c.if-not-is_applied.false in
-    let target = c.room_in-room.ensures ∙ ap room_in (c.section-2.ensures.header ∙ ap (λ (s : Section). section_of b s.info) c.section.ensures.header) in
-    let place = rw (c.section_bytes-table.ensures.header, c.section.ensures.header) at c.place_at-place.ensures in
+    let target = c.room_in-room.ensures ∙ ap room_in (c.section.ensures.header ∙ ap (λ (s : Section). section_of b s.info) c.section-number.ensures.header) in
+    let place = rw (c.section_bytes-table.ensures.header, ap (λ (s : Section). s.info) c.section-number.ensures.header) at c.place_at-place.ensures in
     let same = entry_test-by b i n c.args.unkept.now c.room_in-room.result c.place_at-place.result c.requires.unkept target place in
     let failed = sym same ∙ sym c.in_err-width.ensures.fault in
     let table = ap length c.section_bytes-table.ensures.header in
@@ -58,8 +58,8 @@ loop-entry-preserved c =
     let b = c.args.sections.now.file in
     let i = c.args.index in
     let n = c.loop-entry.entry in
-    let target = c.room_in-room.ensures ∙ ap room_in (c.section-2.ensures.header ∙ ap (λ (s : Section). section_of b s.info) c.section.ensures.header) in
-    let place = rw (c.section_bytes-table.ensures.header, c.section.ensures.header) at c.place_at-place.ensures in
+    let target = c.room_in-room.ensures ∙ ap room_in (c.section.ensures.header ∙ ap (λ (s : Section). section_of b s.info) c.section-number.ensures.header) in
+    let place = rw (c.section_bytes-table.ensures.header, ap (λ (s : Section). s.info) c.section-number.ensures.header) at c.place_at-place.ensures in
     let same = entry_test-by b i n c.args.unkept.now c.room_in-room.result c.place_at-place.result c.requires.unkept target place in
     let passed = sym same ∙ sym c.in_ok-width.ensures.fault in
     record {
@@ -75,12 +75,12 @@ meet-requires-clause-near c =
     let b = c.args.sections.now.file in
     let i = c.args.index in
     let n = c.loop-entry.entry in
-    let section = c.room_in-room.ensures ∙ ap room_in (c.section-2.ensures.header ∙ ap (λ (s : Section). section_of b s.info) c.section.ensures.header) in
-    let place = rw (c.section_bytes-table.ensures.header, c.section.ensures.header) at c.place_at-place.ensures in
+    let section = c.room_in-room.ensures ∙ ap room_in (c.section.ensures.header ∙ ap (λ (s : Section). section_of b s.info) c.section-number.ensures.header) in
+    let place = rw (c.section_bytes-table.ensures.header, ap (λ (s : Section). s.info) c.section-number.ensures.header) at c.place_at-place.ensures in
     let same = entry_test-by b i n c.args.unkept.now c.room_in-room.result c.place_at-place.result c.requires.unkept section place in
     let passed = sym same ∙ sym c.in_ok-width.ensures.fault in
     let applied = sym c.is_applied.ensures ∙ c.if-not-is_applied.false in
-    let count = c.section.ensures.count in
+    let count = c.section-number.ensures.count in
     let index = c.requires.index in
     let target = c.requires.fit.targets i (omega arith) (is_applied-kind b i applied) in
     rw place (IsNear-inside b (place_of b i n) c.requires.small

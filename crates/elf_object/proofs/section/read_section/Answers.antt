@@ -1,4 +1,4 @@
-use Rattle.std.proofs.Common.{sym, ◌∙◌, refl, inr}
+use Rattle.std.proofs.Common.{◌∙◌, refl}
 use Rattle.std.proofs.lemmas.Result.{err_from_is_err_and}
 use Rattle.elf_object.specs.Shape.{contents, name_table}
 use Rattle.elf_object.specs.Sections.{section_of}
@@ -10,7 +10,7 @@ returns-in_err-name-clause-fault c =
     let b = c.args.bytes.now in
     let p = err_from_is_err_and c.from_residual.result c.from_residual.ensures.1 in
     let fault = rw c.section_header-header.ensures at c.in_err-name.ensures.fault in
-    rw (p.1, p.2) (inr (sym (name_test-same b c.args.names.now c.args.index c.requires.names) ∙ sym fault))
+    rw (p.1, p.2) (fault ∙ name_test-same b c.args.names.now c.args.index c.requires.names)
 
 pub returns-clause-section : goal.returns-clause-section
 unfolding section_of
@@ -18,10 +18,10 @@ returns-clause-section c =
     let b = c.args.bytes.now in
     let h = c.section_header-header.result in
     let name = c.in_ok-name.ensures.name ∙ name_in-same (contents b (name_table b)) c.args.names.now h.kind h.name c.requires.names in
-    rw (c.in_ok-from_slice.ensures, c.is_kept.ensures, name, c.section_header-header.ensures) refl
+    rw (c.is_kept.ensures, name, c.section_header-header.ensures) refl
 
-pub returns-clause-passed : goal.returns-clause-passed
-returns-clause-passed c =
+pub returns-clause-fault : goal.returns-clause-fault
+returns-clause-fault c =
     let b = c.args.bytes.now in
     let fault = rw c.section_header-header.ensures at c.in_ok-name.ensures.fault in
-    sym (name_test-same b c.args.names.now c.args.index c.requires.names) ∙ sym fault
+    fault ∙ name_test-same b c.args.names.now c.args.index c.requires.names

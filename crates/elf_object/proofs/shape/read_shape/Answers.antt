@@ -1,12 +1,10 @@
-use Rattle.std.proofs.Common.{◌≡◌, Some, sym, ◌∙◌, ◌⊎◌, inl, inr}
-use Rattle.std.proofs.lemmas.Result.{IfErr-weaker, err_from_is_err_and, on_ok_weaker}
-use Rattle.std.proofs.Common.{Result, Ok, Err, IfOk, OnOk}
+use Rattle.std.proofs.Common.{◌≡◌, ℕ, List, None, refl, sym, ◌∙◌, inl, inr}
+use Rattle.std.proofs.lemmas.Result.{err_from_is_err_and}
 use Rattle.elf_object.proofs.ShapeLemmas.{shape_fault-header, shape_fault-names, shape_fault-places}
 use Rattle.km_names.specs.First.{first}
-use Rattle.elf_object.specs.declared.fault.SectionFault.TheVariants.{Memory}
-use Rattle.elf_object.specs.Shape.{each, name_test, section_count, shape_fault}
+use Rattle.elf_object.specs.Shape.{AllInFile, HasTable, each, header_tests, name_table_test, name_test, place_test, section_count, shape_fault}
+use Rattle.elf_object.specs.Sections.{IsRead, sections_of}
 use Rattle.elf_object.proofs.shape.read_shape.Goals as goal
-use Rattle.elf_object.proofs.shape.read_shape.Goals.{After-read_sections}
 
 pub returns-in_err-check_header-clause-fault : goal.returns-in_err-check_header-clause-fault
 returns-in_err-check_header-clause-fault c =
@@ -28,37 +26,42 @@ returns-in_err-check_name_table-clause-fault c =
     let names = shape_fault-names b (sym c.in_ok-check_header.ensures.fault) (sym c.in_ok-check_places.ensures.fault) in
     rw (p.1, p.2) (inr (rw (← c.in_err-check_name_table.ensures) at names))
 
--- what is left to test once the header and the places are
-names_left : (c : After-read_sections) → shape_fault c.args.bytes.now ≡ first (each (section_count c.args.bytes.now) (name_test c.args.bytes.now))
-names_left c =
-    let names = shape_fault-names c.args.bytes.now (sym c.in_ok-check_header.ensures.fault) (sym c.in_ok-check_places.ensures.fault) in
-    rw (← c.in_ok-check_name_table.ensures) at names
+-- what is left to test once the header, the places and the table of names are
+names_left : (b : List ℕ) → first (header_tests b) ≡ None → first (each (section_count b) (place_test b)) ≡ None → name_table_test b ≡ None → shape_fault b ≡ first (each (section_count b) (name_test b))
+names_left b header places table =
+    let names = shape_fault-names b header places in
+    rw table at names
 
--- what is known of a value, where there is one
-with_known : {X E P : Type 0} {Q R : X → Type 0} (r : Result X E) → OnOk r P → IfOk r Q → (P → (x : X) → Q x → R x) → IfOk r R
-with_known (Ok x) known holds then = then known x holds
-with_known (Err e) known holds then = tt
+pub returns-in_err-sections-clause-fault : goal.returns-in_err-sections-clause-fault
+returns-in_err-sections-clause-fault c =
+    let b = c.args.bytes.now in
+    let p = err_from_is_err_and c.from_residual-in_err-sections.result c.from_residual-in_err-sections.ensures.1 in
+    let left = names_left b (sym c.in_ok-check_header.ensures.fault) (sym c.in_ok-check_places.ensures.fault) (sym c.in_ok-check_name_table.ensures) in
+    rw (p.1, p.2)
+    (elim c.in_err-sections.ensures.fault [
+      | inl memory ↦ inl memory
+      | inr failed ↦ inr (left ∙ failed)
+    ])
+
+pub returns-clause-passed : goal.returns-clause-passed
+returns-clause-passed c =
+    let b = c.args.bytes.now in
+    names_left b (sym c.in_ok-check_header.ensures.fault) (sym c.in_ok-check_places.ensures.fault) (sym c.in_ok-check_name_table.ensures)
+    ∙ c.in_ok-sections.ensures.passed
+
+-- the sections that were read, in a file that passed its tests
+is_read : (b : List ℕ) → shape_fault b ≡ None → HasTable b → AllInFile b → IsRead b (sections_of b)
+is_read b passed table within = record { passed = passed; list_is = refl; table = table; within = within }
 
 pub returns-clause-read : goal.returns-clause-read
 returns-clause-read c =
     let b = c.args.bytes.now in
-    with_known c.read_sections.result c.read_sections.ensures.passed c.read_sections.ensures.sections
-    (λ passed l is. record {
-      passed = names_left c ∙ passed;
-      list_is = is;
-      table = c.in_ok-check_header.ensures.table;
-      within = c.in_ok-check_places.ensures.within;
-    })
+    let left = names_left b (sym c.in_ok-check_header.ensures.fault) (sym c.in_ok-check_places.ensures.fault) (sym c.in_ok-check_name_table.ensures) in
+    is_read b (left ∙ c.in_ok-sections.ensures.passed) c.in_ok-check_header.ensures.table c.in_ok-check_places.ensures.within
 
-pub returns-clause-passed : goal.returns-clause-passed
-returns-clause-passed c =
-    on_ok_weaker c.read_sections.result (λ passed. names_left c ∙ passed) c.read_sections.ensures.passed
-
-pub returns-clause-fault : goal.returns-clause-fault
-returns-clause-fault c =
+pub invariant_of-result : goal.invariant_of-result
+invariant_of-result c =
     let b = c.args.bytes.now in
-    IfErr-weaker c.read_sections.result
-    (λ e. (e ≡ Memory) ⊎ (first (each (section_count b) (name_test b)) ≡ Some e))
-    (λ e. (e ≡ Memory) ⊎ (shape_fault b ≡ Some e))
-    (λ e h. elim h [ inl memory ↦ inl memory | inr failed ↦ inr (names_left c ∙ failed) ])
-    c.read_sections.ensures.fault
+    let left = names_left b (sym c.in_ok-check_header.ensures.fault) (sym c.in_ok-check_places.ensures.fault) (sym c.in_ok-check_name_table.ensures) in
+    rw c.in_ok-sections.ensures.sections
+    (is_read b (left ∙ c.in_ok-sections.ensures.passed) c.in_ok-check_header.ensures.table c.in_ok-check_places.ensures.within)

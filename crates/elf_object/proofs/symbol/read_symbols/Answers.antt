@@ -2,7 +2,7 @@ use Rattle.std.proofs.Common.{◌≡◌, map, sym, ap, ◌∙◌, inr, below_mor
 use Rattle.std.proofs.lemmas.List.{map-append}
 use Rattle.std.proofs.lemmas.Result.{err_from_is_err_and}
 use Rattle.std.proofs.lemmas.List.FromFn.{map-range_with_len_more}
-use Rattle.elf_object.specs.Symbols.{entries, owned, symbol_in, symbol_test_in, symbols_in}
+use Rattle.elf_object.specs.Symbols.{entries, owned_symbol, symbol_in, symbol_test_in, symbols_in}
 use Rattle.elf_object.proofs.TestLemmas.{each-failed, each-passed}
 use Rattle.elf_object.proofs.symbol.read_symbols.Goals as goal
 
@@ -19,8 +19,8 @@ loop-index-preserved c =
     record {
       tests = below_more _ _ c.loop-index.invariant.tests (sym c.in_ok-read_symbol.ensures.fault);
       symbols_are =
-          ap (map owned) c.in_ok-push.ensures.items
-          ∙ map-append owned c.loop-index.symbols.items _
+          ap (map owned_symbol) c.in_ok-push.ensures.items
+          ∙ map-append owned_symbol c.loop-index.symbols.items _
           ∙ rw (c.loop-index.invariant.symbols_are, c.in_ok-read_symbol.ensures.symbol)
           (sym (map-range_with_len_more (symbol_in c.args.table.now c.args.names.now) 0 i i (omega arith)));
     }
@@ -29,7 +29,7 @@ pub returns-clause-symbols : goal.returns-clause-symbols
 unfolding symbols_in
 returns-clause-symbols c =
     let end : c.loop-index.index ≡ entries c.args.table.now = omega arith in
-    ap (map owned) c.from_vec.ensures ∙ rw end at c.loop-index.invariant.symbols_are
+    ap (map owned_symbol) c.from_vec.ensures ∙ rw end at c.loop-index.invariant.symbols_are
 
 pub returns-clause-passed : goal.returns-clause-passed
 returns-clause-passed c =

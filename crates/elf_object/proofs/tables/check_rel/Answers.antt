@@ -1,4 +1,5 @@
-use Rattle.std.proofs.Common.{sym, arith}
+use Rattle.std.proofs.Common.{ap, sym, arith}
+use Rattle.elf_object.specs.declared.section.Section.{Section}
 use Rattle.elf_object.specs.Shape.{section_count}
 use Rattle.elf_object.specs.Symbols.{rel_test}
 use Rattle.elf_object.proofs.TestLemmas.{each-failed, each-passed}
@@ -10,7 +11,7 @@ returns-then-section-eq-SHT_REL c =
     let b = c.args.sections.now.file in
     let i = c.loop-index.index in
     sym (each-failed (section_count b) (rel_test b) i _ (omega arith) c.loop-index.invariant
-    (rel_test-failed b i (rw c.section.ensures.header at c.if-section-eq-SHT_REL.true)))
+    (rel_test-failed b i (rw (ap (λ (s : Section). s.kind) c.section.ensures.header) at c.if-section-eq-SHT_REL.true)))
 
 pub returns : goal.returns
 returns c =

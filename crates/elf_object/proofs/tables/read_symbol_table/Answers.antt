@@ -3,7 +3,7 @@ use Rattle.std.proofs.lemmas.Result.{IfErr-weaker, IfOk-weaker, err_from_is_err_
 use Rattle.km_names.specs.First.{first}
 use Rattle.elf_object.specs.declared.fault.ObjectFault.TheVariants.{Memory}
 use Rattle.elf_object.specs.Shape.{each, section_count}
-use Rattle.elf_object.specs.Symbols.{entries, owned, symbol_bytes, symbol_names, symbol_test_in, symbol_tests, symbols_in, symbols_of}
+use Rattle.elf_object.specs.Symbols.{entries, owned_symbol, symbol_bytes, symbol_names, symbol_test_in, symbol_tests, symbols_in, symbols_of}
 use Rattle.elf_object.proofs.ObjectLemmas.{symbol_tests-rel, symbol_tests-symbols, symbol_tests-tables}
 use Rattle.elf_object.proofs.SymbolLemmas.{symbol_tests-same, symbols_in-same}
 use Rattle.elf_object.proofs.tables.read_symbol_table.Goals as goal
@@ -35,7 +35,7 @@ returns-clause-symbols c =
     let names = c.up_to_last_nul-names.result.now in
     let strings = rw c.symbol_tables.ensures.names at c.up_to_last_nul-names.ensures in
     let same = symbols_in-same (symbol_bytes b) (symbol_names b) names strings in
-    IfOk-weaker c.read_symbols.result (λ l. map owned l ≡ symbols_in (symbol_bytes b) names) (λ l. map owned l ≡ symbols_in (symbol_bytes b) (symbol_names b))
+    IfOk-weaker c.read_symbols.result (λ l. map owned_symbol l ≡ symbols_in (symbol_bytes b) names) (λ l. map owned_symbol l ≡ symbols_in (symbol_bytes b) (symbol_names b))
     (λ l is. is ∙ same)
     (rw c.symbol_tables.ensures.bytes at c.read_symbols.ensures.symbols)
 

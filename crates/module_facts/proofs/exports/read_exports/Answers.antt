@@ -1,5 +1,5 @@
 use Rattle.std.proofs.Common.{◌∙◌, sym}
-use Rattle.elf_object.specs.Symbols.{owned}
+use Rattle.elf_object.specs.Symbols.{owned_symbol}
 use Rattle.module_facts.specs.declared.role.Role.TheVariants.{Export}
 use Rattle.module_facts.specs.Roles.{stated_name}
 use Rattle.module_facts.specs.Exports.{export_of}
@@ -11,7 +11,7 @@ pub loop-i-preserved : goal.loop-i-preserved
 loop-i-preserved c =
     let o = c.args.object.now in
     let i = c.loop-i.i in
-    let s = owned c.symbol.result in
+    let s = owned_symbol c.symbol.result in
     elim c.match-stated_name.branch [
       | in-Some+in_ok-export+in_ok-push w ↦
           w.exports-is ∙ w.in_ok-push.ensures.ok

@@ -1,6 +1,6 @@
 use Rattle.std.proofs.Common.{◌++◌, ◌∷◌, [], map, take, ◌∙◌, ap, sym}
 use Rattle.std.specs.List.{enumerate_from, filter}
-use Rattle.elf_object.specs.Symbols.{owned}
+use Rattle.elf_object.specs.Symbols.{owned_symbol}
 use Rattle.module_facts.specs.Needs.{is_need, need_of}
 use Rattle.module_facts.specs.Versions.{version_list}
 use Rattle.module_facts.proofs.ListLemmas.{numbered-failed, numbered-passed}
@@ -12,7 +12,7 @@ loop-i-preserved c =
     let symbols = c.args.object.now.symbols in
     let versions = version_list c.args.object.now in
     let i = c.loop-i.i in
-    let s = owned c.symbol-symbol.result in
+    let s = owned_symbol c.symbol-symbol.result in
     elim c.if-is_need.branch [
       | then-is_need+in_ok-read_need+in_ok-push w ↦
           w.needs-is ∙ w.in_ok-push.ensures.ok

@@ -2,7 +2,6 @@ use Rattle.std.proofs.Common.{◌≡◌, ℕ, List, None, ap, ◌∙◌, Result,
 use Rattle.std.proofs.lemmas.Result.{IfOk-weaker}
 use Rattle.km_names.specs.First.{first}
 use Rattle.elf_object.specs.Object.{FileObject, file_object}
-use Rattle.elf_object.specs.Sections.{FileSections}
 use Rattle.module_facts.specs.declared.facts.Facts.{Facts}
 use Rattle.module_facts.specs.Facts.{object_facts}
 use Rattle.module_facts.specs.Faults.{facts_tests}
@@ -26,6 +25,5 @@ sound path o (Err e) is passed = tt
 
 pub returns-clause-sound : goal.returns-clause-sound
 returns-clause-sound c =
-    let file = ap (λ (v : FileSections). v.file) c.in_ok-sections.ensures.sections in
-    let object = c.in_ok-object.ensures.object ∙ ap file_object file in
+    let object = c.in_ok-object.ensures.object ∙ ap file_object c.as_bytes.ensures in
     rw object at (sound c.args.path.now c.in_ok-object.object c.checked_facts.result c.checked_facts.ensures.facts c.checked_facts.ensures.passed)

@@ -1,7 +1,7 @@
 use Rattle.std.proofs.Common.{map, ap, sym, ◌∙◌, arith}
 use Rattle.std.proofs.lemmas.List.{take_all}
 use Rattle.std.specs.List.{filter_map}
-use Rattle.elf_object.specs.Symbols.{owned}
+use Rattle.elf_object.specs.Symbols.{owned_symbol}
 use Rattle.module_facts.specs.declared.role.Role.TheVariants.{Export}
 use Rattle.module_facts.specs.Roles.{stated_name}
 use Rattle.module_facts.specs.Exports.{export_of, exports_of}
@@ -12,7 +12,7 @@ use Rattle.module_facts.proofs.tables.exports_nothing.Goals as goal
 pub loop-i-preserved : goal.loop-i-preserved
 loop-i-preserved c =
     let o = c.args.object.now in
-    let s = owned c.symbol.result in
+    let s = owned_symbol c.symbol.result in
     let silent = states-nothing c.stated_name.result _ c.stated_name.ensures (sym c.is_some.ensures ∙ c.if-is_some.false) in
     filter_map-silent (stated_name Export) (export_of o) o.symbols c.loop-i.i s c.symbol.ensures.symbol silent ∙ c.loop-i.invariant
 

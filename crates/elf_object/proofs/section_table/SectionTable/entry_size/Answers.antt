@@ -1,12 +1,11 @@
-use Rattle.std.proofs.Common.{◌<◌, length, ap, arith}
+use Rattle.std.proofs.Common.{◌<◌, length, ap, arith, map}
 use Rattle.elf_object.proofs.ShapeLemmas.{length-read}
-use Rattle.elf_object.specs.Shape.{section_count}
-use Rattle.elf_object.specs.Sections.{FileSections}
-use Rattle.elf_object.proofs.sections.Sections.entry_size.Goals as goal
+use Rattle.elf_object.specs.Sections.{FileSections, owned_section}
+use Rattle.elf_object.proofs.section_table.SectionTable.entry_size.Goals as goal
 
 pub overflow_cast-i : goal.overflow_cast-i
 overflow_cast-i c =
-    let count = length-read c.self.inside.bytes c.self.inside.sections c.self.invariant in
+    let count = length-read c.self.inside.bytes.now (map owned_section c.self.inside.sections) c.self.invariant in
     let small = c.self.invariant.table.count in
     let same = ap (λ (v : FileSections). length v.list) c.self.view_is in
     let few : c.args.i < 65280 = omega arith in
@@ -14,7 +13,6 @@ overflow_cast-i c =
 
 pub section_header-requires-clause-index : goal.section_header-requires-clause-index
 section_header-requires-clause-index c =
-    let count = length-read c.self.inside.bytes c.self.inside.sections c.self.invariant in
+    let count = length-read c.self.inside.bytes.now (map owned_section c.self.inside.sections) c.self.invariant in
     let same = ap (λ (v : FileSections). length v.list) c.self.view_is in
-    let bytes = ap section_count c.as_bytes.ensures in
     omega arith

@@ -1,0 +1,98 @@
+// The sections of a file that is read in place.
+
+ghost use Rattle.std.specs.Prelude.{◌≡◌, ◌+◌, ◌<◌, ◌≤◌, length, map, Some, IfSome, IsTrue, slice_get};
+ghost use Rattle.std.specs.List.{position};
+ghost use Rattle.std.specs.Str.{bytes_eq};
+ghost use Rattle.elf_object.specs.Shape.{contents, has_content, section_count};
+
+use crate::SectionRef;
+use crate::header::section_header;
+use crate::shape::contents;
+use km_names::List;
+use std::marker::Model;
+
+/// The sections of a file, with its bytes, both of them elsewhere. Contracts see both.
+#[derive(Drop)]
+pub(crate) struct SectionTable<'a> {
+    pub(crate) bytes: &'a [u8],
+    pub(crate) sections: List<SectionRef<'a>>,
+}
+
+impl<'a> Model for SectionTable<'a> {
+    ghost use Rattle.std.specs.Prelude.{map};
+    ghost use Rattle.elf_object.specs.Sections.{FileSections, IsRead, owned_section};
+
+    ghost Value = { FileSections };
+
+    ghost view = { λ t. record { file = t.bytes.now; list = map owned_section t.sections } };
+
+    ghost invariant = { λ t. IsRead t.bytes.now (map owned_section t.sections) };
+}
+
+impl<'a> SectionTable<'a> {
+    ghost use Rattle.elf_object.specs.Sections.{IsRead, bytes_of, entry_size, owned_section, section_of, sections_of};
+    ghost use Rattle.elf_format.specs.declared.symbol.TheConstants.{SHN_LORESERVE};
+
+    /// How many sections there are.
+    pub(crate) fn section_count(&self) -> u32
+        ensures count { result ≡ length self.now.list }
+        ensures header { result ≡ section_count self.now.file }
+        ensures some { 0 < result }
+        ensures few { result < SHN_LORESERVE }
+        ensures read { IsRead self.now.file self.now.list }
+    {
+        self.sections.len() as u32
+    }
+
+    /// The section `i`.
+    pub(crate) fn section(&self, i: u32) -> SectionRef<'a>
+        requires { i < length self.now.list }
+        ensures section { slice_get self.now.list i ≡ Some (owned_section result) }
+        ensures header { owned_section result ≡ section_of self.now.file i }
+        ensures count { section_count self.now.file ≡ length self.now.list }
+        ensures within { IsTrue (has_content result.kind) →
+            result.offset + result.size ≤ length self.now.file }
+    {
+        self.sections.as_slice()[i as usize]
+    }
+
+    /// The bytes of the section `i` in the file; a section of type NULL or NOBITS has none.
+    pub(crate) fn section_bytes(&self, i: u32) -> &'a [u8]
+        requires { i < length self.now.list }
+        ensures bytes { IfSome (slice_get self.now.list i)
+            (λ s. result.now ≡ bytes_of self.now.file s) }
+        ensures header { result.now ≡ contents self.now.file i }
+        ensures short { length result.now ≤ length self.now.file }
+    {
+        contents(self.bytes, i as u16)
+    }
+
+    /// The first section of this name.
+    pub(crate) fn section_named(&self, name: &[u8]) -> Option<u32>
+        ensures first { result ≡ position (λ s. bytes_eq s.name name.now) self.now.list }
+        ensures within { IfSome result (λ i. i < length self.now.list) }
+    {
+        for i in 0..self.section_count() {
+            if self.section(i).name == name {
+                return Some(i);
+            }
+        }
+        None
+    }
+
+    /// The sections, as the file has them.
+    pub(crate) fn list(&self) -> &[SectionRef<'a>]
+        ensures list { map owned_section result.now ≡ self.now.list }
+        ensures file { map owned_section result.now ≡ sections_of self.now.file }
+    {
+        self.sections.as_slice()
+    }
+
+    /// The size of an entry of the section `i`, if it is a table. gABI 4, "Sections", sh_entsize.
+    pub(crate) fn entry_size(&self, i: u32) -> u64
+        requires { i < length self.now.list }
+        ensures { result ≡ entry_size self.now.file i }
+    {
+        section_header(self.bytes, i as u16).entry_size
+    }
+}
