@@ -208,6 +208,8 @@ pub(crate) fn check_places(
         (λ e. (e ≡ ObjectFault.Memory) ⊎ (first (place_tests sections.now.file) ≡ Some e)) }
 {
     check_alignments(sections)?;
+    // Tables may share their bytes: they are added up before they are looked at.
+    relocation_count(sections)?;
     let mut met = MetPlaces::testing(alloc);
     meet_places(sections, unkept, &mut met)?;
     if !met.order.holds {
