@@ -1,5 +1,4 @@
 // The files that depmod makes, and what becomes of them.
-ghost use Rattle.std.specs.Prelude.{◌≡◌};
 ghost use Rattle.km_outside.specs.FilesSeen.{FilesSeen};
 ghost use Rattle.km_outside.specs.OutSeen.{OutSeen};
 ghost use Rattle.km_course.specs.World.{world};

@@ -7,7 +7,7 @@ ghost use Rattle.km_outside.specs.Contents.{by_bytes};
 ghost use Rattle.km_outside.specs.OutSeen.{OutSeen};
 ghost use Rattle.km_course.specs.World.{world};
 ghost use Rattle.km_course.specs.Follows.{Follows};
-ghost use Rattle.command_files.specs.Configuration.{roots as roots_in_order, folder_name as folder_name_of, by_name, with_names, paths_of, entries_in_bytes, lists_folder, lists_folders, reads_file, reads_files, reads_given, reads_listed, reads_configuration, stop_of};
+ghost use Rattle.command_files.specs.Configuration.{roots as roots_in_order, folder_name as folder_name_of, with_names, paths_of, entries_in_bytes, lists_folder, lists_folders, reads_file, reads_files, reads_given, reads_listed, reads_configuration, stop_of};
 
 use km_course::{Refusal, Stop, list_conf_needed, list_conf_optional, read_needed};
 use km_names::{ConfFault, ConfFile, ConfFiles, List as Items, Names, PathText, Paths, join};

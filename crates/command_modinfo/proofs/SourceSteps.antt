@@ -3,7 +3,6 @@ use Rattle.std.proofs.Common.{◌≡◌, ℕ, ◌+◌, ◌<◌, List, ◌∷◌,
 use Rattle.std.proofs.lemmas.List.{drop_more}
 use Rattle.std.specs.Prelude.{Option, Some, Result, ⊤}
 use Rattle.elf_object.specs.Sections.{FileSections}
-use Rattle.index_read.specs.declared.index.Index.{Index}
 use Rattle.modinfo_tool.specs.declared.text.ShowOptions.{ShowOptions}
 use Rattle.modinfo_tool.specs.Show.{shown}
 use Rattle.km_course.specs.Course.{Stage, ◌>>=◌, each_from, gives, says_any}

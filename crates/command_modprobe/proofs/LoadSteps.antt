@@ -1,5 +1,5 @@
 -- The stages of a plan that is loaded, joined.
-use Rattle.std.proofs.Common.{◌≡◌, ℕ, ◌+◌, ◌<◌, ◌≤◌, Bool, true, false, List, [], ◌∷◌, ◌++◌, length, map, drop, refl, sym, ap, subst, ◌∙◌, append_assoc, append-nil, inl, inr}
+use Rattle.std.proofs.Common.{◌≡◌, ℕ, ◌+◌, ◌≤◌, Bool, true, false, List, ◌∷◌, ◌++◌, length, map, drop, refl, sym, ap, subst, ◌∙◌, append_assoc, append-nil, inl, inr}
 use Rattle.std.proofs.Props.{props}
 use Rattle.std.specs.Prelude.{Option, Some, None, Result, Err, ◌⊎◌, if◌then◌else◌, option_map, ⊤}
 use Rattle.std.specs.List.{flat_map}

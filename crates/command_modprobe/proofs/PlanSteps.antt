@@ -1,5 +1,5 @@
 -- The stages of a plan that is made and shown, joined.
-use Rattle.std.proofs.Common.{◌≡◌, ℕ, ◌+◌, ◌<◌, ◌≤◌, Bool, true, false, List, [], ◌∷◌, ◌++◌, length, drop, refl, sym, ap, subst, ◌∙◌, inl, inr, arith}
+use Rattle.std.proofs.Common.{◌≡◌, ℕ, Bool, true, false, List, [], ◌∷◌, length, drop, refl, sym, ap, subst, ◌∙◌, inl, inr, arith}
 use Rattle.std.specs.Prelude.{Some, None, Result, Err, ◌⊎◌, if◌then◌else◌, ⊤}
 use Rattle.std.proofs.lemmas.List.{drop_all}
 use Rattle.kmod_words.specs.declared.modprobe.Mode.{Mode}

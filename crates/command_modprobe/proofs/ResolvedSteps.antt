@@ -1,5 +1,5 @@
 -- Names, one after the other, and what they stand for.
-use Rattle.std.proofs.Common.{◌≡◌, ℕ, ◌+◌, ◌<◌, ◌≤◌, Bool, true, false, List, [], ◌∷◌, ◌++◌, length, drop, cond, eqb, ◌≢◌, sym, ap, subst, ◌∙◌, append_assoc, append-nil}
+use Rattle.std.proofs.Common.{◌≡◌, ℕ, ◌+◌, ◌≤◌, Bool, true, false, List, [], ◌∷◌, ◌++◌, length, drop, cond, eqb, ◌≢◌, sym, ap, subst, ◌∙◌, append_assoc, append-nil}
 use Rattle.std.specs.Prelude.{find, Some, None, Result, Err, ⊤}
 use Rattle.std.proofs.lemmas.List.{drop_all}
 use Rattle.kmod_words.specs.declared.modprobe.ModprobeWords.{ModprobeWords}

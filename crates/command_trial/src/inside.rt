@@ -1,6 +1,6 @@
 // The commands inside a trial.
 ghost use Rattle.std.specs.Prelude.{◌≡◌, true, IfOk};
-ghost use Rattle.km_outside.specs.MemFilesSeen.{MemFilesSeen, no_kind_listed};
+ghost use Rattle.km_outside.specs.MemFilesSeen.{no_kind_listed};
 ghost use Rattle.km_course.specs.Follows.{Answers};
 ghost use Rattle.km_course.specs.Inner.{inner_outcome};
 ghost use Rattle.command_depmod.specs.Depmod.{depmod_course};

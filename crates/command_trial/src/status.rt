@@ -1,5 +1,5 @@
 // What a command inside a trial came to.
-ghost use Rattle.std.specs.Prelude.{◌≡◌, ℕ, drop};
+ghost use Rattle.std.specs.Prelude.{◌≡◌, drop};
 ghost use Rattle.km_course.specs.Course.{Outcome};
 ghost use Rattle.km_course.specs.Inner.{Left};
 ghost use Rattle.km_course.specs.Follows.{Answers};

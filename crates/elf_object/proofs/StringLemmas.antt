@@ -77,6 +77,11 @@ first_string-same_at front whole None is cut past =
     ]) in
     rw (is, none) refl
 
+-- a string of a table that was cut off is one of the whole table
+pub string_at-cut : (table : List ℕ) (n at : ℕ) (s : List ℕ) → string_at (take n table) at ≡ Some s → string_at table at ≡ Some s
+string_at-cut table n at s found =
+    first_string-front_at (drop at (take n table)) (drop at table) (position is_nul (drop at (take n table))) refl (IsFront-cut table n at) s found
+
 -- a table that was cut off after its last NUL has the same strings
 pub string_at-same : (table : List ℕ) (n : ℕ) → ((k : ℕ) → n ≤ k → k < length table → is_nul (get_or table k 0) ≡ false) → (at : ℕ) → string_at (take n table) at ≡ string_at table at
 string_at-same table n past at =

@@ -22,7 +22,7 @@ pub record TablesFit (b : List ℕ) : Type 0 where
   pub names : (t : ℕ) → symbol_table b ≡ Some t → (section_of b t).link < section_count b
   pub targets : (i : ℕ) → i < section_count b → (section_of b i).kind ≡ SHT_RELA → (section_of b i).info < section_count b
 
--- For each symbol whether it lies in a section that isn't kept.
+-- For each symbol whether it lies in a section that isn't kept. gABI 4, "Symbol Table", st_shndx.
 abbrev pub unkept_flags : List Section → List Symbol → List Bool
 unkept_flags sections symbols = map (lies_unkept sections) symbols
 

@@ -54,7 +54,8 @@ lies_unkept sections s =
 unfoldable pub is_unkept : List Section → List Symbol → ℕ → Bool
 is_unkept sections symbols k = option_map_or (lies_unkept sections) (slice_get symbols k) false
 
--- How many bytes of a section a file can have changed: none of one whose bytes aren't there.
+-- How many bytes of a section a file can have changed: none of one whose bytes aren't there. gABI 4, "Sections",
+-- SHT_NOBITS and sh_size.
 abbrev pub room_in : Section → ℕ
 room_in s = if s.kind == SHT_NOBITS then 0 else s.size
 

@@ -5,7 +5,7 @@ use Rattle.elf_object.specs.declared.section.Section.{Section}
 use Rattle.elf_object.specs.declared.section.SectionRef.{SectionRef}
 use Rattle.elf_object.specs.Shape.{AllInFile, HasTable, content, is_kept, name_in, name_table, section_count, section_header, shape_fault, contents}
 
--- The section with a name of its own.
+-- A section that is shown in place, as one with a name of its own. gABI 4, "Sections", Elf64_Shdr.
 abbrev pub owned_section : SectionRef → Section
 owned_section s = record {
   name = s.name.now;

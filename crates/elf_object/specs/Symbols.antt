@@ -16,7 +16,7 @@ use Rattle.elf_object.specs.declared.fault.SectionFault.TheVariants.{BadString}
 use Rattle.elf_object.specs.Shape.{each, contents, fault_if, section_count}
 use Rattle.elf_object.specs.Sections.{entry_size, section_of}
 
--- The symbol with a name of its own.
+-- A symbol that is shown in place, as one with a name of its own. gABI 4, "Symbol Table", Elf64_Sym.
 abbrev pub owned_symbol : SymbolRef → Symbol
 owned_symbol s = record { name = s.name.now; binding = s.binding; section = s.section; value = s.value }
 

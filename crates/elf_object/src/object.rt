@@ -4,14 +4,14 @@ ghost use Rattle.std.specs.Prelude.{◌≡◌, ◌<◌, ◌≤◌, ◌⊎◌, le
 ghost use Rattle.std.specs.List.{position};
 ghost use Rattle.std.specs.Str.{bytes_eq};
 ghost use Rattle.km_names.specs.Limit.{file_limit};
-ghost use Rattle.km_names.specs.First.{first};
-ghost use Rattle.elf_object.specs.Object.{content_tests, object_fault};
-ghost use Rattle.elf_object.specs.Symbols.{symbol_tests, symbols_of};
-ghost use Rattle.elf_object.specs.Places.{place_tests, places_of};
-ghost use Rattle.elf_object.specs.Inner.{TablesFit};
+ghost use Rattle.elf_object.specs.Object.{IsLoadable, file_object, object_fault};
+ghost use Rattle.elf_object.specs.Sections.{IsRead, sections_of};
+ghost use Rattle.elf_object.specs.Symbols.{symbols_of};
+ghost use Rattle.elf_object.specs.Places.{places_of};
 
 use crate::place::unkept_symbols;
 use crate::places::read_places;
+use crate::shape::read_shape;
 use crate::symbol::{borrowed_symbols, owned_symbols};
 use crate::tables::read_symbol_table;
 use crate::{ObjectFault, ObjectView, RelaPlace, Section, Sections, Symbol};
@@ -42,21 +42,18 @@ impl Model for Object {
     ghost invariant = { λ o. IsObject o.sections o.symbols o.places };
 }
 
-/// Reads the symbols and the places of a file.
-fn read_lists(
-    alloc: Global,
-    sections: &Sections,
-) -> Result<(List<Symbol>, List<RelaPlace>), ObjectFault>
-    requires { length sections.now.file ≤ file_limit }
-    ensures symbols { IfOk result (λ r. r.0 ≡ symbols_of sections.now.file) }
-    ensures places { IfOk result (λ r. r.1 ≡ places_of sections.now.file) }
-    ensures fit { OnOk result (TablesFit sections.now.file) }
-    ensures passed { OnOk result (first (symbol_tests sections.now.file) ≡ None) }
-    ensures placed { OnOk result (first (place_tests sections.now.file) ≡ None) }
+/// Reads the symbols and the places of a file, after all tests that it must pass.
+fn read_lists(alloc: Global, bytes: &[u8]) -> Result<(List<Symbol>, List<RelaPlace>), ObjectFault>
+    requires { length bytes.now ≤ file_limit }
+    ensures symbols { IfOk result (λ r. r.0 ≡ symbols_of bytes.now) }
+    ensures places { IfOk result (λ r. r.1 ≡ places_of bytes.now) }
+    ensures read { OnOk result (IsRead bytes.now (sections_of bytes.now)) }
+    ensures loadable { OnOk result (IsLoadable (file_object bytes.now)) }
+    ensures passed { OnOk result (object_fault bytes.now ≡ None) }
     ensures fault { IfErr result (λ e. (e ≡ ObjectFault.Memory)
-        ⊎ (first (content_tests sections.now.file) ≡ Some e)) }
+        ⊎ (object_fault bytes.now ≡ Some e)) }
 {
-    let table = sections.table(alloc)?;
+    let table = read_shape(alloc, bytes)?;
     let symbols = read_symbol_table(alloc, &table)?;
     let unkept = unkept_symbols(alloc, table.list(), symbols.as_slice())?;
     let places = read_places(alloc, &table, &unkept)?;
@@ -66,7 +63,7 @@ fn read_lists(
 impl Object {
     ghost use Rattle.elf_format.specs.declared.symbol.TheConstants.{SHN_LORESERVE};
     ghost use Rattle.elf_object.specs.Sections.{bytes_of};
-    ghost use Rattle.elf_object.specs.Object.{IsLoadable, IsPlaceIn, IsSectionIn, IsSymbolIn, file_object};
+    ghost use Rattle.elf_object.specs.Object.{IsPlaceIn, IsSectionIn, IsSymbolIn};
 
     /// Reads an object file, which it keeps. After a refusal the bytes are given up.
     ///
@@ -83,8 +80,9 @@ impl Object {
         ensures fault { IfErr result (λ e. (e ≡ ObjectFault.Memory)
             ⊎ (object_fault bytes ≡ Some e)) }
     {
-        let sections = Sections::read(alloc, bytes)?;
-        let (symbols, places) = read_lists(alloc, &sections)?;
+        // The lists that reading makes for itself are gone before the sections are kept.
+        let (symbols, places) = read_lists(alloc, bytes.as_bytes())?;
+        let sections = Sections::tested(alloc, bytes)?;
         Ok(Object {
             sections,
             symbols,

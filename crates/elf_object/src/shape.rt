@@ -1,19 +1,19 @@
 // The sections of a file, and the tests that they pass.
 
-ghost use Rattle.std.specs.Prelude.{◌≡◌, ◌+◌, ◌<◌, ◌≤◌, ◌⊎◌, length, map, None, Some, IsTrue, OnOk, IfOk, IfErr};
+ghost use Rattle.std.specs.Prelude.{◌≡◌, ◌+◌, ◌<◌, ◌≤◌, ◌⊎◌, length, None, Some, IsTrue, OnOk, IfOk, IfErr};
 ghost use Rattle.std.specs.Result.{result_err};
 ghost use Rattle.km_names.specs.First.{first};
 ghost use Rattle.elf_object.specs.Shape.{AllInFile, HasTable, IsInFile, content, each, has_content, name_table, name_table_test, name_test, place_test, section_count, section_header, shape_fault, contents};
-ghost use Rattle.elf_object.specs.Sections.{IsRead, file_sections, owned_section, sections_of};
+ghost use Rattle.elf_object.specs.Sections.{IsRead, file_sections, sections_of};
 ghost use Rattle.elf_object.specs.Inner.{HasStrings};
 
 use crate::header::{
     SectionHeader, check_header, is_within, name_table, section_count, section_header,
 };
-use crate::section::read_section;
+use crate::section::{check_name, section_at};
 use crate::section_table::SectionTable;
-use crate::strings::{NAME_LIMIT, are_within_limit, left_after, up_to_last_nul};
-use crate::{SectionFault, SectionRef};
+use crate::strings::{NAME_LIMIT, up_to_last_nul};
+use crate::{Section, SectionFault};
 use elf_format::{SHT_NOBITS, SHT_NULL, SHT_STRTAB};
 use km_names::List;
 use std::alloc::{AllocError, Global};
@@ -97,63 +97,89 @@ pub(crate) fn contents(bytes: &[u8], index: u16) -> &[u8]
     content(bytes, header.kind, header.offset, header.size)
 }
 
-/// Tests that the names of all sections together aren't too long to be kept.
-fn check_name_sum(bytes: &[u8], names: &[u8]) -> Result<(), AllocError>
-    requires { HasTable bytes.now }
-{
-    let count = section_count(bytes);
-    if are_within_limit(usize::from(count), names) {
-        return Ok(());
-    }
-    let mut left = NAME_LIMIT;
-    for index in 0..count {
-        let header = section_header(bytes, index);
-        if header.kind != SHT_NULL {
-            left = left_after(names, header.name, left)?;
-        }
-    }
-    Ok(())
-}
-
-/// Reads the sections, by the table of names.
-fn read_sections<'a>(
-    alloc: Global,
-    bytes: &[u8],
-    names: &'a [u8],
-) -> Result<List<SectionRef<'a>>, SectionFault>
+/// Tests the names of the sections, by the table of names. Together they can't be longer than is kept.
+fn check_names(bytes: &[u8], names: &[u8]) -> Result<(), SectionFault>
     requires table { HasTable bytes.now }
     requires names { HasStrings (contents bytes.now (name_table bytes.now)) names.now }
-    ensures sections { IfOk result (λ l. map owned_section l ≡ sections_of bytes.now) }
     ensures passed { OnOk result
         (first (each (section_count bytes.now) (name_test bytes.now)) ≡ None) }
     ensures fault { IfErr result
         (λ e. (e ≡ SectionFault.Memory)
         ⊎ (first (each (section_count bytes.now) (name_test bytes.now)) ≡ Some e)) }
 {
-    let count = section_count(bytes);
-    let mut sections = Vec::with_capacity(alloc, count as usize)?;
-    for index in 0..count {
-        sections.push(read_section(bytes, names, index)?)?;
+    let mut left = NAME_LIMIT;
+    for index in 0..section_count(bytes) {
+        let header = section_header(bytes, index);
+        left -= check_name(names, header.kind, header.name, left)?;
     }
-    Ok(List::from_vec(sections))
+    Ok(())
 }
 
-/// Reads the sections of a file, after all tests that it must pass.
-pub(crate) fn read_shape<'a>(
-    alloc: Global,
-    bytes: &'a [u8],
-) -> Result<SectionTable<'a>, SectionFault>
-    ensures sections { IfOk result (λ t. t ≡ file_sections bytes.now) }
+/// The table of names up to its last NUL.
+fn section_names(bytes: &[u8]) -> &[u8]
+    requires table { HasTable bytes.now }
+    requires within { AllInFile bytes.now }
+    ensures { HasStrings (contents bytes.now (name_table bytes.now)) result.now }
+{
+    up_to_last_nul(contents(bytes, name_table(bytes)))
+}
+
+/// Tests a file with sections.
+pub(crate) fn check_shape(bytes: &[u8]) -> Result<(), SectionFault>
     ensures read { OnOk result (IsRead bytes.now (sections_of bytes.now)) }
-    ensures passed { OnOk result (shape_fault bytes.now ≡ None) }
     ensures fault { IfErr result (λ e. (e ≡ SectionFault.Memory)
         ⊎ (shape_fault bytes.now ≡ Some e)) }
 {
     check_header(bytes)?;
     check_places(bytes)?;
     check_name_table(bytes)?;
-    let names = up_to_last_nul(contents(bytes, name_table(bytes)));
-    check_name_sum(bytes, names)?;
-    let sections = read_sections(alloc, bytes, names)?;
-    Ok(SectionTable { bytes, sections })
+    check_names(bytes, section_names(bytes))
+}
+
+/// The sections of a file that passed the tests, with their names where these stand.
+pub(crate) fn section_table<'a>(
+    alloc: Global,
+    bytes: &'a [u8],
+) -> Result<SectionTable<'a>, AllocError>
+    requires { IsRead bytes.now (sections_of bytes.now) }
+    ensures { IfOk result (λ table. table ≡ file_sections bytes.now) }
+{
+    let names = section_names(bytes);
+    let count = section_count(bytes);
+    let mut sections = Vec::with_capacity(alloc, usize::from(count))?;
+    for index in 0..count {
+        sections.push(section_at(bytes, names, index))?;
+    }
+    Ok(SectionTable {
+        bytes,
+        sections: List::from_vec(sections),
+    })
+}
+
+/// The sections of a file that passed the tests, with names of their own.
+pub(crate) fn owned_sections(alloc: Global, bytes: &[u8]) -> Result<List<Section>, AllocError>
+    requires { IsRead bytes.now (sections_of bytes.now) }
+    ensures { IfOk result (λ sections. sections ≡ sections_of bytes.now) }
+{
+    let names = section_names(bytes);
+    let count = section_count(bytes);
+    let mut sections = Vec::with_capacity(alloc, usize::from(count))?;
+    for index in 0..count {
+        sections.push(section_at(bytes, names, index).to_owned(alloc)?)?;
+    }
+    Ok(List::from_vec(sections))
+}
+
+/// Tests a file with sections, and shows them with their names where these stand.
+pub(crate) fn read_shape<'a>(
+    alloc: Global,
+    bytes: &'a [u8],
+) -> Result<SectionTable<'a>, SectionFault>
+    ensures sections { IfOk result (λ table. table ≡ file_sections bytes.now) }
+    ensures read { OnOk result (IsRead bytes.now (sections_of bytes.now)) }
+    ensures fault { IfErr result (λ e. (e ≡ SectionFault.Memory)
+        ⊎ (shape_fault bytes.now ≡ Some e)) }
+{
+    check_shape(bytes)?;
+    Ok(section_table(alloc, bytes)?)
 }

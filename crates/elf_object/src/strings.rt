@@ -1,6 +1,7 @@
 // Strings in string tables. gABI 4, "String Table".
 
-ghost use Rattle.std.specs.Prelude.{◌<◌, ◌≤◌, IfOk};
+ghost use Rattle.std.specs.Prelude.{◌≡◌, ◌≤◌, length, IfOk, IfSome, option_copied};
+ghost use Rattle.km_names.specs.Strings.{string_at as string_of_table};
 ghost use Rattle.elf_object.specs.Inner.{HasStrings};
 
 use km_names::{FILE_LIMIT, string_at};
@@ -12,30 +13,24 @@ use std::alloc::AllocError;
 /// real module together have less than a tenth of this.
 pub const NAME_LIMIT: usize = 4 * FILE_LIMIT;
 
-/// How many bytes names may still have after the string at the place `at` of a table, of which there were `left`.
-/// No more than one byte past those is looked at.
+/// The string at the place `at` of a table, where names may have `left` bytes more. No more than one byte past those is
+/// looked at.
 ///
 /// # Errors
 ///
 /// Where the string is longer.
-pub(crate) fn left_after(table: &[u8], at: u32, left: usize) -> Result<usize, AllocError>
+pub(crate) fn string_within(table: &[u8], at: u32, left: usize) -> Result<Option<&[u8]>, AllocError>
     requires { left ≤ NAME_LIMIT }
-    ensures { IfOk result (λ rest. rest ≤ left) }
+    ensures string { IfOk result (λ string. option_copied string ≡ string_of_table table.now at) }
+    ensures within { IfOk result (λ string. IfSome string (λ name. length name.now ≤ left)) }
 {
     let at = at as usize;
     let end = (at + left + 1).min(table.len());
     match string_at(&table[..end], at) {
-        Some(name) => Ok(left - name.len()),
+        Some(name) => Ok(Some(name)),
         None if end < table.len() => Err(AllocError),
-        None => Ok(left),
+        None => Ok(None),
     }
-}
-
-/// Whether `count` strings of a table are together within the limit, whichever they are.
-pub(crate) fn are_within_limit(count: usize, table: &[u8]) -> bool
-    requires { 0 < count }
-{
-    table.len() <= NAME_LIMIT / count
 }
 
 /// A string table up to its last NUL. It has the same strings, and past its end none is searched for.

@@ -7,12 +7,12 @@ ghost use Rattle.km_names.specs.First.{first};
 ghost use Rattle.elf_object.specs.Shape.{each};
 ghost use Rattle.elf_object.specs.Symbols.{entries, is_bad_symbol, kind_test, owned_symbol, symbol_entry, symbol_in, symbol_test_in, symbols_in};
 
-use crate::strings::{NAME_LIMIT, are_within_limit, left_after};
+use crate::strings::{NAME_LIMIT, string_within};
 use crate::{ObjectFault, SectionFault};
 use elf_format::{
     SHN_ABS, SHN_COMMON, SHN_LORESERVE, SHN_UNDEF, SHN_XINDEX, STB_LOCAL, STB_WEAK, SYM_SIZE,
 };
-use km_names::{List, Name, le_u16_at, le_u32_at, le_u64_at, string_at};
+use km_names::{List, Name, le_u16_at, le_u32_at, le_u64_at};
 use std::alloc::{AllocError, Global};
 
 /// A symbol of a file. gABI 4, "Symbol Table", Elf64_Sym.
@@ -94,32 +94,23 @@ fn check_kind(count: u32, name: &[u8], index: u32, entry: &SymbolEntry) -> Resul
     Ok(())
 }
 
-/// Tests that the names of all symbols of a table together aren't too long to be kept.
-pub(crate) fn check_name_sum(table: &[u8], names: &[u8]) -> Result<(), AllocError>
-    requires { length table.now ≤ file_limit }
-{
-    let entries = table.len() / SYM_SIZE;
-    if entries == 0 || are_within_limit(entries, names) {
-        return Ok(());
-    }
-    let mut left = NAME_LIMIT;
-    for index in 1..entries as u32 {
-        left = left_after(names, symbol_entry(table, index).name, left)?;
-    }
-    Ok(())
-}
-
-/// The symbol `index` of a table, by its string table and the count of sections.
+/// The symbol `index` of a table, by its string table and the count of sections, where names may have `left` bytes more.
 #[tactic(auto, unfolding(crate::specs::Symbols::symbol_in, crate::specs::Symbols::symbol_test_in))]
 fn read_symbol<'a>(
     table: &[u8],
     names: &'a [u8],
     count: u32,
     index: u32,
+    left: usize,
 ) -> Result<SymbolRef<'a>, ObjectFault>
-    requires { 24 * index + 24 ≤ length table.now }
+    requires entry { 24 * index + 24 ≤ length table.now }
+    requires left { left ≤ NAME_LIMIT }
     ensures symbol { IfOk result (λ s. owned_symbol s ≡ symbol_in table.now names.now index) }
-    ensures fault { result_err result ≡ symbol_test_in table.now names.now count index }
+    ensures within { IfOk result (λ s. length s.name.now ≤ left) }
+    ensures passed { OnOk result (symbol_test_in table.now names.now count index ≡ None) }
+    ensures fault { IfErr result
+        (λ e. (e ≡ ObjectFault.Memory)
+        ⊎ (symbol_test_in table.now names.now count index ≡ Some e)) }
 {
     if index == 0 {
         return Ok(SymbolRef {
@@ -130,7 +121,7 @@ fn read_symbol<'a>(
         });
     }
     let entry = symbol_entry(table, index);
-    let Some(name) = string_at(names, entry.name as usize) else {
+    let Some(name) = string_within(names, entry.name, left)? else {
         return Err(ObjectFault::Shape(SectionFault::BadString {
             offset: u64::from(entry.name),
         }));
@@ -144,7 +135,8 @@ fn read_symbol<'a>(
     })
 }
 
-/// The symbols of a table, by its string table and the count of sections.
+/// The symbols of a table, by its string table and the count of sections. Their names together can't be longer than is
+/// kept.
 pub(crate) fn read_symbols<'a>(
     alloc: Global,
     table: &[u8],
@@ -161,8 +153,11 @@ pub(crate) fn read_symbols<'a>(
 {
     let entries = table.len() / SYM_SIZE;
     let mut symbols = Vec::with_capacity(alloc, entries)?;
+    let mut left = NAME_LIMIT;
     for index in 0..entries as u32 {
-        symbols.push(read_symbol(table, names, count, index)?)?;
+        let symbol = read_symbol(table, names, count, index, left)?;
+        left -= symbol.name.len();
+        symbols.push(symbol)?;
     }
     Ok(List::from_vec(symbols))
 }

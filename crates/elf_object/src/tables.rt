@@ -11,7 +11,7 @@ ghost use Rattle.elf_object.specs.Symbols.{has_entries, is_good_table, is_string
 
 use crate::section_table::SectionTable;
 use crate::strings::up_to_last_nul;
-use crate::symbol::{check_name_sum, read_symbols};
+use crate::symbol::read_symbols;
 use crate::{ObjectFault, SymbolRef};
 use elf_format::{SHT_REL, SHT_RELA, SHT_STRTAB, SHT_SYMTAB, SYM_SIZE};
 use km_names::List;
@@ -137,6 +137,5 @@ pub(crate) fn read_symbol_table<'a>(
     check_tables(sections, number)?;
     let (table, strings) = symbol_tables(sections, number);
     let names = up_to_last_nul(strings);
-    check_name_sum(table, names)?;
     read_symbols(alloc, table, names, count)
 }

@@ -1,4 +1,4 @@
-ghost use Rattle.std.specs.Prelude.{◌≡◌, ◌↔◌, ◌∷◌, ◌++◌, ℕ, List, IsTrue, MatchOption, Contains};
+ghost use Rattle.std.specs.Prelude.{◌↔◌, ◌∷◌, ℕ, List, IsTrue, MatchOption, Contains};
 ghost use Rattle.glob_match.specs.Front.{Closes, IsFirst, IsMet};
 ghost use Rattle.glob_match.specs.Pattern.{Matches, closing};
 

@@ -1,4 +1,4 @@
-ghost use Rattle.std.specs.Prelude.{◌≡◌, ◌↔◌, ◌<◌, [], ℕ, length, IsTrue, MatchOption};
+ghost use Rattle.std.specs.Prelude.{◌≡◌, ◌↔◌, ◌<◌, [], IsTrue, MatchOption};
 ghost use Rattle.glob_match.specs.Front.{BeginsWith};
 ghost use Rattle.glob_match.specs.Pattern.{Has, Lists};
 

@@ -1,6 +1,6 @@
 // Where sections end that are placed one after the other.
 
-ghost use Rattle.std.specs.Prelude.{◌≡◌, ◌+◌, ◌%◌, ◌<◌, ◌≤◌, ◌^◌, true, length, if◌then◌else◌};
+ghost use Rattle.std.specs.Prelude.{◌≡◌, ◌+◌, ◌%◌, ◌<◌, ◌≤◌, ◌^◌, true, if◌then◌else◌};
 ghost use Rattle.elf_object.specs.Places.{is_alignment};
 ghost use Rattle.image_layout.specs.Offsets.{aligned as the_aligned, end_of, is_in as stands_in, of_class};
 

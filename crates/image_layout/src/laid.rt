@@ -1,6 +1,6 @@
 // The image of a module at a base.
 
-ghost use Rattle.std.specs.Prelude.{◌≡◌, ◌<◌, ◌^◌, ◌⊎◌, None, Some, length, IfErr, IfOk, OnOk, slice_get};
+ghost use Rattle.std.specs.Prelude.{◌≡◌, ◌<◌, ◌^◌, ◌⊎◌, None, Some, length, IfErr, IfOk, OnOk};
 ghost use Rattle.std.specs.Result.{result_err};
 ghost use Rattle.x86_relocate.specs.Patched.{patched};
 ghost use Rattle.image_layout.specs.Offsets.{image_size, offsets};

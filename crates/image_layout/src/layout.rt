@@ -2,7 +2,7 @@
 
 ghost use Rattle.std.specs.Prelude.{ℕ, List, Some, take, slice_get, [], ◌≡◌, ◌+◌, ◌*◌, ◌%◌, ◌<◌, ◌≤◌, ◌^◌, true, length, IfOk, if◌then◌else◌, slice_index};
 ghost use Rattle.elf_object.specs.Places.{is_alignment};
-ghost use Rattle.image_layout.specs.Offsets.{aligned as the_aligned, class_end, class_of as the_class, end_of, fixed_start, greater, image_size as size_of_image, is_class, of_class, offset, offsets, variable_start};
+ghost use Rattle.image_layout.specs.Offsets.{aligned as the_aligned, class_of as the_class, end_of, fixed_start, image_size as size_of_image, is_class, offset, offsets, variable_start};
 ghost use Rattle.image_layout.specs.Ends.{AreEnds, AreNear, end_in};
 ghost use Rattle.elf_object.specs.declared.section.Section.{Section};
 ghost use Rattle.image_layout.specs.declared.class.Class.{Class};

@@ -1,6 +1,6 @@
 // The bytes of the sections in an image.
 
-ghost use Rattle.std.specs.Prelude.{◌≡◌, ◌<◌, ◌≤◌, ◌^◌, length, IfOk};
+ghost use Rattle.std.specs.Prelude.{◌≡◌, ◌<◌, ◌^◌, length, IfOk};
 ghost use Rattle.image_layout.specs.Offsets.{image_size as size_of_image, offsets};
 ghost use Rattle.image_layout.specs.Plain.{piece, plain_image as the_plain_image};
 

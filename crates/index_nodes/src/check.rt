@@ -1,5 +1,5 @@
 // The check of a file, in the reader's order of visits.
-ghost use Rattle.std.specs.Prelude.{◌≡◌, ◌≤◌, ◌<◌, ◌+◌, ◌^◌, ◌/◌, ◌%◌, ◌==◌, ◌||◌, ℕ, List, [], ◌∷◌, ◌++◌, length, vec_len, Some, None, OnOk, IfErr, IfOk, MatchOption, MatchResult, true, false};
+ghost use Rattle.std.specs.Prelude.{◌≡◌, ◌≤◌, ◌<◌, ◌+◌, ◌/◌, ◌%◌, ◌==◌, ◌||◌, ℕ, List, [], ◌∷◌, ◌++◌, length, vec_len, Some, None, OnOk, IfErr, IfOk, MatchOption, MatchResult, true, false};
 ghost use Rattle.std.specs.List.{AllByRecursion};
 ghost use Rattle.km_names.specs.Number.{be};
 ghost use Rattle.index_format.specs.Link.{place_of, has_prefix, has_values, has_children};

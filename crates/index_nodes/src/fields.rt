@@ -1,7 +1,7 @@
 // Where the fields of a node stand, and whether they are whole.
 ghost use Rattle.std.specs.Prelude.{◌≡◌, ◌≤◌, ◌<◌, ◌^◌, ◌&&◌, length, drop, MatchOption, true, false};
 ghost use Rattle.index_format.specs.Link.{place_of};
-ghost use Rattle.index_format.specs.Node.{after_prefix, after_children};
+ghost use Rattle.index_format.specs.Node.{after_prefix};
 ghost use Rattle.index_format.specs.Check.{prefix_fits, children_fit, whole_values as whole, values_fit};
 ghost use Rattle.index_nodes.specs.Fields.{IsPrefixEnd, IsChildrenEnd, HasFields};
 

@@ -1,4 +1,4 @@
-ghost use Rattle.std.specs.Prelude.{◌≡◌, ℕ, ◌<◌, ◌^◌, ◌/◌, ◌==◌, ◌||◌, vec_len, IfOk, OnOk, false};
+ghost use Rattle.std.specs.Prelude.{◌≡◌, ℕ, ◌<◌, ◌^◌, ◌/◌, ◌==◌, ◌||◌, vec_len, IfOk, false};
 ghost use Rattle.index_nodes.specs.Visited.{has_place};
 
 use std::alloc::{AllocError, Global};

@@ -1,5 +1,5 @@
 // What stands in the fields of a sound node.
-ghost use Rattle.std.specs.Prelude.{◌≡◌, ◌+◌, ◌≤◌, ◌<◌, ◌∷◌, [], ℕ, length, drop, true, Some, None, IfNone, IfSome, MatchOption, slice_get, slice_index};
+ghost use Rattle.std.specs.Prelude.{◌≡◌, ◌+◌, ◌≤◌, ◌<◌, ◌∷◌, [], ℕ, length, drop, true, Some, None, IfNone, IfSome, MatchOption, slice_get};
 ghost use Rattle.index_format.specs.Link.{has_children};
 ghost use Rattle.index_format.specs.Node.{prefix, child, values, first_byte, last_byte};
 ghost use Rattle.index_format.specs.Check.{children_fit, whole_values, values_fit};

@@ -1,4 +1,4 @@
-ghost use Rattle.std.specs.Prelude.{◌≡◌, ◌+◌, ◌≤◌, [], length, Some, None, IfOk, OnOk, IfErr, IfNone, IfSome, slice_get, ℕ};
+ghost use Rattle.std.specs.Prelude.{◌≡◌, ◌+◌, ◌≤◌, [], length, Some, None, IfOk, OnOk, IfErr, IfNone, IfSome, slice_get};
 ghost use Rattle.std.specs.FinMap.{entries};
 ghost use Rattle.index_format.specs.Map.{KeyValues, values_of};
 ghost use Rattle.index_format.specs.Node.{root};
@@ -6,7 +6,7 @@ ghost use Rattle.index_format.specs.Walk.{at, visits};
 ghost use Rattle.index_format.specs.Check.{index_fault};
 ghost use Rattle.index_format.specs.Holds.{Holds};
 ghost use Rattle.index_nodes.specs.Faults.{IsFirstFault};
-ghost use Rattle.index_nodes.specs.Places.{IsPlaceOf, value_at, values_left};
+ghost use Rattle.index_nodes.specs.Places.{IsPlaceOf, value_at};
 ghost use Rattle.index_format.specs.Nodes.{node_count};
 ghost use Rattle.index_format.specs.Listing.{IsListing};
 ghost use Rattle.index_read.specs.Contents.{contents, values_matching, wild_values};

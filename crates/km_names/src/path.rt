@@ -1,4 +1,4 @@
-ghost use Rattle.std.specs.Prelude.{◌≡◌, ◌==◌, ◌↔◌, IfOk, IsTrue};
+ghost use Rattle.std.specs.Prelude.{◌≡◌, ◌==◌, IfOk};
 ghost use Rattle.std.specs.List.{before_first, after_last};
 ghost use Rattle.km_names.specs.Path.{underscored as underscored_bytes, module_name as name_of_path, is_compressed as has_compressed_end, without_end_slashes as without_slashes, path_below};
 

@@ -1,14 +1,13 @@
 -- The headline, by the laws on the courses of loads.
-use Rattle.std.proofs.Common.{◌≡◌, ℕ, List, ◌∷◌, sym, ap, subst, ◌∙◌}
-use Rattle.std.specs.Prelude.{Some, codes}
+use Rattle.std.proofs.Common.{◌≡◌, ℕ, List, sym, ap, subst, ◌∙◌}
+use Rattle.std.specs.Prelude.{Some}
 use Rattle.km_outside.specs.Contents.{Contents}
-use Rattle.km_course.specs.World.{World, Shown, Tells}
 use Rattle.kmod_words.specs.declared.modprobe.ModprobeWords.{ModprobeWords}
 use Rattle.kmod_words.specs.Modprobe.{modprobe_request}
 use Rattle.command_modprobe.specs.Loaded.{loads_plan}
 use Rattle.command_modprobe.specs.Modprobe.{modprobe_asked_for, modprobe_course, modprobe_in_mode}
 use Rattle.command_modprobe.specs.Planned.{request_of}
-use Rattle.planned_loads.specs.Courses.{HasEnded, IsLoadingCourse}
+use Rattle.planned_loads.specs.Courses.{IsEndOfLoads, IsLoadingCourse}
 use Rattle.planned_loads.proofs.CourseLemmas.{courses-bind}
 use Rattle.planned_loads.proofs.EndLemmas.{courses-end}
 use Rattle.planned_loads.proofs.WholeLemmas.{courses-load}
@@ -25,6 +24,6 @@ headline words held = λ asked is l s.
       binds = courses-bind held (folder_asked asked) l.tree l.indexed l.builtin l.kernel s.stands asked.config asked.loaded (request_of asked) l.region l.known l.listed l.steps l.paths s.came asked.image;
       loads = subst (λ c. IsLoadingCourse held (folder_asked asked) asked.image l.listed l.steps l.paths (c.run held)) (sym course)
           (courses-load held asked l.kernel l.region l.known l.listed l.steps l.paths s.machine s.came);
-      ends = subst (λ c. HasEnded (c.run held).outcome) (sym course)
+      ends = subst (λ c. IsEndOfLoads (c.run held).outcome) (sym course)
           (courses-end held asked l.tree l.indexed l.builtin l.kernel s.stands l.region l.known l.listed l.steps l.paths s.machine s.came);
     }

@@ -14,7 +14,7 @@ use Rattle.command_files.specs.KernelModules.{modules_folder}
 use Rattle.command_modprobe.specs.declared.known.Known.{Known}
 use Rattle.command_modprobe.specs.Modprobe.{modprobe_course}
 use Rattle.command_modprobe.specs.Planned.{request_of}
-use Rattle.planned_loads.specs.Courses.{CameToLoads, CourseBinds, HasEnded, HasMachine, IsIndexedFor, IsLoadingCourse}
+use Rattle.planned_loads.specs.Courses.{CameToLoads, CourseBinds, IsEndOfLoads, HasMachine, IsIndexedFor, IsLoadingCourse}
 
 -- The folder of the modules of the kernel that is asked for.
 abbrev pub folder_asked : ModprobeWords → List ℕ
@@ -52,7 +52,7 @@ pub record LoadsBind (held : Contents) (words : List (List ℕ)) (asked : Modpro
   -- it reads files, says the lines of the plan, and loads its modules, and does nothing else
   pub loads : IsLoadingCourse held (folder_asked asked) asked.image l.listed l.steps l.paths ((modprobe_course words).run held)
   -- it ends where all are loaded, or with the one that finds no room in the region or has a word that doesn't fit there
-  pub ends : HasEnded ((modprobe_course words).run held).outcome
+  pub ends : IsEndOfLoads ((modprobe_course words).run held).outcome
 
 -- The headline, of modprobe with these words after its name over these files.
 abbrev pub Headline : List (List ℕ) → Contents → Type 0

@@ -1,5 +1,5 @@
 // The options and words of a command, and the command that `clap` reads.
-ghost use Rattle.std.specs.Prelude.{◌≡◌, List, ℕ, IfOk, map, false, true};
+ghost use Rattle.std.specs.Prelude.{◌≡◌, IfOk, map, false, true};
 ghost use Rattle.clap.specs.Words.{app_of, rule_of};
 ghost use Rattle.kmod_words.specs.Arguments.{command as command_with, with_value};
 ghost use Rattle.kmod_words.specs.Rules.{rule_for};

@@ -1,5 +1,5 @@
 // The matches of words, and what is asked of them.
-ghost use Rattle.std.specs.Prelude.{◌≡◌, ◌==◌, true, IfOk, List, ℕ, map, option_map, unwrap_or};
+ghost use Rattle.std.specs.Prelude.{◌≡◌, ◌==◌, true, IfOk, map, option_map, unwrap_or};
 ghost use Rattle.std.specs.List.{list_any};
 ghost use Rattle.clap.specs.Words.{app_of, found_of, is_simple_and_free, rows_of};
 ghost use Rattle.kmod_words.specs.Understood.{understood as matches_of_words, is_given as is_given_in, is_from_words as is_no_default, value_of, words_of as words_of_name, is_version as has_no_slash};

@@ -1,4 +1,4 @@
-ghost use Rattle.std.specs.Prelude.{◌≡◌, ◌++◌, IfOk, OnOk, List, Option, ℕ, option_map, map};
+ghost use Rattle.std.specs.Prelude.{◌≡◌, ◌++◌, IfOk, OnOk, Option, option_map, map};
 ghost use Rattle.clap.specs.Words.{found_of, rows_of};
 ghost use Rattle.kmod_words.specs.Modinfo.{modinfo_request, modinfo_asked, modinfo_of, keys_asked as all_keys, key_by_flag, single as single_key, is_by_name_or_path as names_or_paths};
 

@@ -1,4 +1,4 @@
-ghost use Rattle.std.specs.Prelude.{◌≡◌, IfOk, List, Option, ℕ, option_map};
+ghost use Rattle.std.specs.Prelude.{◌≡◌, IfOk, Option, option_map};
 ghost use Rattle.clap.specs.Words.{found_of, rows_of};
 ghost use Rattle.kmod_words.specs.Modprobe.{modprobe_request, modprobe_asked, modprobe_of, mode_asked as mode_of_flags, mode_by_flags as mode_of_three, has_addresses as has_kernel_addresses, chosen, shown};
 

@@ -1,4 +1,4 @@
-ghost use Rattle.std.specs.Prelude.{◌≡◌, ◌≤◌, IfOk, IfSome, List, Option, ℕ};
+ghost use Rattle.std.specs.Prelude.{◌≡◌, ◌≤◌, IfOk, IfSome, Option};
 ghost use Rattle.clap.specs.Words.{found_of, rows_of};
 ghost use Rattle.kmod_words.specs.Trial.{trial_request, trial_asked, number_of as number_of_name};
 

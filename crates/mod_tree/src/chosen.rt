@@ -1,4 +1,4 @@
-ghost use Rattle.std.specs.Prelude.{◌≡◌, ◌<◌, ◌^◌, ℕ, List, length, map, All, IfOk, None};
+ghost use Rattle.std.specs.Prelude.{◌≡◌, ◌<◌, ℕ, List, map, All, IfOk, None};
 ghost use Rattle.std.specs.List.{position_or_len};
 ghost use Rattle.mod_tree.specs.Tree.{rank as rank_of, is_folder_of};
 ghost use Rattle.mod_tree.specs.Shown.{shown};

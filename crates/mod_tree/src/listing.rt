@@ -1,4 +1,4 @@
-ghost use Rattle.std.specs.Prelude.{◌≡◌, ◌<◌, ◌^◌, ◌+◌, ℕ, List, length, map, All, IfOk};
+ghost use Rattle.std.specs.Prelude.{◌≡◌, ◌<◌, ℕ, List, map, All, IfOk};
 ghost use Rattle.km_names.specs.Lines.{lines_of};
 ghost use Rattle.mod_tree.specs.Tree.{tree_paths};
 ghost use Rattle.mod_tree.specs.Shown.{shown};

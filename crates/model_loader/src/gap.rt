@@ -1,6 +1,6 @@
 // The search for a gap.
 
-ghost use Rattle.std.specs.Prelude.{◌≡◌, ◌+◌, ◌%◌, ◌^◌, ◌≤◌, ◌<◌, All, IfOk, length, map, true};
+ghost use Rattle.std.specs.Prelude.{◌≡◌, ◌+◌, ◌%◌, ◌^◌, ◌≤◌, ◌<◌, All, IfOk, map, true};
 ghost use Rattle.std.specs.List.Sorted.{IsNonDecreasingBy, IsPermutation};
 ghost use Rattle.model_loader.specs.Gap.{gap_among};
 ghost use Rattle.model_loader.specs.Runs.{IsLowest, IsPaged, run_of};

@@ -1,6 +1,6 @@
 // What the undefined symbols of a module stand for.
 
-ghost use Rattle.std.specs.Prelude.{◌≡◌, ◌<◌, All, IfOk, length, map, replicate};
+ghost use Rattle.std.specs.Prelude.{◌≡◌, ◌<◌, All, IfOk, map, replicate};
 ghost use Rattle.std.specs.List.{range_with_len};
 ghost use Rattle.model_loader.specs.NeedTests.{given_by, kept_address};
 ghost use Rattle.module_facts.specs.declared.facts.Need.{Need};

@@ -4,7 +4,6 @@ ghost use Rattle.std.specs.Prelude.{◌≡◌, ◌<◌, ◌≤◌, ◌⊎◌, �
 ghost use Rattle.std.specs.HashMap.{spare};
 ghost use Rattle.std.specs.Option.{option_or};
 ghost use Rattle.std.specs.Str.{bytes_eq};
-ghost use Rattle.km_names.specs.First.{first};
 ghost use Rattle.symbol_binding.specs.Unmet.{vmlinux};
 ghost use Rattle.provider_rel.specs.declared.kernel.Kernel.{Kernel};
 ghost use Rattle.module_facts.specs.declared.module.Module.{Module};

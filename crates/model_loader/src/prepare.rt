@@ -1,8 +1,7 @@
 // The entry of a module, made before the machine is changed.
 
-ghost use Rattle.std.specs.Prelude.{◌≡◌, ◌<◌, ◌+◌, ◌^◌, ◌/◌, ◌⊎◌, ◌≤◌, All, None, Some, OnOk, IfErr, IfOk, length, map};
+ghost use Rattle.std.specs.Prelude.{◌≡◌, ◌<◌, ◌^◌, ◌/◌, ◌⊎◌, All, None, Some, OnOk, IfErr, IfOk, length, map};
 ghost use Rattle.km_names.specs.First.{first};
-ghost use Rattle.image_layout.specs.Offsets.{image_size as size_of_image};
 ghost use Rattle.model_loader.specs.declared.entry.Entry.{Entry};
 ghost use Rattle.model_loader.specs.declared.prepare.Prepared.{Prepared};
 ghost use Rattle.model_loader.specs.Machine.{Machine};

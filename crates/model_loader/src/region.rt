@@ -16,7 +16,7 @@ pub struct Region {
 
 impl Region {
     ghost use Rattle.std.specs.Option.{option_map};
-    ghost use Rattle.model_loader.specs.Spans.{Span, span_of};
+    ghost use Rattle.model_loader.specs.Spans.{span_of};
 
     /// The region of `size` bytes from `base` on; `None` exactly where one of them isn't a number of whole pages of 4096
     /// bytes, where there are no bytes, or where the bytes pass the last address of 64 bits.

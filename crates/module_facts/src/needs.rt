@@ -1,6 +1,6 @@
 // What a module needs.
 
-ghost use Rattle.std.specs.Prelude.{◌≡◌, length, map, Some, IfOk};
+ghost use Rattle.std.specs.Prelude.{◌≡◌, map, Some, IfOk};
 ghost use Rattle.name_table.specs.NameTable.{IsTableOf};
 ghost use Rattle.elf_object.specs.Symbols.{owned_symbol};
 ghost use Rattle.module_facts.specs.Listed.{shown};

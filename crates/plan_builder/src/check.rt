@@ -2,7 +2,6 @@
 ghost use Rattle.std.specs.Prelude.{◌≡◌, ◌<◌, ◌⊎◌, ℕ, List, length, All, Some, None, IfOk, IfErr, OnOk, option_map};
 ghost use Rattle.name_table.specs.FirstSeen.{is_among};
 ghost use Rattle.plan_builder.specs.Modules.{bad_among, places_of};
-ghost use Rattle.plan_builder.specs.Needs.{modules as modules_in};
 ghost use Rattle.plan_builder.specs.Obstacles.{is_path_of, is_met as are_met, is_obstacle as is_obstacle_of, as_obstacle as obstacle_of_line, first_line as first_line_of, stands};
 ghost use Rattle.plan_builder.specs.Planner.{sources_of};
 ghost use Rattle.plan_builder.specs.Tables.{shown};

@@ -1,7 +1,7 @@
 // The names of modules, from their paths.
-ghost use Rattle.std.specs.Prelude.{◌≡◌, ◌==◌, ℕ, OnOk, if◌then◌else◌};
-ghost use Rattle.std.specs.List.{after_last, before_first};
-ghost use Rattle.km_names.specs.Path.{module_name, underscored};
+ghost use Rattle.std.specs.Prelude.{◌≡◌, ◌==◌, OnOk, if◌then◌else◌};
+ghost use Rattle.std.specs.List.{after_last};
+ghost use Rattle.km_names.specs.Path.{module_name};
 
 use km_names::split_at_byte;
 use memchr::memrchr;

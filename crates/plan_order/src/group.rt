@@ -1,7 +1,6 @@
 // The least order of a few modules, in time in proportion to what they need.
-ghost use Rattle.std.specs.Prelude.{◌≡◌, ◌<◌, ℕ, true, length, map, All, IfOk, slice_index};
-ghost use Rattle.std.specs.List.{find};
-ghost use Rattle.relation_order.specs.Sets.{has, goes, below};
+ghost use Rattle.std.specs.Prelude.{◌≡◌, ◌<◌, ℕ, length, map, All, IfOk, slice_index};
+ghost use Rattle.relation_order.specs.Sets.{has, goes};
 ghost use Rattle.relation_order.specs.Least.{least_order};
 ghost use Rattle.relation_order.specs.Search.{Inside};
 ghost use Rattle.plan_order.specs.Finding.{Rises};

@@ -1,5 +1,5 @@
 // What no clause says: worked plans, by the maps of a folder.
-ghost use Rattle.std.specs.Prelude.{◌≡◌, ◌≤◌, ◌↔◌, length, All, IfOk, IsTrue};
+ghost use Rattle.std.specs.Prelude.{◌≤◌, ◌↔◌, length, All, IfOk, IsTrue};
 ghost use Rattle.km_names.specs.Limit.{file_limit};
 ghost use Rattle.index_format.specs.Map.{IsKey, IsText};
 

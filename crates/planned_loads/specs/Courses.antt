@@ -109,9 +109,9 @@ CoursesBind =
 
 -- A course of loads came to its end: all modules of the plan were loaded, or one of them found no room in the region, or a
 -- word of it didn't fit there.
-pub data HasEnded : Outcome ⊤ → Type 0 where
-  all_loaded : HasEnded (value tt)
-  no_place : (name : List ℕ) (fault : LoadFault) → IsPlaceFault fault → HasEnded (end (Refused (LoadRefused name (load_fault_text fault))))
+pub data IsEndOfLoads : Outcome ⊤ → Type 0 where
+  all_loaded : IsEndOfLoads (value tt)
+  no_place : (name : List ℕ) (fault : LoadFault) → IsPlaceFault fault → IsEndOfLoads (end (Refused (LoadRefused name (load_fault_text fault))))
 
 -- So the whole course of such a modprobe ends for nothing else.
 abbrev pub CoursesEnd : Type 0
@@ -121,4 +121,4 @@ CoursesEnd =
     → (region : Region) (known : Known) (machine : Machine) (steps : List PlanStep) (paths : List (List ℕ))
     → HasMachine held asked addressed region
     → CameToLoads held (modules_folder asked.dirname asked.version) asked.config asked.loaded (request_of asked) addressed region known machine steps paths
-    → HasEnded ((loads_plan asked).run held).outcome
+    → IsEndOfLoads ((loads_plan asked).run held).outcome

@@ -1,6 +1,5 @@
 // What the needs of a tree are bound to.
-ghost use Rattle.std.specs.Prelude.{◌≡◌, ◌⊎◌, length, map, IfOk, IfErr};
-ghost use Rattle.provider_rel.specs.Faces.{modules_of, kernel_of};
+ghost use Rattle.std.specs.Prelude.{◌≡◌, map, IfOk, IfErr};
 ghost use Rattle.provider_rel.specs.Tree.{IsTree};
 ghost use Rattle.provider_rel.specs.Items.{owner_under, used_places};
 ghost use Rattle.provider_rel.specs.Bindings.{AreBindings};

@@ -2,7 +2,7 @@
 ghost use Rattle.std.specs.Prelude.{◌≡◌, ◌≢◌, ◌<◌, ◌^◌, ◌++◌, ◌∷◌, [], ℕ, length, map, All, Some, OnOk, IfOk, slice_index_or};
 ghost use Rattle.name_table.specs.NameTable.{IsTableOf, place_of};
 ghost use Rattle.symbol_binding.specs.declared.unbound.Unbound.TheVariants.{Double};
-ghost use Rattle.provider_rel.specs.Items.{Item, item_name, item_doubles};
+ghost use Rattle.provider_rel.specs.Items.{item_name, item_doubles};
 ghost use Rattle.provider_rel.specs.Sharing.{row_at};
 
 use crate::items::ExportItem;

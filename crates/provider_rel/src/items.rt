@@ -1,6 +1,6 @@
 // Everything that is exported, in order, and who needs what of it.
-ghost use Rattle.std.specs.Prelude.{◌≡◌, ◌+◌, ◌<◌, ◌≤◌, ◌^◌, ◌++◌, length, map, option_copied, option_and_then, slice_get, OnOk, IfOk, IfErr};
-ghost use Rattle.name_table.specs.NameTable.{IsTableOf, place_of};
+ghost use Rattle.std.specs.Prelude.{◌≡◌, ◌+◌, ◌<◌, ◌^◌, ◌++◌, length, map, option_copied, option_and_then, slice_get, OnOk, IfOk, IfErr};
+ghost use Rattle.name_table.specs.NameTable.{IsTableOf};
 ghost use Rattle.provider_rel.specs.Faces.{modules_of, kernel_of};
 ghost use Rattle.provider_rel.specs.Tree.{IsTree};
 ghost use Rattle.provider_rel.specs.Items.{kernel_item, module_item, items as items_of, item_name, bound_of};

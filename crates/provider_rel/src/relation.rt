@@ -1,5 +1,5 @@
 // The relation of a tree.
-ghost use Rattle.std.specs.Prelude.{◌≡◌, ◌<◌, ◌≤◌, ◌⊎◌, ◌^◌, ℕ, [], ◌∷◌, Some, None, length, map, slice_get, All, IfOk, IfErr, OnOk};
+ghost use Rattle.std.specs.Prelude.{◌≡◌, ◌<◌, ◌⊎◌, ◌^◌, [], ◌∷◌, Some, None, length, map, slice_get, All, IfOk, IfErr, OnOk};
 ghost use Rattle.std.specs.List.{sum_by};
 ghost use Rattle.km_names.specs.First.{first};
 ghost use Rattle.name_table.specs.NameTable.{IsTableOf};

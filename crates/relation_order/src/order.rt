@@ -1,5 +1,5 @@
 ghost use Rattle.std.specs.Prelude.{◌≡◌, ◌||◌, ◌&&◌, ◌==◌, ◌<◌, ◌≤◌, ◌∷◌, [], not, ℕ, List, Bool, true, false, length, take, All, IfOk, OnOk, slice_index, slice_index_or};
-ghost use Rattle.relation_order.specs.Sets.{goes, marked as marks_places, Relation, has};
+ghost use Rattle.relation_order.specs.Sets.{goes, marked as marks_places, has};
 ghost use Rattle.relation_order.specs.Least.{least_order, with_next};
 ghost use Rattle.relation_order.specs.Search.{Inside};
 ghost use Rattle.relation_order.specs.Builder.{AllListed, Fits};

@@ -1,4 +1,4 @@
-ghost use Rattle.std.specs.Prelude.{◌≡◌, ◌-◌, ◌==◌, ◌∷◌, [], if◌then◌else◌};
+ghost use Rattle.std.specs.Prelude.{◌-◌, ◌==◌, ◌∷◌, [], if◌then◌else◌};
 
 use plan_order::{Needed, Needs, PlanOrCycle, find_planned, plan_or_cycle};
 use std::alloc::{AllocError, Global};

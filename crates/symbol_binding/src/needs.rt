@@ -1,5 +1,5 @@
 // The tests of one export by the module that needs it.
-ghost use Rattle.std.specs.Prelude.{◌≡◌, ◌||◌, not, ℕ, List};
+ghost use Rattle.std.specs.Prelude.{◌≡◌, ◌||◌};
 ghost use Rattle.std.specs.List.{list_any};
 ghost use Rattle.std.specs.Str.{bytes_eq};
 ghost use Rattle.symbol_binding.specs.Needs.{agree as versions_agree, is_seen, is_allowed};

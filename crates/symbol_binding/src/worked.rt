@@ -1,5 +1,5 @@
 // Small trees as laws that the check computes.
-ghost use Rattle.std.specs.Prelude.{◌≡◌, ◌∷◌, [], true, false, Some, map, codes};
+ghost use Rattle.std.specs.Prelude.{◌≡◌, ◌∷◌, [], true, false, codes};
 ghost use Rattle.symbol_binding.specs.Provider.{uses};
 ghost use Rattle.symbol_binding.specs.Unmet.{unmet};
 ghost use Rattle.symbol_binding.specs.Worked.{printing, unknown, a_gives_x, b_gives_x, c_needs_x, n_needs_two, gives_gpl, gives_in_space, needs_fa, gives_printk, gives_gpl_1, needs_fa_2};

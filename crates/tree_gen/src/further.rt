@@ -1,5 +1,5 @@
 // The sections of what is more, and what symbols take from them.
-ghost use Rattle.std.specs.Prelude.{◌≡◌, ◌<◌, ◌≤◌, ◌*◌, ◌+◌, ◌^◌, ◌++◌, length, map, All, None, Some, OnOk, IfOk};
+ghost use Rattle.std.specs.Prelude.{◌≡◌, ◌<◌, ◌≤◌, ◌*◌, ◌+◌, ◌^◌, ◌++◌, length, map, All, Some, OnOk, IfOk};
 ghost use Rattle.std.specs.List.{range_with_len};
 ghost use Rattle.name_table.specs.NameTable.{IsTableOf};
 ghost use Rattle.tree_gen.specs.Further.{crc_bytes, name_bytes, space_bytes, further_part as the_further_part, version_parts, gpl_parts, space_parts, further_parts as the_further_parts, gpl_section, strings_section, text_place, space_place};

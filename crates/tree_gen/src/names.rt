@@ -1,5 +1,5 @@
 // The names in a sheet.
-ghost use Rattle.std.specs.Prelude.{◌≡◌, ◌≤◌, ◌++◌, ℕ, List, length, map, Some, IfOk};
+ghost use Rattle.std.specs.Prelude.{◌≡◌, ◌≤◌, ℕ, List, length, map, Some, IfOk};
 ghost use Rattle.name_table.specs.NameTable.{IsTableOf};
 ghost use Rattle.tree_gen.specs.Sheet.{symbol_names};
 ghost use Rattle.tree_gen.specs.Writing.{names_of};

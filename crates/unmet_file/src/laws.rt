@@ -1,7 +1,7 @@
 // What is written is read back, and the bytes of a line of each form.
-ghost use Rattle.std.specs.Prelude.{◌≡◌, ◌∷◌, [], true, false, Some, None, codes};
-ghost use Rattle.unmet_file.specs.Line.{line_text, is_line, unmet_line};
-ghost use Rattle.unmet_file.specs.Unmet.{file_text, AreReadBack, IsReadAsWritten};
+ghost use Rattle.std.specs.Prelude.{◌≡◌, codes};
+ghost use Rattle.unmet_file.specs.Line.{line_text};
+ghost use Rattle.unmet_file.specs.Unmet.{AreReadBack, IsReadAsWritten};
 ghost use Rattle.symbol_binding.specs.declared.unbound.Unbound.TheVariants.{Missing, Gpl, Version, Namespace, Double};
 
 /// The file that lists lines of visible words is read back as them. And a line states just what it is the text of: what

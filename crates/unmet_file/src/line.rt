@@ -1,6 +1,5 @@
 // A line of modules.unmet.
 ghost use Rattle.std.specs.Prelude.{◌≡◌, IfOk, option_map};
-ghost use Rattle.std.specs.List.{before_first, after_first};
 ghost use Rattle.unmet_file.specs.Line.{unmet_line, two_words as two_words_of, three_words as three_words_of};
 ghost use Rattle.unmet_file.specs.Forms.{form_named as form_of, missing_of, double_of, provided_of, stated as stated_by};
 

@@ -1,4 +1,4 @@
-use Rattle.std.proofs.Common.{◌≡◌, ap, sym, ◌∙◌, inr, take}
+use Rattle.std.proofs.Common.{ap, sym, ◌∙◌, inr, take}
 use Rattle.std.specs.List.{find}
 use Rattle.std.specs.Option.{option_map}
 use Rattle.name_table.specs.FirstSeen.{is_among}

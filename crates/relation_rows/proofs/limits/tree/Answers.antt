@@ -1,4 +1,4 @@
-use Rattle.std.proofs.Common.{◌≡◌, ◌<◌, ◌+◌, length, subst, sym, ◌++◌, ◌∷◌, [], arith}
+use Rattle.std.proofs.Common.{◌<◌, ◌+◌, subst, sym, arith}
 use Rattle.provider_rel.specs.Tree.{IsTree}
 use Rattle.relation_rows.proofs.LetterSteps.{Fresh, longer, no-modules, one-more, one-more-fresh}
 use Rattle.relation_rows.proofs.limits.tree.Goals as goal

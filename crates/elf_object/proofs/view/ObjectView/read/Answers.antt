@@ -14,7 +14,7 @@ returns-in_err-symbols-clause-fault c =
     let b = c.args.bytes.now in
     let p = err_from_is_err_and c.from_residual-in_err-symbols.result c.from_residual-in_err-symbols.ensures.1 in
     let file = ap (λ (v : FileSections). v.file) c.in_ok-table.ensures.sections in
-    let left = object_fault-content b c.in_ok-table.ensures.passed in
+    let left = object_fault-content b c.in_ok-table.ensures.read.passed in
     rw (p.1, p.2)
     (elim c.in_err-symbols.ensures.fault [
       | inl memory ↦ inl memory
@@ -26,7 +26,7 @@ returns-in_err-check_places-clause-fault c =
     let b = c.args.bytes.now in
     let p = err_from_is_err_and c.from_residual-in_err-check_places.result c.from_residual-in_err-check_places.ensures.1 in
     let file = ap (λ (v : FileSections). v.file) c.in_ok-table.ensures.sections in
-    let left = object_fault-content b c.in_ok-table.ensures.passed ∙ content_tests-places b (rw file at c.in_ok-symbols.ensures.passed) in
+    let left = object_fault-content b c.in_ok-table.ensures.read.passed ∙ content_tests-places b (rw file at c.in_ok-symbols.ensures.passed) in
     rw (p.1, p.2)
     (elim c.in_err-check_places.ensures.fault [
       | inl memory ↦ inl memory
@@ -37,7 +37,7 @@ pub returns-clause-passed : goal.returns-clause-passed
 returns-clause-passed c =
     let b = c.args.bytes.now in
     let file = ap (λ (v : FileSections). v.file) c.in_ok-table.ensures.sections in
-    object_fault-content b c.in_ok-table.ensures.passed
+    object_fault-content b c.in_ok-table.ensures.read.passed
     ∙ content_tests-places b (rw file at c.in_ok-symbols.ensures.passed)
     ∙ rw file at c.in_ok-check_places.ensures.passed
 

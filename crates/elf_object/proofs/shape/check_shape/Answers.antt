@@ -1,10 +1,11 @@
-use Rattle.std.proofs.Common.{◌≡◌, ℕ, List, None, refl, sym, ◌∙◌, inl, inr}
-use Rattle.std.proofs.lemmas.Result.{err_from_is_err_and}
+use Rattle.std.proofs.Common.{◌≡◌, ℕ, List, Some, None, ◌⊎◌, refl, sym, ◌∙◌, inl, inr}
+use Rattle.std.proofs.lemmas.Result.{IfErr-weaker, err_from_is_err_and, on_ok_weaker}
 use Rattle.elf_object.proofs.ShapeLemmas.{shape_fault-header, shape_fault-names, shape_fault-places}
 use Rattle.km_names.specs.First.{first}
+use Rattle.elf_object.specs.declared.fault.SectionFault.TheVariants.{Memory}
 use Rattle.elf_object.specs.Shape.{AllInFile, HasTable, each, header_tests, name_table_test, name_test, place_test, section_count, shape_fault}
 use Rattle.elf_object.specs.Sections.{IsRead, sections_of}
-use Rattle.elf_object.proofs.shape.read_shape.Goals as goal
+use Rattle.elf_object.proofs.shape.check_shape.Goals as goal
 
 pub returns-in_err-check_header-clause-fault : goal.returns-in_err-check_header-clause-fault
 returns-in_err-check_header-clause-fault c =
@@ -32,24 +33,7 @@ names_left b header places table =
     let names = shape_fault-names b header places in
     rw table at names
 
-pub returns-in_err-sections-clause-fault : goal.returns-in_err-sections-clause-fault
-returns-in_err-sections-clause-fault c =
-    let b = c.args.bytes.now in
-    let p = err_from_is_err_and c.from_residual-in_err-sections.result c.from_residual-in_err-sections.ensures.1 in
-    let left = names_left b (sym c.in_ok-check_header.ensures.fault) (sym c.in_ok-check_places.ensures.fault) (sym c.in_ok-check_name_table.ensures) in
-    rw (p.1, p.2)
-    (elim c.in_err-sections.ensures.fault [
-      | inl memory ↦ inl memory
-      | inr failed ↦ inr (left ∙ failed)
-    ])
-
-pub returns-clause-passed : goal.returns-clause-passed
-returns-clause-passed c =
-    let b = c.args.bytes.now in
-    names_left b (sym c.in_ok-check_header.ensures.fault) (sym c.in_ok-check_places.ensures.fault) (sym c.in_ok-check_name_table.ensures)
-    ∙ c.in_ok-sections.ensures.passed
-
--- the sections that were read, in a file that passed its tests
+-- the sections of a file that passed its tests
 is_read : (b : List ℕ) → shape_fault b ≡ None → HasTable b → AllInFile b → IsRead b (sections_of b)
 is_read b passed table within = record { passed = passed; list_is = refl; table = table; within = within }
 
@@ -57,11 +41,15 @@ pub returns-clause-read : goal.returns-clause-read
 returns-clause-read c =
     let b = c.args.bytes.now in
     let left = names_left b (sym c.in_ok-check_header.ensures.fault) (sym c.in_ok-check_places.ensures.fault) (sym c.in_ok-check_name_table.ensures) in
-    is_read b (left ∙ c.in_ok-sections.ensures.passed) c.in_ok-check_header.ensures.table c.in_ok-check_places.ensures.within
+    on_ok_weaker c.check_names.result (λ passed. is_read b (left ∙ passed) c.in_ok-check_header.ensures.table c.in_ok-check_places.ensures.within)
+    c.check_names.ensures.passed
 
-pub invariant_of-result : goal.invariant_of-result
-invariant_of-result c =
+pub returns-clause-fault : goal.returns-clause-fault
+returns-clause-fault c =
     let b = c.args.bytes.now in
     let left = names_left b (sym c.in_ok-check_header.ensures.fault) (sym c.in_ok-check_places.ensures.fault) (sym c.in_ok-check_name_table.ensures) in
-    rw c.in_ok-sections.ensures.sections
-    (is_read b (left ∙ c.in_ok-sections.ensures.passed) c.in_ok-check_header.ensures.table c.in_ok-check_places.ensures.within)
+    IfErr-weaker c.check_names.result
+    (λ e. (e ≡ Memory) ⊎ (first (each (section_count b) (name_test b)) ≡ Some e))
+    (λ e. (e ≡ Memory) ⊎ (shape_fault b ≡ Some e))
+    (λ e h. elim h [ inl memory ↦ inl memory | inr failed ↦ inr (left ∙ failed) ])
+    c.check_names.ensures.fault
