@@ -11,7 +11,7 @@ use Rattle.elf_object.specs.Shape.{contents, section_count}
 use Rattle.elf_object.specs.Sections.{section_of}
 use Rattle.elf_object.specs.Symbols.{has_entries, is_good_table, is_string_table, is_symbol_table, rel_test, symbol_bytes, symbol_names, symbol_table, table_test}
 use Rattle.elf_object.specs.Inner.{TablesFit}
-use Rattle.elf_object.proofs.Positions.{position-found, position-none}
+use Rattle.km_names.proofs.Positions.{position-found, position-none}
 
 -- the first number below n that passes
 pub position-number : (p : ℕ → Bool) (n i : ℕ) → i < n → ((k : ℕ) → k < i → p k ≡ false) → p i ≡ true → position p (range_with_len 0 n) ≡ Some i

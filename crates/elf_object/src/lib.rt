@@ -25,6 +25,7 @@ mod header;
 mod met;
 mod object;
 mod overlap;
+mod parts;
 mod place;
 mod places;
 mod section;

@@ -9,11 +9,9 @@ ghost use Rattle.elf_object.specs.Sections.{IsRead, sections_of};
 ghost use Rattle.elf_object.specs.Symbols.{symbols_of};
 ghost use Rattle.elf_object.specs.Places.{places_of};
 
-use crate::place::unkept_symbols;
+use crate::parts::read_parts;
 use crate::places::read_places;
-use crate::shape::read_shape;
 use crate::symbol::{borrowed_symbols, owned_symbols};
-use crate::tables::read_symbol_table;
 use crate::{ObjectFault, ObjectView, RelaPlace, Section, Sections, Symbol};
 use km_names::{Blob, List};
 use std::alloc::{AllocError, Global};
@@ -53,11 +51,9 @@ fn read_lists(alloc: Global, bytes: &[u8]) -> Result<(List<Symbol>, List<RelaPla
     ensures fault { IfErr result (λ e. (e ≡ ObjectFault.Memory)
         ⊎ (object_fault bytes.now ≡ Some e)) }
 {
-    let table = read_shape(alloc, bytes)?;
-    let symbols = read_symbol_table(alloc, &table)?;
-    let unkept = unkept_symbols(alloc, table.list(), symbols.as_slice())?;
-    let places = read_places(alloc, &table, &unkept)?;
-    Ok((owned_symbols(alloc, symbols.as_slice())?, places))
+    let parts = read_parts(alloc, bytes)?;
+    let places = read_places(alloc, &parts.table, &parts.unkept)?;
+    Ok((owned_symbols(alloc, parts.symbols.as_slice())?, places))
 }
 
 impl Object {

@@ -5,11 +5,9 @@ ghost use Rattle.std.specs.List.{position};
 ghost use Rattle.std.specs.Str.{bytes_eq};
 ghost use Rattle.km_names.specs.Limit.{file_limit};
 
-use crate::place::unkept_symbols;
+use crate::parts::{FileParts, read_parts};
 use crate::places::check_places;
 use crate::section_table::SectionTable;
-use crate::shape::read_shape;
-use crate::tables::read_symbol_table;
 use crate::{ObjectFault, SectionRef, SymbolRef};
 use km_names::List;
 use std::alloc::Global;
@@ -59,10 +57,9 @@ impl<'a> ObjectView<'a> {
         ensures fault { IfErr result (λ e. (e ≡ ObjectFault.Memory)
             ⊎ (object_fault bytes.now ≡ Some e)) }
     {
-        let table = read_shape(alloc, bytes)?;
-        let symbols = read_symbol_table(alloc, &table)?;
-        let unkept = unkept_symbols(alloc, table.list(), symbols.as_slice())?;
-        check_places(alloc, &table, &unkept)?;
+        let parts = read_parts(alloc, bytes)?;
+        check_places(alloc, &parts.table, &parts.unkept)?;
+        let FileParts { table, symbols, .. } = parts;
         Ok(ObjectView { table, symbols })
     }
 
