@@ -1,7 +1,7 @@
 -- Where a field ends, and whether it is whole.
 use Rattle.std.proofs.Common.{◌≡◌, sym, ap, ◌∙◌, ⊎_elim, ℕ, suc, ◌+◌, ◌-◌, ◌*◌, ◌<◌, ◌≤◌, Bool, true, false, not, cond, ◌==◌, ◌&&◌, ◌||◌, nat_lt, nat_le, List, [], ◌∷◌, length, take, drop, get_or, arith}
 use Rattle.std.proofs.lemmas.Bool.{eq-eqb, ne_eqb, lt-ltb, le-ltb, le-leb, lt-leb, cases_lt, and_from, and_left, and_right}
-use Rattle.std.proofs.lemmas.List.{drop-drop, length-drop, length-take}
+use Rattle.std.proofs.lemmas.List.{drop-drop, length-drop, length-take, take_rest}
 use Rattle.std.specs.List.{prefix_len}
 use Rattle.km_names.specs.Number.{be}
 use Rattle.std.specs.Prelude.{bit_and}
@@ -171,6 +171,13 @@ unfolding values_fit
 with_values b link rest h is =
     ap (λ t. not t || (nat_le 4 (length (after_children b link)) && whole_values (be (after_children b link) 0 4) (drop 4 (after_children b link)))) h
     ∙ ap (λ r. nat_le 4 (length r) && whole_values (be r 0 4) (drop 4 r)) (sym is)
+
+-- the values of a node decide, by those that follow their number
+pub values-counted : (b : List ℕ) (link count : ℕ) (rest : List ℕ) → has_values link ≡ true → rest ≡ after_children b link → 4 ≤ length rest → count ≡ be rest 0 4 → values_fit b link ≡ whole_values count (take (length rest - 4) (drop 4 rest))
+values-counted b link count rest h is four count_is =
+    with_values b link rest h is
+    ∙ ap (λ t. t && whole_values (be rest 0 4) (drop 4 rest)) (le-leb 4 (length rest) four)
+    ∙ sym (λ i. whole_values (count_is i) (take_rest rest 4 i))
 
 -- one value more
 pub whole-next : (n : ℕ) (bytes text_from after : List ℕ) → 4 ≤ length bytes → text_from ≡ drop 4 bytes → length (text text_from) < length text_from → after ≡ after_text text_from → whole_values (suc n) bytes ≡ whole_values n after

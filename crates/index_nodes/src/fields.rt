@@ -82,33 +82,51 @@ pub(crate) fn node_at(bytes: &[u8], link: u32) -> Option<Node>
     })
 }
 
-/// Whether so many values are whole.
-fn whole_values(bytes: &[u8], count: u32) -> bool
-    ensures { result ≡ whole count bytes.now }
+/// How many bytes are left after so many values. None where they aren't whole.
+fn left_after_values(bytes: &[u8], count: u32) -> Option<usize>
+    ensures { MatchOption result (whole count bytes.now ≡ false)
+        (λ left. (whole count bytes.now ≡ true) × (left ≤ length bytes.now)) }
 {
     let mut rest = bytes;
     for _ in 0..count {
         if rest.len() < 4 {
-            return false;
+            return None;
         }
         let from_text = &rest[4..];
         let (text, after) = split_at_byte(from_text, 0);
         if text.len() == from_text.len() {
-            return false;
+            return None;
         }
         rest = after;
     }
-    true
+    Some(rest.len())
 }
 
-/// Whether the values of a node are whole.
-pub(crate) fn values_are_whole(bytes: &[u8], node: &Node) -> bool
+/// The values of a node: how many there are, and where they end.
+#[derive(Clone, Copy)]
+pub(crate) struct ValuesEnd {
+    pub(crate) count: u32,
+    pub(crate) end: usize,
+}
+
+/// Where the values of a node end. None where they aren't whole.
+pub(crate) fn values_end(bytes: &[u8], node: &Node) -> Option<ValuesEnd>
     requires { HasFields bytes.now node.now }
-    ensures { result ≡ values_fit bytes.now node.now.link }
+    ensures { MatchOption result (values_fit bytes.now node.now.link ≡ false)
+        (λ _. values_fit bytes.now node.now.link ≡ true) }
 {
     if node.link & HAS_VALUES == 0 {
-        return true;
+        return Some(ValuesEnd {
+            count: 0,
+            end: node.values,
+        });
     }
     let rest = &bytes[node.values..];
-    rest.len() >= 4 && whole_values(&rest[4..], be_u32_at(rest, 0))
+    if rest.len() < 4 {
+        return None;
+    }
+    let count = be_u32_at(rest, 0);
+    let left = left_after_values(&rest[4..], count)?;
+    let end = bytes.len() - left;
+    Some(ValuesEnd { count, end })
 }

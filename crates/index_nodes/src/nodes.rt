@@ -40,7 +40,8 @@ impl Model for Nodes {
 
 impl Nodes {
     /// Takes the bytes of a file in kmod's index format 2.1. It is refused exactly for the first fault that the
-    /// format's reader meets, or for want of memory.
+    /// format's reader meets, or for want of memory: that also comes where nodes stand in one another and have more bytes
+    /// together than the file, and where the keys of all values together have more than 268,435,456.
     pub fn adopt(alloc: Global, bytes: Blob) -> Result<Nodes, IndexFault>
         ensures bytes { IfOk result (λ nodes. nodes ≡ bytes) }
         ensures accepted { OnOk result (index_fault bytes ≡ None) }

@@ -61,6 +61,11 @@ fn files_are_adopted_or_refused(rt: HostRuntime) -> Result<(), Fail> {
             "b007f457 00020001 20000012 6161 2000000a 6162 2000000c 2000000b",
             bad(10),
         ),
+        (
+            "b007f457 00020001 2000001d 6b6b6b6b6b6b6b6b6b6b6b6b6b6b6b6b00 \
+             61 64 8000000c 8000000d 8000000e 8000000f",
+            Err(IndexFault::Memory),
+        ),
     ] {
         let got = Nodes::adopt(alloc, bytes_of(alloc, digits)?).map(|_| ());
         assert_eq!(rt; got, want, "{digits}");

@@ -30,7 +30,7 @@ pub struct Index {
 
 impl Index {
     /// Takes the bytes of a file in kmod's index format 2.1. It is refused exactly for the first fault that the
-    /// format's reader meets, or for want of memory.
+    /// format's reader meets, or for want of memory, as by [`Nodes::adopt`](index_nodes::Nodes::adopt).
     pub fn adopt(alloc: Global, bytes: Blob) -> Result<Index, IndexFault>
         ensures bytes { IfOk result (λ index. index.nodes ≡ bytes) }
         ensures accepted { OnOk result (index_fault bytes ≡ None) }

@@ -1,7 +1,7 @@
-use Rattle.std.proofs.Common.{sym, ap, subst, ◌∙◌, inl, inr, arith}
+use Rattle.std.proofs.Common.{sym, ap, ◌∙◌, inl, inr, arith}
 use Rattle.std.proofs.lemmas.Bool.{or_left, or_right}
 use Rattle.index_format.specs.Check.{values_fit}
-use Rattle.index_nodes.specs.Pending.{arrival_of, IsPendingOf}
+use Rattle.index_nodes.specs.Pending.{arrival_of}
 use Rattle.index_nodes.proofs.ChildLemmas.{unsound_place, unsound_field, unsound_parts, unsound_values, sound_from}
 use Rattle.index_nodes.proofs.check.sound_node.Goals as goal
 use Rattle.index_nodes.proofs.check.sound_node.Goals.{then-at-lt-FIRST_PLACE-via-then-at-lt-FIRST_PLACE, then-at-lt-FIRST_PLACE-via-else-at-lt-FIRST_PLACE+then-at-bytes, else-not-visit-via-then-not-visit+else-not-has_field, else-not-visit-via-else-not-visit}
@@ -22,23 +22,23 @@ returns-then-not-has_field c =
 pub returns-in_default : goal.returns-in_default
 returns-in_default c = unsound_parts c.args.bytes.now (arrival_of c.args.visit.now) c.in_default.ensures
 
-pub returns-then-values_are_whole : goal.returns-then-values_are_whole
-returns-then-values_are_whole c =
+pub returns-in_default-values_end : goal.returns-in_default-values_end
+returns-in_default-values_end c =
+    let b = c.args.bytes.now in
+    unsound_values b (arrival_of c.args.visit.now) (ap (values_fit b) (sym c.in-Some.ensures.1) ∙ c.in_default-values_end.ensures)
+
+pub returns : goal.returns
+returns c =
     let b = c.args.bytes.now in
     let a = arrival_of c.args.visit.now in
     let place = c.place-at.ensures.place in
     let link = c.in-Some.ensures.1 in (
       sound_from b a (omega (arith, c.if-at-lt-FIRST_PLACE.false, place)) (omega (arith, c.if-at-bytes.false, place)) c.in-Some.ensures.0
-          (ap (values_fit b) (sym link) ∙ sym c.values_are_whole.ensures ∙ c.if-values_are_whole.true)
+          (ap (values_fit b) (sym link) ∙ c.in-Some-values_end.ensures)
           (elim c.else-not-visit.branch [
             | else-not-visit-via-then-not-visit+else-not-has_field w ↦ or_right a.is_root _ (sym w.has_field.ensures ∙ w.if-not-has_field.false)
             | else-not-visit-via-else-not-visit w ↦ or_left a.is_root _ w.if-not-visit.false
           ]),
-      subst (λ l. IsPendingOf b l c.children_of.result) link c.children_of.ensures,
+      link,
+      c.in-Some.ensures.2,
     )
-
-pub returns-else-values_are_whole : goal.returns-else-values_are_whole
-returns-else-values_are_whole c =
-    let b = c.args.bytes.now in
-    unsound_values b (arrival_of c.args.visit.now)
-    (ap (values_fit b) (sym c.in-Some.ensures.1) ∙ sym c.values_are_whole.ensures ∙ c.if-values_are_whole.false)

@@ -1,6 +1,6 @@
 use Rattle.std.proofs.Common.{sym, ap, ◌∙◌, true, false, Some, arith}
 use Rattle.index_format.specs.Link.{place_of}
-use Rattle.index_format.specs.Check.{BadNode, Revisited}
+use Rattle.index_format.specs.Check.{BadNode, Revisited, children_fit}
 use Rattle.index_nodes.specs.Visited.{has_place}
 use Rattle.index_nodes.specs.Pending.{arrival_of}
 use Rattle.index_nodes.proofs.ArrivalLemmas.{fault_above, fault_seen, fault_by_sound}
@@ -46,3 +46,9 @@ returns-clause-passes c =
     fault_by_sound c.args.bytes.now seen a true (omega (arith, c.if-offset-visit.false, place))
     (sym (h (place_of a.link)) ∙ ap (has_place c.args.visited.now) (sym place) ∙ sym c.has.ensures ∙ c.if-has.false)
     c.in-Some.ensures.0
+
+pub children_of-requires-clause-fit : goal.children_of-requires-clause-fit
+children_of-requires-clause-fit c =
+    let b = c.args.bytes.now in
+    let parts = sound_parts b (arrival_of c.args.visit.now) c.in-Some.ensures.0 in
+    ap (children_fit b) c.in-Some.ensures.1 ∙ parts.children
