@@ -46,7 +46,7 @@ impl<T: Drop> From<AllocFailed<T>> for TreeFault {
 }
 
 /// The most modules that a tree may have.
-const MOST_MODULES: usize = 10_000;
+const MODULE_LIMIT: usize = 10_000;
 
 /// The tree of the listed paths: of each module name the path that the search list ranks first, ties by
 /// bytes; first those that modules.order lists, by their first line there, and then the others by bytes.
@@ -70,7 +70,7 @@ pub fn choose(
         });
     }
     let chosen = chosen_paths(alloc, modules.as_slice(), search)?;
-    if chosen.len() > MOST_MODULES {
+    if chosen.len() > MODULE_LIMIT {
         return Err(TreeFault::TooManyModules {
             count: chosen.len() as u64,
         });

@@ -19,7 +19,7 @@ use km_names::{Name, is_graphic};
 use std::alloc::{AllocError, Global};
 
 /// The most bytes that the name of a module can have: the kernel's MODULE_NAME_LEN, less the NUL.
-const NAME_MAX: usize = 55;
+const MODULE_NAME_LIMIT: usize = 55;
 
 /// Whether the names of exports can stand as words of a line.
 fn have_good_names(exports: &[Export]) -> bool
@@ -227,7 +227,7 @@ pub(crate) fn check_facts(
         (λ e. (e ≡ ModuleFault.Memory) ⊎ (first (facts_tests object.now facts.now) ≡ Some e)) }
 {
     let exports = facts.exports.as_slice();
-    if facts.name.len() > NAME_MAX {
+    if facts.name.len() > MODULE_NAME_LIMIT {
         return Err(ModuleFault::NameTooLong);
     }
     if !has_good_names(facts) {

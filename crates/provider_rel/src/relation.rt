@@ -94,10 +94,10 @@ fn reach(
 }
 
 /// The most dependencies that all modules may have together.
-const MOST_DEPS: u64 = 2_000_000;
+const DEPENDENCY_LIMIT: u64 = 2_000_000;
 
 /// The most double lines that there may be.
-const MOST_DOUBLES: u64 = 100_000;
+const DOUBLE_LIMIT: u64 = 100_000;
 
 /// Tests how many dependencies and double lines there are.
 fn check_counts(
@@ -113,11 +113,11 @@ fn check_counts(
         ⊎ (first (deps_fault (sum_by length closures.now) ∷ doubles_fault (length (item_doubles [] bindings.now.items.items)) ∷ []) ≡ Some fault)) }
 {
     let deps = closures.count();
-    if deps > MOST_DEPS {
+    if deps > DEPENDENCY_LIMIT {
         return Err(RelationFault::TooManyDeps { count: deps });
     }
     let doubles = count_doubles(alloc, &bindings.names, &bindings.items)?;
-    if doubles > MOST_DOUBLES {
+    if doubles > DOUBLE_LIMIT {
         return Err(RelationFault::TooManyDoubles { count: doubles });
     }
     Ok(())

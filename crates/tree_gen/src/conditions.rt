@@ -11,7 +11,7 @@ use name_table::NameTable;
 use std::alloc::{AllocError, Global};
 
 /// The most items that a list has.
-const MOST_ITEMS: usize = 65535;
+const ITEM_LIMIT: usize = 65535;
 
 /// The most bytes of a text or a name.
 const LONGEST_TEXT: usize = 4096;
@@ -26,7 +26,7 @@ const GREATEST_EXTENDED: u64 = 0xffff_ffff;
 fn is_few<T: Drop>(items: &List<T>) -> bool
     ensures { result ≡ is_few items.now }
 {
-    items.len() <= MOST_ITEMS
+    items.len() <= ITEM_LIMIT
 }
 
 /// Whether no list is too long.

@@ -15,15 +15,15 @@ returns-in-Some-clause-err c =
     let is : ms ≡ filter is_module_path c.args.paths.now = ap shown c.as_slice.ensures.value ∙ c.in_ok-modules.ensures in
     inr (tree-bad c.args.paths.now ms c.args.order_file.now c.args.search.now c.in-Some.path.now is c.in-Some.ensures ∙ ap (λ p. Err (BadPath p)) (sym (c.in_ok-from_slice.ensures ∙ c.as_bytes.ensures)))
 
-pub returns-then-len-gt-MOST_MODULES-clause-err : goal.returns-then-len-gt-MOST_MODULES-clause-err
-returns-then-len-gt-MOST_MODULES-clause-err c =
+pub returns-then-len-gt-MODULE_LIMIT-clause-err : goal.returns-then-len-gt-MODULE_LIMIT-clause-err
+returns-then-len-gt-MODULE_LIMIT-clause-err c =
     let ms : List (List ℕ) = shown c.as_slice-2.result.now in
     let is : ms ≡ filter is_module_path c.args.paths.now = ap shown c.as_slice-2.ensures.value ∙ c.in_ok-modules.ensures in
     let good : None ≡ bad_path ms = c.in_default.ensures ∙ ap (λ (rs : List (Bor (List ℕ))). bad_path (shown rs)) (c.as_slice.ensures.value ∙ sym c.as_slice-2.ensures.value) in
     let has : HasChosen c.args.search.now ms (shown c.in_ok-chosen.chosen.items) = c.in_ok-chosen.ensures in
     let many : length c.in_ok-chosen.chosen.items ≡ name_count ms = sym (length-map c.in_ok-chosen.chosen.items (λ (r : Bor (List ℕ)). r.now)) ∙ has.count in
-    let count : c.len-then-len-gt-MOST_MODULES.result ≡ name_count ms = c.len-then-len-gt-MOST_MODULES.ensures ∙ c.in_ok-chosen.chosen.ok.0 ∙ many in
-    inr (tree-many c.args.paths.now ms c.args.order_file.now c.args.search.now c.len-then-len-gt-MOST_MODULES.result is good count (omega arith))
+    let count : c.len-then-len-gt-MODULE_LIMIT.result ≡ name_count ms = c.len-then-len-gt-MODULE_LIMIT.ensures ∙ c.in_ok-chosen.chosen.ok.0 ∙ many in
+    inr (tree-many c.args.paths.now ms c.args.order_file.now c.args.search.now c.len-then-len-gt-MODULE_LIMIT.result is good count (omega arith))
 
 pub returns-clause-ok : goal.returns-clause-ok
 returns-clause-ok c =
