@@ -78,7 +78,7 @@ impl Object {
     {
         // The lists that reading makes for itself are gone before the sections are kept.
         let (symbols, places) = read_lists(alloc, bytes.as_bytes())?;
-        let sections = Sections::read(alloc, bytes)?;
+        let sections = Sections::tested(alloc, bytes)?;
         Ok(Object {
             sections,
             symbols,

@@ -1,7 +1,7 @@
 // One section.
 
-ghost use Rattle.std.specs.Prelude.{◌≡◌, ◌<◌, ◌≤◌, ◌⊎◌, length, map, None, Some, IfErr, IfOk, OnOk};
-ghost use Rattle.elf_object.specs.Shape.{HasTable, contents, is_for_loading, is_kept, name_in, name_table, name_test, name_test_in, section_count};
+ghost use Rattle.std.specs.Prelude.{◌≡◌, ◌<◌, ◌≤◌, ◌⊎◌, None, Some, IfErr, IfOk, OnOk};
+ghost use Rattle.elf_object.specs.Shape.{HasTable, contents, is_for_loading, is_kept, name_in, name_table, name_test_in, section_count};
 ghost use Rattle.elf_object.specs.Sections.{owned_section, section_of};
 ghost use Rattle.elf_object.specs.Inner.{HasStrings};
 
@@ -9,7 +9,7 @@ use crate::SectionFault;
 use crate::header::section_header;
 use crate::strings::{NAME_LIMIT, string_within};
 use elf_format::{SHF_ALLOC, SHT_NULL};
-use km_names::{List, Name};
+use km_names::{Name, string_at};
 use std::alloc::{AllocError, Global};
 
 /// A section of a file. gABI 4, "Sections", Elf64_Shdr.
@@ -78,48 +78,56 @@ fn is_kept(kind: u32, flags: u64, name: &[u8]) -> bool
     kind != SHT_NULL && flags & SHF_ALLOC != 0 && !is_for_loading(name)
 }
 
-/// The name of a section, by the table of names, where names may have `left` bytes more.
-#[tactic(auto, unfolding(crate::specs::Shape::name_in, crate::specs::Shape::name_test_in))]
-fn section_name(names: &[u8], kind: u32, at: u32, left: usize) -> Result<&[u8], SectionFault>
+/// Tests the name of a section, where names may have `left` bytes more, and answers how many it has.
+#[tactic(auto, unfolding(crate::specs::Shape::name_test_in))]
+pub(crate) fn check_name(
+    names: &[u8],
+    kind: u32,
+    at: u32,
+    left: usize,
+) -> Result<usize, SectionFault>
     requires { left ≤ NAME_LIMIT }
-    ensures name { IfOk result (λ name. name.now ≡ name_in names.now kind at) }
-    ensures within { IfOk result (λ name. length name.now ≤ left) }
+    ensures length { IfOk result (λ size. size ≤ left) }
     ensures passed { OnOk result (name_test_in names.now kind at ≡ None) }
     ensures fault { IfErr result
         (λ e. (e ≡ SectionFault.Memory) ⊎ (name_test_in names.now kind at ≡ Some e)) }
 {
     if kind == SHT_NULL {
-        return Ok(&[]);
+        return Ok(0);
     }
     match string_within(names, at, left)? {
-        Some(name) => Ok(name),
+        Some(name) => Ok(name.len()),
         None => Err(SectionFault::BadString {
             offset: u64::from(at),
         }),
     }
 }
 
-/// The section `index`, by the table of names, where names may have `left` bytes more.
+/// The name of a section, by the table of names.
+#[tactic(auto, unfolding(crate::specs::Shape::name_in))]
+fn section_name(names: &[u8], kind: u32, at: u32) -> &[u8]
+    ensures { result.now ≡ name_in names.now kind at }
+{
+    if kind == SHT_NULL {
+        return &[];
+    }
+    match string_at(names, at as usize) {
+        Some(name) => name,
+        None => &[],
+    }
+}
+
+/// The section `index`, by the table of names.
 #[tactic(auto, unfolding(crate::specs::Sections::section_of))]
-pub(crate) fn read_section<'a>(
-    bytes: &[u8],
-    names: &'a [u8],
-    index: u16,
-    left: usize,
-) -> Result<SectionRef<'a>, SectionFault>
+pub(crate) fn section_at<'a>(bytes: &[u8], names: &'a [u8], index: u16) -> SectionRef<'a>
     requires table { HasTable bytes.now }
     requires index { index < section_count bytes.now }
     requires names { HasStrings (contents bytes.now (name_table bytes.now)) names.now }
-    requires left { left ≤ NAME_LIMIT }
-    ensures section { IfOk result (λ s. owned_section s ≡ section_of bytes.now index) }
-    ensures within { IfOk result (λ s. length s.name.now ≤ left) }
-    ensures passed { OnOk result (name_test bytes.now index ≡ None) }
-    ensures fault { IfErr result
-        (λ e. (e ≡ SectionFault.Memory) ⊎ (name_test bytes.now index ≡ Some e)) }
+    ensures { owned_section result ≡ section_of bytes.now index }
 {
     let header = section_header(bytes, index);
-    let name = section_name(names, header.kind, header.name, left)?;
-    Ok(SectionRef {
+    let name = section_name(names, header.kind, header.name);
+    SectionRef {
         name,
         kind: header.kind,
         flags: header.flags,
@@ -129,7 +137,7 @@ pub(crate) fn read_section<'a>(
         info: header.info,
         align: header.align,
         kept: is_kept(header.kind, header.flags, name),
-    })
+    }
 }
 
 impl<'a> SectionRef<'a> {
@@ -149,28 +157,4 @@ impl<'a> SectionRef<'a> {
             kept: self.kept,
         })
     }
-}
-
-/// Sections with their names where these are.
-pub(crate) fn borrowed_sections<'a>(
-    alloc: Global,
-    sections: &'a [Section],
-) -> Result<List<SectionRef<'a>>, AllocError>
-    ensures { IfOk result (λ l. map owned_section l ≡ sections.now) }
-{
-    let mut list = Vec::with_capacity(alloc, sections.len())?;
-    for section in sections {
-        list.push(SectionRef {
-            name: section.name.as_bytes(),
-            kind: section.kind,
-            flags: section.flags,
-            offset: section.offset,
-            size: section.size,
-            link: section.link,
-            info: section.info,
-            align: section.align,
-            kept: section.kept,
-        })?;
-    }
-    Ok(List::from_vec(list))
 }

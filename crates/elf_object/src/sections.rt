@@ -6,9 +6,8 @@ ghost use Rattle.std.specs.Str.{bytes_eq};
 ghost use Rattle.elf_object.specs.Sections.{IsRead};
 ghost use Rattle.elf_object.specs.Shape.{contents, has_content, section_count, shape_fault};
 
-use crate::section::borrowed_sections;
 use crate::section_table::SectionTable;
-use crate::shape::{contents, read_owned};
+use crate::shape::{check_shape, contents, owned_sections, section_table};
 use crate::{Section, SectionFault};
 use km_names::{Blob, List};
 use std::alloc::{AllocError, Global};
@@ -48,7 +47,16 @@ impl Sections {
         ensures fault { IfErr result (λ e. (e ≡ SectionFault.Memory)
             ⊎ (shape_fault bytes ≡ Some e)) }
     {
-        let sections = read_owned(alloc, bytes.as_bytes())?;
+        check_shape(bytes.as_bytes())?;
+        Ok(Sections::tested(alloc, bytes)?)
+    }
+
+    /// The sections of a file that passed the tests. After a refusal the bytes are given up.
+    pub(crate) fn tested(alloc: Global, bytes: Blob) -> Result<Sections, AllocError>
+        requires { IsRead bytes (sections_of bytes) }
+        ensures { IfOk result (λ s. s ≡ file_sections bytes) }
+    {
+        let sections = owned_sections(alloc, bytes.as_bytes())?;
         Ok(Sections { bytes, sections })
     }
 
@@ -103,10 +111,6 @@ impl Sections {
     pub(crate) fn table(&self, alloc: Global) -> Result<SectionTable<'_>, AllocError>
         ensures { IfOk result (λ table. table ≡ self.now) }
     {
-        let sections = borrowed_sections(alloc, self.sections.as_slice())?;
-        Ok(SectionTable {
-            bytes: self.bytes.as_bytes(),
-            sections,
-        })
+        section_table(alloc, self.bytes.as_bytes())
     }
 }

@@ -10,13 +10,13 @@ ghost use Rattle.elf_object.specs.Inner.{HasStrings};
 use crate::header::{
     SectionHeader, check_header, is_within, name_table, section_count, section_header,
 };
-use crate::section::read_section;
+use crate::section::{check_name, section_at};
 use crate::section_table::SectionTable;
 use crate::strings::{NAME_LIMIT, up_to_last_nul};
 use crate::{Section, SectionFault};
 use elf_format::{SHT_NOBITS, SHT_NULL, SHT_STRTAB};
 use km_names::List;
-use std::alloc::Global;
+use std::alloc::{AllocError, Global};
 
 /// Whether sections of this type have bytes in the file.
 fn has_content(kind: u32) -> bool
@@ -97,23 +97,80 @@ pub(crate) fn contents(bytes: &[u8], index: u16) -> &[u8]
     content(bytes, header.kind, header.offset, header.size)
 }
 
-/// Tests a file with sections but for their names, and shows the table of these up to its last NUL.
-fn checked_names(bytes: &[u8]) -> Result<&[u8], SectionFault>
-    ensures names { IfOk result (λ names. HasStrings (contents bytes.now (name_table bytes.now)) names.now) }
-    ensures table { OnOk result (HasTable bytes.now) }
-    ensures within { OnOk result (AllInFile bytes.now) }
-    ensures left { OnOk result
-        (shape_fault bytes.now ≡ first (each (section_count bytes.now) (name_test bytes.now))) }
-    ensures fault { IfErr result (λ e. shape_fault bytes.now ≡ Some e) }
+/// Tests the names of the sections, by the table of names. Together they can't be longer than is kept.
+fn check_names(bytes: &[u8], names: &[u8]) -> Result<(), SectionFault>
+    requires table { HasTable bytes.now }
+    requires names { HasStrings (contents bytes.now (name_table bytes.now)) names.now }
+    ensures passed { OnOk result
+        (first (each (section_count bytes.now) (name_test bytes.now)) ≡ None) }
+    ensures fault { IfErr result
+        (λ e. (e ≡ SectionFault.Memory)
+        ⊎ (first (each (section_count bytes.now) (name_test bytes.now)) ≡ Some e)) }
+{
+    let mut left = NAME_LIMIT;
+    for index in 0..section_count(bytes) {
+        let header = section_header(bytes, index);
+        left -= check_name(names, header.kind, header.name, left)?;
+    }
+    Ok(())
+}
+
+/// The table of names up to its last NUL.
+fn section_names(bytes: &[u8]) -> &[u8]
+    requires table { HasTable bytes.now }
+    requires within { AllInFile bytes.now }
+    ensures { HasStrings (contents bytes.now (name_table bytes.now)) result.now }
+{
+    up_to_last_nul(contents(bytes, name_table(bytes)))
+}
+
+/// Tests a file with sections.
+pub(crate) fn check_shape(bytes: &[u8]) -> Result<(), SectionFault>
+    ensures read { OnOk result (IsRead bytes.now (sections_of bytes.now)) }
+    ensures fault { IfErr result (λ e. (e ≡ SectionFault.Memory)
+        ⊎ (shape_fault bytes.now ≡ Some e)) }
 {
     check_header(bytes)?;
     check_places(bytes)?;
     check_name_table(bytes)?;
-    Ok(up_to_last_nul(contents(bytes, name_table(bytes))))
+    check_names(bytes, section_names(bytes))
 }
 
-/// Reads the sections of a file, after all tests that it must pass, with their names where these stand. The names
-/// together can't be longer than is kept.
+/// The sections of a file that passed the tests, with their names where these stand.
+pub(crate) fn section_table<'a>(
+    alloc: Global,
+    bytes: &'a [u8],
+) -> Result<SectionTable<'a>, AllocError>
+    requires { IsRead bytes.now (sections_of bytes.now) }
+    ensures { IfOk result (λ table. table ≡ file_sections bytes.now) }
+{
+    let names = section_names(bytes);
+    let count = section_count(bytes);
+    let mut sections = Vec::with_capacity(alloc, usize::from(count))?;
+    for index in 0..count {
+        sections.push(section_at(bytes, names, index))?;
+    }
+    Ok(SectionTable {
+        bytes,
+        sections: List::from_vec(sections),
+    })
+}
+
+/// The sections of a file that passed the tests, with names of their own.
+pub(crate) fn owned_sections(alloc: Global, bytes: &[u8]) -> Result<List<Section>, AllocError>
+    requires { IsRead bytes.now (sections_of bytes.now) }
+    ensures { IfOk result (λ sections. sections ≡ sections_of bytes.now) }
+{
+    let names = section_names(bytes);
+    let count = section_count(bytes);
+    let mut sections = Vec::with_capacity(alloc, usize::from(count))?;
+    for index in 0..count {
+        sections.push(section_at(bytes, names, index).to_owned(alloc)?)?;
+    }
+    Ok(List::from_vec(sections))
+}
+
+/// Tests a file with sections, and shows them with their names where these stand.
 pub(crate) fn read_shape<'a>(
     alloc: Global,
     bytes: &'a [u8],
@@ -123,37 +180,6 @@ pub(crate) fn read_shape<'a>(
     ensures fault { IfErr result (λ e. (e ≡ SectionFault.Memory)
         ⊎ (shape_fault bytes.now ≡ Some e)) }
 {
-    let names = checked_names(bytes)?;
-    let count = section_count(bytes);
-    let mut sections = Vec::with_capacity(alloc, usize::from(count))?;
-    let mut left = NAME_LIMIT;
-    for index in 0..count {
-        let section = read_section(bytes, names, index, left)?;
-        left -= section.name.len();
-        sections.push(section)?;
-    }
-    Ok(SectionTable {
-        bytes,
-        sections: List::from_vec(sections),
-    })
-}
-
-/// Reads the sections of a file, after all tests that it must pass, with names of their own, which together can't be
-/// longer than is kept.
-pub(crate) fn read_owned(alloc: Global, bytes: &[u8]) -> Result<List<Section>, SectionFault>
-    ensures sections { IfOk result (λ sections. sections ≡ sections_of bytes.now) }
-    ensures read { OnOk result (IsRead bytes.now (sections_of bytes.now)) }
-    ensures fault { IfErr result (λ e. (e ≡ SectionFault.Memory)
-        ⊎ (shape_fault bytes.now ≡ Some e)) }
-{
-    let names = checked_names(bytes)?;
-    let count = section_count(bytes);
-    let mut sections = Vec::with_capacity(alloc, usize::from(count))?;
-    let mut left = NAME_LIMIT;
-    for index in 0..count {
-        let section = read_section(bytes, names, index, left)?;
-        left -= section.name.len();
-        sections.push(section.to_owned(alloc)?)?;
-    }
-    Ok(List::from_vec(sections))
+    check_shape(bytes)?;
+    Ok(section_table(alloc, bytes)?)
 }
