@@ -9,14 +9,15 @@ ghost use Rattle.module_facts.specs.Faults.{fact_fault};
 ghost use Rattle.provider_rel.specs.Tree.{IsTree};
 ghost use Rattle.command_depmod.specs.Modules.{AreFactsAt, facts_outcome, reads_facts, reads_modules_facts};
 
-use km_course::{Refusal, Stop, read_needed};
-use km_names::{Blob, PathText, is_compressed, join};
-use km_outside::Reads;
+use km_course::{Refusal, Stop, read_needed_into};
+use km_names::{PathText, is_compressed, join};
+use km_outside::{FileBuffer, Reads};
 use module_facts::{Facts, ModuleFault};
 use provider_rel::TreeFacts;
 use std::alloc::Global;
 
-/// The facts of the modules at the paths of a tree in the folder. One module's file is held at a time.
+/// The facts of the modules at the paths of a tree in the folder. One module's file is held at a time, each in the memory of
+/// those before.
 pub(crate) fn read_modules_facts<F: Reads>(
     alloc: Global,
     folder: &PathText,
@@ -29,19 +30,22 @@ pub(crate) fn read_modules_facts<F: Reads>(
     ensures tree { IfOk result (λ tree. IsTree tree) }
 {
     let mut tree = TreeFacts::new(alloc);
+    let mut buffer = FileBuffer::new(alloc);
     for path in paths {
-        let facts = read_facts(alloc, folder, path, files)?;
+        let facts = read_facts(alloc, folder, path, files, &mut buffer)?;
         tree.push(facts)?;
     }
     Ok(tree)
 }
 
-/// The facts of the module at a path of the tree in the folder. A compressed one is refused unread.
+/// The facts of the module at a path of the tree in the folder, whose file is read into the buffer. A compressed one is
+/// refused unread.
 fn read_facts<F: Reads>(
     alloc: Global,
     folder: &PathText,
     path: &PathText,
     files: &mut F,
+    buffer: &mut FileBuffer,
 ) -> Result<Facts, Stop>
     ensures follows { (out err : OutSeen) → Follows (λ x. x) (reads_facts folder.now path.now)
         (world (F.seen files.old) out err) (world (F.seen files.new) out err) result }
@@ -52,14 +56,14 @@ fn read_facts<F: Reads>(
         return Err(Stop::from(Refusal::Compressed { path }));
     }
     let file = join(alloc, folder, path.as_bytes())?;
-    let bytes = read_needed(alloc, files, file)?;
-    check_facts(alloc, path, bytes)
+    read_needed_into(files, file, buffer)?;
+    check_facts(alloc, path, buffer.as_bytes())
 }
 
-/// The facts of the module of these bytes at a path of the tree, or its refusal. Only the facts are kept.
-fn check_facts(alloc: Global, path: &PathText, bytes: Blob) -> Result<Facts, Stop>
-    requires { length bytes ≤ file_limit }
-    ensures answers { Answers (λ x. x) (facts_outcome path.now bytes (fact_fault path.now bytes)) result }
+/// The facts of the module of these bytes at a path of the tree, or its refusal.
+fn check_facts(alloc: Global, path: &PathText, bytes: &[u8]) -> Result<Facts, Stop>
+    requires { length bytes.now ≤ file_limit }
+    ensures answers { Answers (λ x. x) (facts_outcome path.now bytes.now (fact_fault path.now bytes.now)) result }
     ensures facts { IfOk result (λ facts. AreFactsAt path.now facts) }
 {
     match module_facts::read_facts(alloc, path, bytes) {

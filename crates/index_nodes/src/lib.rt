@@ -6,9 +6,10 @@
 //! visited, and an entry for each level on which children are still to be visited; nothing in it calls
 //! itself. Nodes may stand in one another in a file, and the keys of a chain of nodes begin alike: what nodes have
 //! together, and the keys of all values, is added up meanwhile. Where nodes have more bytes than the file, or keys more
-//! than 268,435,456, the answer is want of memory, so that walks of an adopted file and lists of its keys take time and
-//! memory in proportion. The crate is the only one that reads an index's bytes. It stands on `km_names` for numbers and names,
-//! on the definitions of `index_format`, and on `thiserror` for the error traits.
+//! than 268,435,456, the answer is want of memory. So a walk of all nodes of an adopted file goes over no more bytes than
+//! the file has, and lists of its keys take no more than that number, however small the file. The crate is the only one
+//! that reads an index's bytes. It stands on `km_names` for numbers and names, on the definitions of `index_format`, and
+//! on `thiserror` for the error traits.
 #![tactic(auto)]
 
 mod check;

@@ -1,7 +1,7 @@
 -- How calls follow stages whose parts are known by equations, and stages of items.
 use Rattle.std.proofs.Common.{◌≡◌, ℕ, ◌+◌, ◌<◌, ◌≤◌, List, ◌∷◌, length, drop, get_or, sym, ap, subst, ◌∙◌}
 use Rattle.std.proofs.lemmas.List.{drop_more, drop_all}
-use Rattle.std.specs.Prelude.{Result, Ok}
+use Rattle.std.specs.Prelude.{Result, Ok, Err, ⊤}
 use Rattle.km_course.specs.Course.{Stage, each_from}
 use Rattle.km_course.specs.World.{World}
 use Rattle.km_course.specs.Follows.{Follows}
@@ -11,6 +11,14 @@ use Rattle.km_course.proofs.Steps.{LeadsTo, leads-end}
 -- what follows a stage follows it too where it is given otherwise
 pub along : {A T X : Type 0} {view : T → X} {old new : World} {r : Result T Stop} (stage : A → Stage X) (a b : A) → a ≡ b → Follows view (stage a) old new r → Follows view (stage b) old new r
 along {A} {T} {X} {view} {old} {new} {r} stage a b is f = subst (λ x. Follows view (stage x) old new r) is f
+
+-- a call that answers only that it is done follows a stage where a value that it left follows it
+pub left_value : {X : Type 0} {stage : Stage X} {old new : World} (x : X) → Follows (λ (y : X). y) stage old new (Ok x) → Follows (λ (done : ⊤). x) stage old new (Ok tt)
+left_value x f = record { keeps = f.keeps; counts = f.counts; comes = f.comes; told = f.told }
+
+-- and where there is none the value is seen in any way
+pub left_none : {X : Type 0} {stage : Stage X} {old new : World} {stop : Stop} (x : X) → Follows (λ (y : X). y) stage old new (Err stop) → Follows (λ (done : ⊤). x) stage old new (Err stop)
+left_none x f = record { keeps = f.keeps; counts = f.counts; comes = f.comes; told = f.told }
 
 -- the items from one on: it, and the items after it
 pub next-item : {A : Type 0} (items : List A) (i : ℕ) (item : A) → i < length items → item ≡ get_or items i item → drop i items ≡ item ∷ drop (i + 1) items

@@ -15,7 +15,8 @@ mod writing;
 pub use conclusion::conclude;
 pub use end::End;
 pub use reading::{
-    list_conf_needed, list_conf_optional, list_tree_needed, read_needed, read_optional,
+    list_conf_needed, list_conf_optional, list_tree_needed, read_needed, read_needed_into,
+    read_optional,
 };
 pub use refusal::Refusal;
 pub use stop::Stop;

@@ -1,4 +1,4 @@
-ghost use Rattle.std.specs.Prelude.{◌≡◌, ◌≤◌, length, IfOk};
+ghost use Rattle.std.specs.Prelude.{◌≡◌, ◌≤◌, length, IfOk, OnOk};
 ghost use Rattle.km_names.specs.Limit.{file_limit};
 ghost use Rattle.km_outside.specs.OutSeen.{OutSeen};
 ghost use Rattle.km_course.specs.Course.{reads, reads_any, lists_conf, lists_any_conf, lists_tree};
@@ -7,7 +7,7 @@ ghost use Rattle.km_course.specs.Follows.{Follows, stop_for};
 
 use crate::{End, Stop};
 use km_names::{Blob, Names, PathText, Paths};
-use km_outside::{FileAnswer, Files, Reads};
+use km_outside::{FileAnswer, FileBuffer, Files, Reads};
 use std::alloc::Global;
 
 /// The bytes of the file at the path, which is needed: an absent file and one past the limit end the
@@ -19,6 +19,22 @@ pub fn read_needed<F: Reads>(alloc: Global, files: &mut F, path: PathText) -> Re
 {
     match files.read(alloc, &path) {
         Ok(bytes) => Ok(bytes),
+        Err(answer) => Err(stop_at(answer, path)),
+    }
+}
+
+/// Reads the file at the path into the buffer. It is needed, as that of [`read_needed`].
+pub fn read_needed_into<F: Reads>(
+    files: &mut F,
+    path: PathText,
+    buffer: &mut FileBuffer,
+) -> Result<(), Stop>
+    ensures follows { (out err : OutSeen) → Follows (λ done. buffer.new) (reads path)
+        (world (F.seen files.old) out err) (world (F.seen files.new) out err) result }
+    ensures limit { OnOk result (length buffer.new ≤ file_limit) }
+{
+    match files.read_into(&path, buffer) {
+        Ok(()) => Ok(()),
         Err(answer) => Err(stop_at(answer, path)),
     }
 }

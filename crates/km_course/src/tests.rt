@@ -1,9 +1,9 @@
 use crate::{
     End, Refusal, Stop, conclude, list_conf_needed, list_conf_optional, list_tree_needed, put,
-    read_needed, read_optional, say, say_any, warn,
+    read_needed, read_needed_into, read_optional, say, say_any, warn,
 };
 use km_names::{Blob, Name, Names, PathText};
-use km_outside::{MemFiles, MemOut};
+use km_outside::{FileBuffer, MemFiles, MemOut};
 use std::alloc::{AllocError, Global};
 use std::process::Abort;
 use std::test::Fail;
@@ -30,6 +30,9 @@ fn a_file_is_read(rt: HostRuntime) -> Result<(), Fail> {
     let mut files = made(alloc)?;
     let needed = read_needed(alloc, &mut files, path(alloc, b"/e/a.conf")?)?;
     assert_eq!(rt; needed.as_bytes(), b"text".as_slice());
+    let mut buffer = FileBuffer::new(alloc);
+    read_needed_into(&mut files, path(alloc, b"/e/a.conf")?, &mut buffer)?;
+    assert_eq!(rt; buffer.as_bytes(), b"text".as_slice());
     let optional = read_optional(alloc, &mut files, path(alloc, b"/e/a.conf")?)?;
     assert_eq!(rt; optional.as_bytes(), b"text".as_slice());
     Ok(())

@@ -51,6 +51,11 @@ IsListOf fits folder files (Err Memory) = ⊤
 abbrev pub ReadAnswers : List ℕ → FilesSeen → FilesSeen → Result (List ℕ) FileAnswer → Type 0
 ReadAnswers path old new result = (new ≡ record old { counts = answered old.counts result }) × IsReadAt path old result
 
+-- the answer of a read into a buffer, which holds these bytes after it
+abbrev pub buffered : List ℕ → Result ⊤ FileAnswer → Result (List ℕ) FileAnswer
+buffered bytes (Ok done) = Ok bytes
+buffered bytes (Err refusal) = Err refusal
+
 -- The same of a listing.
 abbrev pub ListAnswers : (List ℕ → Bool) → List ℕ → FilesSeen → FilesSeen → Result (List (List ℕ)) FileAnswer → Type 0
 ListAnswers fits folder old new result =

@@ -2,7 +2,7 @@ ghost use Rattle.std.specs.Prelude.{◌≡◌};
 ghost use Rattle.km_outside.specs.CallCounts.{no_counts, answered, replied};
 ghost use Rattle.km_outside.specs.Contents.{is_conf_name, is_path};
 ghost use Rattle.km_outside.specs.DiskSeen.{disk_seen};
-ghost use Rattle.km_outside.specs.FilesSeen.{ListAnswers, ReadAnswers, ReplaceAnswers};
+ghost use Rattle.km_outside.specs.FilesSeen.{ListAnswers, ReadAnswers, ReplaceAnswers, buffered};
 ghost use Rattle.km_outside.specs.Listing.{test_of};
 
 use crate::counts::Counts;
@@ -10,7 +10,7 @@ use crate::disk_listing::list_folder;
 use crate::disk_read::read_file;
 use crate::disk_replace::replace_file;
 use crate::listing::Listing;
-use crate::{FileAnswer, Files, Reads, ReplaceAnswer, Writes};
+use crate::{FileAnswer, FileBuffer, Files, Reads, ReplaceAnswer, Writes};
 use km_names::{Blob, Bytes, List, Names, PathText, Paths};
 use std::alloc::Global;
 use std::marker::Model;
@@ -71,9 +71,20 @@ impl<R: rt::Files + AllocGlobal + Clone + Drop> Reads for DiskFiles<R> {
         ensures answers { ReadAnswers path.now (disk_seen self.old) (disk_seen self.new) result }
         ensures after { self.new ≡ answered self.old result }
     {
+        let mut buffer = FileBuffer::new(alloc);
+        match self.read_into(path, &mut buffer) {
+            Ok(()) => Ok(buffer.into_blob()),
+            Err(answer) => Err(answer),
+        }
+    }
+
+    fn read_into(&mut self, path: &PathText, buffer: &mut FileBuffer) -> Result<(), FileAnswer>
+        ensures answers { ReadAnswers path.now (disk_seen self.old) (disk_seen self.new) (buffered buffer.new result) }
+        ensures after { self.new ≡ answered self.old result }
+    {
         self.counts.make();
-        match read_file(&self.rt, alloc, path) {
-            Ok(bytes) => Ok(bytes),
+        match read_file(&self.rt, path, buffer) {
+            Ok(()) => Ok(()),
             Err(answer) => Err(self.counts.refuse(answer)),
         }
     }

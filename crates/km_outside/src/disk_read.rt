@@ -1,24 +1,22 @@
 // A file of the machine, read.
 
-ghost use Rattle.std.specs.Prelude.{◌≡◌, ◌<◌, ◌≤◌, length, IfOk, IfErr};
+ghost use Rattle.std.specs.Prelude.{◌≡◌, ◌<◌, ◌≤◌, length, OnOk, IfErr};
 ghost use Rattle.km_outside.specs.DiskSeen.{answer_of, IsPast};
 ghost use Rattle.km_names.specs.Limit.{file_limit};
 
-use crate::FileAnswer;
-use crate::transfer::read_limited;
-use km_names::{Blob, FILE_LIMIT, PathText};
-use std::alloc::Global;
+use crate::{FileAnswer, FileBuffer};
+use km_names::{FILE_LIMIT, PathText};
 use std::fs::{File, Metadata, OpenFile};
 use std::io::ErrorKind;
-use std::{io, rt};
+use std::rt;
 
-/// The bytes of the file at the path, if they are no more than the limit.
+/// Reads the file at the path into the buffer, if its bytes are no more than the limit.
 pub(crate) fn read_file<R: rt::Files>(
     rt: &R,
-    alloc: Global,
     path: &PathText,
-) -> Result<Blob, FileAnswer>
-    ensures limit { IfOk result (λ bytes. length bytes ≤ file_limit) }
+    buffer: &mut FileBuffer,
+) -> Result<(), FileAnswer>
+    ensures limit { OnOk result (length buffer.new ≤ file_limit) }
     ensures past { IfErr result (IsPast file_limit) }
 {
     let Ok(path) = str::from_utf8(path.as_bytes()) else {
@@ -32,8 +30,8 @@ pub(crate) fn read_file<R: rt::Files>(
     if expected > FILE_LIMIT as u64 {
         return Err(FileAnswer::TooLarge { length: expected });
     }
-    match read_limited(alloc, &mut file, expected as usize) {
-        Ok(bytes) => within_limit(bytes),
+    match buffer.read_from(&mut file, expected as usize) {
+        Ok(()) => check_length(buffer.as_bytes()),
         Err(error) => Err(answer_to(error.kind())),
     }
 }
@@ -46,16 +44,16 @@ fn told_length<F: OpenFile>(file: &F) -> u64 {
     }
 }
 
-/// The bytes that were read, if they are no more than the limit.
-fn within_limit(bytes: Vec<u8>) -> Result<Blob, FileAnswer>
-    ensures limit { IfOk result (λ blob. length blob ≤ file_limit) }
+/// Whether the bytes that were read are no more than the limit.
+fn check_length(bytes: &[u8]) -> Result<(), FileAnswer>
+    ensures limit { OnOk result (length bytes.now ≤ file_limit) }
     ensures past { IfErr result (IsPast file_limit) }
 {
     if bytes.len() > FILE_LIMIT {
         let length = bytes.len() as u64;
         return Err(FileAnswer::TooLarge { length });
     }
-    Ok(Blob::from_vec(bytes))
+    Ok(())
 }
 
 /// The answer to an error of the system.

@@ -1,7 +1,8 @@
 ghost use Rattle.std.specs.Prelude.{◌≡◌};
 ghost use Rattle.km_outside.specs.Contents.{is_conf_name, is_path};
-ghost use Rattle.km_outside.specs.FilesSeen.{FilesSeen, ListAnswers, ReadAnswers, ReplaceAnswers};
+ghost use Rattle.km_outside.specs.FilesSeen.{FilesSeen, ListAnswers, ReadAnswers, ReplaceAnswers, buffered};
 
+use crate::FileBuffer;
 use km_names::{Blob, Names, PathText, Paths};
 use std::alloc::{AllocError, AllocFailed, Global};
 
@@ -78,6 +79,11 @@ pub trait Reads {
     /// The bytes of the file at the path, if they are no more than [`km_names::FILE_LIMIT`].
     fn read(&mut self, alloc: Global, path: &PathText) -> Result<Blob, FileAnswer>
         ensures answers { ReadAnswers path.now (seen self.old) (seen self.new) result };
+
+    /// Reads the file at the path as [`read`](Reads::read) does, into memory that is used again. After a refusal the
+    /// buffer may hold any bytes.
+    fn read_into(&mut self, path: &PathText, buffer: &mut FileBuffer) -> Result<(), FileAnswer>
+        ensures answers { ReadAnswers path.now (seen self.old) (seen self.new) (buffered buffer.new result) };
 
     /// The names of the files that stand in the folder and end in `.conf`, each once and rising by their
     /// bytes, if they are no more than [`LIST_LIMIT`].

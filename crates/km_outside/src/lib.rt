@@ -13,6 +13,7 @@ mod disk_files;
 mod disk_listing;
 mod disk_read;
 mod disk_replace;
+mod file_buffer;
 mod files;
 mod kinds;
 mod listing;
@@ -26,6 +27,7 @@ mod tests;
 mod transfer;
 
 pub use disk_files::DiskFiles;
+pub use file_buffer::FileBuffer;
 pub use files::{FileAnswer, Files, LIST_LIMIT, Reads, ReplaceAnswer, Writes};
 pub use mem_files::{CallKind, MemFiles};
 pub use mem_out::MemOut;

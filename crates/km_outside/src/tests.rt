@@ -1,7 +1,6 @@
-use crate::transfer::read_limited;
 use crate::{
-    CallKind, DiskFiles, FileAnswer, Files, MemFiles, MemOut, Out, OutFailed, ReplaceAnswer,
-    StdErr, StdOut, Stream,
+    CallKind, DiskFiles, FileAnswer, FileBuffer, Files, MemFiles, MemOut, Out, OutFailed,
+    ReplaceAnswer, StdErr, StdOut, Stream,
 };
 use km_names::{Blob, Bytes, FILE_LIMIT, List, PathText};
 use std::alloc::Global;
@@ -15,6 +14,24 @@ use std::{fs, io};
 /// A read through the bound, as the crates above make it.
 fn read<F: Files>(files: &mut F, alloc: Global, path: &[u8]) -> Result<Blob, FileAnswer> {
     files.read(alloc, &PathText::from_slice(alloc, path)?)
+}
+
+/// Reads of files into one buffer, through the bound: each finds what is wanted.
+fn read_into_one<F: Files>(
+    rt: &impl Abort,
+    files: &mut F,
+    alloc: Global,
+    wants: [(&[u8], Result<&[u8], FileAnswer>); 4],
+) -> Result<(), FileAnswer> {
+    let mut buffer = FileBuffer::new(alloc);
+    assert!(rt; buffer.as_bytes().is_empty());
+    for (path, want) in wants {
+        match files.read_into(&PathText::from_slice(alloc, path)?, &mut buffer) {
+            Ok(()) => assert_eq!(rt; Ok(buffer.as_bytes()), want),
+            Err(answer) => assert_eq!(rt; Err(answer), want),
+        }
+    }
+    Ok(())
 }
 
 /// A write through the bound, as the crates above make it.
@@ -83,6 +100,13 @@ fn files_in_memory_answer_by_their_contents(rt: HostRuntime) -> Result<(), Fail>
     for (path, answer) in want {
         expect(&rt, read(&mut files, alloc, path), answer);
     }
+    let again: [(&[u8], Result<&[u8], FileAnswer>); 4] = [
+        (b"/a", Ok(b"last")),
+        (b"/ab", Ok(b"")),
+        (b"/b", Err(FileAnswer::Absent)),
+        (b"/a", Ok(b"last")),
+    ];
+    read_into_one(&rt, &mut files, alloc, again)?;
     Ok(())
 }
 
@@ -204,6 +228,14 @@ fn real_files_are_read_up_to_the_limit(rt: HostRuntime) -> Result<(), Fail> {
     for (path, want) in refused {
         assert_eq!(rt; read(&mut files, alloc, path).err(), Some(want));
     }
+    fs::write(&rt, "shorter", b"few")?;
+    let again: [(&[u8], Result<&[u8], FileAnswer>); 4] = [
+        (b"file", Ok(b"some bytes\n")),
+        (b"shorter", Ok(b"few")),
+        (b"no file", Err(FileAnswer::Absent)),
+        (b"file", Ok(b"some bytes\n")),
+    ];
+    read_into_one(&rt, &mut files, alloc, again)?;
     fs::remove_file(&rt, "file")?;
     Ok(())
 }
@@ -445,8 +477,9 @@ fn a_read_goes_on_to_the_end_or_fails(rt: HostRuntime) -> Result<(), Fail> {
             calls,
             made: 0,
         };
-        match (read_limited(rt.alloc(), &mut reader, 0), want) {
-            (Ok(bytes), Some(length)) => assert_eq!(rt; bytes.len(), length),
+        let mut buffer = FileBuffer::new(rt.alloc());
+        match (buffer.read_from(&mut reader, 0), want) {
+            (Ok(()), Some(length)) => assert_eq!(rt; buffer.as_bytes().len(), length),
             (Err(error), None) => assert_eq!(rt; error.kind(), ErrorKind::TimedOut),
             _ => panic!(rt; "another answer"),
         }

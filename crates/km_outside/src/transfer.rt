@@ -17,26 +17,27 @@ const RETRIES: u32 = 1000;
 /// The least number of bytes that room is made for, since some files don't tell their length.
 const LEAST_ROOM: usize = 4096;
 
-/// Reads to the end, and at most to one byte past [`FILE_LIMIT`], into one buffer. Where about `expected`
-/// bytes are there, the buffer is made once.
+/// Reads to the end, and at most to one byte past [`FILE_LIMIT`], over what the buffer holds, and answers how many
+/// bytes were read. Where about `expected` bytes are to come, the room for them is made once.
 pub(crate) fn read_limited<R: Read>(
-    alloc: Global,
     reader: &mut R,
+    buffer: &mut Vec<u8>,
     expected: usize,
-) -> io::Result<Vec<u8>>
-    ensures limit { IfOk result (λ bytes. length bytes.items ≤ file_limit + 1) }
-    ensures bytes { IfOk result (λ bytes. IfSome (R.remaining reader.old) (λ left. bytes.items ≡ take (file_limit + 1) left)) }
+) -> io::Result<usize>
+    requires { vec_len buffer.old ≤ file_limit + 1 }
+    ensures room { vec_len buffer.new ≤ file_limit + 1 }
+    ensures filled { IfOk result (λ n. n ≤ vec_len buffer.new) }
+    ensures bytes { IfOk result (λ n. IfSome (R.remaining reader.old) (λ left. take n buffer.new.items ≡ take (file_limit + 1) left)) }
 {
-    let mut buffer = Vec::from_elem(alloc, 0, expected.clamp(LEAST_ROOM, FILE_LIMIT) + 1)?;
+    lengthen(buffer, expected.clamp(LEAST_ROOM, FILE_LIMIT) + 1)?;
     let mut filled = 0;
     while filled <= FILE_LIMIT {
-        match read_more(reader, &mut buffer, filled)? {
+        match read_more(reader, buffer, filled)? {
             0 => break,
             count => filled += count,
         }
     }
-    buffer.truncate(filled);
-    Ok(buffer)
+    Ok(filled)
 }
 
 /// One turn: makes room after the filled part, and reads some bytes there, none only at the end.
@@ -44,29 +45,29 @@ fn read_more<R: Read>(reader: &mut R, buffer: &mut Vec<u8>, filled: usize) -> io
     requires within { filled ≤ vec_len buffer.old }
     requires below_limit { filled ≤ file_limit }
     requires limit { vec_len buffer.old ≤ file_limit + 1 }
-    ensures limit { OnOk result (vec_len buffer.new ≤ file_limit + 1) }
+    ensures limit { vec_len buffer.new ≤ file_limit + 1 }
     ensures front { OnOk result (take filled buffer.new.items ≡ take filled buffer.old.items) }
     ensures fits { IfOk result (λ n. filled + n ≤ vec_len buffer.new) }
     ensures bytes { IfOk result (λ n. Consumes (R.remaining reader.old) (R.remaining reader.new) (take n (drop filled buffer.new.items))) }
     ensures end { IfOk result (λ n. n ≡ 0 → IsAtEnd (R.remaining reader.new)) }
 {
-    make_room(buffer, filled)?;
+    if filled == buffer.len() {
+        lengthen(buffer, (filled * 2).min(FILE_LIMIT) + 1)?;
+    }
     read_at(reader, buffer.as_mut_slice(), filled)
 }
 
-/// Makes the buffer longer than its filled part, by as much again where it is full.
-fn make_room(buffer: &mut Vec<u8>, filled: usize) -> Result<(), AllocError>
-    requires within { filled ≤ vec_len buffer.old }
-    requires below_limit { filled ≤ file_limit }
-    requires limit { vec_len buffer.old ≤ file_limit + 1 }
-    ensures room { OnOk result (filled < vec_len buffer.new) }
-    ensures limit { OnOk result (vec_len buffer.new ≤ file_limit + 1) }
-    ensures front { OnOk result (take filled buffer.new.items ≡ take filled buffer.old.items) }
+/// Makes the buffer so long, with zeros after what it holds, where it isn't longer. After a refusal it is as before.
+fn lengthen(buffer: &mut Vec<u8>, length: usize) -> Result<(), AllocError>
+    requires { length ≤ file_limit + 1 }
+    ensures room { OnOk result (length ≤ vec_len buffer.new) }
+    ensures limit { vec_len buffer.old ≤ file_limit + 1 → vec_len buffer.new ≤ file_limit + 1 }
+    ensures front { take (vec_len buffer.old) buffer.new.items ≡ buffer.old.items }
 {
-    if filled < buffer.len() {
+    if length <= buffer.len() {
         return Ok(());
     }
-    buffer.resize((filled * 2).min(FILE_LIMIT) + 1, 0)
+    buffer.resize(length, 0)
 }
 
 /// Reads some bytes into the buffer after its filled part, none only at the end.

@@ -95,25 +95,24 @@ pub fn read_module(alloc: Global, path: &PathText, bytes: Blob) -> Result<Module
     Ok(Module { object, facts })
 }
 
-/// Reads the facts of the module at a path from the bytes of its file, which are given up. All that
-/// [`read_module`](crate::read_module) tests of the file is tested, and only the facts are kept, so that it takes less
-/// time and memory. modinfo(8), depmod(8).
+/// Reads the facts of the module at a path from the bytes of its file. All that [`read_module`](crate::read_module) tests
+/// of the file is tested, and only the facts are kept, so that it takes less time and memory. modinfo(8), depmod(8).
 ///
 /// # Errors
 ///
 /// Those of [`read_module`](crate::read_module).
 #[tactic(auto, unfolding(crate::specs::Faults::fact_fault, crate::specs::Faults::module_tests))]
-pub fn read_facts(alloc: Global, path: &PathText, bytes: Blob) -> Result<Facts, ModuleFault>
-    requires { length bytes ≤ file_limit }
-    ensures facts { IfOk result (λ facts. facts ≡ facts_of path.now bytes) }
+pub fn read_facts(alloc: Global, path: &PathText, bytes: &[u8]) -> Result<Facts, ModuleFault>
+    requires { length bytes.now ≤ file_limit }
+    ensures facts { IfOk result (λ facts. facts ≡ facts_of path.now bytes.now) }
     ensures path { IfOk result (λ facts. facts.path ≡ path.now) }
-    ensures sound { IfOk result (λ facts. IsSound (file_object bytes) facts) }
-    ensures passed { OnOk result (fact_fault path.now bytes ≡ None) }
-    ensures fault { IfErr result (λ e. (e ≡ ModuleFault.Memory) ⊎ (fact_fault path.now bytes ≡ Some e)) }
+    ensures sound { IfOk result (λ facts. IsSound (file_object bytes.now) facts) }
+    ensures passed { OnOk result (fact_fault path.now bytes.now ≡ None) }
+    ensures fault { IfErr result (λ e. (e ≡ ModuleFault.Memory) ⊎ (fact_fault path.now bytes.now ≡ Some e)) }
 {
     if is_compressed(path) {
         return Err(ModuleFault::Compressed);
     }
-    let object = ObjectView::read(alloc, bytes.as_bytes())?;
+    let object = ObjectView::read(alloc, bytes)?;
     checked_facts(alloc, path, &object)
 }

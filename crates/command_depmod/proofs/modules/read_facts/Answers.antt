@@ -33,17 +33,17 @@ returns-in_err-file-clause-follows g c = λ out err.
     let p = err_from_is_err_and c.from_residual-in_err-file.result c.from_residual-in_err-file.ensures.1 in
     wants _ _ _ _ p.1 p.2
 
-pub returns-in_err-bytes-clause-follows : goal.returns-in_err-bytes-clause-follows
-returns-in_err-bytes-clause-follows g c = λ out err.
-    let p = err_from_is_err_and c.from_residual-in_err-bytes.result c.from_residual-in_err-bytes.ensures.1 in
+pub returns-in_err-read_needed_into-clause-follows : goal.returns-in_err-read_needed_into-clause-follows
+returns-in_err-read_needed_into-clause-follows g c = λ out err.
+    let p = err_from_is_err_and c.from_residual-in_err-read_needed_into.result c.from_residual-in_err-read_needed_into.ensures.1 in
     passed_over _ _ _ _ _ _ _ c.if-is_compressed.ensures
     (along (λ file. reads file >>= checked c.args.path.now) _ _ (c.in_ok-file.ensures ∙ ap (path_below c.args.folder.now) c.as_bytes-2.ensures)
-    (exits _ _ (checked c.args.path.now) p.1 p.2 (c.in_err-bytes.ensures.follows out err)))
+    (exits _ _ (checked c.args.path.now) p.1 p.2 (c.in_err-read_needed_into.ensures.follows out err)))
 
 pub returns-clause-follows : goal.returns-clause-follows
 returns-clause-follows g c = λ out err.
     let path = c.args.path.now in
     passed_over _ _ _ _ _ _ _ c.if-is_compressed.ensures
     (along (λ file. reads file >>= checked path) _ _ (c.in_ok-file.ensures ∙ ap (path_below c.args.folder.now) c.as_bytes-2.ensures)
-    (next (checked path) (c.in_ok-bytes.ensures.follows out err)
-    (answered (λ (x : Facts). x) (facts_outcome path c.in_ok-bytes.bytes (fact_fault path c.in_ok-bytes.bytes)) _ c.check_facts.result c.check_facts.ensures.answers)))
+    (next (checked path) (c.in_ok-read_needed_into.ensures.follows out err)
+    (answered (λ (x : Facts). x) (facts_outcome path c.as_bytes-3.result.now (fact_fault path c.as_bytes-3.result.now)) _ c.check_facts.result c.check_facts.ensures.answers)))

@@ -25,5 +25,5 @@ sound path o (Err e) is passed = tt
 
 pub returns-clause-sound : goal.returns-clause-sound
 returns-clause-sound c =
-    let object = c.in_ok-object.ensures.object ∙ ap file_object c.as_bytes.ensures in
+    let object = c.in_ok-object.ensures.object in
     rw object at (sound c.args.path.now c.in_ok-object.object c.checked_facts.result c.checked_facts.ensures.facts c.checked_facts.ensures.passed)

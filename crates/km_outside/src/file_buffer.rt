@@ -1,0 +1,79 @@
+ghost use Rattle.std.specs.Prelude.{◌≡◌, ◌+◌, ◌≤◌, [], length, take, IfSome, OnOk};
+ghost use Rattle.km_names.specs.Limit.{file_limit};
+
+use crate::transfer::read_limited;
+use km_names::Blob;
+use std::alloc::{AllocError, Global};
+use std::io;
+use std::io::Read;
+use std::marker::Model;
+
+/// The bytes of the file that was read last, in memory that the next read uses again. A contract sees it as
+/// those bytes.
+#[derive(Drop)]
+pub struct FileBuffer {
+    room: Vec<u8>,
+    filled: usize,
+}
+
+impl Model for FileBuffer {
+    ghost use Rattle.std.specs.Prelude.{ℕ, ◌+◌, ◌≤◌, List, take, vec_len};
+    ghost use Rattle.km_names.specs.Limit.{file_limit};
+
+    ghost Value = { List ℕ };
+
+    ghost view = { λ b. take b.filled b.room.items };
+
+    ghost invariant = { λ b. (b.filled ≤ vec_len b.room) × (vec_len b.room ≤ file_limit + 1) };
+}
+
+impl FileBuffer {
+    /// No byte. It takes no memory.
+    pub fn new(alloc: Global) -> Self
+        ensures { result ≡ [] }
+    {
+        FileBuffer {
+            room: Vec::new(alloc),
+            filled: 0,
+        }
+    }
+
+    /// The bytes as a slice.
+    pub fn as_bytes(&self) -> &[u8]
+        ensures { result.now ≡ self.now }
+    {
+        &self.room[..self.filled]
+    }
+
+    /// The bytes as a value of their own, in the memory of the buffer.
+    pub fn into_blob(self) -> Blob
+        ensures { result ≡ self }
+    {
+        let FileBuffer { mut room, filled } = self;
+        room.truncate(filled);
+        Blob::from_vec(room)
+    }
+
+    /// Copies these bytes, in place of what was there.
+    pub(crate) fn copy(&mut self, bytes: &[u8]) -> Result<(), AllocError>
+        requires { length bytes.now ≤ file_limit }
+        ensures { OnOk result (self.new ≡ bytes.now) }
+    {
+        self.filled = 0;
+        self.room.clear();
+        self.room.extend_from_slice(bytes)?;
+        self.filled = bytes.len();
+        Ok(())
+    }
+
+    /// Reads to the end, and at most to one byte past [`FILE_LIMIT`](km_names::FILE_LIMIT), in place of what was there.
+    /// Where about `expected` bytes are to come, the room for them is made once.
+    pub(crate) fn read_from<R: Read>(&mut self, reader: &mut R, expected: usize) -> io::Result<()>
+        ensures limit { OnOk result (length self.new ≤ file_limit + 1) }
+        ensures bytes { OnOk result (IfSome (R.remaining reader.old) (λ left. self.new ≡ take (file_limit + 1) left)) }
+    {
+        self.filled = 0;
+        self.filled = read_limited(reader, &mut self.room, expected)?;
+        Ok(())
+    }
+}
