@@ -49,7 +49,9 @@ pub(crate) fn read_needs(alloc: Global, object: &ObjectView) -> Result<Needs, Al
 {
     let versions = version_list(alloc, object)?;
     let table = version_table(alloc, versions.as_slice())?;
-    let mut needs = Needs::new(alloc);
+    // Most needs have a version, so that the list seldom grows.
+    let expected = versions.len().min(object.symbol_count() as usize);
+    let mut needs = Needs::from_vec(Vec::with_capacity(alloc, expected)?);
     for i in 0..object.symbol_count() {
         let symbol = object.symbol(i);
         if is_need(i, symbol) {

@@ -1,7 +1,7 @@
 use Rattle.std.proofs.Common.{◌≡◌, ℕ, List, None, ap, ◌∙◌, Result, Ok, Err, IfOk, OnOk}
 use Rattle.std.proofs.lemmas.Result.{IfOk-weaker}
 use Rattle.km_names.specs.First.{first}
-use Rattle.elf_object.specs.Object.{FileObject, file_object}
+use Rattle.elf_object.specs.Object.{FileObject}
 use Rattle.module_facts.specs.declared.facts.Facts.{Facts}
 use Rattle.module_facts.specs.Facts.{object_facts}
 use Rattle.module_facts.specs.Faults.{facts_tests}
