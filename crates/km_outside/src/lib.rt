@@ -4,7 +4,8 @@
 //! A contract sees of each object what it counted and what it tells. Objects in memory tell all; the
 //! real files and outputs tell nothing and only count, so what is proved over told contents speaks of
 //! the same code that runs over the real ones. What a real file holds and what becomes of the bytes
-//! written is trusted. It stands on `km_names`.
+//! written is trusted. Files that are read one after the other may share the memory of one [`FileBuffer`]. It stands on
+//! `km_names`.
 #![tactic(auto)]
 
 mod calls;

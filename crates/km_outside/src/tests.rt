@@ -16,24 +16,6 @@ fn read<F: Files>(files: &mut F, alloc: Global, path: &[u8]) -> Result<Blob, Fil
     files.read(alloc, &PathText::from_slice(alloc, path)?)
 }
 
-/// Reads of files into one buffer, through the bound: each finds what is wanted.
-fn read_into_one<F: Files>(
-    rt: &impl Abort,
-    files: &mut F,
-    alloc: Global,
-    wants: [(&[u8], Result<&[u8], FileAnswer>); 4],
-) -> Result<(), FileAnswer> {
-    let mut buffer = FileBuffer::new(alloc);
-    assert!(rt; buffer.as_bytes().is_empty());
-    for (path, want) in wants {
-        match files.read_into(&PathText::from_slice(alloc, path)?, &mut buffer) {
-            Ok(()) => assert_eq!(rt; Ok(buffer.as_bytes()), want),
-            Err(answer) => assert_eq!(rt; Err(answer), want),
-        }
-    }
-    Ok(())
-}
-
 /// A write through the bound, as the crates above make it.
 fn write<O: Out>(out: &mut O, bytes: &[u8]) -> Result<(), OutFailed> {
     out.write(bytes)
@@ -100,13 +82,6 @@ fn files_in_memory_answer_by_their_contents(rt: HostRuntime) -> Result<(), Fail>
     for (path, answer) in want {
         expect(&rt, read(&mut files, alloc, path), answer);
     }
-    let again: [(&[u8], Result<&[u8], FileAnswer>); 4] = [
-        (b"/a", Ok(b"last")),
-        (b"/ab", Ok(b"")),
-        (b"/b", Err(FileAnswer::Absent)),
-        (b"/a", Ok(b"last")),
-    ];
-    read_into_one(&rt, &mut files, alloc, again)?;
     Ok(())
 }
 
@@ -228,15 +203,42 @@ fn real_files_are_read_up_to_the_limit(rt: HostRuntime) -> Result<(), Fail> {
     for (path, want) in refused {
         assert_eq!(rt; read(&mut files, alloc, path).err(), Some(want));
     }
-    fs::write(&rt, "shorter", b"few")?;
-    let again: [(&[u8], Result<&[u8], FileAnswer>); 4] = [
-        (b"file", Ok(b"some bytes\n")),
-        (b"shorter", Ok(b"few")),
-        (b"no file", Err(FileAnswer::Absent)),
-        (b"file", Ok(b"some bytes\n")),
-    ];
-    read_into_one(&rt, &mut files, alloc, again)?;
     fs::remove_file(&rt, "file")?;
+    Ok(())
+}
+
+/// Files that are read into one buffer, one after the other, and what is found there.
+static REREAD: [(&[u8], Result<&[u8], FileAnswer>); 4] = [
+    (b"long", Ok(b"some bytes\n")),
+    (b"short", Ok(b"few")),
+    (b"none", Err(FileAnswer::Absent)),
+    (b"long", Ok(b"some bytes\n")),
+];
+
+/// The reads of that table, through the bound.
+fn reread<F: Files>(rt: &impl Abort, files: &mut F, alloc: Global) -> Result<(), FileAnswer> {
+    let mut buffer = FileBuffer::new(alloc);
+    assert!(rt; buffer.as_bytes().is_empty());
+    for (path, want) in REREAD {
+        match files.read_into(&PathText::from_slice(alloc, path)?, &mut buffer) {
+            Ok(()) => assert_eq!(rt; Ok(buffer.as_bytes()), want),
+            Err(answer) => assert_eq!(rt; Err(answer), want),
+        }
+    }
+    assert_eq!(rt; buffer.into_blob().as_bytes(), b"some bytes\n".as_slice());
+    Ok(())
+}
+
+#[test]
+fn a_buffer_holds_the_file_that_was_read_last(rt: HostRuntime) -> Result<(), Fail> {
+    let alloc = rt.alloc();
+    let mut files = MemFiles::new(alloc);
+    files.put(&PathText::from_slice(alloc, b"long")?, b"some bytes\n")?;
+    files.put(&PathText::from_slice(alloc, b"short")?, b"few")?;
+    reread(&rt, &mut files, alloc)?;
+    fs::write(&rt, "long", b"some bytes\n")?;
+    fs::write(&rt, "short", b"few")?;
+    reread(&rt, &mut DiskFiles::new(rt.clone()?), alloc)?;
     Ok(())
 }
 

@@ -43,7 +43,10 @@ returns-in_err-read_needed_into-clause-follows g c = λ out err.
 pub returns-clause-follows : goal.returns-clause-follows
 returns-clause-follows g c = λ out err.
     let path = c.args.path.now in
+    let bytes = c.read_needed_into.new.buffer in
+    let answers : Answers (λ (x : Facts). x) (facts_outcome path bytes (fact_fault path bytes)) c.check_facts.result =
+    subst (λ b. Answers (λ (x : Facts). x) (facts_outcome path b (fact_fault path b)) c.check_facts.result) c.as_bytes-3.ensures c.check_facts.ensures.answers in
     passed_over _ _ _ _ _ _ _ c.if-is_compressed.ensures
     (along (λ file. reads file >>= checked path) _ _ (c.in_ok-file.ensures ∙ ap (path_below c.args.folder.now) c.as_bytes-2.ensures)
     (next (checked path) (c.in_ok-read_needed_into.ensures.follows out err)
-    (answered (λ (x : Facts). x) (facts_outcome path c.as_bytes-3.result.now (fact_fault path c.as_bytes-3.result.now)) _ c.check_facts.result c.check_facts.ensures.answers)))
+    (answered (λ (x : Facts). x) (facts_outcome path bytes (fact_fault path bytes)) _ c.check_facts.result answers)))
