@@ -4,7 +4,7 @@ use Rattle.std.specs.Prelude.{Option, ⊤}
 use Rattle.module_facts.specs.declared.facts.Facts.{Facts}
 use Rattle.depmod_core.specs.declared.files.OutputFiles.{OutputFiles}
 use Rattle.km_course.specs.Course.{Stage, ◌>>=◌, given}
-use Rattle.command_files.specs.KernelTable.{Table, reads_kernel, seen_kernel}
+use Rattle.stages_files.specs.KernelTable.{Table, reads_kernel, seen_kernel}
 use Rattle.command_depmod.specs.Tree.{reads_tree}
 use Rattle.command_depmod.specs.Modules.{reads_modules_facts}
 use Rattle.command_depmod.specs.Relation.{Tree, relation_outcome}

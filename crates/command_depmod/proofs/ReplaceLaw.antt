@@ -20,9 +20,9 @@ use Rattle.km_course.specs.Carries.{Carries, CutShort, closing_acts, whole_acts,
 use Rattle.km_course.specs.declared.end.End.TheVariants.{Refused, NotUnderstood, NoFile, TooLarge, Inner}
 use Rattle.std.proofs.lemmas.Bool.{cases_lt, cases_eq}
 use Rattle.km_course.proofs.Steps.{files-done}
-use Rattle.command_files.specs.Configuration.{reads_configuration, reads_files, reads_file, lists_folders, lists_folder, folder_name, roots, paths_of}
-use Rattle.command_files.specs.KernelTable.{reads_kernel}
-use Rattle.command_files.specs.declared.configuration.Tool.TheVariants.{Depmod}
+use Rattle.stages_files.specs.Configuration.{reads_configuration, reads_files, reads_file, lists_folders, lists_folder, folder_name, roots, paths_of}
+use Rattle.stages_files.specs.KernelTable.{reads_kernel}
+use Rattle.stages_files.specs.declared.configuration.Tool.TheVariants.{Depmod}
 use Rattle.command_depmod.specs.Search.{reads_search}
 use Rattle.command_depmod.specs.Tree.{reads_tree}
 use Rattle.command_depmod.specs.Modules.{adds_facts, reads_modules_facts}

@@ -8,7 +8,7 @@ use Rattle.mod_tree.specs.Search.{search_of}
 use Rattle.km_course.specs.Course.{Stage, given}
 use Rattle.km_course.specs.Follows.{Answers}
 use Rattle.km_course.specs.declared.stop.Stop.{Stop}
-use Rattle.command_files.specs.Configuration.{stated_outcome, stop_of}
+use Rattle.stages_files.specs.Configuration.{stated_outcome, stop_of}
 
 -- the stage after the configuration was read
 abbrev pub understood : List ConfFile → Stage (List (List ℕ))

@@ -6,8 +6,8 @@ use Rattle.kmod_words.specs.declared.depmod.DepmodWords.{DepmodWords}
 use Rattle.kmod_words.specs.Depmod.{depmod_request}
 use Rattle.km_course.specs.Course.{Stage, ◌>>=◌, given, ends}
 use Rattle.km_course.specs.declared.end.End.TheVariants.{NotUnderstood}
-use Rattle.command_files.specs.KernelModules.{modules_folder}
-use Rattle.command_files.specs.KernelTable.{reads_kernel, seen_kernel}
+use Rattle.stages_files.specs.KernelModules.{modules_folder}
+use Rattle.stages_files.specs.KernelTable.{reads_kernel, seen_kernel}
 use Rattle.command_depmod.specs.declared.course.Wanted.{Wanted}
 use Rattle.command_depmod.specs.Search.{reads_search}
 use Rattle.command_depmod.specs.Tree.{reads_tree}

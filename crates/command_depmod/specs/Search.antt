@@ -2,8 +2,8 @@
 use Rattle.std.specs.Prelude.{ℕ, List, Option}
 use Rattle.mod_tree.specs.Search.{search_of}
 use Rattle.km_course.specs.Course.{Stage, ◌>>=◌, given}
-use Rattle.command_files.specs.Configuration.{reads_configuration, stated_outcome}
-use Rattle.command_files.specs.declared.configuration.Tool.TheVariants.{Depmod}
+use Rattle.stages_files.specs.Configuration.{reads_configuration, stated_outcome}
+use Rattle.stages_files.specs.declared.configuration.Tool.TheVariants.{Depmod}
 
 -- The search list: all files of the configuration are read, and then they are understood, or the first line that isn't
 -- refuses them.

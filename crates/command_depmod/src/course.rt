@@ -13,11 +13,11 @@ use crate::relation::{RelatedTree, relate};
 use crate::search::read_search;
 use crate::tree::read_tree;
 use crate::warnings::warn_unmet;
-use command_files::{modules_folder, read_kernel};
 use km_course::{End, Stop};
 use km_names::{PathText, Word};
 use km_outside::{Files, Out};
 use kmod_words::{DepmodWords, read_depmod};
+use stages_files::{modules_folder, read_kernel};
 use std::alloc::Global;
 
 /// What is wanted besides the index itself.

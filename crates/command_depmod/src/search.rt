@@ -5,14 +5,14 @@ ghost use Rattle.km_outside.specs.OutSeen.{OutSeen};
 ghost use Rattle.km_course.specs.World.{world};
 ghost use Rattle.km_course.specs.Follows.{Answers, Follows};
 ghost use Rattle.mod_tree.specs.Search.{search_of};
-ghost use Rattle.command_files.specs.Configuration.{stated_outcome};
+ghost use Rattle.stages_files.specs.Configuration.{stated_outcome};
 ghost use Rattle.command_depmod.specs.Search.{reads_search};
 
-use command_files::{Tool, read_configuration, stop_of_fault};
 use km_course::Stop;
 use km_names::{ConfFiles, PathText};
 use km_outside::Reads;
 use mod_tree::{Search, parse_search};
+use stages_files::{Tool, read_configuration, stop_of_fault};
 use std::alloc::Global;
 
 /// The search list of the configuration, at the path that is given or in the usual folders.

@@ -9,11 +9,11 @@ use Rattle.km_course.specs.Course.{Stage, ◌>>=◌, each_from, gives, says_any}
 use Rattle.km_course.specs.World.{World}
 use Rattle.km_course.specs.Follows.{Follows}
 use Rattle.km_course.specs.declared.stop.Stop.{Stop}
-use Rattle.command_files.specs.declared.kernel_modules.KernelModules.{KernelModules}
+use Rattle.stages_files.specs.declared.kernel_modules.KernelModules.{KernelModules}
 use Rattle.command_modinfo.specs.declared.course.Source.{Source}
 use Rattle.command_modinfo.specs.declared.course.Source.TheVariants.{Names}
 use Rattle.command_modinfo.specs.ModuleInfo.{module_fields}
-use Rattle.command_files.specs.KernelModules.{modules_folder, reads_modules}
+use Rattle.stages_files.specs.KernelModules.{modules_folder, reads_modules}
 use Rattle.command_modinfo.specs.Modinfo.{reads_source, shows, shows_each, shows_word}
 
 -- the stage after a kernel's modules were read

@@ -10,9 +10,9 @@ use Rattle.km_course.specs.Course.Outcome.{value}
 use Rattle.km_course.specs.declared.end.End.TheVariants.{NotUnderstood}
 use Rattle.command_modinfo.specs.declared.course.Source.{Source}
 use Rattle.command_modinfo.specs.declared.course.Source.TheVariants.{Paths, Names}
-use Rattle.command_files.specs.ModuleFile.{reads_sections}
+use Rattle.stages_files.specs.ModuleFile.{reads_sections}
 use Rattle.command_modinfo.specs.ModuleInfo.{module_fields}
-use Rattle.command_files.specs.KernelModules.{modules_folder, path_outcome, reads_modules}
+use Rattle.stages_files.specs.KernelModules.{modules_folder, path_outcome, reads_modules}
 
 -- What the words stand for: the names of modules of the kernel of this version below the root, where there is a
 -- version. Its index is read once, before the first word. Else they are paths.

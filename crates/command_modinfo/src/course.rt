@@ -5,12 +5,12 @@ ghost use Rattle.km_course.specs.Follows.{Answers, Follows};
 ghost use Rattle.command_modinfo.specs.Modinfo.{modinfo_course, path_asked, reads_source, shows, shows_asked, shows_each, shows_word};
 
 use crate::module_info::fields_to_show;
-use command_files::{KernelModules, modules_folder, path_of_name, read_modules, read_sections};
 use km_course::{End, Stop, say_any};
 use km_names::{Name, PathText, Word};
 use km_outside::{Out, Reads};
 use kmod_words::{ModinfoWords, read_modinfo};
 use modinfo_tool::{ShowOptions, show};
+use stages_files::{KernelModules, modules_folder, path_of_name, read_modules, read_sections};
 use std::alloc::Global;
 
 /// What the words stand for that name the modules to show.

@@ -18,8 +18,8 @@ use Rattle.modprobe_conf.specs.Rules.{rules_of}
 use Rattle.name_lookup.specs.declared.indexes.Indexes.{Indexes}
 use Rattle.symbol_binding.specs.declared.unbound.Unbound.{Unbound}
 use Rattle.unmet_file.specs.Unmet.{unmet_of}
-use Rattle.command_files.specs.IndexFile.{reads_index}
-use Rattle.command_files.specs.Configuration.{stated_outcome, stop_of}
+use Rattle.stages_files.specs.IndexFile.{reads_index}
+use Rattle.stages_files.specs.Configuration.{stated_outcome, stop_of}
 use Rattle.command_modprobe.specs.declared.known.Known.{Known}
 use Rattle.command_modprobe.specs.Known.{reads_index_in, reads_indexes, reads_unmet, reads_loaded, reads_rules, reads_lists}
 

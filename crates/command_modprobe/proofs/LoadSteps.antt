@@ -21,9 +21,9 @@ use Rattle.km_course.specs.declared.stop.Stop.{Stop}
 use Rattle.km_course.specs.declared.stop.Stop.TheVariants.{Ended, Memory}
 use Rattle.km_course.proofs.Steps.{answered}
 use Rattle.km_course.proofs.Following.{along}
-use Rattle.command_files.specs.KernelModules.{modules_folder}
-use Rattle.command_loads.specs.Loads.{loads_all}
-use Rattle.command_loads.specs.Tables.{reads_machine}
+use Rattle.stages_files.specs.KernelModules.{modules_folder}
+use Rattle.stages_loads.specs.Loads.{loads_all}
+use Rattle.stages_loads.specs.Tables.{reads_machine}
 use Rattle.command_modprobe.specs.declared.known.Known.{Known}
 use Rattle.command_modprobe.specs.Known.{reads_known}
 use Rattle.command_modprobe.specs.Planned.{plan_lines, request_of}

@@ -16,7 +16,7 @@ use Rattle.km_course.specs.World.{World}
 use Rattle.km_course.specs.Follows.{Answers, Follows}
 use Rattle.km_course.specs.declared.stop.Stop.{Stop}
 use Rattle.km_course.proofs.Following.{along}
-use Rattle.command_files.specs.KernelModules.{modules_folder}
+use Rattle.stages_files.specs.KernelModules.{modules_folder}
 use Rattle.command_modprobe.specs.declared.known.Known.{Known}
 use Rattle.command_modprobe.specs.Known.{reads_known}
 use Rattle.command_modprobe.specs.Resolved.{names_asked}

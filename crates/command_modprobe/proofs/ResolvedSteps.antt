@@ -3,7 +3,7 @@ use Rattle.std.proofs.Common.{◌≡◌, ℕ, ◌+◌, ◌≤◌, Bool, true, fa
 use Rattle.std.specs.Prelude.{find, Some, None, Result, Err, ⊤}
 use Rattle.std.proofs.lemmas.List.{drop_all}
 use Rattle.kmod_words.specs.declared.modprobe.ModprobeWords.{ModprobeWords}
-use Rattle.command_files.specs.KernelModules.{modules_folder}
+use Rattle.stages_files.specs.KernelModules.{modules_folder}
 use Rattle.km_course.specs.World.{World}
 use Rattle.km_course.specs.Follows.{Answers, Follows}
 use Rattle.km_course.specs.declared.stop.Stop.{Stop}

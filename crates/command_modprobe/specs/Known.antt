@@ -10,9 +10,9 @@ use Rattle.name_lookup.specs.declared.indexes.Indexes.{Indexes}
 use Rattle.symbol_binding.specs.declared.unbound.Unbound.{Unbound}
 use Rattle.unmet_file.specs.Unmet.{unmet_of}
 use Rattle.km_course.specs.Course.{Stage, ◌>>=◌, given, gives, reads, reads_any}
-use Rattle.command_files.specs.declared.configuration.Tool.TheVariants.{Modprobe}
-use Rattle.command_files.specs.Configuration.{reads_configuration, stated_outcome}
-use Rattle.command_files.specs.IndexFile.{reads_index}
+use Rattle.stages_files.specs.declared.configuration.Tool.TheVariants.{Modprobe}
+use Rattle.stages_files.specs.Configuration.{reads_configuration, stated_outcome}
+use Rattle.stages_files.specs.IndexFile.{reads_index}
 use Rattle.command_modprobe.specs.declared.known.Known.{Known}
 
 -- The index in the file of this name in a folder.

@@ -17,10 +17,10 @@ use Rattle.km_course.specs.declared.end.End.TheVariants.{Refused, NotUnderstood}
 use Rattle.km_course.specs.declared.refusal.Refusal.TheVariants.{InstallChosen}
 use Rattle.km_course.specs.declared.stop.Stop.{Stop}
 use Rattle.km_course.specs.declared.stop.Stop.TheVariants.{Ended}
-use Rattle.command_files.specs.KernelModules.{modules_folder}
-use Rattle.command_loads.specs.Listed.{loads_listed}
-use Rattle.command_loads.specs.Loads.{loads_all}
-use Rattle.command_loads.specs.Tables.{reads_machine}
+use Rattle.stages_files.specs.KernelModules.{modules_folder}
+use Rattle.stages_loads.specs.Listed.{loads_listed}
+use Rattle.stages_loads.specs.Loads.{loads_all}
+use Rattle.stages_loads.specs.Tables.{reads_machine}
 use Rattle.command_modprobe.specs.declared.known.Known.{Known}
 use Rattle.command_modprobe.specs.Known.{reads_known}
 use Rattle.command_modprobe.specs.Planned.{request_of, plan_outcome, plan_lines}

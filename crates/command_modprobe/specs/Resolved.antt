@@ -10,7 +10,7 @@ use Rattle.km_course.specs.Course.{Outcome, Stage, ◌>>=◌, given, says_any}
 use Rattle.km_course.specs.Course.Outcome.{value, end}
 use Rattle.km_course.specs.declared.end.End.TheVariants.{Refused}
 use Rattle.km_course.specs.declared.refusal.Refusal.TheVariants.{NotFound}
-use Rattle.command_files.specs.KernelModules.{modules_folder}
+use Rattle.stages_files.specs.KernelModules.{modules_folder}
 use Rattle.command_modprobe.specs.declared.known.Known.{Known}
 use Rattle.command_modprobe.specs.Known.{reads_known}
 

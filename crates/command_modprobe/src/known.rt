@@ -6,10 +6,9 @@ ghost use Rattle.km_course.specs.World.{world};
 ghost use Rattle.km_course.specs.Follows.{Answers, Follows};
 ghost use Rattle.modprobe_conf.specs.Rules.{rules_of};
 ghost use Rattle.unmet_file.specs.Unmet.{unmet_of};
-ghost use Rattle.command_files.specs.Configuration.{stated_outcome};
+ghost use Rattle.stages_files.specs.Configuration.{stated_outcome};
 ghost use Rattle.command_modprobe.specs.Known.{reads_index_in, reads_indexes, reads_rules, reads_unmet, reads_loaded, reads_lists, reads_known};
 
-use command_files::{Tool, read_configuration, read_index, stop_of_fault};
 use index_read::Index;
 use km_course::{Stop, read_needed, read_optional};
 use km_names::{Blob, ConfFile, ConfFiles, PathText, join};
@@ -17,6 +16,7 @@ use km_outside::Reads;
 use loaded_list::Loaded;
 use modprobe_conf::{Rules, parse};
 use name_lookup::Indexes;
+use stages_files::{Tool, read_configuration, read_index, stop_of_fault};
 use std::alloc::{AllocError, Global};
 use unmet_file::Unmet;
 

@@ -7,14 +7,14 @@ ghost use Rattle.command_modprobe.specs.Loaded.{command_owner, install_stop, loa
 
 use crate::known::{Known, read_known};
 use crate::plan::{plan_in, plan_text, request_of};
-use command_files::modules_folder;
-use command_loads::{load_all, load_listed, read_machine};
 use km_course::{End, Refusal, Stop, say_any};
 use km_names::{Name, PathText, Paths};
 use km_outside::{Out, Writes};
 use kmod_words::{Mode, ModprobeWords};
 use model_loader::{Machine, Region};
 use plan_builder::{PlanStep, PlanSteps, Request};
+use stages_files::modules_folder;
+use stages_loads::{load_all, load_listed, read_machine};
 use std::alloc::Global;
 
 /// Prints the plan for the requested names and loads its modules into the modelled machine, after those that are listed as

@@ -8,13 +8,13 @@ ghost use Rattle.command_modprobe.specs.Planned.{insert_line, loaded_in, obstacl
 
 use crate::known::{Known, read_known};
 use crate::resolve_alias::names_asked;
-use command_files::modules_folder;
 use km_course::{Refusal, Stop, say_any};
 use km_names::{Blob, Name, Names, PathText, join};
 use km_outside::{Out, Reads};
 use kmod_words::{Mode, ModprobeWords};
 use loaded_list::Loaded;
 use plan_builder::{Obstacle, PlanStep, PlanSteps, Request, plan};
+use stages_files::modules_folder;
 use std::alloc::{AllocError, Global};
 
 /// Prints the plan for the requested names, a step a line. modprobe(8), `--dry-run` and `--show-depends`.

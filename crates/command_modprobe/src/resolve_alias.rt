@@ -9,12 +9,12 @@ ghost use Rattle.km_course.specs.declared.refusal.Refusal.TheVariants.{NotFound}
 ghost use Rattle.command_modprobe.specs.Resolved.{names_asked, lines_of_names, normal_or_itself, resolved, resolves_alias};
 
 use crate::known::{Known, read_known};
-use command_files::modules_folder;
 use km_course::{Refusal, Stop, say_any};
 use km_names::{Blob, Name, Names, normal_alias};
 use km_outside::{Out, Reads};
 use kmod_words::ModprobeWords;
 use name_lookup::resolve;
+use stages_files::modules_folder;
 use std::alloc::{AllocError, Global};
 
 /// Prints the names of what each requested name stands for, one a line. Nothing is printed where a name stands for

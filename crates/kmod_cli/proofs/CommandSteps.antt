@@ -5,8 +5,8 @@ use Rattle.km_course.specs.World.{World, Shown, Tells}
 use Rattle.km_course.specs.Carries.{Carries}
 use Rattle.command_depmod.specs.Replaced.{LeavesFiles}
 use Rattle.command_depmod.proofs.ReplaceLaw.{leaves}
-use Rattle.indexed_folder.specs.Left.{LeavesIndexed}
-use Rattle.indexed_folder.proofs.LeftLemmas.{leaves-indexed}
+use Rattle.laws_depmod_leaves.specs.Left.{LeavesIndexed}
+use Rattle.laws_depmod_leaves.proofs.LeftLemmas.{leaves-indexed}
 use Rattle.kmod_cli.specs.Program.{command_named, course}
 
 pub no-words : (words : List (List ℕ)) → length words < 1 → words ≡ []

@@ -7,10 +7,10 @@ use Rattle.kmod_words.specs.Modprobe.{modprobe_request}
 use Rattle.command_modprobe.specs.Loaded.{loads_plan}
 use Rattle.command_modprobe.specs.Modprobe.{modprobe_asked_for, modprobe_course, modprobe_in_mode}
 use Rattle.command_modprobe.specs.Planned.{request_of}
-use Rattle.planned_loads.specs.Courses.{IsEndOfLoads, IsLoadingCourse}
-use Rattle.planned_loads.proofs.CourseLemmas.{courses-bind}
-use Rattle.planned_loads.proofs.EndLemmas.{courses-end}
-use Rattle.planned_loads.proofs.WholeLemmas.{courses-load}
+use Rattle.laws_planned_loads.specs.Courses.{IsEndOfLoads, IsLoadingCourse}
+use Rattle.laws_planned_loads.proofs.CourseLemmas.{courses-bind}
+use Rattle.laws_planned_loads.proofs.EndLemmas.{courses-end}
+use Rattle.laws_planned_loads.proofs.WholeLemmas.{courses-load}
 use Rattle.kmod_cli.specs.Headline.{Headline, Loading, StandsAsIndexed, folder_asked}
 
 -- the course of words that ask for a load

@@ -10,11 +10,11 @@ use Rattle.provider_rel.specs.declared.kernel.Kernel.{Kernel}
 use Rattle.model_loader.specs.declared.region.Region.{Region}
 use Rattle.model_loader.specs.Machine.{Machine}
 use Rattle.plan_builder.specs.declared.step.PlanStep.{PlanStep}
-use Rattle.command_files.specs.KernelModules.{modules_folder}
+use Rattle.stages_files.specs.KernelModules.{modules_folder}
 use Rattle.command_modprobe.specs.declared.known.Known.{Known}
 use Rattle.command_modprobe.specs.Modprobe.{modprobe_course}
 use Rattle.command_modprobe.specs.Planned.{request_of}
-use Rattle.planned_loads.specs.Courses.{CameToLoads, CourseBinds, IsEndOfLoads, HasMachine, IsIndexedFor, IsLoadingCourse}
+use Rattle.laws_planned_loads.specs.Courses.{CameToLoads, CourseBinds, IsEndOfLoads, HasMachine, IsIndexedFor, IsLoadingCourse}
 
 -- The folder of the modules of the kernel that is asked for.
 abbrev pub folder_asked : ModprobeWords → List ℕ

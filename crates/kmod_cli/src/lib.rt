@@ -2,7 +2,7 @@
 //! contract says so for every kind of files and outputs that it is handed.
 //!
 //! It stands on `km_course` for the relation between a call and its course, on the crates of the commands, and on
-//! `indexed_folder` and `planned_loads` for what a depmod leaves and a modprobe binds.
+//! `laws_depmod_leaves` and `laws_planned_loads` for what a depmod leaves and a modprobe binds.
 #![tactic(auto)]
 
 mod command;

@@ -7,7 +7,7 @@ ghost use Rattle.command_depmod.specs.Replaced.{LeavesFiles};
 ghost use Rattle.command_modinfo.specs.Modinfo.{modinfo_course};
 ghost use Rattle.command_modprobe.specs.Modprobe.{modprobe_course};
 ghost use Rattle.command_trial.specs.Trial.{trial_course};
-ghost use Rattle.indexed_folder.specs.Left.{LeavesIndexed};
+ghost use Rattle.laws_depmod_leaves.specs.Left.{LeavesIndexed};
 ghost use Rattle.kmod_cli.specs.Headline.{Headline};
 ghost use Rattle.kmod_cli.specs.Program.{course, course_named};
 

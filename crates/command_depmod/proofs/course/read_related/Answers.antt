@@ -1,7 +1,7 @@
 use Rattle.std.proofs.lemmas.Result.{err_from_is_err_and}
 use Rattle.provider_rel.specs.Faces.{kernel_of}
 use Rattle.km_course.proofs.Steps.{next, exits, answered}
-use Rattle.command_files.specs.KernelTable.{table_of}
+use Rattle.stages_files.specs.KernelTable.{table_of}
 use Rattle.command_depmod.specs.Related.{seen_tree}
 use Rattle.command_depmod.specs.Relation.{relation_outcome}
 use Rattle.km_course.proofs.Following.{along}

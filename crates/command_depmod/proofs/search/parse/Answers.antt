@@ -1,5 +1,5 @@
 use Rattle.std.proofs.Common.{ap}
-use Rattle.command_files.specs.Configuration.{stated_outcome}
+use Rattle.stages_files.specs.Configuration.{stated_outcome}
 use Rattle.command_depmod.proofs.SearchSteps.{understood_not}
 use Rattle.command_depmod.proofs.search.parse.Goals as goal
 

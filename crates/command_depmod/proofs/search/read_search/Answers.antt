@@ -2,7 +2,7 @@ use Rattle.std.proofs.Common.{ℕ, List}
 use Rattle.std.proofs.lemmas.Result.{err_from_is_err_and}
 use Rattle.mod_tree.specs.Search.{search_of}
 use Rattle.km_course.proofs.Steps.{next, exits, answered}
-use Rattle.command_files.specs.Configuration.{stated_outcome}
+use Rattle.stages_files.specs.Configuration.{stated_outcome}
 use Rattle.command_depmod.proofs.SearchSteps.{understood}
 use Rattle.command_depmod.proofs.search.read_search.Goals as goal
 

@@ -4,7 +4,7 @@ use Rattle.std.proofs.lemmas.Result.{err_from_is_err_and}
 use Rattle.km_course.proofs.Steps.{next, exits, answered}
 use Rattle.modprobe_conf.specs.declared.rule.Rule.{Rule}
 use Rattle.modprobe_conf.specs.Rules.{rules_of}
-use Rattle.command_files.specs.Configuration.{stated_outcome}
+use Rattle.stages_files.specs.Configuration.{stated_outcome}
 use Rattle.command_modprobe.proofs.KnownSteps.{after_configuration, after_rules, after_indexes}
 use Rattle.command_modprobe.proofs.known.read_known.Goals as goal
 

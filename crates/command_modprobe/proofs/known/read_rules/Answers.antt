@@ -4,7 +4,7 @@ use Rattle.km_course.specs.Follows.{Answers}
 use Rattle.km_course.proofs.Steps.{next, exits, wants, answered}
 use Rattle.modprobe_conf.specs.declared.rule.Rule.{Rule}
 use Rattle.modprobe_conf.specs.Rules.{rules_of}
-use Rattle.command_files.specs.Configuration.{stated_outcome}
+use Rattle.stages_files.specs.Configuration.{stated_outcome}
 use Rattle.command_modprobe.proofs.KnownSteps.{softdep_stated, at-softdep}
 use Rattle.command_modprobe.proofs.known.read_rules.Goals as goal
 

@@ -4,7 +4,7 @@ use Rattle.km_course.specs.Follows.{Answers}
 use Rattle.km_course.proofs.Steps.{next, exits, wants, answered}
 use Rattle.symbol_binding.specs.declared.unbound.Unbound.{Unbound}
 use Rattle.unmet_file.specs.Unmet.{unmet_of}
-use Rattle.command_files.specs.Configuration.{stated_outcome}
+use Rattle.stages_files.specs.Configuration.{stated_outcome}
 use Rattle.command_modprobe.proofs.KnownSteps.{unmet_stated, at-unmet}
 use Rattle.command_modprobe.proofs.known.read_unmet.Goals as goal
 

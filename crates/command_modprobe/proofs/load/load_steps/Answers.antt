@@ -4,8 +4,8 @@ use Rattle.std.proofs.lemmas.Result.{err_from_is_err_and}
 use Rattle.km_course.specs.Course.{says_any}
 use Rattle.km_course.proofs.Steps.{next, exits, wants, gave}
 use Rattle.km_course.proofs.Following.{along}
-use Rattle.command_loads.specs.Listed.{loads_listed}
-use Rattle.command_loads.specs.Loads.{loads_all}
+use Rattle.stages_loads.specs.Listed.{loads_listed}
+use Rattle.stages_loads.specs.Loads.{loads_all}
 use Rattle.command_modprobe.proofs.LoadSteps.{after_listed, after_lines, after_loads}
 use Rattle.command_modprobe.proofs.load.load_steps.Goals as goal
 

@@ -3,7 +3,7 @@ use Rattle.km_course.specs.Carries.{Carries}
 use Rattle.km_course.proofs.Carried.{carried}
 use Rattle.command_depmod.specs.Depmod.{depmod_course}
 use Rattle.command_depmod.proofs.ReplaceLaw.{leaves}
-use Rattle.indexed_folder.proofs.LeftLemmas.{leaves-indexed}
+use Rattle.laws_depmod_leaves.proofs.LeftLemmas.{leaves-indexed}
 use Rattle.kmod_cli.proofs.program.depmod.Goals as goal
 
 pub returns : goal.returns

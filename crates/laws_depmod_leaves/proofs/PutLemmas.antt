@@ -1,0 +1,122 @@
+-- What is in a folder after depmod's nine files were put there.
+use Rattle.std.proofs.Common.{◌≡◌, ◌∙◌, ◌-◌, ℕ, Bool, true, false, cond, List, [], ◌∷◌, ◌++◌, length, take, refl, sym, ap, arith}
+use Rattle.std.specs.Prelude.{Some}
+use Rattle.std.specs.FinMap.{get, insert, get-insert}
+use Rattle.std.specs.List.{list_any}
+use Rattle.std.specs.Str.{bytes_eq}
+use Rattle.std.proofs.lemmas.Bool.{or_from, or_parts}
+use Rattle.std.proofs.lemmas.Cmp.{nat_list_cmp_total}
+use Rattle.std.proofs.lemmas.Map.Text.{is_eq-slice_cmp}
+use Rattle.std.proofs.lemmas.Slice.Eq.{bytes_eq-Decides}
+use Rattle.km_names.specs.Path.{is_compressed, path_below, without_end_slashes}
+use Rattle.km_outside.specs.Contents.{Contents}
+use Rattle.km_course.specs.Course.{after}
+use Rattle.mod_tree.specs.Tree.{is_module_path}
+use Rattle.module_facts.specs.declared.facts.Facts.{Facts}
+use Rattle.depmod_core.specs.declared.file.OutputFile.{OutputFile}
+use Rattle.depmod_core.specs.declared.file.OutputFile.TheVariants.{Dep, DepBin, Alias, AliasBin, Softdep, Symbols, SymbolsBin, BuiltinBin, Unmet}
+use Rattle.depmod_core.specs.declared.files.OutputFiles.{OutputFiles}
+use Rattle.depmod_core.specs.Files.{content, file_name}
+use Rattle.command_depmod.specs.Outputs.{all_files}
+use Rattle.command_depmod.proofs.ReplaceLaw.{puts_of}
+use Rattle.laws_indexed_folder.specs.Indexed.{AreIn, HasFile, IsModuleFile}
+use Rattle.laws_planned_loads.proofs.FileLemmas.{ends-ko, false-unless, last-ko, last_of, other-file, plain-path}
+
+-- ---- names below a folder
+
+cancel : (front a b : List ℕ) → front ++ a ≡ front ++ b → a ≡ b
+cancel [] a b is = is
+cancel (x ∷ front) a b is = cancel front a b (let same : front ++ a ≡ front ++ b = cc in same)
+
+next-same : (x : ℕ) (a b : List ℕ) → x ∷ a ≡ x ∷ b → a ≡ b
+next-same x a b is = cc
+
+below-same : (folder a b : List ℕ) → path_below folder a ≡ path_below folder b → a ≡ b
+below-same folder a b is = next-same 47 a b (cancel (without_end_slashes folder) (47 ∷ a) (47 ∷ b) is)
+
+true-false : (b : Bool) → b ≡ true → b ≡ false → ⊥
+true-false b holds fails = let wrong : true ≡ false = sym holds ∙ fails in cc
+
+-- the name is that of none of the files
+abbrev IsNone : List ℕ → List OutputFile → Type 0
+IsNone name files = list_any (λ file. bytes_eq name (file_name file)) files ≡ false
+
+none-parts : (name : List ℕ) (file : OutputFile) (files : List OutputFile) → IsNone name (file ∷ files) → (bytes_eq name (file_name file) ≡ false) × IsNone name files
+none-parts name file files none = or_parts (bytes_eq name (file_name file)) (list_any (λ other. bytes_eq name (file_name other)) files) none
+
+other-path : (folder name : List ℕ) (file : OutputFile) → bytes_eq name (file_name file) ≡ false → path_below folder name ≡ path_below folder (file_name file) → ⊥
+other-path folder name file other is =
+    true-false (bytes_eq name (file_name file)) ((bytes_eq-Decides name (file_name file)).1 (below-same folder name (file_name file) is)) other
+
+-- ---- files that are put
+
+-- what is there below another name stays as it was
+kept : (folder : List ℕ) (made : OutputFiles) (files : List OutputFile) (held : Contents) (name : List ℕ) → IsNone name files → get (after (puts_of folder made files) held) (path_below folder name) ≡ get held (path_below folder name)
+unfolding puts_of
+kept folder made [] held name none = refl
+kept folder made (file ∷ files) held name none =
+    let apart = none-parts name file files none in
+    kept folder made files (insert held (path_below folder (file_name file)) (content made file)) name apart.1
+    ∙ other-file held (path_below folder name) (path_below folder (file_name file)) (content made file) (other-path folder name file apart.0)
+
+own-file : (held : Contents) (path bytes : List ℕ) → get (insert held path bytes) path ≡ Some bytes
+own-file held path bytes =
+    get-insert nat_list_cmp_total held path bytes path
+    ∙ ap (λ b. cond b (Some bytes) (get held path)) (is_eq-slice_cmp path path ∙ (bytes_eq-Decides path path).1 refl)
+
+-- a file that was put is there, where none of the later ones has its name
+put-there : (folder : List ℕ) (made : OutputFiles) (before : List OutputFile) (file : OutputFile) (later : List OutputFile) (held : Contents) → IsNone (file_name file) later → HasFile (after (puts_of folder made (before ++ file ∷ later)) held) (path_below folder (file_name file)) (content made file)
+unfolding puts_of
+put-there folder made [] file later held none =
+    let path = path_below folder (file_name file) in
+    kept folder made later (insert held path (content made file)) (file_name file) none ∙ own-file held path (content made file)
+put-there folder made (first ∷ before) file later held none =
+    put-there folder made before file later (insert held (path_below folder (file_name first)) (content made first)) none
+
+-- so all that modprobe reads are there
+pub all-there : (folder : List ℕ) (made : OutputFiles) (held : Contents) → AreIn (after (puts_of folder made all_files) held) folder made
+all-there folder made held = record {
+  dep = put-there folder made (Dep ∷ []) DepBin (Alias ∷ AliasBin ∷ Softdep ∷ Symbols ∷ SymbolsBin ∷ BuiltinBin ∷ Unmet ∷ []) held refl;
+  alias = put-there folder made (Dep ∷ DepBin ∷ Alias ∷ []) AliasBin (Softdep ∷ Symbols ∷ SymbolsBin ∷ BuiltinBin ∷ Unmet ∷ []) held refl;
+  softdep = put-there folder made (Dep ∷ DepBin ∷ Alias ∷ AliasBin ∷ []) Softdep (Symbols ∷ SymbolsBin ∷ BuiltinBin ∷ Unmet ∷ []) held refl;
+  symbols = put-there folder made (Dep ∷ DepBin ∷ Alias ∷ AliasBin ∷ Softdep ∷ Symbols ∷ []) SymbolsBin (BuiltinBin ∷ Unmet ∷ []) held refl;
+  built_in = put-there folder made (Dep ∷ DepBin ∷ Alias ∷ AliasBin ∷ Softdep ∷ Symbols ∷ SymbolsBin ∷ []) BuiltinBin (Unmet ∷ []) held refl;
+  unmet = put-there folder made (Dep ∷ DepBin ∷ Alias ∷ AliasBin ∷ Softdep ∷ Symbols ∷ SymbolsBin ∷ BuiltinBin ∷ []) Unmet [] held refl;
+}
+
+-- ---- modules
+
+-- the name of no such file ends as the path of a module does
+last-other : (file : OutputFile) → last_of (file_name file) ≡ 111 → ⊥
+last-other Dep is = absurd (omega (arith, is))
+last-other DepBin is = absurd (omega (arith, is))
+last-other Alias is = absurd (omega (arith, is))
+last-other AliasBin is = absurd (omega (arith, is))
+last-other Softdep is = absurd (omega (arith, is))
+last-other Symbols is = absurd (omega (arith, is))
+last-other SymbolsBin is = absurd (omega (arith, is))
+last-other BuiltinBin is = absurd (omega (arith, is))
+last-other Unmet is = absurd (omega (arith, is))
+
+module-last : (path : List ℕ) → is_module_path path ≡ true → is_compressed path ≡ false → last_of path ≡ 111
+module-last path kind plain = ap last_of (ends-ko path kind plain) ∙ last-ko (take (length path - 3) path)
+
+module-none : (path : List ℕ) (files : List OutputFile) → last_of path ≡ 111 → IsNone path files
+module-none path [] last = refl
+module-none path (file ∷ files) last =
+    or_from (bytes_eq path (file_name file)) (list_any (λ other. bytes_eq path (file_name other)) files)
+    (false-unless (bytes_eq path (file_name file)) (λ is. last-other file (ap last_of (sym ((bytes_eq-Decides path (file_name file)).0 is)) ∙ last)))
+    (module-none path files last)
+
+-- the file of a module stays as it was
+pub still-module : (folder : List ℕ) (made : OutputFiles) (held : Contents) (f : Facts) → IsModuleFile held folder f → IsModuleFile (after (puts_of folder made all_files) held) folder f
+still-module folder made held f is =
+    let none = module-none f.path all_files (module-last f.path is.kind (plain-path f.path is.bytes is.passed)) in
+    record {
+      kind = is.kind;
+      bytes = is.bytes;
+      there = kept folder made all_files held f.path none ∙ is.there;
+      small = is.small;
+      passed = is.passed;
+      facts = is.facts;
+    }

@@ -1,0 +1,28 @@
+-- What never stands in the way of a plan over files that depmod wrote. depmod(8), modules.dep(5).
+use Rattle.std.specs.Prelude.{◌≡◌, ℕ, List, Some, None}
+use Rattle.module_facts.specs.declared.facts.Facts.{Facts}
+use Rattle.symbol_binding.specs.Symbols.{Kernel as SeenKernel}
+use Rattle.provider_rel.specs.declared.kernel.Kernel.{Kernel}
+use Rattle.provider_rel.specs.Tree.{IsTree}
+use Rattle.depmod_core.specs.Files.{StandFor, files, output_fault}
+use Rattle.plan_builder.specs.declared.obstacle.Obstacle.TheVariants.{BadDepLine}
+use Rattle.plan_builder.specs.declared.request.Request.{Request}
+use Rattle.plan_builder.specs.Needs.{Sources}
+use Rattle.plan_builder.specs.Obstacles.{obstacle_of}
+use Rattle.laws_indexed_folder.specs.Binding.{StandsAsIndexed}
+
+-- The files that depmod makes of a tree stand for what they are made of, where none of them is too large.
+abbrev pub FilesStand : Type 0
+FilesStand =
+    (tree : List Facts) (kernel : SeenKernel) (builtin : List ℕ)
+    → IsTree tree
+    → output_fault (files tree kernel builtin) ≡ None
+    → StandFor tree kernel builtin (files tree kernel builtin)
+
+-- Over the dependency lines of a tree no request is refused for a value that is no dependency line.
+abbrev pub LinesAreNoObstacle : Type 0
+LinesAreNoObstacle =
+    (tree : List Facts) (kernel : Kernel) (s : Sources) (request : Request) (name : List ℕ)
+    → StandsAsIndexed tree kernel s.maps.dep
+    → obstacle_of s request ≡ Some (BadDepLine name)
+    → ⊥

@@ -1,0 +1,368 @@
+-- The courses of modprobe over a folder that stands as it was indexed end for no file that depmod wrote.
+use Rattle.std.proofs.Common.{◌≡◌, ◌∙◌, ℕ, Bool, List, [], ◌∷◌, ◌++◌, find, map, reverse, flat_map, None, refl, sym, subst}
+use Rattle.std.specs.Prelude.{Option, Some, Result, Ok, Err, codes, nat_eq, ⊤}
+use Rattle.std.specs.List.{ends_with}
+use Rattle.km_names.specs.First.{first}
+use Rattle.km_names.specs.Path.{is_compressed, path_below}
+use Rattle.km_names.specs.declared.conf.ConfFile.{ConfFile}
+use Rattle.km_names.specs.declared.conf.ConfFault.{ConfFault}
+use Rattle.km_names.specs.declared.conf.ConfFault.TheVariants as faults
+use Rattle.km_outside.specs.Contents.{Contents}
+use Rattle.kmod_words.specs.declared.modprobe.Mode.{Mode}
+use Rattle.kmod_words.specs.declared.modprobe.Mode.TheVariants.{Load, DryRun, ShowDepends, ResolveAlias}
+use Rattle.kmod_words.specs.declared.modprobe.ModprobeWords.{ModprobeWords}
+use Rattle.km_course.specs.Course.{Outcome, Stage, ◌>>=◌, ends, given, lists_any_conf, lists_conf, reads, says_any}
+use Rattle.km_course.specs.Course.Outcome.{value, end}
+use Rattle.km_course.specs.declared.end.End.{End}
+use Rattle.km_course.specs.declared.end.End.TheVariants.{NoFile, NotUnderstood, Refused}
+use Rattle.km_course.specs.declared.refusal.Refusal.TheVariants.{BadLine, BadModule, Compressed, InstallChosen, KernelWithoutAddress, InnerOutputFull, ListedNotFound, ListedRefused, LoadRefused, NotFound}
+use Rattle.km_course.specs.declared.refusal.Refusal.TheVariants as refusals
+use Rattle.index_read.specs.Contents.{contents}
+use Rattle.index_read.specs.declared.index.Index.{Index}
+use Rattle.index_read.proofs.ContentsLemmas.{held as contents-held}
+use Rattle.module_facts.specs.declared.facts.Facts.{Facts}
+use Rattle.module_facts.specs.declared.fault.ModuleFault.{ModuleFault}
+use Rattle.module_facts.specs.declared.module.Module.{Module}
+use Rattle.module_facts.specs.Faults.{fact_fault}
+use Rattle.module_facts.specs.FaultText.{module_fault_text}
+use Rattle.modprobe_conf.specs.declared.rule.Rule.{Rule}
+use Rattle.modprobe_conf.specs.Rules.{rules_of}
+use Rattle.provider_rel.specs.declared.fault.KernelFault.{KernelFault}
+use Rattle.provider_rel.specs.declared.fault.KernelFault.TheVariants as table_faults
+use Rattle.provider_rel.specs.declared.kernel.Kernel.{Kernel}
+use Rattle.provider_rel.specs.declared.kernel.KernelExport.{KernelExport}
+use Rattle.provider_rel.specs.Faces.{kernel_of}
+use Rattle.provider_rel.specs.KernelTable.{exports_of_map, exports_of_symvers, exports_with_addresses}
+use Rattle.model_loader.specs.declared.fault.LoadFault.{LoadFault}
+use Rattle.model_loader.specs.declared.fault.MachineFault.{MachineFault}
+use Rattle.model_loader.specs.declared.fault.MachineFault.TheVariants as machine_faults
+use Rattle.model_loader.specs.declared.region.Region.{Region}
+use Rattle.model_loader.specs.FaultText.{load_fault_text}
+use Rattle.model_loader.specs.Machine.{Machine, kernel_fault}
+use Rattle.model_loader.specs.Step.{step}
+use Rattle.name_lookup.specs.declared.indexes.Indexes.{Indexes}
+use Rattle.plan_builder.specs.declared.obstacle.Obstacle.{Obstacle}
+use Rattle.plan_builder.specs.declared.obstacle.Obstacle.TheVariants as obstacles
+use Rattle.plan_builder.specs.declared.request.Request.{Request}
+use Rattle.plan_builder.specs.declared.step.PlanStep.{PlanStep}
+use Rattle.plan_builder.specs.Obstacles.{obstacle_of}
+use Rattle.plan_builder.specs.Steps.{plan_steps}
+use Rattle.depmod_core.specs.Files.{files}
+use Rattle.laws_indexed_folder.specs.Binding.{StandsAsIndexed}
+use Rattle.laws_indexed_folder.specs.Indexed.{Indexed}
+use Rattle.laws_indexed_folder.proofs.IndexedLemmas.{folders-read}
+use Rattle.laws_indexed_folder.proofs.ObstacleLemmas.{lines-are-no-obstacle}
+use Rattle.stages_files.specs.Configuration.{folder_name, lists_folder, lists_folders, paths_of, reads_configuration, reads_file, reads_files, reads_given, reads_listed, roots, stated_outcome}
+use Rattle.stages_files.specs.declared.configuration.ListedFolder.{ListedFolder}
+use Rattle.stages_files.specs.declared.configuration.Tool.TheVariants.{Modprobe}
+use Rattle.stages_files.specs.KernelModules.{modules_folder, path_listed}
+use Rattle.stages_files.specs.KernelTable.{Table, reads_map, reads_symvers, table_outcome}
+use Rattle.stages_files.proofs.TableSteps.{map_read, symvers_read}
+use Rattle.stages_loads.specs.declared.load.Cause.{Cause}
+use Rattle.stages_loads.specs.declared.load.Cause.TheVariants.{Listed, Planned}
+use Rattle.stages_loads.specs.Listed.{listed_outcome, loads_listed, loads_listed_one}
+use Rattle.stages_loads.specs.Loads.{entered, load_outcome, loads, loads_all, loads_one, puts_image, shows_load}
+use Rattle.stages_loads.specs.Modules.{file_outcome, module_outcome, reads_module}
+use Rattle.stages_loads.specs.Tables.{addressed_outcome, machine_outcome, reads_addressed, reads_machine}
+use Rattle.stages_loads.proofs.ListedSteps.{listed_found, listed_read}
+use Rattle.stages_loads.proofs.LoadSteps.{line_said, one_loaded, one_read, one_shown}
+use Rattle.stages_loads.proofs.ModuleSteps.{checked}
+use Rattle.stages_loads.proofs.TableSteps.{both_added, both_read, both_understood, made}
+use Rattle.model_loader.specs.declared.entry.Entry.{Entry}
+use Rattle.command_modprobe.specs.declared.known.Known.{Known}
+use Rattle.command_modprobe.specs.Known.{reads_known, reads_loaded}
+use Rattle.command_modprobe.specs.Loaded.{command_owner, loaded_path, loads_into, loads_steps, paths_outcome, region_at, unless_install}
+use Rattle.command_modprobe.specs.Modprobe.{modprobe_in_mode}
+use Rattle.command_modprobe.specs.Planned.{loaded_in, plan_lines, plan_outcome, plan_unless, request_of, sources_with}
+use Rattle.command_modprobe.specs.Resolved.{found_lines, is_unknown, names_asked, normal_or_itself, resolved, unless_unknown}
+use Rattle.command_modprobe.proofs.KnownSteps.{loaded_stated}
+use Rattle.command_modprobe.proofs.LoadSteps.{after_lines, after_listed, after_loads, after_machine, after_paths, after_steps, loads_known}
+use Rattle.laws_planned_loads.specs.Reading.{CoursesPass, IsOtherEnd, IsReading, bad_configuration, indexes_of, is_known, known_of, no_configuration, no_list, of_configuration, of_map, of_symvers}
+use Rattle.laws_planned_loads.proofs.EndsLemmas.{EndsIn, ends-each, ends-given, ends-gives, ends-names, ends-puts, ends-read, ends-says, ends-says_any, ends-then, ends-when, no-end, on-end, on-value, so-ends}
+use Rattle.laws_planned_loads.proofs.KnownLemmas.{of_folder, one_more_file, one_more_folder, only-known}
+use Rattle.laws_planned_loads.proofs.ReadingLemmas.{reading-ends, stand}
+
+module _ (held : Contents) (asked : ModprobeWords) where
+  abbrev Other : End → Type 0
+  Other e = IsOtherEnd held asked e
+
+  other-read : (path : List ℕ) → EndsIn Other (reads path)
+  other-read path = ends-read Other (end (NoFile path)) path (λ e is. so-ends Other (NoFile path) e tt is) tt
+
+  -- ---- the configuration and the list of loaded modules
+
+  other-file : (before : List ConfFile) (path : List ℕ) → EndsIn Other (reads_file before path)
+  other-file before path =
+      ends-then Other (reads path) (one_more_file before path) (other-read path) (λ bytes. ends-gives Other (before ++ record { path = path; bytes = bytes } ∷ []))
+
+  other-files : (paths : List (List ℕ)) → EndsIn Other (reads_files paths)
+  other-files paths = ends-each Other reads_file other-file [] paths
+
+  other-folder : (name : List ℕ) (listed : List ListedFolder) (root : List ℕ) → EndsIn Other (lists_folder name listed root)
+  other-folder name listed root =
+      ends-then Other (lists_any_conf (path_below root name)) (one_more_folder listed (path_below root name))
+      (ends-names Other (value []) _ (path_below root name) (λ e is. absurd (no-end [] e is)) tt)
+      (λ names. ends-gives Other (listed ++ record { path = path_below root name; names = names } ∷ []))
+
+  other-given : (path : List ℕ) → EndsIn Other (reads_given path)
+  other-given path =
+      ends-when Other (ends_with nat_eq path (codes ".conf")) (reads_files (path ∷ [])) (lists_conf path >>= of_folder path)
+      (other-files (path ∷ []))
+      (ends-then Other (lists_conf path) (of_folder path)
+      (ends-names Other (end (NoFile path)) _ path (λ e is. so-ends Other (NoFile path) e tt is) tt)
+      (λ names. other-files (paths_of (record { path = path; names = names } ∷ []))))
+
+  other-configuration : (config : Option (List ℕ)) → EndsIn Other (reads_configuration Modprobe config)
+  other-configuration (Some path) = other-given path
+  other-configuration None =
+      ends-then Other (lists_folders (folder_name Modprobe) roots) reads_listed (ends-each Other (lists_folder (folder_name Modprobe)) (other-folder (folder_name Modprobe)) [] roots) (λ folders. other-files (paths_of folders))
+
+  other-stated : (configuration : List ConfFile) (stated : Result (List Rule) ConfFault) (e : End) → ((reads_configuration Modprobe asked.config).run held).outcome ≡ value configuration → rules_of configuration ≡ stated → stated_outcome stated ≡ end e → Other e
+  other-stated configuration (Ok rules) e came is at = absurd (no-end rules e at)
+  other-stated configuration (Err (faults.BadLine file number)) e came is at =
+      so-ends Other (Refused (BadLine file number)) e (of_configuration configuration came is) at
+  other-stated configuration (Err faults.Memory) e came is at = so-ends Other NotUnderstood e tt at
+
+  other-loaded : (listing : Option (List ℕ)) → EndsIn Other (reads_loaded listing)
+  other-loaded None = ends-gives Other []
+  other-loaded (Some path) = ends-then Other (reads path) loaded_stated (other-read path) (λ bytes. ends-gives Other _)
+
+  -- ---- the kernel's tables
+
+  other-table : (file : List ℕ) (stated : Result (List KernelExport) KernelFault) → ((number : ℕ) → Other (Refused (BadLine file number))) → (e : End) → table_outcome file stated ≡ end e → Other e
+  unfolding table_outcome
+  other-table file (Ok exports) own e is = absurd (no-end _ e is)
+  other-table file (Err (table_faults.BadKernelLine number)) own e is = so-ends Other (Refused (BadLine file number)) e (own number) is
+  other-table file (Err table_faults.Memory) own e is = so-ends Other (Refused (BadLine file 0)) e (own 0) is
+
+  other-addressed_table : (file : List ℕ) (known : Bool) (stated : Result (List KernelExport) KernelFault) → ((number : ℕ) → Other (Refused (BadLine file number))) → (e : End) → addressed_outcome file known stated ≡ end e → Other e
+  unfolding addressed_outcome
+  other-addressed_table file known (Ok exports) own e is = absurd (no-end _ e is)
+  other-addressed_table file known (Err (table_faults.BadKernelLine number)) own e is = so-ends Other (Refused (BadLine file number)) e (own number) is
+  other-addressed_table file known (Err table_faults.Memory) own e is = so-ends Other (Refused (BadLine file 0)) e (own 0) is
+
+  other-map : (file : List ℕ) → ((number : ℕ) → Other (Refused (BadLine file number))) → EndsIn Other (reads_map file)
+  other-map file own =
+      ends-then Other (reads file) (map_read file) (other-read file) (λ bytes. ends-given Other (table_outcome file (exports_of_map bytes)) (other-table file (exports_of_map bytes) own))
+
+  other-symvers : (file : List ℕ) → ((number : ℕ) → Other (Refused (BadLine file number))) → EndsIn Other (reads_symvers file)
+  other-symvers file own =
+      ends-then Other (reads file) (symvers_read file) (other-read file) (λ bytes. ends-given Other (table_outcome file (exports_of_symvers bytes)) (other-table file (exports_of_symvers bytes) own))
+
+  other-addressed : (map : List ℕ) (symvers : Option (List ℕ)) → ((number : ℕ) → Other (Refused (BadLine map number))) → ((file : List ℕ) (number : ℕ) → symvers ≡ Some file → Other (Refused (BadLine file number))) → EndsIn Other (reads_addressed map symvers)
+  other-addressed map None own named = other-map map own
+  other-addressed map (Some symvers) own named =
+      ends-then Other (reads map) (both_read map symvers) (other-read map) (λ bytes.
+      ends-then Other (given (table_outcome map (exports_of_map bytes))) (both_understood map symvers bytes) (ends-given Other (table_outcome map (exports_of_map bytes)) (other-table map (exports_of_map bytes) own)) (λ alone.
+      ends-then Other (reads_symvers symvers) (both_added map bytes) (other-symvers symvers (λ number. named symvers number refl)) (λ exported.
+      ends-given Other (addressed_outcome map exported.known (exports_with_addresses bytes exported.exports)) (other-addressed_table map exported.known (exports_with_addresses bytes exported.exports) own))))
+
+  other-made : (table : Table) (region : Region) (fault : Option MachineFault) (e : End) → machine_outcome table region fault ≡ end e → Other e
+  unfolding machine_outcome
+  other-made table region None e is = absurd (no-end _ e is)
+  other-made table region (Some (machine_faults.KernelWithoutAddress name)) e is =
+      so-ends Other (Refused (KernelWithoutAddress name)) e tt is
+  other-made table region (Some machine_faults.Memory) e is = so-ends Other (Refused InnerOutputFull) e tt is
+
+  other-machine : (map : List ℕ) (region : Region) → asked.system_map ≡ Some map → EndsIn Other (reads_machine map asked.symvers region)
+  other-machine map region mapped =
+      ends-then Other (reads_addressed map asked.symvers) (made region)
+      (other-addressed map asked.symvers (λ number. of_map mapped) (λ file number named. of_symvers named))
+      (λ table. ends-given Other (machine_outcome table region (kernel_fault table.exports)) (other-made table region (kernel_fault table.exports)))
+
+  -- ---- loads
+
+  other-read_module : (file path bytes : List ℕ) (fault : Option ModuleFault) (is : fact_fault path bytes ≡ fault) (e : End) → module_outcome file path bytes fault is ≡ end e → Other e
+  unfolding module_outcome
+  other-read_module file path bytes None is e at = absurd (no-end _ e at)
+  other-read_module file path bytes (Some fault) is e at =
+      so-ends Other (Refused (BadModule file (module_fault_text fault))) e tt at
+
+  other-module : (folder path : List ℕ) → EndsIn Other (reads_module folder path)
+  other-module folder path =
+      let file = path_below folder path in
+      ends-when Other (is_compressed path) (ends (Refused (Compressed file))) (reads file >>= checked file path)
+      (ends-given Other (end (Refused (Compressed file))) (λ e is. so-ends Other (Refused (Compressed file)) e tt is))
+      (ends-then Other (reads file) (checked file path) (other-read file) (λ bytes.
+      ends-given Other (file_outcome file path bytes) (other-read_module file path bytes (fact_fault path bytes) refl)))
+
+  other-step : (cause : Cause) (name : List ℕ) (r : Result Machine LoadFault) (e : End) → load_outcome cause name r ≡ end e → Other e
+  unfolding load_outcome
+  other-step cause name (Ok after) e is = absurd (no-end after e is)
+  other-step Listed name (Err fault) e is = so-ends Other (Refused (ListedRefused name (load_fault_text fault))) e tt is
+  other-step Planned name (Err fault) e is = so-ends Other (Refused (LoadRefused name (load_fault_text fault))) e tt is
+
+  other-load : (cause : Cause) (machine : Machine) (m : Module) → EndsIn Other (loads cause machine m)
+  other-load cause machine m =
+      ends-given Other (load_outcome cause m.facts.name (step machine m)) (other-step cause m.facts.name (step machine m))
+
+  other-found : (name : List ℕ) (path : Option (List ℕ)) (e : End) → listed_outcome name path ≡ end e → Other e
+  other-found name None e is = so-ends Other (Refused (ListedNotFound name)) e tt is
+  other-found name (Some path) e is = absurd (no-end path e is)
+
+  other-listed_one : (folder : List ℕ) (index : Index) (machine : Machine) (name : List ℕ) → EndsIn Other (loads_listed_one folder index machine name)
+  other-listed_one folder index machine name =
+      ends-then Other (given (listed_outcome name (path_listed index name))) (listed_found folder machine)
+      (ends-given Other (listed_outcome name (path_listed index name)) (other-found name (path_listed index name)))
+      (λ path. ends-then Other (reads_module folder path) (listed_read machine) (other-module folder path) (λ m. other-load Listed machine m))
+
+  other-listed : (folder : List ℕ) (index : Index) (machine : Machine) (names : List (List ℕ)) → EndsIn Other (loads_listed folder index machine names)
+  other-listed folder index machine names =
+      ends-each Other (loads_listed_one folder index) (other-listed_one folder index) machine (reverse names)
+
+  other-image : (images : Option (List ℕ)) (name image : List ℕ) → EndsIn Other (puts_image images name image)
+  other-image None name image = ends-gives Other tt
+  other-image (Some folder) name image = ends-puts Other (path_below folder (name ++ codes ".img")) image
+
+  other-shown : (images : Option (List ℕ)) (e : Entry) → EndsIn Other (shows_load images e)
+  other-shown images e =
+      ends-then Other (puts_image images e.loaded.name e.image) (line_said e) (other-image images e.loaded.name e.image) (λ put. ends-says Other _)
+
+  other-one : (folder : List ℕ) (images : Option (List ℕ)) (machine : Machine) (path : List ℕ) → EndsIn Other (loads_one folder images machine path)
+  other-one folder images machine path =
+      ends-then Other (reads_module folder path) (one_read images machine) (other-module folder path) (λ m.
+      ends-then Other (loads Planned machine m) (one_loaded images machine m) (other-load Planned machine m) (λ after.
+      ends-then Other (shows_load images (entered machine m)) (one_shown after) (other-shown images (entered machine m)) (λ shown. ends-gives Other after)))
+
+  other-all : (folder : List ℕ) (images : Option (List ℕ)) (machine : Machine) (paths : List (List ℕ)) → EndsIn Other (loads_all folder images machine paths)
+  other-all folder images machine paths = ends-each Other (loads_one folder images) (other-one folder images) machine paths
+
+  -- ---- plans
+
+  other-obstacle : (o : Option Obstacle) (steps : List PlanStep) → ((name : List ℕ) → o ≡ Some (obstacles.BadDepLine name) → ⊥) → (e : End) → plan_unless o steps ≡ end e → Other e
+  other-obstacle None steps fine e is = absurd (no-end steps e is)
+  other-obstacle (Some (obstacles.BadDepLine name)) steps fine e is = absurd (fine name refl)
+  other-obstacle (Some (obstacles.NotFound name)) steps fine e is = so-ends Other (Refused (refusals.NotFound name)) e tt is
+  other-obstacle (Some (obstacles.Missing path symbol)) steps fine e is = so-ends Other (Refused (refusals.Missing path symbol)) e tt is
+  other-obstacle (Some (obstacles.Gpl path symbol by)) steps fine e is = so-ends Other (Refused (refusals.Gpl path symbol by)) e tt is
+  other-obstacle (Some (obstacles.Version path symbol by)) steps fine e is = so-ends Other (Refused (refusals.Version path symbol by)) e tt is
+  other-obstacle (Some (obstacles.Namespace path symbol by)) steps fine e is = so-ends Other (Refused (refusals.Namespace path symbol by)) e tt is
+  other-obstacle (Some (obstacles.Cycle names)) steps fine e is = so-ends Other (Refused (refusals.Cycle names)) e tt is
+  other-obstacle (Some (obstacles.Double symbol a b)) steps fine e is = so-ends Other (Refused (refusals.Double symbol a b)) e tt is
+  other-obstacle (Some obstacles.Memory) steps fine e is = so-ends Other (Refused InnerOutputFull) e tt is
+
+  -- no dependency line is an obstacle over what is known
+  abbrev Fine : Known → Type 0
+  Fine known = (loaded : List (List ℕ)) (request : Request) (name : List ℕ) → obstacle_of (sources_with known loaded request) request ≡ Some (obstacles.BadDepLine name) → ⊥
+
+  other-plan : (known : Known) (loaded : List (List ℕ)) (request : Request) → Fine known → EndsIn Other (given (plan_outcome known loaded request))
+  unfolding plan_outcome
+  other-plan known loaded request fine =
+      ends-given Other (plan_outcome known loaded request)
+      (other-obstacle (obstacle_of (sources_with known loaded request) request) (plan_steps (sources_with known loaded request) request) (fine loaded request))
+
+  other-paths : (owner : Option (List ℕ)) (paths : List (List ℕ)) (e : End) → unless_install owner paths ≡ end e → Other e
+  other-paths None paths e is = absurd (no-end paths e is)
+  other-paths (Some name) paths e is = so-ends Other (Refused (InstallChosen name)) e tt is
+
+  other-chosen : (steps : List PlanStep) → EndsIn Other (given (paths_outcome steps))
+  unfolding paths_outcome
+  other-chosen steps =
+      ends-given Other (paths_outcome steps) (other-paths (first (map command_owner steps)) (flat_map loaded_path steps))
+
+  other-names : (name : Option (List ℕ)) (lines : List ℕ) (e : End) → unless_unknown name lines ≡ end e → Other e
+  other-names None lines e is = absurd (no-end lines e is)
+  other-names (Some name) lines e is = so-ends Other (Refused (NotFound (normal_or_itself name))) e tt is
+
+  other-resolved : (known : Known) (everywhere : Bool) (names : List (List ℕ)) → EndsIn Other (given (resolved known everywhere names))
+  unfolding resolved
+  other-resolved known everywhere names =
+      ends-given Other (resolved known everywhere names) (other-names (find (is_unknown known everywhere) names) (found_lines known everywhere names))
+
+  -- ---- what follows the reading
+
+  abbrev folder : List ℕ
+  folder = modules_folder asked.dirname asked.version
+
+  abbrev says_text : List ℕ → Stage ⊤
+  says_text text = says_any text
+
+  abbrev resolves : Known → Stage ⊤
+  resolves known = given (resolved known asked.use_blacklist (names_asked asked.all asked.words)) >>= says_text
+
+  other-resolves : (known : Known) → EndsIn Other (resolves known)
+  other-resolves known =
+      ends-then Other (given (resolved known asked.use_blacklist (names_asked asked.all asked.words))) says_text
+      (other-resolved known asked.use_blacklist (names_asked asked.all asked.words)) (λ text. ends-says_any Other text)
+
+  abbrev says_plan : List PlanStep → Stage ⊤
+  says_plan steps = says_any (plan_lines folder steps)
+
+  abbrev plans : Known → Stage ⊤
+  plans known = given (plan_outcome known (loaded_in asked.mode known.loaded) (request_of asked)) >>= says_plan
+
+  other-plans : (known : Known) → Fine known → EndsIn Other (plans known)
+  other-plans known fine =
+      ends-then Other (given (plan_outcome known (loaded_in asked.mode known.loaded) (request_of asked))) says_plan
+      (other-plan known (loaded_in asked.mode known.loaded) (request_of asked) fine) (λ steps. ends-says_any Other (plan_lines folder steps))
+
+  other-steps : (known : Known) (machine : Machine) (steps : List PlanStep) (paths : List (List ℕ)) → EndsIn Other (loads_steps folder asked.image known machine steps paths)
+  other-steps known machine steps paths =
+      ends-then Other (loads_listed folder known.indexes.dep machine known.loaded) (after_listed folder asked.image steps paths) (other-listed folder known.indexes.dep machine known.loaded) (λ listed.
+      ends-then Other (says_any (plan_lines folder steps)) (after_lines folder asked.image listed paths) (ends-says_any Other (plan_lines folder steps)) (λ said.
+      ends-then Other (loads_all folder asked.image listed paths) after_loads (other-all folder asked.image listed paths) (λ loaded. ends-gives Other tt)))
+
+  abbrev loads_after : List ℕ → Region → Known → Stage ⊤
+  loads_after map region known = loads_known folder asked.image (request_of asked) map asked.symvers region known
+
+  other-loads : (map : List ℕ) (region : Region) → asked.system_map ≡ Some map → (known : Known) → Fine known → EndsIn Other (loads_after map region known)
+  other-loads map region mapped known fine =
+      ends-then Other (reads_machine map asked.symvers region) (after_machine folder asked.image (request_of asked) known) (other-machine map region mapped) (λ machine.
+      ends-then Other (given (plan_outcome known known.loaded (request_of asked))) (after_steps folder asked.image known machine) (other-plan known known.loaded (request_of asked) fine) (λ steps.
+      ends-then Other (given (paths_outcome steps)) (after_paths folder asked.image known machine steps) (other-chosen steps) (λ paths. other-steps known machine steps paths)))
+
+  -- ---- the whole courses
+
+  module _ (tree : List Facts) (kernel : Kernel) (builtin : List ℕ) (indexed : Indexed held folder tree kernel builtin) where
+    abbrev own : Indexes
+    own = indexes_of (files tree (kernel_of kernel) builtin)
+
+    own-lines : StandsAsIndexed tree kernel (contents own.dep.nodes)
+    own-lines =
+        (folders-read held folder tree kernel builtin indexed).lines own.dep.nodes (contents own.dep.nodes) indexed.made.dep
+        (contents-held own.dep.nodes (stand held folder tree kernel builtin indexed).dep.accepted)
+
+    fine-known : (known : Known) → known.indexes ≡ own → Fine known
+    fine-known known is loaded request name at =
+        lines-are-no-obstacle tree kernel (sources_with known loaded request) request name
+        (subst (λ (i : Indexes). StandsAsIndexed tree kernel (contents i.dep.nodes)) (sym is) own-lines) at
+
+    abbrev knowing : Stage Known
+    knowing = reads_known asked.config folder asked.loaded
+
+    -- a stage after the reading
+    other-after : (next : Known → Stage ⊤) → ((known : Known) → Fine known → EndsIn Other (next known)) → (o : Outcome Known) → IsReading held asked.config asked.loaded tree kernel builtin o → (knowing.run held).outcome ≡ o → (e : End) → ((knowing >>= next).run held).outcome ≡ end e → Other e
+    other-after next later _ (no_configuration d came) is e at =
+        so-ends Other d e ((other-configuration asked.config).ends held d came) (sym (on-end knowing next held d is) ∙ at)
+    other-after next later _ (bad_configuration configuration d came stated) is e at =
+        so-ends Other d e (other-stated configuration (rules_of configuration) d came refl stated) (sym (on-end knowing next held d is) ∙ at)
+    other-after next later _ (no_list d came) is e at =
+        so-ends Other d e ((other-loaded asked.loaded).ends held d came) (sym (on-end knowing next held d is) ∙ at)
+    other-after next later _ (is_known configuration stated loaded came understood listed) is e at =
+        let known : Known = known_of tree kernel builtin stated loaded in
+        (later known (fine-known known refl)).ends held e (sym (on-value knowing next held known (only-known asked.config folder asked.loaded) is) ∙ at)
+
+    abbrev passes : (next : Known → Stage ⊤) → Type 0
+    passes next = (e : End) → ((knowing >>= next).run held).outcome ≡ end e → Other e
+
+    pass : (next : Known → Stage ⊤) → ((known : Known) → Fine known → EndsIn Other (next known)) → passes next
+    pass next later e at =
+        other-after next later (knowing.run held).outcome (reading-ends held folder tree kernel builtin indexed asked.config asked.loaded) refl e at
+
+    not-understood : (e : End) → ((ends {X = ⊤} NotUnderstood).run held).outcome ≡ end e → Other e
+    not-understood e at =
+        (ends-given {X = ⊤} Other (end NotUnderstood) (λ d is. so-ends Other NotUnderstood d tt is)).ends held e at
+
+    loading : (map : Option (List ℕ)) (region : Option Region) → asked.system_map ≡ map → (e : End) → ((loads_into asked map region).run held).outcome ≡ end e → Other e
+    loading None region mapped e at = not-understood e at
+    loading (Some map) None mapped e at = not-understood e at
+    loading (Some map) (Some region) mapped e at = pass (loads_after map region) (other-loads map region mapped) e at
+
+    in-mode : (mode : Mode) (e : End) → ((modprobe_in_mode mode asked).run held).outcome ≡ end e → Other e
+    in-mode ResolveAlias e at = pass resolves (λ known fine. other-resolves known) e at
+    in-mode Load e at = loading asked.system_map (region_at asked.region_base asked.region_size) refl e at
+    in-mode DryRun e at = pass plans other-plans e at
+    in-mode ShowDepends e at = pass plans other-plans e at
+
+pub courses-pass : CoursesPass
+courses-pass held asked tree kernel builtin indexed mode e at = in-mode held asked tree kernel builtin indexed mode e at

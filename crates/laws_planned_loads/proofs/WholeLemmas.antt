@@ -1,0 +1,149 @@
+-- The whole course of a modprobe that loads.
+use Rattle.std.proofs.Common.{◌≡◌, ◌∙◌, ℕ, true, List, [], ◌∷◌, ◌++◌, map, None, refl, sym, ap, append_assoc, append-nil}
+use Rattle.std.specs.Prelude.{Option, Some, ⊤}
+use Rattle.std.specs.List.{list_all}
+use Rattle.km_names.specs.Path.{path_below}
+use Rattle.km_outside.specs.Contents.{Contents}
+use Rattle.kmod_words.specs.declared.modprobe.ModprobeWords.{ModprobeWords}
+use Rattle.km_course.specs.Course.{Act, Outcome, Run, Stage, ◌>>=◌, act_with, after, continued, given, reads, says_any}
+use Rattle.km_course.specs.Course.Act.{read}
+use Rattle.km_course.specs.Course.Outcome.{value, end}
+use Rattle.km_course.specs.declared.end.End.TheVariants.{NoFile}
+use Rattle.provider_rel.specs.declared.kernel.Kernel.{Kernel}
+use Rattle.provider_rel.specs.KernelTable.{exports_of_map}
+use Rattle.model_loader.specs.declared.region.Region.{Region}
+use Rattle.model_loader.specs.Machine.{Machine, kernel_fault, new_machine}
+use Rattle.plan_builder.specs.declared.step.PlanStep.{PlanStep}
+use Rattle.stages_files.specs.KernelModules.{modules_folder}
+use Rattle.stages_files.specs.KernelTable.{reads_map, reads_symvers, table_outcome}
+use Rattle.stages_files.proofs.TableSteps.{map_read, symvers_read}
+use Rattle.stages_loads.specs.Listed.{loads_listed}
+use Rattle.stages_loads.specs.Loads.{loads_all}
+use Rattle.stages_loads.specs.Tables.{machine_outcome, reads_addressed, reads_machine}
+use Rattle.stages_loads.proofs.TableSteps.{both_added, both_read, both_understood, made}
+use Rattle.command_modprobe.specs.declared.known.Known.{Known}
+use Rattle.command_modprobe.specs.Known.{reads_known}
+use Rattle.command_modprobe.specs.Planned.{plan_lines, plan_outcome, request_of}
+use Rattle.command_modprobe.specs.Loaded.{loads_into, loads_plan, paths_outcome, region_at}
+use Rattle.command_modprobe.proofs.LoadSteps.{after_lines, after_listed, after_loads, after_machine, after_paths, after_steps, loads_known}
+use Rattle.laws_planned_loads.specs.Acts.{is_reading, said}
+use Rattle.laws_planned_loads.specs.Courses.{CoursesLoad, HasMachine, IsLoadingCourse, CameToLoads, ended}
+use Rattle.laws_planned_loads.proofs.KnownLemmas.{only-known}
+use Rattle.laws_planned_loads.proofs.ListedLemmas.{listed-are-of-machine}
+use Rattle.laws_planned_loads.proofs.RunLemmas.{OnlyReads, both-read, joined, reads-file, reads-given, reads-then, run-given, run-on, run-then, run_of}
+
+-- ---- the machine
+
+only-map : (file : List ℕ) → OnlyReads (reads_map file)
+only-map file = reads-then (reads file) (map_read file) (reads-file (end (NoFile file)) file) (λ bytes. reads-given _)
+
+pub only-symvers : (file : List ℕ) → OnlyReads (reads_symvers file)
+only-symvers file = reads-then (reads file) (symvers_read file) (reads-file (end (NoFile file)) file) (λ bytes. reads-given _)
+
+pub only-addressed : (map : List ℕ) (symvers : Option (List ℕ)) → OnlyReads (reads_addressed map symvers)
+only-addressed map None = only-map map
+only-addressed map (Some symvers) =
+    reads-then (reads map) (both_read map symvers) (reads-file (end (NoFile map)) map) (λ bytes.
+    reads-then (given (table_outcome map (exports_of_map bytes))) (both_understood map symvers bytes) (reads-given _) (λ alone.
+    reads-then (reads_symvers symvers) (both_added map bytes) (only-symvers symvers) (λ exported. reads-given _)))
+
+only-machine : (map : List ℕ) (symvers : Option (List ℕ)) (region : Region) → OnlyReads (reads_machine map symvers region)
+only-machine map symvers region =
+    reads-then (reads_addressed map symvers) (made region) (only-addressed map symvers) (λ table. reads-given (machine_outcome table region (kernel_fault table.exports)))
+
+-- ---- the end of the course
+
+all-read : (folder : List ℕ) (paths : List (List ℕ)) → list_all is_reading (map (λ path. read (path_below folder path)) paths) ≡ true
+all-read folder [] = refl
+all-read folder (path ∷ paths) = all-read folder paths
+
+lines-said : (bytes : List ℕ) (files : Contents) → (says_any bytes).run files ≡ run_of (said bytes) (value tt)
+unfolding given act_with
+lines-said [] files = refl
+lines-said (byte ∷ bytes) files = refl
+
+said-leaves : (bytes : List ℕ) (files : Contents) → after (said bytes) files ≡ files
+said-leaves [] files = refl
+said-leaves (byte ∷ bytes) files = refl
+
+last-continued : (acts : List Act) (o : Outcome Machine) (files : Contents) → continued acts o after_loads files ≡ run_of acts (ended o)
+unfolding continued given
+last-continued acts (value machine) files = ap (λ done. run_of done (value tt)) (append-nil acts)
+last-continued acts (end e) files = refl
+
+loads-last : (folder : List ℕ) (images : Option (List ℕ)) (machine : Machine) (paths : List (List ℕ)) (files : Contents) → (loads_all folder images machine paths >>= after_loads).run files ≡ run_of ((loads_all folder images machine paths).run files).acts (ended ((loads_all folder images machine paths).run files).outcome)
+unfolding ◌>>=◌
+loads-last folder images machine paths files = last-continued ((loads_all folder images machine paths).run files).acts ((loads_all folder images machine paths).run files).outcome files
+
+-- ---- the whole
+
+module _ (held : Contents) (asked : ModprobeWords) (addressed : Kernel) (region : Region) (known : Known) (machine : Machine) (steps : List PlanStep) (paths : List (List ℕ)) (has : HasMachine held asked addressed region) (came : CameToLoads held (modules_folder asked.dirname asked.version) asked.config asked.loaded (request_of asked) addressed region known machine steps paths) where
+  abbrev folder : List ℕ
+  folder = modules_folder asked.dirname asked.version
+
+  abbrev start : Machine
+  start = new_machine addressed region
+
+  abbrev knowing : Stage Known
+  knowing = reads_known asked.config folder asked.loaded
+
+  abbrev making : Stage Machine
+  making = reads_machine has.map asked.symvers region
+
+  abbrev listing : Stage Machine
+  listing = loads_listed folder known.indexes.dep start known.loaded
+
+  abbrev loading : Run Machine
+  loading = (loads_all folder asked.image machine paths).run held
+
+  abbrev rest : Run ⊤
+  rest = run_of (said (plan_lines folder steps) ++ loading.acts) (ended loading.outcome)
+
+  from-lines : (after_listed folder asked.image steps paths machine).run held ≡ rest
+  from-lines =
+      let lines = plan_lines folder steps in
+      run-then (says_any lines) (after_lines folder asked.image machine paths) held (said lines) tt (lines-said lines held)
+      ∙ ap (λ fs. joined (said lines) ((loads_all folder asked.image machine paths >>= after_loads).run fs)) (said-leaves lines held)
+      ∙ ap (joined (said lines)) (loads-last folder asked.image machine paths held)
+
+  listing-reads : list_all is_reading (listing.run held).acts ≡ true
+  listing-reads =
+      let h = listed-are-of-machine held folder known.indexes.dep start known.loaded machine came.listed in
+      ap (list_all is_reading) h.acts ∙ all-read folder h.paths
+
+  from-steps : (after_machine folder asked.image (request_of asked) known start).run held ≡ joined (listing.run held).acts rest
+  from-steps =
+      run-then (given (plan_outcome known known.loaded (request_of asked))) (after_steps folder asked.image known start) held [] steps (run-given _ held ∙ ap (run_of []) came.planned)
+      ∙ run-then (given (paths_outcome steps)) (after_paths folder asked.image known start steps) held [] paths (run-given _ held ∙ ap (run_of []) came.runs_none)
+      ∙ run-on listing (after_listed folder asked.image steps paths) held machine listing-reads came.listed
+      ∙ ap (joined (listing.run held).acts) from-lines
+
+  from-machine : (loads_known folder asked.image (request_of asked) has.map asked.symvers region known).run held ≡ joined (making.run held).acts (joined (listing.run held).acts rest)
+  from-machine =
+      run-on making (after_machine folder asked.image (request_of asked) known) held start (only-machine has.map asked.symvers region held) has.made
+      ∙ ap (joined (making.run held).acts) from-steps
+
+  whole : (loads_plan asked).run held ≡ joined (knowing.run held).acts (joined (making.run held).acts (joined (listing.run held).acts rest))
+  whole =
+      ap (λ o. (loads_into asked o (region_at asked.region_base asked.region_size)).run held) has.mapped
+      ∙ ap (λ r. (loads_into asked (Some has.map) r).run held) has.in_region
+      ∙ run-on knowing (loads_known folder asked.image (request_of asked) has.map asked.symvers region) held known (only-known asked.config folder asked.loaded held) came.knows
+      ∙ ap (joined (knowing.run held).acts) from-machine
+
+  pub is-loading : IsLoadingCourse held folder asked.image machine steps paths ((loads_plan asked).run held)
+  is-loading =
+      let a = (knowing.run held).acts in
+      let b = (making.run held).acts in
+      let c = (listing.run held).acts in
+      record {
+        before = a ++ (b ++ c);
+        reads = both-read a (b ++ c) (only-known asked.config folder asked.loaded held) (both-read b c (only-machine has.map asked.symvers region held) listing-reads);
+        acts =
+            ap (λ r. r.acts) whole
+            ∙ ap (λ done. a ++ done) (sym (append_assoc b c rest.acts))
+            ∙ sym (append_assoc a (b ++ c) rest.acts);
+        outcome = ap (λ r. r.outcome) whole;
+      }
+
+pub courses-load : CoursesLoad
+courses-load held asked addressed region known machine steps paths has came = is-loading held asked addressed region known machine steps paths has came

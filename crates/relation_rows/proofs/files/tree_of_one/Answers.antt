@@ -1,6 +1,0 @@
-use Rattle.std.proofs.Common.{◌++◌, ◌∷◌, [], ap, ◌∙◌}
-use Rattle.relation_rows.proofs.TreeSteps.{one-tree}
-use Rattle.relation_rows.proofs.files.tree_of_one.Goals as goal
-
-pub returns : goal.returns
-returns c = one-tree c.push.new.self c.args.facts c.requires (c.in_ok-push.ensures.ok ∙ ap (λ l. l ++ c.args.facts ∷ []) c.new-tree.ensures)

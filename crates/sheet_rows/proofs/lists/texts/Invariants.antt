@@ -1,6 +1,0 @@
-use Rattle.std.proofs.Common.{◌≡◌, take}
-use Rattle.sheet_rows.specs.Rows.{slices_of}
-use Rattle.sheet_rows.proofs.lists.texts.Given as goal
-
-abbrev pub invariant-loop-row : goal.invariant-loop-row
-invariant-loop-row g l = l.list ≡ slices_of (take l.row-index l.rows)

@@ -1,6 +1,0 @@
-use Rattle.std.proofs.Common.{◌≡◌, map, take}
-use Rattle.sheet_rows.specs.Rows.{version_of}
-use Rattle.sheet_rows.proofs.lists.versions.Given as goal
-
-abbrev pub invariant-loop-row : goal.invariant-loop-row
-invariant-loop-row l = l.list ≡ map version_of (take l.row-index l.rows)

@@ -1,0 +1,258 @@
+// The files of a tool's configuration.
+ghost use Rattle.std.specs.Prelude.{◌≡◌, ◌≤◌, ◌∷◌, [], List, ℕ, length, All, IfOk, OnOk};
+ghost use Rattle.std.specs.BTreeMap as tree;
+ghost use Rattle.std.specs.FinMap as fin;
+ghost use Rattle.km_names.specs.Limit.{file_limit};
+ghost use Rattle.km_outside.specs.Contents.{by_bytes};
+ghost use Rattle.km_outside.specs.OutSeen.{OutSeen};
+ghost use Rattle.km_course.specs.World.{world};
+ghost use Rattle.km_course.specs.Follows.{Follows};
+ghost use Rattle.stages_files.specs.Configuration.{roots as roots_in_order, folder_name as folder_name_of, with_names, paths_of, entries_in_bytes, lists_folder, lists_folders, reads_file, reads_files, reads_given, reads_listed, reads_configuration, stop_of};
+
+use km_course::{Refusal, Stop, list_conf_needed, list_conf_optional, read_needed};
+use km_names::{ConfFault, ConfFile, ConfFiles, List as Items, Names, PathText, Paths, join};
+use km_outside::Reads;
+use std::alloc::{AllocError, Global};
+use std::collections::BTreeMap;
+
+/// A tool that is configured by files in folders of its own.
+#[derive(Clone, Copy)]
+pub enum Tool {
+    /// Configured by depmod.d(5).
+    Depmod,
+    /// Configured by modprobe.d(5).
+    Modprobe,
+}
+
+/// A folder, and the base names of the configuration files in it.
+#[derive(Drop)]
+pub struct ListedFolder {
+    pub path: PathText,
+    pub names: Names,
+}
+
+/// The files of a tool's configuration, in the order in which they count. Without `config` they stand in the folders
+/// `/etc/X`, `/run/X`, `/usr/local/lib/X`, `/usr/lib/X` and `/lib/X`, with X `depmod.d` or `modprobe.d`; one that isn't
+/// there is empty. Of equal base names the earlier folder's file counts, and the files stand in the order of the bytes of
+/// their base names. With a `config` that ends in `.conf` it is the one file, any other is the one folder, and it has to
+/// be there. All folders are listed, and then the files are read. depmod.d(5), modprobe.d(5).
+pub fn read_configuration<F: Reads>(
+    alloc: Global,
+    tool: Tool,
+    config: Option<PathText>,
+    files: &mut F,
+) -> Result<ConfFiles, Stop>
+    ensures follows { (out err : OutSeen) → Follows (λ x. x) (reads_configuration tool config)
+        (world (F.seen files.old) out err) (world (F.seen files.new) out err) result }
+    ensures limit { IfOk result (λ read. All (λ file. length file.bytes ≤ file_limit) read) }
+{
+    match config {
+        Some(path) => read_given(alloc, path, files),
+        None => {
+            let roots = roots(alloc)?;
+            let folders = list_folders(alloc, tool, roots.as_slice(), files)?;
+            read_listed(alloc, &folders, files)
+        }
+    }
+}
+
+/// How a fault of configuration files stops a command.
+pub fn stop_of_fault(fault: ConfFault) -> Stop
+    ensures { result ≡ stop_of fault }
+{
+    match fault {
+        ConfFault::BadLine { file, line } => Stop::from(Refusal::BadLine { file, number: line }),
+        ConfFault::Memory => Stop::Memory,
+    }
+}
+
+/// Where the folders of a tool's configuration stand.
+fn roots(alloc: Global) -> Result<Paths, AllocError>
+    ensures { IfOk result (λ paths. paths ≡ roots_in_order) }
+{
+    let mut paths = Paths::new(alloc);
+    paths.push(PathText::from_slice(alloc, b"/etc")?)?;
+    paths.push(PathText::from_slice(alloc, b"/run")?)?;
+    paths.push(PathText::from_slice(alloc, b"/usr/local/lib")?)?;
+    paths.push(PathText::from_slice(alloc, b"/usr/lib")?)?;
+    paths.push(PathText::from_slice(alloc, b"/lib")?)?;
+    Ok(paths)
+}
+
+/// The name of the folders of a tool's configuration.
+fn folder_name(tool: Tool) -> &'static [u8]
+    ensures { result.now ≡ folder_name_of tool }
+{
+    match tool {
+        Tool::Depmod => b"depmod.d",
+        Tool::Modprobe => b"modprobe.d",
+    }
+}
+
+/// The files of the configuration at the path, which is a file or a folder.
+fn read_given<F: Reads>(alloc: Global, path: PathText, files: &mut F) -> Result<ConfFiles, Stop>
+    ensures follows { (out err : OutSeen) → Follows (λ x. x) (reads_given path)
+        (world (F.seen files.old) out err) (world (F.seen files.new) out err) result }
+    ensures limit { IfOk result (λ read. All (λ file. length file.bytes ≤ file_limit) read) }
+{
+    if path.as_bytes().ends_with(b".conf") {
+        let paths = one_path(alloc, path)?;
+        return read_files(alloc, paths.as_slice(), files);
+    }
+    let named = PathText::from_slice(alloc, path.as_bytes())?;
+    let names = list_conf_needed(alloc, files, path)?;
+    let folders = one_folder(alloc, named, names)?;
+    read_listed(alloc, &folders, files)
+}
+
+fn one_path(alloc: Global, path: PathText) -> Result<Paths, AllocError>
+    ensures { IfOk result (λ paths. paths ≡ path ∷ []) }
+{
+    let mut paths = Paths::new(alloc);
+    paths.push(path)?;
+    Ok(paths)
+}
+
+fn one_folder(
+    alloc: Global,
+    path: PathText,
+    names: Names,
+) -> Result<Items<ListedFolder>, AllocError>
+    ensures { IfOk result (λ folders. folders ≡ record { path = path; names = names } ∷ []) }
+{
+    let mut folders = Items::new(alloc);
+    folders.push(ListedFolder { path, names })?;
+    Ok(folders)
+}
+
+/// The folders of a tool's configuration below these roots, with what they list.
+fn list_folders<F: Reads>(
+    alloc: Global,
+    tool: Tool,
+    roots: &[PathText],
+    files: &mut F,
+) -> Result<Items<ListedFolder>, Stop>
+    ensures { (out err : OutSeen) → Follows (λ x. x) (lists_folders (folder_name_of tool) roots.now)
+        (world (F.seen files.old) out err) (world (F.seen files.new) out err) result }
+{
+    let name = folder_name(tool);
+    let mut listed = Items::new(alloc);
+    for root in roots {
+        listed = with_folder(alloc, listed, root, name, files)?;
+    }
+    Ok(listed)
+}
+
+/// The folders that were listed, and the one of this name below a root.
+fn with_folder<F: Reads>(
+    alloc: Global,
+    mut listed: Items<ListedFolder>,
+    root: &PathText,
+    name: &[u8],
+    files: &mut F,
+) -> Result<Items<ListedFolder>, Stop>
+    ensures { (out err : OutSeen) → Follows (λ x. x) (lists_folder name.now listed root.now)
+        (world (F.seen files.old) out err) (world (F.seen files.new) out err) result }
+{
+    let path = join(alloc, root, name)?;
+    let named = PathText::from_slice(alloc, path.as_bytes())?;
+    let names = list_conf_optional(alloc, files, named)?;
+    listed.push(ListedFolder { path, names })?;
+    Ok(listed)
+}
+
+/// The files that folders list, as they count.
+fn read_listed<F: Reads>(
+    alloc: Global,
+    folders: &Items<ListedFolder>,
+    files: &mut F,
+) -> Result<ConfFiles, Stop>
+    ensures follows { (out err : OutSeen) → Follows (λ x. x) (reads_listed folders.now)
+        (world (F.seen files.old) out err) (world (F.seen files.new) out err) result }
+    ensures limit { IfOk result (λ read. All (λ file. length file.bytes ≤ file_limit) read) }
+{
+    let paths = chosen_paths(alloc, folders.as_slice())?;
+    read_files(alloc, paths.as_slice(), files)
+}
+
+/// The paths of the files that count, in their order.
+fn chosen_paths(alloc: Global, folders: &[ListedFolder]) -> Result<Paths, AllocError>
+    ensures { IfOk result (λ paths. paths ≡ paths_of folders.now) }
+{
+    let mut found = BTreeMap::new(alloc);
+    let mut left = folders.len();
+    while left > 0 {
+        left -= 1;
+        put_names(alloc, &mut found, &folders[left])?;
+    }
+    in_order(alloc, found)
+}
+
+/// Puts the files of a folder in place of those of the same names.
+fn put_names(
+    alloc: Global,
+    found: &mut BTreeMap<Vec<u8>, PathText>,
+    folder: &ListedFolder,
+) -> Result<(), AllocError>
+    ensures { OnOk result ((files : fin.FinMap by_bytes (List ℕ)) → entries_in_bytes found.old.entries ≡ fin.entries files →
+        entries_in_bytes found.new.entries ≡ fin.entries (with_names folder.now.path folder.now.names files)) }
+{
+    for name in folder.names.as_slice() {
+        put_name(alloc, found, &folder.path, name.as_bytes())?;
+    }
+    Ok(())
+}
+
+fn put_name(
+    alloc: Global,
+    found: &mut BTreeMap<Vec<u8>, PathText>,
+    folder: &PathText,
+    name: &[u8],
+) -> Result<(), AllocError>
+    ensures { OnOk result ((files : fin.FinMap by_bytes (List ℕ)) → entries_in_bytes found.old.entries ≡ fin.entries files →
+        entries_in_bytes found.new.entries ≡ fin.entries (with_names folder.now (name.now ∷ []) files)) }
+{
+    let path = join(alloc, folder, name)?;
+    found.insert(Vec::from_slice(alloc, name)?, path)?;
+    Ok(())
+}
+
+/// The paths of files, in the order of their names.
+fn in_order(alloc: Global, found: BTreeMap<Vec<u8>, PathText>) -> Result<Paths, AllocError>
+    ensures { IfOk result (λ paths. paths ≡ tree.values found) }
+{
+    let paths: Vec<PathText> = found.into_values().collect(alloc)?;
+    Ok(Paths::from_vec(paths))
+}
+
+/// The files at the paths, one after the other.
+fn read_files<F: Reads>(alloc: Global, paths: &[PathText], files: &mut F) -> Result<ConfFiles, Stop>
+    ensures follows { (out err : OutSeen) → Follows (λ x. x) (reads_files paths.now)
+        (world (F.seen files.old) out err) (world (F.seen files.new) out err) result }
+    ensures limit { IfOk result (λ read. All (λ file. length file.bytes ≤ file_limit) read) }
+{
+    let mut read = ConfFiles::new(alloc);
+    for path in paths {
+        read = with_file(alloc, read, path, files)?;
+    }
+    Ok(read)
+}
+
+/// The files that were read, and the one at the path.
+fn with_file<F: Reads>(
+    alloc: Global,
+    mut read: ConfFiles,
+    path: &PathText,
+    files: &mut F,
+) -> Result<ConfFiles, Stop>
+    requires { All (λ file. length file.bytes ≤ file_limit) read }
+    ensures follows { (out err : OutSeen) → Follows (λ x. x) (reads_file read path.now)
+        (world (F.seen files.old) out err) (world (F.seen files.new) out err) result }
+    ensures limit { IfOk result (λ more. All (λ file. length file.bytes ≤ file_limit) more) }
+{
+    let named = PathText::from_slice(alloc, path.as_bytes())?;
+    let own = PathText::from_slice(alloc, path.as_bytes())?;
+    let bytes = read_needed(alloc, files, named)?;
+    read.push(ConfFile { path: own, bytes })?;
+    Ok(read)
+}

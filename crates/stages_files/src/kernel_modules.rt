@@ -1,0 +1,72 @@
+ghost use Rattle.std.specs.Prelude.{◌≡◌, IfOk, option_copied};
+ghost use Rattle.km_names.specs.Path.{underscored};
+ghost use Rattle.km_outside.specs.OutSeen.{OutSeen};
+ghost use Rattle.km_course.specs.World.{world};
+ghost use Rattle.km_course.specs.Follows.{Answers, Follows};
+ghost use Rattle.stages_files.specs.KernelModules.{modules_folder, path_listed, path_outcome, reads_modules};
+
+use crate::index_file::{first_text, read_index};
+use index_read::Index;
+use km_course::{Refusal, Stop};
+use km_names::{Name, PathText, join, underscored};
+use km_outside::Reads;
+use mod_tree::line_path;
+use std::alloc::{AllocError, Global};
+
+/// The modules of a kernel, as its modules.dep.bin lists them.
+#[derive(Drop)]
+pub struct KernelModules {
+    /// The folder of the kernel's modules.
+    pub folder: PathText,
+    /// Its index from the names of modules to their dependency lines.
+    pub index: Index,
+}
+
+/// The folder of the modules of a kernel of this version, below a root. depmod(8), modprobe(8).
+pub fn modules_folder(
+    alloc: Global,
+    root: &PathText,
+    version: &Name,
+) -> Result<PathText, AllocError>
+    ensures { IfOk result (λ folder. folder ≡ modules_folder root.now version.now) }
+{
+    let folder = join(alloc, root, b"lib/modules")?;
+    join(alloc, &folder, version.as_bytes())
+}
+
+/// The modules in the folder, by its modules.dep.bin.
+pub fn read_modules<F: Reads>(
+    alloc: Global,
+    folder: PathText,
+    files: &mut F,
+) -> Result<KernelModules, Stop>
+    ensures { (out err : OutSeen) → Follows (λ x. x) (reads_modules folder)
+        (world (F.seen files.old) out err) (world (F.seen files.new) out err) result }
+{
+    let file = join(alloc, &folder, b"modules.dep.bin")?;
+    let index = read_index(alloc, file, files)?;
+    Ok(KernelModules { folder, index })
+}
+
+/// The path of the module of this name, whose `-` is read as `_`. A name that isn't listed, or whose value is
+/// no dependency line, is not found.
+pub fn path_of_name(alloc: Global, modules: &KernelModules, name: &[u8]) -> Result<PathText, Stop>
+    ensures { Answers (λ x. x) (path_outcome modules.now (underscored name.now)) result }
+{
+    let name = underscored(alloc, name)?;
+    match path_listed(&modules.index, name.as_bytes()) {
+        Some(path) => Ok(join(alloc, &modules.folder, path)?),
+        None => Err(Stop::from(Refusal::NotFound { name })),
+    }
+}
+
+/// The path in the folder of the module of this name, by its dependency line. There is none where the name isn't listed,
+/// or its value is no dependency line. modules.dep(5).
+pub fn path_listed<'a>(index: &'a Index, name: &[u8]) -> Option<&'a [u8]>
+    ensures { option_copied result ≡ path_listed index.now name.now }
+{
+    match first_text(index, name) {
+        Some(line) => line_path(line),
+        None => None,
+    }
+}

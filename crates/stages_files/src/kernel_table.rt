@@ -1,0 +1,86 @@
+ghost use Rattle.std.specs.Prelude.{◌≡◌, ◌≤◌, length};
+ghost use Rattle.km_names.specs.Limit.{file_limit};
+ghost use Rattle.km_outside.specs.OutSeen.{OutSeen};
+ghost use Rattle.km_course.specs.World.{world};
+ghost use Rattle.km_course.specs.Follows.{Answers, Follows};
+ghost use Rattle.provider_rel.specs.KernelTable.{exports_of_map, exports_of_symvers};
+ghost use Rattle.stages_files.specs.KernelTable.{reads_kernel, reads_map, reads_symvers, table_of, table_outcome, table_stop};
+
+use km_course::{Refusal, Stop, read_needed};
+use km_names::{Blob, PathText};
+use km_outside::Reads;
+use provider_rel::{Kernel, KernelFault};
+use std::alloc::Global;
+
+/// The table of the kernel: of a System.map or of a Module.symvers, where one of them is named; else nothing is known
+/// of it. depmod(8), `-F` and `-E`.
+pub fn read_kernel<F: Reads>(
+    alloc: Global,
+    map: Option<PathText>,
+    symvers: Option<PathText>,
+    files: &mut F,
+) -> Result<Kernel, Stop>
+    ensures { (out err : OutSeen) → Follows table_of (reads_kernel map symvers)
+        (world (F.seen files.old) out err) (world (F.seen files.new) out err) result }
+{
+    match map {
+        Some(file) => read_map(alloc, file, files),
+        None => match symvers {
+            Some(file) => read_symvers(alloc, file, files),
+            None => Ok(Kernel::unknown(alloc)),
+        },
+    }
+}
+
+/// The table of the System.map at the path, which is needed. A line that isn't understood is refused.
+pub fn read_map<F: Reads>(alloc: Global, file: PathText, files: &mut F) -> Result<Kernel, Stop>
+    ensures { (out err : OutSeen) → Follows table_of (reads_map file)
+        (world (F.seen files.old) out err) (world (F.seen files.new) out err) result }
+{
+    // A failed read and a bad line both name the path in their line.
+    let named = PathText::from_slice(alloc, file.as_bytes())?;
+    let bytes = read_needed(alloc, files, file)?;
+    map_table(alloc, bytes, named)
+}
+
+/// The table of the Module.symvers at the path, which is needed. A line that isn't understood is refused.
+pub fn read_symvers<F: Reads>(alloc: Global, file: PathText, files: &mut F) -> Result<Kernel, Stop>
+    ensures { (out err : OutSeen) → Follows table_of (reads_symvers file)
+        (world (F.seen files.old) out err) (world (F.seen files.new) out err) result }
+{
+    let named = PathText::from_slice(alloc, file.as_bytes())?;
+    let bytes = read_needed(alloc, files, file)?;
+    symvers_table(alloc, bytes, named)
+}
+
+/// The table of a System.map of these bytes, or the refusal of the file at the path.
+fn map_table(alloc: Global, bytes: Blob, file: PathText) -> Result<Kernel, Stop>
+    requires { length bytes ≤ file_limit }
+    ensures { Answers table_of (table_outcome file (exports_of_map bytes)) result }
+{
+    match Kernel::from_map(alloc, bytes.as_bytes()) {
+        Ok(kernel) => Ok(kernel),
+        Err(fault) => Err(stop_of_table(fault, file)),
+    }
+}
+
+/// The table of a Module.symvers of these bytes, or the refusal of the file at the path.
+fn symvers_table(alloc: Global, bytes: Blob, file: PathText) -> Result<Kernel, Stop>
+    requires { length bytes ≤ file_limit }
+    ensures { Answers table_of (table_outcome file (exports_of_symvers bytes)) result }
+{
+    match Kernel::from_symvers(alloc, bytes.as_bytes()) {
+        Ok(kernel) => Ok(kernel),
+        Err(fault) => Err(stop_of_table(fault, file)),
+    }
+}
+
+/// How a fault of the kernel's table in the file at the path stops a command.
+pub fn stop_of_table(fault: KernelFault, file: PathText) -> Stop
+    ensures { result ≡ table_stop file fault }
+{
+    match fault {
+        KernelFault::BadKernelLine { line } => Stop::from(Refusal::BadLine { file, number: line }),
+        KernelFault::Memory => Stop::Memory,
+    }
+}

@@ -1,0 +1,45 @@
+ghost use Rattle.km_outside.specs.OutSeen.{OutSeen};
+ghost use Rattle.km_course.specs.World.{world};
+ghost use Rattle.km_course.specs.Follows.{Answers, Follows};
+ghost use Rattle.elf_object.specs.Shape.{shape_fault};
+ghost use Rattle.stages_files.specs.ModuleFile.{reads_sections, sections_outcome};
+
+use elf_object::{SectionFault, Sections};
+use km_course::{Refusal, Stop, read_needed};
+use km_names::{Blob, PathText, is_compressed};
+use km_outside::Reads;
+use std::alloc::Global;
+
+/// The sections of the module at the path. A compressed one is refused unread.
+pub fn read_sections<F: Reads>(
+    alloc: Global,
+    path: PathText,
+    files: &mut F,
+) -> Result<Sections, Stop>
+    ensures { (out err : OutSeen) → Follows (λ x. x) (reads_sections path)
+        (world (F.seen files.old) out err) (world (F.seen files.new) out err) result }
+{
+    if is_compressed(&path) {
+        return Err(Stop::from(Refusal::Compressed { path }));
+    }
+    // A failed read and a bad module both name the path in their line.
+    let named = PathText::from_slice(alloc, path.as_bytes())?;
+    let bytes = read_needed(alloc, files, path)?;
+    check_sections(alloc, bytes, named)
+}
+
+/// The sections of a module's bytes, or the refusal of the module at the path.
+fn check_sections(alloc: Global, bytes: Blob, path: PathText) -> Result<Sections, Stop>
+    ensures { Answers (λ x. x) (sections_outcome path bytes (shape_fault bytes)) result }
+{
+    match Sections::read(alloc, bytes) {
+        Ok(sections) => Ok(sections),
+        Err(fault) => match fault {
+            SectionFault::Memory => Err(Stop::Memory),
+            _ => {
+                let text = fault.text(alloc)?;
+                Err(Stop::from(Refusal::BadModule { path, text }))
+            }
+        },
+    }
+}

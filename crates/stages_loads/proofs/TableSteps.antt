@@ -1,0 +1,101 @@
+-- The stages of the machine that a kernel's tables make.
+use Rattle.std.proofs.Common.{◌≡◌, ℕ, suc, ◌<◌, Bool, true, false, not, List, [], ◌∷◌, length, get_or, cond, refl, sym, ap, subst, ◌∙◌, arith, inl, inr}
+use Rattle.std.proofs.Props.{props}
+use Rattle.std.specs.Prelude.{Option, Some, None, Result, Ok, Err, ◌⊎◌, filter}
+use Rattle.std.specs.Str.{bytes_eq}
+use Rattle.provider_rel.specs.declared.fault.KernelFault.{KernelFault}
+use Rattle.provider_rel.specs.declared.fault.KernelFault.TheVariants.{BadKernelLine, Memory}
+use Rattle.provider_rel.specs.declared.kernel.Kernel.{Kernel}
+use Rattle.provider_rel.specs.declared.kernel.KernelExport.{KernelExport}
+use Rattle.provider_rel.specs.KernelTable.{IsTable, first_of_each, exports_of_map, exports_with_addresses}
+use Rattle.provider_rel.proofs.NameSteps.{bytes-same}
+use Rattle.model_loader.specs.declared.region.Region.{Region}
+use Rattle.model_loader.specs.declared.fault.MachineFault.{MachineFault}
+use Rattle.model_loader.specs.declared.fault.MachineFault.TheVariants as faults
+use Rattle.model_loader.specs.Machine.{Machine, new_machine, kernel_fault}
+use Rattle.km_course.specs.Course.{Stage, ◌>>=◌, given}
+use Rattle.km_course.specs.Course.Outcome.{value, end}
+use Rattle.km_course.specs.Follows.{Answers}
+use Rattle.km_course.specs.declared.end.End.TheVariants.{Refused}
+use Rattle.km_course.specs.declared.refusal.Refusal.TheVariants.{KernelWithoutAddress}
+use Rattle.km_course.specs.declared.stop.Stop.{Stop}
+use Rattle.stages_files.specs.KernelTable.{Table, table_of, table_outcome, table_stop, reads_symvers}
+use Rattle.stages_loads.specs.Tables.{addressed_outcome, kernel_with, machine_outcome}
+
+-- the stage after the Module.symvers was read
+abbrev pub both_added : List ℕ → List ℕ → Table → Stage Table
+both_added map bytes exported = given (addressed_outcome map exported.known (exports_with_addresses bytes exported.exports))
+
+-- the stage after the System.map was understood
+abbrev pub both_understood : List ℕ → List ℕ → List ℕ → Table → Stage Table
+both_understood map symvers bytes alone = reads_symvers symvers >>= both_added map bytes
+
+-- the stage after the System.map was read
+abbrev pub both_read : List ℕ → List ℕ → List ℕ → Stage Table
+both_read map symvers bytes = given (table_outcome map (exports_of_map bytes)) >>= both_understood map symvers bytes
+
+-- the stage after the tables were read
+abbrev pub made : Region → Table → Stage Machine
+made region table = given (machine_outcome table region (kernel_fault table.exports))
+
+-- a kernel with addresses
+pub addressed : (file : List ℕ) (known : Bool) (stated : Result (List KernelExport) KernelFault) (kernel : Kernel) → kernel.known ≡ known → stated ≡ Ok kernel.exports → addressed_outcome file known stated ≡ value (table_of kernel)
+unfolding addressed_outcome
+addressed file known stated kernel same is =
+    ap (addressed_outcome file known) is ∙ ap (λ k. value (record { known = k; exports = kernel.exports })) (sym same)
+
+pub addressed_not : (file : List ℕ) (known : Bool) (stated : Result (List KernelExport) KernelFault) (fault : KernelFault) (stop : Stop) → (fault ≡ Memory) ⊎ (stated ≡ Err fault) → stop ≡ table_stop file fault → Answers table_of (addressed_outcome file known stated) (Err stop)
+unfolding addressed_outcome
+addressed_not file known stated Memory stop cause is = subst (λ s. Answers table_of (addressed_outcome file known stated) (Err s)) (sym is) tt
+addressed_not file known stated (BadKernelLine line) stop (inl m) is = cc
+addressed_not file known stated (BadKernelLine line) stop (inr f) is =
+    subst (λ s. Answers table_of (addressed_outcome file known stated) (Err s)) (sym is) (ap (addressed_outcome file known) f)
+
+-- where no other has a name, none is left out
+none-out : (e : KernelExport) (es : List KernelExport) → ((k : ℕ) (d : KernelExport) → k < length es → e.name ≡ (get_or es k d).name → ⊥) → filter (λ (o : KernelExport). not (bytes_eq o.name e.name)) es ≡ es
+none-out e [] apart = refl
+none-out e (o ∷ es) apart = go (none-out e es (λ k d within. apart (suc k) d (omega arith))) (bytes_eq o.name e.name) refl
+  where
+    passes : KernelExport → Bool
+    passes = λ other. not (bytes_eq other.name e.name)
+
+    go : filter passes es ≡ es → (b : Bool) → bytes_eq o.name e.name ≡ b → filter passes (o ∷ es) ≡ o ∷ es
+    go later true is = absurd (apart 0 o (omega arith) (sym (bytes-same o.name e.name is)))
+    go later false is = ap (λ b. cond (not b) (o ∷ filter passes es) (filter passes es)) is ∙ ap (λ l. o ∷ l) later
+
+-- the exports of a kernel, each of another name, are the first ones of their names
+pub firsts-same : (es : List KernelExport) → IsTable es → first_of_each es ≡ es
+firsts-same [] apart = refl
+firsts-same (e ∷ es) apart =
+    let rest : first_of_each es ≡ es = firsts-same es (record { distinct = λ i j d before within. apart.distinct (suc i) (suc j) d (omega arith) (omega arith) }) in
+    ap (λ l. e ∷ filter (λ (o : KernelExport). not (bytes_eq o.name e.name)) l) rest
+    ∙ ap (λ l. e ∷ l) (none-out e es (λ k d within. apart.distinct 0 (suc k) d (omega arith) (omega arith)))
+
+IsTable-prop : (es : List KernelExport) → IsProp (IsTable es)
+IsTable-prop es = Prim.hlevel props
+
+-- a kernel is that of its table
+pub kernel_with-same : (kernel : Kernel) → kernel_with (table_of kernel) ≡ kernel
+unfolding kernel_with
+kernel_with-same kernel = by_exports _ kernel.exports (firsts-same kernel.exports kernel.table) _ kernel.table
+  where
+    with_exports : (es : List KernelExport) → IsTable es → Kernel
+    with_exports es apart = record { known = kernel.known; exports = es; alloc = kernel.alloc; table = apart }
+
+    by_exports : (a b : List KernelExport) → a ≡ b → (s : IsTable a) (t : IsTable b) → with_exports a s ≡ with_exports b t
+    by_exports a b is s t = subst (λ es. (u : IsTable es) → with_exports a s ≡ with_exports es u) is (λ u. ap (with_exports a) (IsTable-prop a s u)) t
+
+-- the machine of a kernel whose exports have addresses
+pub made_ok : (kernel : Kernel) (region : Region) (fault : Option MachineFault) (machine : Machine) → fault ≡ None → machine ≡ new_machine kernel region → machine_outcome (table_of kernel) region fault ≡ value machine
+unfolding machine_outcome
+made_ok kernel region fault machine none is =
+    ap (machine_outcome (table_of kernel) region) none ∙ ap (λ k. value (new_machine k region)) (kernel_with-same kernel) ∙ ap value (sym is)
+
+-- the first export that has none refuses it
+pub made_not : (table : Table) (region : Region) (fault : Option MachineFault) (found : MachineFault) (name : List ℕ) → found ≡ faults.KernelWithoutAddress name → (found ≡ faults.Memory) ⊎ (fault ≡ Some found) → machine_outcome table region fault ≡ end (Refused (KernelWithoutAddress name))
+unfolding machine_outcome
+made_not table region fault found name is (inl m) = absurd (differ (sym is ∙ m))
+  where
+    differ : faults.KernelWithoutAddress name ≡ faults.Memory → ⊥
+    differ e = cc
+made_not table region fault found name is (inr f) = ap (machine_outcome table region) (f ∙ ap Some is)

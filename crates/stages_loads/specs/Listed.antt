@@ -1,0 +1,29 @@
+-- The modules that are listed as loaded. They are loaded before any other, the oldest first, and nothing is said of them.
+-- modprobe(8), proc(5).
+use Rattle.std.specs.Prelude.{ℕ, List, reverse, Option, Some, None}
+use Rattle.index_read.specs.declared.index.Index.{Index}
+use Rattle.model_loader.specs.Machine.{Machine}
+use Rattle.km_course.specs.Course.{Outcome, Stage, ◌>>=◌, given, each_from}
+use Rattle.km_course.specs.Course.Outcome.{value, end}
+use Rattle.km_course.specs.declared.end.End.TheVariants.{Refused}
+use Rattle.km_course.specs.declared.refusal.Refusal.TheVariants.{ListedNotFound}
+use Rattle.stages_files.specs.KernelModules.{path_listed}
+use Rattle.stages_loads.specs.declared.load.Cause.TheVariants.{Listed}
+use Rattle.stages_loads.specs.Loads.{loads}
+use Rattle.stages_loads.specs.Modules.{reads_module}
+
+-- what a listed name with this path comes to; where there is none, it isn't found
+abbrev pub listed_outcome : List ℕ → Option (List ℕ) → Outcome (List ℕ)
+listed_outcome name None = end (Refused (ListedNotFound name))
+listed_outcome name (Some path) = value path
+
+-- The listed module of a name is looked up, read, and goes into the machine.
+abbrev pub loads_listed_one : List ℕ → Index → Machine → List ℕ → Stage Machine
+loads_listed_one folder index machine name = do
+  path ← given (listed_outcome name (path_listed index name))
+  m ← reads_module folder path
+  loads Listed machine m
+
+-- The listed modules, the oldest first; the list has the newest first.
+abbrev pub loads_listed : List ℕ → Index → Machine → List (List ℕ) → Stage Machine
+loads_listed folder index machine names = each_from (loads_listed_one folder index) machine (reverse names)

@@ -1,0 +1,80 @@
+-- The machine that a kernel's tables make: its exports at their addresses, and no module. nm(1); the kernel's
+-- Documentation/kbuild/modules.rst, "Module.symvers".
+use Rattle.std.specs.Prelude.{◌≡◌, ℕ, true, not, Bool, List, [], ◌∷◌, AllPairs, filter, Option, Some, None, Result, Ok, Err}
+use Rattle.std.specs.Str.{bytes_eq}
+use Rattle.std.proofs.Common.{get_or, ap, sym, ◌∙◌, arith}
+use Rattle.std.proofs.lemmas.Bool.{false≢true}
+use Rattle.std.proofs.lemmas.List.Elements.{filter_passes}
+use Rattle.std.proofs.lemmas.List.Kept.{AllPairs-cons, AllPairs-filter}
+use Rattle.provider_rel.specs.declared.fault.KernelFault.{KernelFault}
+use Rattle.provider_rel.specs.declared.kernel.Kernel.{Kernel}
+use Rattle.provider_rel.specs.declared.kernel.KernelExport.{KernelExport}
+use Rattle.provider_rel.specs.KernelTable.{first_of_each, exports_of_map, exports_with_addresses}
+use Rattle.provider_rel.proofs.NameSteps.{bytes-refl}
+use Rattle.model_loader.specs.declared.region.Region.{Region}
+use Rattle.model_loader.specs.declared.fault.MachineFault.{MachineFault}
+use Rattle.model_loader.specs.declared.fault.MachineFault.TheVariants as faults
+use Rattle.model_loader.specs.Machine.{Machine, new_machine, kernel_fault}
+use Rattle.km_course.specs.Course.{Outcome, Stage, ◌>>=◌, given, reads}
+use Rattle.km_course.specs.Course.Outcome.{value, end}
+use Rattle.km_course.specs.declared.end.End.TheVariants.{Refused}
+use Rattle.km_course.specs.declared.refusal.Refusal.{Refusal}
+use Rattle.km_course.specs.declared.refusal.Refusal.TheVariants.{KernelWithoutAddress, InnerOutputFull}
+use Rattle.stages_files.specs.KernelTable.{Table, line_refusal, table_outcome, reads_map, reads_symvers}
+
+-- a name that passes as another isn't this one
+other-name : (e o : KernelExport) → not (bytes_eq o.name e.name) ≡ true → e.name ≡ o.name → ⊥
+other-name e o passed same =
+    false≢true (ap not (sym (ap (λ n. bytes_eq n e.name) (sym same) ∙ bytes-refl e.name)) ∙ passed)
+
+-- of the exports of one name only the first is left
+pub firsts-apart : (es : List KernelExport) → AllPairs (λ (a b : KernelExport). a.name ≡ b.name → ⊥) (first_of_each es)
+firsts-apart [] = λ i j d before within. absurd (omega arith)
+firsts-apart (e ∷ es) =
+    let passes : KernelExport → Bool = λ other. not (bytes_eq other.name e.name) in
+    let left = filter passes (first_of_each es) in
+    AllPairs-cons (λ (a b : KernelExport). a.name ≡ b.name → ⊥) e left
+    (λ k d within. other-name e (get_or left k d) (filter_passes passes (first_of_each es) k d within))
+    (AllPairs-filter (λ (a b : KernelExport). a.name ≡ b.name → ⊥) passes (first_of_each es) (firsts-apart es))
+
+-- The kernel of a table. A kernel exports each name once: of the exports of one name the first counts.
+unfoldable pub kernel_with : Table → Kernel
+kernel_with table = record {
+  known = table.known;
+  exports = first_of_each table.exports;
+  alloc = record { memory = record { seal = tt } };
+  table = record { distinct = firsts-apart table.exports };
+}
+
+-- the refusal of a kernel whose export of this name has no address; no kernel comes to want of memory
+abbrev pub machine_refusal : MachineFault → Refusal
+machine_refusal (faults.KernelWithoutAddress name) = KernelWithoutAddress name
+machine_refusal faults.Memory = InnerOutputFull
+
+-- What a table with this first export without an address comes to: the machine of its kernel, with no module, or the
+-- refusal of that export.
+unfoldable pub machine_outcome : Table → Region → Option MachineFault → Outcome Machine
+machine_outcome table region None = value (new_machine (kernel_with table) region)
+machine_outcome table region (Some fault) = end (Refused (machine_refusal fault))
+
+-- What a file that states these addresses of exports comes to: the table with them, or the refusal of its first line that
+-- isn't understood.
+unfoldable pub addressed_outcome : List ℕ → Bool → Result (List KernelExport) KernelFault → Outcome Table
+addressed_outcome file known (Ok exports) = value (record { known = known; exports = exports })
+addressed_outcome file known (Err fault) = end (Refused (line_refusal file fault))
+
+-- The exports of a kernel at their addresses: those of the Module.symvers where one is named, else those of the
+-- System.map. The System.map is read and understood before the Module.symvers is read, and its addresses are added after.
+abbrev pub reads_addressed : List ℕ → Option (List ℕ) → Stage Table
+reads_addressed map None = reads_map map
+reads_addressed map (Some symvers) = do
+  bytes ← reads map
+  alone ← given (table_outcome map (exports_of_map bytes))
+  exported ← reads_symvers symvers
+  given (addressed_outcome map exported.known (exports_with_addresses bytes exported.exports))
+
+-- The machine of a kernel, into whose region modules are to be loaded.
+abbrev pub reads_machine : List ℕ → Option (List ℕ) → Region → Stage Machine
+reads_machine map symvers region = do
+  table ← reads_addressed map symvers
+  given (machine_outcome table region (kernel_fault table.exports))

@@ -1,0 +1,69 @@
+// The modules that are listed as loaded.
+ghost use Rattle.km_outside.specs.OutSeen.{OutSeen};
+ghost use Rattle.km_course.specs.World.{world};
+ghost use Rattle.km_course.specs.Follows.{Answers, Follows};
+ghost use Rattle.stages_files.specs.KernelModules.{path_listed};
+ghost use Rattle.stages_loads.specs.Listed.{listed_outcome, loads_listed, loads_listed_one};
+
+use crate::load::{Cause, load};
+use crate::module::read_module_in;
+use index_read::Index;
+use km_course::{Refusal, Stop};
+use km_names::{Name, PathText};
+use km_outside::Reads;
+use model_loader::Machine;
+use stages_files::path_listed;
+use std::alloc::Global;
+
+/// Loads the modules that are listed as loaded, the oldest first, from the folder of the kernel's modules, whose
+/// modules.dep.bin is the index; the list has the newest first. Nothing is written. A name that the index doesn't have, or
+/// whose value is no dependency line, and a module whose load is refused end the command with a line of their own.
+/// modprobe(8), proc(5).
+pub fn load_listed<F: Reads>(
+    alloc: Global,
+    folder: &PathText,
+    index: &Index,
+    mut machine: Machine,
+    names: &[Name],
+    files: &mut F,
+) -> Result<Machine, Stop>
+    ensures { (out err : OutSeen) → Follows (λ x. x) (loads_listed folder.now index.now machine names.now)
+        (world (F.seen files.old) out err) (world (F.seen files.new) out err) result }
+{
+    let mut left = names.len();
+    while left > 0 {
+        left -= 1;
+        machine = load_listed_one(alloc, folder, index, machine, &names[left], files)?;
+    }
+    Ok(machine)
+}
+
+/// Loads the listed module of a name.
+fn load_listed_one<F: Reads>(
+    alloc: Global,
+    folder: &PathText,
+    index: &Index,
+    machine: Machine,
+    name: &Name,
+    files: &mut F,
+) -> Result<Machine, Stop>
+    ensures { (out err : OutSeen) → Follows (λ x. x) (loads_listed_one folder.now index.now machine name.now)
+        (world (F.seen files.old) out err) (world (F.seen files.new) out err) result }
+{
+    let path = path_of_listed(alloc, index, name)?;
+    let module = read_module_in(alloc, folder, &path, files)?;
+    load(alloc, Cause::Listed, machine, &module)
+}
+
+/// The path in the folder of the listed module of a name, or its refusal.
+fn path_of_listed(alloc: Global, index: &Index, name: &Name) -> Result<PathText, Stop>
+    ensures { Answers (λ x. x) (listed_outcome name.now (path_listed index.now name.now)) result }
+{
+    match path_listed(index, name.as_bytes()) {
+        Some(path) => Ok(PathText::from_slice(alloc, path)?),
+        None => {
+            let name = Name::from_slice(alloc, name.as_bytes())?;
+            Err(Stop::from(Refusal::ListedNotFound { name }))
+        }
+    }
+}

@@ -1,0 +1,97 @@
+// Loads of the modules of a plan.
+ghost use Rattle.std.specs.Prelude.{◌≡◌, option_copied};
+ghost use Rattle.km_outside.specs.OutSeen.{OutSeen};
+ghost use Rattle.km_course.specs.World.{world};
+ghost use Rattle.km_course.specs.Follows.{Answers, Follows};
+ghost use Rattle.model_loader.specs.Step.{step};
+ghost use Rattle.stages_loads.specs.Loads.{load_outcome, load_refusal, loads_all, loads_one};
+
+use crate::module::read_module_in;
+use crate::shown::show_load;
+use km_course::{Refusal, Stop};
+use km_names::{Blob, Name, PathText};
+use km_outside::{Out, Writes};
+use model_loader::{LoadFault, Machine};
+use module_facts::Module;
+use std::alloc::Global;
+
+/// Why a module is loaded.
+#[derive(Clone, Copy)]
+pub enum Cause {
+    /// It is listed as loaded.
+    Listed,
+    /// It is one of a plan.
+    Planned,
+}
+
+/// Loads the modules at these paths of the tree in the folder, one after the other: each is read and checked and goes into
+/// the machine; its image is put into the folder for images, where there is one; and the line of the load is written. The
+/// first refusal ends the command, and what was loaded before stands. modprobe(8).
+pub fn load_all<F: Writes, O: Out>(
+    alloc: Global,
+    folder: &PathText,
+    images: Option<&PathText>,
+    mut machine: Machine,
+    paths: &[PathText],
+    files: &mut F,
+    out: &mut O,
+) -> Result<Machine, Stop>
+    ensures { (err : OutSeen) → Follows (λ x. x) (loads_all folder.now (option_copied images.entry) machine paths.now)
+        (world (F.seen files.old) (O.seen out.old) err) (world (F.seen files.new) (O.seen out.new) err) result }
+{
+    for path in paths {
+        machine = load_one(alloc, folder, images, machine, path, files, out)?;
+    }
+    Ok(machine)
+}
+
+/// Loads the module at a path of the tree in the folder, and gives the machine after it.
+fn load_one<F: Writes, O: Out>(
+    alloc: Global,
+    folder: &PathText,
+    images: Option<&PathText>,
+    machine: Machine,
+    path: &PathText,
+    files: &mut F,
+    out: &mut O,
+) -> Result<Machine, Stop>
+    ensures { (err : OutSeen) → Follows (λ x. x) (loads_one folder.now (option_copied images.entry) machine path.now)
+        (world (F.seen files.old) (O.seen out.old) err) (world (F.seen files.new) (O.seen out.new) err) result }
+{
+    let module = read_module_in(alloc, folder, path, files)?;
+    let after = load(alloc, Cause::Planned, machine, &module)?;
+    show_load(alloc, images, &after, files, out)?;
+    Ok(after)
+}
+
+/// The machine with the module, or the refusal of the load.
+pub(crate) fn load(
+    alloc: Global,
+    cause: Cause,
+    mut machine: Machine,
+    module: &Module,
+) -> Result<Machine, Stop>
+    ensures { Answers (λ x. x) (load_outcome cause «module».now.facts.name (step machine «module».now)) result }
+{
+    match machine.load(module) {
+        Ok(_) => Ok(machine),
+        Err(fault) => match fault {
+            LoadFault::Memory => Err(Stop::Memory),
+            _ => {
+                let text = fault.text(alloc)?;
+                let name = Name::from_slice(alloc, module.facts.name.as_bytes())?;
+                Err(Stop::from(refused(cause, name, text)))
+            }
+        },
+    }
+}
+
+/// The refusal of a load.
+fn refused(cause: Cause, name: Name, text: Blob) -> Refusal
+    ensures { result ≡ load_refusal cause name text }
+{
+    match cause {
+        Cause::Listed => Refusal::ListedRefused { name, text },
+        Cause::Planned => Refusal::LoadRefused { name, text },
+    }
+}

@@ -1,0 +1,108 @@
+// The machine that a kernel's tables make.
+ghost use Rattle.std.specs.Prelude.{◌≤◌, Some, length};
+ghost use Rattle.km_names.specs.Limit.{file_limit};
+ghost use Rattle.km_outside.specs.OutSeen.{OutSeen};
+ghost use Rattle.km_course.specs.World.{world};
+ghost use Rattle.km_course.specs.Follows.{Answers, Follows};
+ghost use Rattle.provider_rel.specs.KernelTable.{exports_of_map, exports_with_addresses};
+ghost use Rattle.model_loader.specs.Machine.{kernel_fault};
+ghost use Rattle.stages_files.specs.KernelTable.{table_of, table_outcome};
+ghost use Rattle.stages_loads.specs.Tables.{addressed_outcome, machine_outcome, reads_addressed, reads_machine};
+
+use km_course::{Refusal, Stop, read_needed};
+use km_names::{Blob, PathText};
+use km_outside::Reads;
+use model_loader::{Machine, MachineFault, Region};
+use provider_rel::Kernel;
+use stages_files::{read_map, read_symvers, stop_of_table};
+use std::alloc::Global;
+
+/// The machine of a kernel, with no module, into whose region modules are to be loaded. Its exports are those of the
+/// Module.symvers where one is named, else those of the System.map, which has their addresses. The System.map is read and
+/// understood before the Module.symvers is read. A line that isn't understood is refused, and so is the first export
+/// without an address. modprobe(8).
+pub fn read_machine<F: Reads>(
+    alloc: Global,
+    system_map: PathText,
+    symvers: Option<PathText>,
+    region: Region,
+    files: &mut F,
+) -> Result<Machine, Stop>
+    ensures { (out err : OutSeen) → Follows (λ x. x) (reads_machine system_map symvers region)
+        (world (F.seen files.old) out err) (world (F.seen files.new) out err) result }
+{
+    let kernel = read_addressed(alloc, system_map, symvers, files)?;
+    make_machine(alloc, kernel, region)
+}
+
+/// The exports of a kernel at their addresses.
+fn read_addressed<F: Reads>(
+    alloc: Global,
+    system_map: PathText,
+    symvers: Option<PathText>,
+    files: &mut F,
+) -> Result<Kernel, Stop>
+    ensures { (out err : OutSeen) → Follows table_of (reads_addressed system_map symvers)
+        (world (F.seen files.old) out err) (world (F.seen files.new) out err) result }
+{
+    match symvers {
+        None => read_map(alloc, system_map, files),
+        Some(symvers) => read_both(alloc, system_map, symvers, files),
+    }
+}
+
+/// The exports of the Module.symvers at the addresses of the System.map, which is understood before.
+fn read_both<F: Reads>(
+    alloc: Global,
+    system_map: PathText,
+    symvers: PathText,
+    files: &mut F,
+) -> Result<Kernel, Stop>
+    ensures { (out err : OutSeen) → Follows table_of (reads_addressed system_map (Some symvers))
+        (world (F.seen files.old) out err) (world (F.seen files.new) out err) result }
+{
+    // A failed read and a bad line both name the path in their line.
+    let named = PathText::from_slice(alloc, system_map.as_bytes())?;
+    let bytes = read_needed(alloc, files, system_map)?;
+    check_map(alloc, &named, &bytes)?;
+    let kernel = read_symvers(alloc, symvers, files)?;
+    with_addresses(kernel, named, &bytes)
+}
+
+/// The table of a System.map of these bytes, or the refusal of the file at the path.
+fn check_map(alloc: Global, file: &PathText, bytes: &Blob) -> Result<Kernel, Stop>
+    requires { length bytes.now ≤ file_limit }
+    ensures { Answers table_of (table_outcome file.now (exports_of_map bytes.now)) result }
+{
+    match Kernel::from_map(alloc, bytes.as_bytes()) {
+        Ok(kernel) => Ok(kernel),
+        Err(fault) => {
+            let file = PathText::from_slice(alloc, file.as_bytes())?;
+            Err(stop_of_table(fault, file))
+        }
+    }
+}
+
+/// The kernel with the addresses that a System.map of these bytes has, or the refusal of the file at the path.
+fn with_addresses(mut kernel: Kernel, file: PathText, bytes: &Blob) -> Result<Kernel, Stop>
+    requires { length bytes.now ≤ file_limit }
+    ensures { Answers table_of (addressed_outcome file kernel.known (exports_with_addresses bytes.now kernel.exports)) result }
+{
+    match kernel.add_addresses(bytes.as_bytes()) {
+        Ok(()) => Ok(kernel),
+        Err(fault) => Err(stop_of_table(fault, file)),
+    }
+}
+
+/// The machine of the kernel, or the refusal of its first export without an address.
+fn make_machine(alloc: Global, kernel: Kernel, region: Region) -> Result<Machine, Stop>
+    ensures { Answers (λ x. x) (machine_outcome (table_of kernel) region (kernel_fault kernel.exports)) result }
+{
+    match Machine::new(alloc, kernel, region) {
+        Ok(machine) => Ok(machine),
+        Err(MachineFault::KernelWithoutAddress { name }) => {
+            Err(Stop::from(Refusal::KernelWithoutAddress { name }))
+        }
+        Err(MachineFault::Memory) => Err(Stop::Memory),
+    }
+}

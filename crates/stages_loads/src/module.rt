@@ -1,0 +1,50 @@
+// The modules that are to be loaded.
+ghost use Rattle.std.specs.Prelude.{◌≤◌, length};
+ghost use Rattle.km_names.specs.Limit.{file_limit};
+ghost use Rattle.km_outside.specs.OutSeen.{OutSeen};
+ghost use Rattle.km_course.specs.World.{world};
+ghost use Rattle.km_course.specs.Follows.{Answers, Follows};
+ghost use Rattle.stages_loads.specs.Modules.{file_outcome, reads_module};
+
+use km_course::{Refusal, Stop, read_needed};
+use km_names::{Blob, PathText, is_compressed, join};
+use km_outside::Reads;
+use module_facts::{Module, ModuleFault, read_module};
+use std::alloc::Global;
+
+/// The module at a path of the tree in the folder. A compressed one is refused unread. Refusals name the whole path.
+pub(crate) fn read_module_in<F: Reads>(
+    alloc: Global,
+    folder: &PathText,
+    path: &PathText,
+    files: &mut F,
+) -> Result<Module, Stop>
+    ensures { (out err : OutSeen) → Follows (λ x. x) (reads_module folder.now path.now)
+        (world (F.seen files.old) out err) (world (F.seen files.new) out err) result }
+{
+    let file = join(alloc, folder, path.as_bytes())?;
+    if is_compressed(path) {
+        return Err(Stop::from(Refusal::Compressed { path: file }));
+    }
+    // A failed read and a bad module both name the path in their line.
+    let named = PathText::from_slice(alloc, file.as_bytes())?;
+    let bytes = read_needed(alloc, files, file)?;
+    check_module(alloc, named, path, bytes)
+}
+
+/// The module of these bytes at a path of the tree, or the refusal of the file.
+fn check_module(alloc: Global, file: PathText, path: &PathText, bytes: Blob) -> Result<Module, Stop>
+    requires { length bytes ≤ file_limit }
+    ensures { Answers (λ x. x) (file_outcome file path.now bytes) result }
+{
+    match read_module(alloc, path, bytes) {
+        Ok(module) => Ok(module),
+        Err(fault) => match fault {
+            ModuleFault::Memory => Err(Stop::Memory),
+            _ => {
+                let text = fault.text(alloc)?;
+                Err(Stop::from(Refusal::BadModule { path: file, text }))
+            }
+        },
+    }
+}

@@ -1,0 +1,176 @@
+//! Modules that are refused.
+
+use crate::facts::{BUILT_AGAINST_11, GPL_AND_SPACES, LONG_NEED, THREE};
+use crate::facts_row::module_at;
+use elf_object::Object;
+use km_names::{Blob, FILE_LIMIT, le_u64_at};
+use std::alloc::Global;
+use std::process::Abort;
+use std::test::Fail;
+use test_objects::{MoreRow, NEEDS, NeedRow, PlaceRow, SheetRow, object_of, object_with};
+
+/// The text of the fault of the module of these bytes at the path.
+fn fault_at(rt: &impl Abort, alloc: Global, path: &[u8], bytes: Blob) -> Result<Blob, Fail> {
+    match module_at(rt, alloc, path, bytes) {
+        Ok(_) => Err("the module was read".into()),
+        Err(fault) => Ok(fault.text(alloc)?),
+    }
+}
+
+/// The module of a sheet at the path has this fault.
+fn expect_fault(
+    rt: &impl Abort,
+    alloc: Global,
+    path: &[u8],
+    sheet: &SheetRow,
+    want: &[u8],
+) -> Result<(), Fail> {
+    let text = fault_at(rt, alloc, path, object_of(alloc, sheet)?)?;
+    assert_eq!(rt; text.as_bytes(), want);
+    Ok(())
+}
+
+/// The same with a relocation type that isn't known.
+static UNKNOWN_TYPE: SheetRow = SheetRow {
+    texts: &[],
+    versions: &[],
+    exports: &[],
+    needs: &[NeedRow {
+        name: b"fa",
+        weak: false,
+    }],
+    places: &[PlaceRow {
+        kind: 9,
+        symbol: b"fa",
+        addend: 0,
+    }],
+};
+
+/// A module's fault is the first one: its path's, then its object's.
+#[test]
+fn faults_of_objects_are_named(rt: HostRuntime) -> Result<(), Fail> {
+    expect_fault(&rt, rt.alloc(), b"/m/x.ko.zst", &NEEDS, b"compressed")?;
+    expect_fault(
+        &rt,
+        rt.alloc(),
+        b"/m/x.ko",
+        &UNKNOWN_TYPE,
+        b"unknown relocation 5 0 9",
+    )
+}
+
+/// Two needs and two words.
+static TWO_WORDS: SheetRow = SheetRow {
+    texts: &[],
+    versions: &[],
+    exports: &[],
+    needs: &[
+        NeedRow {
+            name: b"fa",
+            weak: false,
+        },
+        NeedRow {
+            name: b"fb",
+            weak: false,
+        },
+    ],
+    places: &[
+        PlaceRow {
+            kind: 1,
+            symbol: b"fa",
+            addend: 0,
+        },
+        PlaceRow {
+            kind: 1,
+            symbol: b"fb",
+            addend: 0,
+        },
+    ],
+};
+
+/// Where the second entry of the section `.rela.data`, the fifth, stands in the file.
+fn second_relocation(rt: &impl Abort, bytes: &[u8]) -> usize {
+    assert!(rt; bytes.len() >= 48);
+    let header = le_u64_at(bytes, 40).saturating_add(64 * 5 + 24);
+    assert!(rt; header < 4096 && header as usize + 8 <= bytes.len());
+    let content = le_u64_at(bytes, header as usize);
+    assert!(rt; content < 4096);
+    content as usize + 24
+}
+
+/// The second word's place moves into the first.
+#[test]
+fn places_that_overlap_are_refused(rt: HostRuntime) -> Result<(), Fail> {
+    let mut bytes = object_of(rt.alloc(), &TWO_WORDS)?.into_vec();
+    let entry = second_relocation(&rt, bytes.as_slice());
+    assert!(rt; entry < bytes.len());
+    assert_eq!(rt; bytes[entry], 8);
+    bytes[entry] = 4;
+    let text = fault_at(&rt, rt.alloc(), b"/m/x.ko", Blob::from_vec(bytes))?;
+    assert_eq!(rt;
+        text.as_bytes(),
+        b"overlapping places in section 2 at 4".as_slice()
+    );
+    Ok(())
+}
+
+/// Where the section of this name ends in the file.
+fn section_end(rt: &impl Abort, alloc: Global, bytes: &Blob, section: &[u8]) -> Result<u64, Fail> {
+    let copy = Blob::from_slice(alloc, bytes.as_bytes())?;
+    assert!(rt; copy.len() <= FILE_LIMIT);
+    let object = Object::read(alloc, copy)?;
+    match object.section_named(section) {
+        Some(i) => Ok(
+            object
+                .section(i)
+                .offset
+                .saturating_add(object.section(i).size),
+        ),
+        None => Err("no such section".into()),
+    }
+}
+
+/// The object with another byte before this place.
+fn with_byte_before(rt: &impl Abort, bytes: Blob, end: u64, byte: u8) -> Blob {
+    let mut changed = bytes.into_vec();
+    assert!(rt; end > 0 && end <= 65536 && end as usize <= changed.len());
+    let last = end as usize - 1;
+    assert_eq!(rt; changed[last], 0);
+    changed[last] = byte;
+    Blob::from_vec(changed)
+}
+
+/// The module without the NUL that ends a section has this fault.
+fn expect_fault_without_nul(
+    rt: &impl Abort,
+    alloc: Global,
+    (sheet, more): (&SheetRow, &MoreRow),
+    section: &[u8],
+    want: &[u8],
+) -> Result<(), Fail> {
+    let bytes = object_with(alloc, sheet, more)?;
+    let end = section_end(rt, alloc, &bytes, section)?;
+    let changed = with_byte_before(rt, bytes, end, b'x');
+    let text = fault_at(rt, alloc, b"kernel/b.ko", changed)?;
+    assert_eq!(rt; text.as_bytes(), want);
+    Ok(())
+}
+
+/// A name or a namespace without a NUL is refused.
+#[test]
+fn texts_without_a_nul_are_refused(rt: HostRuntime) -> Result<(), Fail> {
+    expect_fault_without_nul(
+        &rt,
+        rt.alloc(),
+        (&LONG_NEED, &BUILT_AGAINST_11),
+        b"__version_ext_names",
+        b"bad versions",
+    )?;
+    expect_fault_without_nul(
+        &rt,
+        rt.alloc(),
+        (&THREE, &GPL_AND_SPACES),
+        b"__ksymtab_strings",
+        b"bad namespace of fb",
+    )
+}

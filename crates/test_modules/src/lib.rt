@@ -1,0 +1,20 @@
+//! Tests of modules over their layers: what objects that are made from sheets are read as, and what a machine of the loader
+//! comes to as they are loaded.
+//!
+//! It stands on `elf_object`, `module_facts`, `provider_rel` and `model_loader`, and on `test_objects` for the objects.
+#![tactic(auto)]
+
+#[cfg(test)]
+mod facts;
+#[cfg(test)]
+mod facts_row;
+#[cfg(test)]
+mod faults;
+#[cfg(test)]
+mod load_row;
+#[cfg(test)]
+mod loading;
+#[cfg(test)]
+mod placement;
+#[cfg(test)]
+mod sheets;

@@ -1,0 +1,185 @@
+use crate::facts_row::module_at;
+use km_names::{Blob, le_u64_at};
+use model_loader::{LoadFault, LoadedAt, Machine, Region};
+use module_facts::Module;
+use provider_rel::Kernel;
+use std::alloc::{AllocError, Global};
+use std::process::Abort;
+use std::test::Fail;
+use test_objects::{MoreRow, NO_MORE, SheetRow, object_with};
+
+/// The usual base of the region of modules.
+pub(crate) const BASE: u64 = 0xffff_ffff_c000_0000;
+
+/// What a load is to answer.
+#[derive(Drop)]
+pub(crate) enum Answer {
+    /// The module's base and size, and words of its image: where each stands, and what it is.
+    Loaded {
+        base: u64,
+        size: u64,
+        words: &'static [(usize, u64)],
+    },
+    /// The text of the refusal.
+    Refused(&'static [u8]),
+}
+
+/// A module that is loaded, written out, and what its load is to answer. The changes are bytes of its file that are to be
+/// other ones: where each stands, and what it is.
+#[derive(Drop)]
+pub(crate) struct LoadRow {
+    pub(crate) path: &'static [u8],
+    pub(crate) sheet: &'static SheetRow,
+    pub(crate) more: &'static MoreRow,
+    pub(crate) changes: &'static [(usize, u8)],
+    pub(crate) answer: Answer,
+}
+
+/// A module of a sheet that loads, with its base and size and words of its image.
+pub(crate) fn loads(
+    path: &'static [u8],
+    sheet: &'static SheetRow,
+    base: u64,
+    size: u64,
+    words: &'static [(usize, u64)],
+) -> LoadRow {
+    LoadRow {
+        path,
+        sheet,
+        more: &NO_MORE,
+        changes: &[],
+        answer: Answer::Loaded { base, size, words },
+    }
+}
+
+/// A module of a sheet that is refused with this text.
+pub(crate) fn refuses(
+    path: &'static [u8],
+    sheet: &'static SheetRow,
+    text: &'static [u8],
+) -> LoadRow {
+    LoadRow {
+        path,
+        sheet,
+        more: &NO_MORE,
+        changes: &[],
+        answer: Answer::Refused(text),
+    }
+}
+
+/// A kernel that exports `printk`.
+fn kernel(alloc: Global) -> Result<Kernel, Fail> {
+    let symvers = b"0x11111111\tprintk\tvmlinux\tEXPORT_SYMBOL\n".as_slice();
+    let mut kernel = Kernel::from_symvers(alloc, symvers)?;
+    kernel.add_addresses(b"ffffffff81000000 T printk\n".as_slice())?;
+    Ok(kernel)
+}
+
+/// A machine of that kernel with so many bytes for modules.
+fn machine(rt: &impl Abort, alloc: Global, size: u64) -> Result<Machine, Fail> {
+    let region = Region::new(BASE, size).expect(rt, "a region");
+    Ok(Machine::new(alloc, kernel(alloc)?, region)?)
+}
+
+/// The bytes with some of them changed.
+fn changed(rt: &impl Abort, bytes: Blob, changes: &[(usize, u8)]) -> Blob {
+    let mut bytes = bytes.into_vec();
+    for (at, byte) in changes {
+        assert!(rt; *at < bytes.len());
+        bytes[*at] = *byte;
+    }
+    Blob::from_vec(bytes)
+}
+
+/// The module of a row.
+fn module_of(rt: &impl Abort, alloc: Global, row: &LoadRow) -> Result<Module, Fail> {
+    let object = object_with(alloc, row.sheet, row.more)?;
+    let bytes = changed(rt, object, row.changes);
+    Ok(module_at(rt, alloc, row.path, bytes)?)
+}
+
+/// The image has these words.
+fn expect_words(rt: &impl Abort, image: &[u8], words: &[(usize, u64)]) {
+    for (at, word) in words {
+        assert!(rt; *at <= 65536 && *at + 8 <= image.len());
+        assert_eq!(rt; le_u64_at(image, *at), *word);
+    }
+}
+
+/// The module that was loaded last has this base and size, and these words in its image.
+fn expect_loaded(
+    rt: &impl Abort,
+    machine: &Machine,
+    before: usize,
+    at: LoadedAt,
+    (base, size): (u64, u64),
+    words: &[(usize, u64)],
+) {
+    assert_eq!(rt; (at.base, at.size), (base, size));
+    assert!(rt; before < machine.module_count());
+    let name = machine.module_at(before).name.as_bytes();
+    let image = machine.image(name).expect(rt, "an image");
+    assert_eq!(rt; image.len() as u64, size);
+    expect_words(rt, image, words);
+}
+
+/// The load was refused with this text.
+fn expect_refused(
+    rt: &impl Abort,
+    alloc: Global,
+    fault: LoadFault,
+    text: &[u8],
+) -> Result<(), AllocError> {
+    assert_eq!(rt; fault.text(alloc)?.as_bytes(), text);
+    Ok(())
+}
+
+/// The answer of a load is the one of the row, and the machine has one module more or is as it was.
+fn expect_answer(
+    rt: &impl Abort,
+    alloc: Global,
+    machine: &Machine,
+    before: usize,
+    loaded: Result<LoadedAt, LoadFault>,
+    answer: &Answer,
+) -> Result<(), AllocError> {
+    match (loaded, answer) {
+        (Ok(at), Answer::Loaded { base, size, words }) => {
+            expect_loaded(rt, machine, before, at, (*base, *size), words);
+        }
+        (Err(fault), Answer::Refused(text)) => {
+            expect_refused(rt, alloc, fault, text)?;
+            assert_eq!(rt; machine.module_count(), before);
+        }
+        _ => panic!(rt; "another answer"),
+    }
+    Ok(())
+}
+
+/// Loads the module of a row.
+fn expect_load(
+    rt: &impl Abort,
+    alloc: Global,
+    machine: &mut Machine,
+    row: &LoadRow,
+) -> Result<(), Fail> {
+    let module = module_of(rt, alloc, row)?;
+    let before = machine.module_count();
+    let loaded = machine.load(&module);
+    expect_answer(rt, alloc, machine, before, loaded, &row.answer)?;
+    Ok(())
+}
+
+/// Loads the modules of the rows in turn into a machine with so many bytes for modules. Each load answers as its row says.
+pub(crate) fn expect_loads(
+    rt: &impl Abort,
+    alloc: Global,
+    size: u64,
+    rows: &[LoadRow],
+) -> Result<(), Fail> {
+    let mut machine = machine(rt, alloc, size)?;
+    for row in rows {
+        expect_load(rt, alloc, &mut machine, row)?;
+    }
+    Ok(())
+}

@@ -1,0 +1,93 @@
+// The lists of a sheet that is written out.
+ghost use Rattle.std.specs.Prelude.{◌≡◌, map, IfOk};
+ghost use Rattle.test_objects.specs.Rows.{version_of, export_of, need_of, place_of, space_of, slices_of};
+
+use crate::row::{ExportRow, NeedRow, PlaceRow, SpaceRow, VersionRow};
+use km_names::{Bytes, List, Name};
+use std::alloc::{AllocError, Global};
+use tree_gen::{
+    SheetExport, SheetExports, SheetNeed, SheetNeeds, SheetPlace, SheetPlaces, SheetSpace,
+    SheetSpaces, SheetVersion, SheetVersions,
+};
+
+/// Texts or names.
+pub(crate) fn texts<K>(alloc: Global, rows: &[&[u8]]) -> Result<List<Bytes<K>>, AllocError>
+    ensures { IfOk result (λ list. list ≡ slices_of rows.now) }
+{
+    let mut list = List::new(alloc);
+    for row in rows {
+        list.push(Bytes::from_slice(alloc, row)?)?;
+    }
+    Ok(list)
+}
+
+/// Versions of needed symbols.
+pub(crate) fn versions(alloc: Global, rows: &[VersionRow]) -> Result<SheetVersions, AllocError>
+    ensures { IfOk result (λ list. list ≡ map version_of rows.now) }
+{
+    let mut list = List::new(alloc);
+    for row in rows {
+        list.push(SheetVersion {
+            name: Name::from_slice(alloc, row.name)?,
+            crc: row.crc,
+        })?;
+    }
+    Ok(list)
+}
+
+/// Exported symbols.
+pub(crate) fn exports(alloc: Global, rows: &[ExportRow]) -> Result<SheetExports, AllocError>
+    ensures { IfOk result (λ list. list ≡ map export_of rows.now) }
+{
+    let mut list = List::new(alloc);
+    for row in rows {
+        list.push(SheetExport {
+            name: Name::from_slice(alloc, row.name)?,
+            crc: row.crc,
+        })?;
+    }
+    Ok(list)
+}
+
+/// Undefined symbols.
+pub(crate) fn needs(alloc: Global, rows: &[NeedRow]) -> Result<SheetNeeds, AllocError>
+    ensures { IfOk result (λ list. list ≡ map need_of rows.now) }
+{
+    let mut list = List::new(alloc);
+    for row in rows {
+        list.push(SheetNeed {
+            name: Name::from_slice(alloc, row.name)?,
+            weak: row.weak,
+        })?;
+    }
+    Ok(list)
+}
+
+/// Relocated words.
+pub(crate) fn places(alloc: Global, rows: &[PlaceRow]) -> Result<SheetPlaces, AllocError>
+    ensures { IfOk result (λ list. list ≡ map place_of rows.now) }
+{
+    let mut list = List::new(alloc);
+    for row in rows {
+        list.push(SheetPlace {
+            kind: row.kind,
+            symbol: Name::from_slice(alloc, row.symbol)?,
+            addend: row.addend,
+        })?;
+    }
+    Ok(list)
+}
+
+/// Namespaces of exports.
+pub(crate) fn spaces(alloc: Global, rows: &[SpaceRow]) -> Result<SheetSpaces, AllocError>
+    ensures { IfOk result (λ list. list ≡ map space_of rows.now) }
+{
+    let mut list = List::new(alloc);
+    for row in rows {
+        list.push(SheetSpace {
+            name: Name::from_slice(alloc, row.name)?,
+            space: Name::from_slice(alloc, row.space)?,
+        })?;
+    }
+    Ok(list)
+}
