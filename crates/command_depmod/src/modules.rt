@@ -56,7 +56,7 @@ fn read_facts<F: Reads>(
         return Err(Stop::from(Refusal::Compressed { path }));
     }
     let file = join(alloc, folder, path.as_bytes())?;
-    read_needed_into(files, file, buffer)?;
+    read_needed_into(alloc, files, file, buffer)?;
     check_facts(alloc, path, buffer.as_bytes())
 }
 

@@ -25,6 +25,7 @@ pub fn read_needed<F: Reads>(alloc: Global, files: &mut F, path: PathText) -> Re
 
 /// Reads the file at the path into the buffer. It is needed, as that of [`read_needed`].
 pub fn read_needed_into<F: Reads>(
+    alloc: Global,
     files: &mut F,
     path: PathText,
     buffer: &mut FileBuffer,
@@ -33,7 +34,7 @@ pub fn read_needed_into<F: Reads>(
         (world (F.seen files.old) out err) (world (F.seen files.new) out err) result }
     ensures limit { OnOk result (length buffer.new ≤ file_limit) }
 {
-    match files.read_into(&path, buffer) {
+    match files.read_into(alloc, &path, buffer) {
         Ok(()) => Ok(()),
         Err(answer) => Err(stop_at(answer, path)),
     }

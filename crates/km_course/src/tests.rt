@@ -31,7 +31,7 @@ fn a_file_is_read(rt: HostRuntime) -> Result<(), Fail> {
     let needed = read_needed(alloc, &mut files, path(alloc, b"/e/a.conf")?)?;
     assert_eq!(rt; needed.as_bytes(), b"text".as_slice());
     let mut buffer = FileBuffer::new(alloc);
-    read_needed_into(&mut files, path(alloc, b"/e/a.conf")?, &mut buffer)?;
+    read_needed_into(alloc, &mut files, path(alloc, b"/e/a.conf")?, &mut buffer)?;
     assert_eq!(rt; buffer.as_bytes(), b"text".as_slice());
     let optional = read_optional(alloc, &mut files, path(alloc, b"/e/a.conf")?)?;
     assert_eq!(rt; optional.as_bytes(), b"text".as_slice());

@@ -1,4 +1,4 @@
-ghost use Rattle.std.specs.Prelude.{◌≡◌, length, IfOk};
+ghost use Rattle.std.specs.Prelude.{◌≡◌, ◌≤◌, ◌↔◌, length, IsNone, IfOk, slice_get, option_copied};
 
 use std::alloc::{AllocError, Global};
 use std::marker::Model;
@@ -40,6 +40,14 @@ impl Word {
         ensures { result.now ≡ self.now }
     {
         self.text.as_bytes()
+    }
+
+    /// The byte at place `i`, from 0.
+    pub fn get(&self, i: usize) -> Option<&u8>
+        ensures item { option_copied result ≡ slice_get self.now i }
+        ensures past_end { IsNone result ↔ (length self.now ≤ i) }
+    {
+        self.as_bytes().get(i)
     }
 
     /// How many bytes the word has.

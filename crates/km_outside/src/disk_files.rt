@@ -72,13 +72,16 @@ impl<R: rt::Files + AllocGlobal + Clone + Drop> Reads for DiskFiles<R> {
         ensures after { self.new ≡ answered self.old result }
     {
         let mut buffer = FileBuffer::new(alloc);
-        match self.read_into(path, &mut buffer) {
-            Ok(()) => Ok(buffer.into_blob()),
-            Err(answer) => Err(answer),
-        }
+        self.read_into(alloc, path, &mut buffer)?;
+        Ok(buffer.into_blob())
     }
 
-    fn read_into(&mut self, path: &PathText, buffer: &mut FileBuffer) -> Result<(), FileAnswer>
+    fn read_into(
+        &mut self,
+        _alloc: Global,
+        path: &PathText,
+        buffer: &mut FileBuffer,
+    ) -> Result<(), FileAnswer>
         ensures answers { ReadAnswers path.now (disk_seen self.old) (disk_seen self.new) (buffered buffer.new result) }
         ensures after { self.new ≡ answered self.old result }
     {

@@ -3,7 +3,7 @@ ghost use Rattle.km_names.specs.Limit.{file_limit};
 
 use crate::transfer::read_limited;
 use km_names::Blob;
-use std::alloc::{AllocError, Global};
+use std::alloc::Global;
 use std::io;
 use std::io::Read;
 use std::marker::Model;
@@ -54,16 +54,16 @@ impl FileBuffer {
         Blob::from_vec(room)
     }
 
-    /// Copies these bytes, in place of what was there.
-    pub(crate) fn copy(&mut self, bytes: &[u8]) -> Result<(), AllocError>
-        requires { length bytes.now ≤ file_limit }
-        ensures { OnOk result (self.new ≡ bytes.now) }
+    /// The bytes of a file that was read, in their own memory.
+    pub(crate) fn from_blob(bytes: Blob) -> Self
+        requires { length bytes ≤ file_limit }
+        ensures { result ≡ bytes }
     {
-        self.filled = 0;
-        self.room.clear();
-        self.room.extend_from_slice(bytes)?;
-        self.filled = bytes.len();
-        Ok(())
+        let filled = bytes.len();
+        FileBuffer {
+            room: bytes.into_vec(),
+            filled,
+        }
     }
 
     /// Reads to the end, and at most to one byte past [`FILE_LIMIT`](km_names::FILE_LIMIT), in place of what was there.

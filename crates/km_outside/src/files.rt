@@ -80,10 +80,19 @@ pub trait Reads {
     fn read(&mut self, alloc: Global, path: &PathText) -> Result<Blob, FileAnswer>
         ensures answers { ReadAnswers path.now (seen self.old) (seen self.new) result };
 
-    /// Reads the file at the path as [`read`](Reads::read) does, into memory that is used again. After a refusal the
-    /// buffer may hold any bytes.
-    fn read_into(&mut self, path: &PathText, buffer: &mut FileBuffer) -> Result<(), FileAnswer>
-        ensures answers { ReadAnswers path.now (seen self.old) (seen self.new) (buffered buffer.new result) };
+    /// Reads the file at the path as [`read`](Reads::read) does, into a buffer in place of what was there. After a
+    /// refusal the buffer may hold any bytes. Files that can use its memory again do so in a body of their own.
+    fn read_into(
+        &mut self,
+        alloc: Global,
+        path: &PathText,
+        buffer: &mut FileBuffer,
+    ) -> Result<(), FileAnswer>
+        ensures answers { ReadAnswers path.now (seen self.old) (seen self.new) (buffered buffer.new result) }
+    {
+        *buffer = FileBuffer::from_blob(self.read(alloc, path)?);
+        Ok(())
+    }
 
     /// The names of the files that stand in the folder and end in `.conf`, each once and rising by their
     /// bytes, if they are no more than [`LIST_LIMIT`].

@@ -4,7 +4,7 @@ ghost use Rattle.std.specs.FinMap as map;
 ghost use Rattle.km_outside.specs.Contents.{is_conf_name, is_path};
 ghost use Rattle.km_outside.specs.Counts.{count_end};
 ghost use Rattle.km_outside.specs.Listing.{kind_of, test_of};
-ghost use Rattle.km_outside.specs.FilesSeen.{ListAnswers, ReadAnswers, ReplaceAnswers, buffered};
+ghost use Rattle.km_outside.specs.FilesSeen.{ListAnswers, ReadAnswers, ReplaceAnswers};
 ghost use Rattle.km_outside.specs.MemFilesSeen.{mem_files_seen, no_files, with_file, with_failing_call, kind_fails, mem_read, mem_list, after_call, after_replace};
 ghost use Rattle.km_outside.specs.declared.files.FileAnswer.TheVariants.{Memory};
 ghost use Rattle.km_outside.specs.declared.files.ReplaceAnswer.TheVariants.{Failed};
@@ -14,7 +14,7 @@ use crate::counts::Counts;
 use crate::kinds::Kinds;
 use crate::listing::Listing;
 use crate::mem_listing::{collect_listed, count_listed};
-use crate::{FileAnswer, FileBuffer, Files, LIST_LIMIT, Reads, ReplaceAnswer, Writes};
+use crate::{FileAnswer, Files, LIST_LIMIT, Reads, ReplaceAnswer, Writes};
 use km_names::{Blob, Bytes, FILE_LIMIT, List, Names, PathText, Paths, join};
 use std::alloc::{AllocError, Global};
 use std::collections::BTreeMap;
@@ -138,19 +138,6 @@ impl Reads for MemFiles {
         ensures memory { result ≡ Err Memory → IsOk (mem_read self.old path.now) }
         ensures after { self.new ≡ after_call self.old Read result }
     {
-        let mut buffer = FileBuffer::new(alloc);
-        match self.read_into(path, &mut buffer) {
-            Ok(()) => Ok(buffer.into_blob()),
-            Err(answer) => Err(answer),
-        }
-    }
-
-    fn read_into(&mut self, path: &PathText, buffer: &mut FileBuffer) -> Result<(), FileAnswer>
-        ensures answers { ReadAnswers path.now (mem_files_seen self.old) (mem_files_seen self.new) (buffered buffer.new result) }
-        ensures exact { (buffered buffer.new result ≡ mem_read self.old path.now) ⊎ (result ≡ Err Memory) }
-        ensures memory { result ≡ Err Memory → IsOk (mem_read self.old path.now) }
-        ensures after { self.new ≡ after_call self.old Read result }
-    {
         self.counts.make();
         if self.kinds.make(CallKind::Read) {
             return Err(self.counts.refuse(FileAnswer::Failed));
@@ -162,8 +149,7 @@ impl Reads for MemFiles {
             let length = bytes.len() as u64;
             return Err(self.counts.refuse(FileAnswer::TooLarge { length }));
         }
-        buffer.copy(bytes)?;
-        Ok(())
+        Ok(Blob::from_slice(alloc, bytes)?)
     }
 
     /// The names of the configuration files in the folder, unless this call is listed to fail.

@@ -220,7 +220,7 @@ fn reread<F: Files>(rt: &impl Abort, files: &mut F, alloc: Global) -> Result<(),
     let mut buffer = FileBuffer::new(alloc);
     assert!(rt; buffer.as_bytes().is_empty());
     for (path, want) in REREAD {
-        match files.read_into(&PathText::from_slice(alloc, path)?, &mut buffer) {
+        match files.read_into(alloc, &PathText::from_slice(alloc, path)?, &mut buffer) {
             Ok(()) => assert_eq!(rt; Ok(buffer.as_bytes()), want),
             Err(answer) => assert_eq!(rt; Err(answer), want),
         }
