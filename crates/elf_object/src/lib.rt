@@ -35,8 +35,6 @@ mod shape;
 mod strings;
 mod symbol;
 mod tables;
-#[cfg(test)]
-mod tests;
 mod view;
 
 pub use fault::{ObjectFault, SectionFault};

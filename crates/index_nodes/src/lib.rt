@@ -21,8 +21,6 @@ mod place;
 mod place_set;
 mod read;
 mod steps;
-#[cfg(test)]
-mod tests;
 
 pub use fault::IndexFault;
 pub use node::{Node, NodeRef};

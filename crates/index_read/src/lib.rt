@@ -11,8 +11,6 @@
 mod front;
 mod index;
 mod reach;
-#[cfg(test)]
-mod tests;
 mod value;
 mod walk;
 

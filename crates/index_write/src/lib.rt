@@ -11,8 +11,6 @@ mod key_map;
 mod lists;
 mod node;
 mod size;
-#[cfg(test)]
-mod tests;
 
 pub use fault::WriteFault;
 pub use file::encode;

@@ -8,8 +8,6 @@ mod end;
 mod reading;
 mod refusal;
 mod stop;
-#[cfg(test)]
-mod tests;
 mod writing;
 
 pub use conclusion::conclude;

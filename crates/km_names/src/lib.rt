@@ -20,8 +20,6 @@ mod space;
 mod split;
 mod statement;
 mod string;
-#[cfg(test)]
-mod tests;
 mod word;
 
 pub use alias::normal_alias;

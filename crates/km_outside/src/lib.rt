@@ -23,8 +23,6 @@ mod mem_listing;
 mod mem_out;
 mod out;
 mod stream;
-#[cfg(test)]
-mod tests;
 mod transfer;
 
 pub use disk_files::DiskFiles;

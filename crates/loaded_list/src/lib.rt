@@ -4,7 +4,5 @@
 #![tactic(auto)]
 
 mod loaded;
-#[cfg(test)]
-mod tests;
 
 pub use loaded::Loaded;

@@ -10,8 +10,6 @@ mod dependency_line;
 mod listing;
 mod places;
 mod search;
-#[cfg(test)]
-mod tests;
 mod tree;
 
 pub use dependency_line::line_path;

@@ -5,8 +5,6 @@
 
 mod list;
 mod piece;
-#[cfg(test)]
-mod tests;
 
 pub use list::{FieldList, field_values, fields};
 pub use piece::Field;

@@ -5,8 +5,6 @@
 #![tactic(auto)]
 
 mod parameters;
-#[cfg(test)]
-mod tests;
 mod text;
 
 pub use text::{ShowOptions, show};

@@ -9,8 +9,6 @@ ghost use Rattle.km_names.specs.Limit.{file_limit};
 ghost use Rattle.modprobe_conf.specs.Rules.{rules_of};
 
 mod rule;
-#[cfg(test)]
-mod tests;
 
 use km_names::{ConfFault, ConfFiles, parse_files};
 pub use rule::{Rule, Rules};

@@ -18,8 +18,6 @@ mod read;
 mod role;
 mod seen;
 mod tables;
-#[cfg(test)]
-mod tests;
 mod texts;
 mod versions;
 

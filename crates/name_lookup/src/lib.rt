@@ -10,8 +10,6 @@ mod found;
 mod indexes;
 mod lookup;
 mod rules;
-#[cfg(test)]
-mod tests;
 
 pub use found::{Found, resolve};
 pub use indexes::Indexes;

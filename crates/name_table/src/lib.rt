@@ -10,8 +10,6 @@ mod borrowed;
 mod key;
 mod owned;
 mod set;
-#[cfg(test)]
-mod tests;
 
 pub use borrowed::NameTable;
 pub use owned::OwnedNameTable;

@@ -11,8 +11,6 @@ mod load;
 mod machine;
 mod module;
 mod shown;
-#[cfg(test)]
-mod tests;
 
 pub use listed::load_listed;
 pub use load::{Cause, load_all};

@@ -7,8 +7,6 @@
 #![tactic(auto)]
 
 mod needs;
-#[cfg(test)]
-mod tests;
 mod unbound;
 mod worked;
 

@@ -1,15 +1,18 @@
-// Why there is no object.
+// Why what is written out can't be had.
 ghost use Rattle.std.specs.Prelude.{◌≡◌};
 
 use std::alloc::{AllocError, AllocFailed};
 use thiserror::Error;
 
-/// Why there is no object of a sheet that is written out.
+/// Why what is written out can't be had.
 #[derive(Clone, Copy, Debug, PartialEq, Eq, Error)]
 pub enum RowFault {
     /// It isn't a sheet.
     #[error("no sheet")]
     NoSheet,
+    /// It has more bytes than a file may have.
+    #[error("too large")]
+    TooLarge,
     /// Memory ran out.
     #[error("out of memory")]
     Memory,

@@ -132,3 +132,12 @@ pub static IN_SPACE: MoreRow = MoreRow {
         space: b"NS",
     }],
 };
+
+/// A module that needs what nobody exports.
+pub static NEEDS_NOSUCH: SheetRow = SheetRow {
+    needs: &[NeedRow {
+        name: b"nosuch",
+        weak: false,
+    }],
+    ..EMPTY_SHEET
+};

@@ -1,11 +1,10 @@
 // What no clause says: worked plans, by the maps of a folder.
-ghost use Rattle.std.specs.Prelude.{◌≤◌, ◌↔◌, length, All, IfOk, IsTrue};
+ghost use Rattle.std.specs.Prelude.{◌≤◌, length, All, IfOk};
 ghost use Rattle.km_names.specs.Limit.{file_limit};
-ghost use Rattle.index_format.specs.Map.{IsKey, IsText};
 
 use index_read::Index;
 use index_write::{KeyMap, encode};
-use km_names::{Blob, ConfFile, ConfFiles, Name, Names, PathText};
+use km_names::{Blob, ConfFiles, Name, Names, PathText};
 use loaded_list::Loaded;
 use modprobe_conf::{Rules, parse};
 use name_lookup::Indexes;
@@ -13,6 +12,7 @@ use plan_builder::{PlanStep, PlanSteps, Request, plan, well_formed};
 use std::alloc::Global;
 use std::process::Abort;
 use std::test::Fail;
+use test_objects::{RowFault, conf_file, is_key, is_text};
 use unmet_file::Unmet;
 
 /// Keys with their values, of which each has the priority of its place.
@@ -68,18 +68,6 @@ const DOUBLE: PlanRow = PlanRow {
     ..EMPTY
 };
 
-fn is_key(key: &[u8]) -> bool
-    ensures { IsTrue result ↔ IsKey key.now }
-{
-    key.iter().all(|byte| 0 < *byte && *byte < 128)
-}
-
-fn is_text(text: &[u8]) -> bool
-    ensures { IsTrue result ↔ IsText text.now }
-{
-    text.iter().all(|byte| 0 < *byte)
-}
-
 /// The index file of some pairs.
 fn index_of(rt: &impl Abort, alloc: Global, pairs: Pairs) -> Result<Index, Fail> {
     let mut map = KeyMap::new(alloc);
@@ -106,25 +94,17 @@ fn indexes_of(rt: &impl Abort, alloc: Global, row: &PlanRow) -> Result<Indexes, 
 }
 
 /// A file of the configuration.
-fn one_file(rt: &impl Abort, alloc: Global, text: &str) -> Result<ConfFiles, Fail>
+fn one_file(alloc: Global, text: &str) -> Result<ConfFiles, RowFault>
     ensures { IfOk result (λ files. All (λ file. length file.bytes ≤ file_limit) files) }
 {
-    let text = text.as_bytes();
-    assert!(rt;
-        text.len() <= 67_108_864,
-        "a file of more bytes than are taken"
-    );
     let mut files = ConfFiles::new(alloc);
-    files.push(ConfFile {
-        path: PathText::from_slice(alloc, b"f")?,
-        bytes: Blob::from_slice(alloc, text)?,
-    })?;
+    files.push(conf_file(alloc, b"f", text.as_bytes())?)?;
     Ok(files)
 }
 
 /// The rules of a text.
-fn rules_of(rt: &impl Abort, alloc: Global, text: &str) -> Result<Rules, Fail> {
-    let files = one_file(rt, alloc, text)?;
+fn rules_of(alloc: Global, text: &str) -> Result<Rules, Fail> {
+    let files = one_file(alloc, text)?;
     let rules = parse(alloc, &files)
         .ok()
         .ok_or("a line that wasn't understood")?;
@@ -201,7 +181,7 @@ fn lines_of(alloc: Global, steps: &PlanSteps) -> Result<Blob, Fail> {
 /// The steps of the plan of a row, or its obstacle.
 fn answer_of(rt: &impl Abort, alloc: Global, row: &PlanRow) -> Result<Blob, Fail> {
     let request = request_of(alloc, row)?;
-    let rules = rules_of(rt, alloc, row.rules)?;
+    let rules = rules_of(alloc, row.rules)?;
     let indexes = indexes_of(rt, alloc, row)?;
     let unmet = unmet_of(rt, alloc, row.unmet)?;
     let loaded = Loaded::read(alloc, row.loaded.as_bytes())?;

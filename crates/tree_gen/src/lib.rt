@@ -21,12 +21,8 @@ mod parts;
 mod relocations;
 mod sheet;
 mod symbols;
-#[cfg(test)]
-mod tests;
 mod trial;
 mod trial_sheet;
-#[cfg(test)]
-mod trial_tests;
 mod worked;
 
 pub use conditions::is_sheet;

@@ -7,8 +7,6 @@
 
 mod laws;
 mod line;
-#[cfg(test)]
-mod tests;
 mod unmet;
 
 pub use laws::{lines_are_read_back, texts_of_lines};

@@ -1,0 +1,249 @@
+use km_outside::CallKind;
+use std::alloc::Global;
+use std::process::Abort;
+use std::test::Fail;
+use test_objects::{LICENSE_OBJECT, SheetRow, object_of};
+use test_rows::{Failing, FileRow, Objects, Row, RowOf, USAGE, run_over, wanted};
+
+/// A module with two parameters, one of them without a text.
+static PARAMETERS: SheetRow = SheetRow {
+    texts: &[
+        b"license=GPL",
+        b"parm=depth:how deep",
+        b"parmtype=depth:int",
+        b"parmtype=raw:bool",
+        b"alias=fs-x",
+    ],
+    versions: &[],
+    exports: &[],
+    needs: &[],
+    places: &[],
+};
+
+/// A module with empty texts and one that is a key alone.
+static LONE_KEY: SheetRow = SheetRow {
+    texts: &[b"license=GPL", b"", b"", b"lone", b"author=A"],
+    versions: &[],
+    exports: &[],
+    needs: &[],
+    places: &[],
+};
+
+/// What is shown of modules by their paths.
+static BY_PATH: [Row; 25] = [
+    ("modinfo -F license /m/a.ko", 0, "GPL\n", ""),
+    (
+        "modinfo /m/a.ko",
+        0,
+        "filename:       /m/a.ko\nlicense:        GPL\n",
+        "",
+    ),
+    ("modinfo -F author /m/a.ko", 0, "", ""),
+    ("modinfo -F licens /m/a.ko", 0, "", ""),
+    (
+        "modinfo /m/lone.ko",
+        0,
+        "filename:       /m/lone.ko\nlicense:        GPL\nlone:           \nauthor:         A\n",
+        "",
+    ),
+    (
+        "modinfo /m/p.ko",
+        0,
+        "filename:       /m/p.ko\nlicense:        GPL\nalias:          fs-x\nparm:           depth:how deep (int)\nparm:           raw:bool\n",
+        "",
+    ),
+    (
+        "modinfo -p -0 /m/p.ko",
+        0,
+        "depth:how deep (int)\0raw:bool\0",
+        "",
+    ),
+    (
+        "modinfo -F parm /m/p.ko",
+        0,
+        "depth:how deep (int)\nraw:bool\n",
+        "",
+    ),
+    ("modinfo -Flicense /m/a.ko", 0, "GPL\n", ""),
+    ("modinfo /m/a.ko --field=license", 0, "GPL\n", ""),
+    ("modinfo -F=license /m/a.ko", 0, "GPL\n", ""),
+    (
+        "modinfo -- /m/a.ko",
+        0,
+        "filename:       /m/a.ko\nlicense:        GPL\n",
+        "",
+    ),
+    ("modinfo -n /m/a.ko", 0, "/m/a.ko\n", ""),
+    ("modinfo -F filename /m/a.ko", 0, "/m/a.ko\n", ""),
+    ("modinfo -0l /m/a.ko /m/p.ko", 0, "GPL\0GPL\0", ""),
+    ("modinfo -F - /m/a.ko", 0, "", ""),
+    ("modinfo -a /m/lone.ko /m/a.ko", 0, "A\n", ""),
+    ("modinfo --description /m/a.ko", 0, "", ""),
+    (
+        "modinfo -F license /m/none.ko",
+        1,
+        "",
+        "kmod: no file /m/none.ko\n",
+    ),
+    (
+        "modinfo -F license /m/cut.ko",
+        1,
+        "",
+        "kmod: /m/cut.ko: truncated at 96 need 192\n",
+    ),
+    (
+        "modinfo /m/a.ko.xz",
+        1,
+        "",
+        "kmod: /m/a.ko.xz: compressed\n",
+    ),
+    (
+        "modinfo -l /m/a.ko /m/none.ko /m/p.ko",
+        1,
+        "GPL\n",
+        "kmod: no file /m/none.ko\n",
+    ),
+    (
+        "modinfo -l /m/a.ko /m/a.ko.zst",
+        1,
+        "GPL\n",
+        "kmod: /m/a.ko.zst: compressed\n",
+    ),
+    ("modinfo -", 1, "", "kmod: no file -\n"),
+    ("modinfo -- -F", 1, "", "kmod: no file -F\n"),
+];
+
+/// Words that aren't understood.
+static NOT_UNDERSTOOD: [&str; 24] = [
+    "",
+    " ",
+    "modprobe",
+    "modinf /m/a.ko",
+    "modinfo",
+    "modinfo ",
+    "modinfo -l -l /m/a.ko",
+    "modinfo -ll /m/a.ko",
+    "modinfo -l -p /m/a.ko",
+    "modinfo -n --field=license /m/a.ko",
+    "modinfo -0 --null /m/a.ko",
+    "modinfo -F -x /m/a.ko",
+    "modinfo -F  /m/a.ko",
+    "modinfo --field= /m/a.ko",
+    "modinfo -F license",
+    "modinfo -b /r /m/a.ko",
+    "modinfo -k 6/1 a",
+    "modinfo -k / a",
+    "modinfo -k -6 a",
+    "modinfo -k 6.1.0 -b  a",
+    "modinfo -k 6.1.0 -k 6.2.0 a",
+    "modinfo -x /m/a.ko",
+    "modinfo --lic /m/a.ko",
+    "modinfo --help",
+];
+
+/// Puts the modules at paths.
+fn put_modules(alloc: Global, objects: &mut Objects) -> Result<(), Fail> {
+    objects.put(alloc, "/m/a.ko", &LICENSE_OBJECT)?;
+    objects.put(alloc, "/m/cut.ko", &LICENSE_OBJECT[..287])?;
+    objects.put(alloc, "/m/p.ko", object_of(alloc, &PARAMETERS)?.as_bytes())?;
+    objects.put(alloc, "/m/lone.ko", object_of(alloc, &LONE_KEY)?.as_bytes())?;
+    Ok(())
+}
+
+/// Runs each row over the modules.
+fn expect_rows(rt: &impl Abort, alloc: Global, rows: &[Row]) -> Result<(), Fail> {
+    for row in rows {
+        let mut objects = Objects::new(alloc)?;
+        put_modules(alloc, &mut objects)?;
+        let (words, ..) = *row;
+        objects.run(alloc, words)?;
+        assert_eq!(rt; objects.seen(), wanted(*row));
+    }
+    Ok(())
+}
+
+/// Runs a row over one module while something fails.
+fn expect_one(
+    rt: &impl Abort,
+    alloc: Global,
+    failing: Failing,
+    row: RowOf<'_>,
+) -> Result<(), Fail> {
+    let module = FileRow {
+        path: "/m/a.ko",
+        bytes: &LICENSE_OBJECT,
+    };
+    let (words, ..) = row;
+    let objects = run_over(alloc, &[module], failing, words)?;
+    assert_eq!(rt; objects.seen(), wanted(row));
+    Ok(())
+}
+
+#[test]
+fn modules_are_shown_by_their_paths(rt: HostRuntime) -> Result<(), Fail> {
+    expect_rows(&rt, rt.alloc(), &BY_PATH)
+}
+
+#[test]
+fn words_that_are_not_understood(rt: HostRuntime) -> Result<(), Fail> {
+    for words in &NOT_UNDERSTOOD {
+        expect_one(&rt, rt.alloc(), Failing::Nothing, (words, 2, "", USAGE))?;
+    }
+    Ok(())
+}
+
+/// What fails while modules are shown, and the row then. The first module is printed before the second is read, and where the
+/// line of a refusal can't be written there is none.
+static FAILING: [(Failing, Row); 4] = [
+    (
+        Failing::Call(CallKind::Read, 0),
+        (
+            "modinfo -F license /m/a.ko",
+            3,
+            "",
+            "kmod: file fault /m/a.ko\n",
+        ),
+    ),
+    (
+        Failing::Call(CallKind::Read, 1),
+        (
+            "modinfo -l /m/a.ko /m/a.ko",
+            3,
+            "GPL\n",
+            "kmod: file fault /m/a.ko\n",
+        ),
+    ),
+    (
+        Failing::Write(1),
+        (
+            "modinfo -l /m/a.ko /m/a.ko",
+            3,
+            "GPL\n",
+            "kmod: output fault\n",
+        ),
+    ),
+    (
+        Failing::Line(0),
+        ("modinfo -F license /m/none.ko", 3, "", ""),
+    ),
+];
+
+#[test]
+fn failing_calls_have_status_3(rt: HostRuntime) -> Result<(), Fail> {
+    for (failing, row) in &FAILING {
+        expect_one(&rt, rt.alloc(), *failing, *row)?;
+    }
+    Ok(())
+}
+
+#[test]
+fn a_file_past_the_limit_is_too_large(rt: HostRuntime) -> Result<(), Fail> {
+    let alloc = rt.alloc();
+    let mut objects = Objects::new(alloc)?;
+    let bytes = vec![in alloc; 0u8; 67_108_865]?;
+    objects.put(alloc, "/m/a.ko", bytes.as_slice())?;
+    objects.run(alloc, "modinfo -F license /m/a.ko")?;
+    let line = b"kmod: /m/a.ko: too large\n".as_slice();
+    assert_eq!(rt; objects.seen(), (1, b"".as_slice(), line));
+    Ok(())
+}

@@ -1,0 +1,100 @@
+ghost use Rattle.std.specs.Prelude.{◌≤◌, length, All, IfOk};
+ghost use Rattle.km_names.specs.Limit.{file_limit};
+
+use km_names::{ConfFault, ConfFiles, Names};
+use modprobe_conf::{Rule, Rules, parse};
+use std::alloc::{AllocError, Global};
+use std::test::Fail;
+use test_objects::{RowFault, conf_file};
+
+// The two files `0` and `1`.
+fn files_of(alloc: Global, first: &[u8], second: &[u8]) -> Result<ConfFiles, RowFault>
+    ensures { IfOk result (λ files. All (λ file. length file.bytes ≤ file_limit) files) }
+{
+    let mut files = ConfFiles::new(alloc);
+    files.push(conf_file(alloc, b"0", first)?)?;
+    files.push(conf_file(alloc, b"1", second)?)?;
+    Ok(files)
+}
+
+fn put_names(names: &Names, text: &mut Vec<u8>) -> Result<(), AllocError> {
+    for name in names.as_slice() {
+        text.push(b' ')?;
+        text.extend_from_slice(name.as_bytes())?;
+    }
+    Ok(())
+}
+
+// A rule as a line of its own.
+fn put_rule(rule: &Rule, text: &mut Vec<u8>) -> Result<(), AllocError> {
+    let (kind, name, rest) = match rule {
+        Rule::Alias { pattern, name } => (b"alias ".as_slice(), name, pattern.as_bytes()),
+        Rule::Blacklist { name } => (b"blacklist ".as_slice(), name, b"".as_slice()),
+        Rule::Options { name, text } => (b"options ".as_slice(), name, text.as_bytes()),
+        Rule::Install { name, command } => (b"install ".as_slice(), name, command.as_bytes()),
+        Rule::Remove { name, command } => (b"remove ".as_slice(), name, command.as_bytes()),
+        Rule::Softdep { name, .. } => (b"softdep ".as_slice(), name, b"".as_slice()),
+    };
+    text.extend_from_slice(kind)?;
+    text.extend_from_slice(name.as_bytes())?;
+    text.push(b'|')?;
+    text.extend_from_slice(rest)?;
+    if let Rule::Softdep { pre, post, .. } = rule {
+        put_names(pre, text)?;
+        text.push(b'/')?;
+        put_names(post, text)?;
+    }
+    text.push(b'\n')?;
+    Ok(())
+}
+
+fn text_of(alloc: Global, rules: &Rules) -> Result<Vec<u8>, AllocError> {
+    let mut text = Vec::new(alloc);
+    for rule in rules.as_slice() {
+        put_rule(rule, &mut text)?;
+    }
+    Ok(text)
+}
+
+// A line that isn't understood, as `FILE:NUMBER`, is the first of all files.
+#[test]
+fn lines_that_are_not_understood(rt: HostRuntime) -> Result<(), Fail> {
+    let rows = [
+        (b"options x".as_slice(), b"".as_slice(), b'0', 1),
+        (b"options x y", b"blacklist", b'1', 1),
+        (b"alias a", b"alias a", b'0', 1),
+        (b"# c\n\nalias \\\n bad[x b", b"", b'0', 3),
+        (b"install a", b"", b'0', 1),
+        (b"remove a", b"", b'0', 1),
+        (b"softdep a", b"", b'0', 1),
+        (b"search updates", b"", b'0', 1),
+        (b"weakdep a b", b"", b'0', 1),
+        (b"Options a b", b"", b'0', 1),
+    ];
+    for (first, second, name, number) in rows {
+        let files = files_of(rt.alloc(), first, second)?;
+        match parse(rt.alloc(), &files) {
+            Err(ConfFault::BadLine { file, line }) => {
+                assert_eq!(rt; file.as_bytes(), [name].as_slice());
+                assert_eq!(rt; line, number);
+            }
+            Err(ConfFault::Memory) => assert!(rt; false, "no memory"),
+            Ok(_rules) => assert!(rt; false, "a bad line that was understood"),
+        }
+    }
+    Ok(())
+}
+
+#[test]
+fn rules_of_lines(rt: HostRuntime) -> Result<(), Fail> {
+    let text =
+        b"alias pci-x[a-b]* snd-hda more\nblacklist u-2 more\noptions b-1 depth=3  raw-x=1\ninstall a /bin/true\nremove a /bin/false -x\n softdep m\tq pre: gone a-v[-] post: late pre: zed";
+    let want =
+        b"alias snd_hda|pci_x[a-b]*\nblacklist u_2|\noptions b_1|depth=3  raw-x=1\ninstall a|/bin/true\nremove a|/bin/false -x\nsoftdep m| gone a_v[_] zed/ late\n";
+    let files = files_of(rt.alloc(), text, b"")?;
+    match parse(rt.alloc(), &files) {
+        Ok(rules) => assert_eq!(rt; text_of(rt.alloc(), &rules)?.as_slice(), want.as_slice()),
+        Err(_fault) => assert!(rt; false, "a line that wasn't understood"),
+    }
+    Ok(())
+}

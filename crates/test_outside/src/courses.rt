@@ -1,0 +1,147 @@
+use km_course::{
+    End, Refusal, Stop, conclude, list_conf_needed, list_conf_optional, list_tree_needed, put,
+    read_needed, read_needed_into, read_optional, say, say_any, warn,
+};
+use km_names::{Blob, Name, Names, PathText};
+use km_outside::{FileBuffer, MemFiles, MemOut};
+use std::alloc::{AllocError, Global};
+use std::process::Abort;
+use std::test::Fail;
+
+fn path(alloc: Global, text: &[u8]) -> Result<PathText, AllocError> {
+    PathText::from_slice(alloc, text)
+}
+
+fn name(alloc: Global, text: &[u8]) -> Result<Name, AllocError> {
+    Name::from_slice(alloc, text)
+}
+
+/// Two files, put by calls.
+fn made(alloc: Global) -> Result<MemFiles, Stop> {
+    let mut files = MemFiles::new(alloc);
+    put(alloc, &mut files, path(alloc, b"/e/a.conf")?, b"text")?;
+    put(alloc, &mut files, path(alloc, b"/e/d/b.conf")?, b"")?;
+    Ok(files)
+}
+
+#[test]
+fn a_file_is_read(rt: HostRuntime) -> Result<(), Fail> {
+    let alloc = rt.alloc();
+    let mut files = made(alloc)?;
+    let needed = read_needed(alloc, &mut files, path(alloc, b"/e/a.conf")?)?;
+    assert_eq!(rt; needed.as_bytes(), b"text".as_slice());
+    let mut buffer = FileBuffer::new(alloc);
+    read_needed_into(alloc, &mut files, path(alloc, b"/e/a.conf")?, &mut buffer)?;
+    assert_eq!(rt; buffer.as_bytes(), b"text".as_slice());
+    let optional = read_optional(alloc, &mut files, path(alloc, b"/e/a.conf")?)?;
+    assert_eq!(rt; optional.as_bytes(), b"text".as_slice());
+    Ok(())
+}
+
+#[test]
+fn what_is_not_there_is_empty(rt: HostRuntime) -> Result<(), Fail> {
+    let alloc = rt.alloc();
+    let mut files = made(alloc)?;
+    let text = read_optional(alloc, &mut files, path(alloc, b"/none")?)?;
+    assert!(rt; text.is_empty());
+    let names = list_conf_optional(alloc, &mut files, path(alloc, b"/none")?)?;
+    assert!(rt; names.is_empty());
+    Ok(())
+}
+
+#[test]
+fn a_folder_is_listed(rt: HostRuntime) -> Result<(), Fail> {
+    let alloc = rt.alloc();
+    let mut files = made(alloc)?;
+    let names = list_conf_needed(alloc, &mut files, path(alloc, b"/e")?)?;
+    assert_eq!(rt; names.len(), 1);
+    let paths = list_tree_needed(alloc, &mut files, path(alloc, b"/e")?)?;
+    assert_eq!(rt; paths.len(), 2);
+    Ok(())
+}
+
+#[test]
+fn bytes_are_written(rt: HostRuntime) -> Result<(), Fail> {
+    let mut out = MemOut::with_room(rt.alloc(), 4)?;
+    say(&mut out, b"ab")?;
+    say_any(&mut out, b"")?;
+    say_any(&mut out, b"c")?;
+    warn(&mut out, b"d")?;
+    assert_eq!(rt; out.bytes(), b"abcd".as_slice());
+    Ok(())
+}
+
+/// Compares the status and the line of a stop with what is wanted.
+fn expect(rt: &impl Abort, alloc: Global, stop: Stop, want: (u8, &str)) -> Result<(), AllocError> {
+    let mut err = MemOut::with_room(alloc, 100)?;
+    let status = conclude(alloc, Err(stop), &mut err);
+    assert_eq!(rt; status, want.0);
+    assert_eq!(rt; err.bytes(), want.1.as_bytes());
+    Ok(())
+}
+
+#[test]
+fn a_cycle_names_its_first_module_again(rt: HostRuntime) -> Result<(), Fail> {
+    let alloc = rt.alloc();
+    let mut names = Names::new(alloc);
+    names.push(name(alloc, b"a")?)?;
+    names.push(name(alloc, b"b")?)?;
+    let stop = Stop::from(Refusal::Cycle { names });
+    expect(&rt, alloc, stop, (1, "kmod: cycle a -> b -> a\n"))?;
+    Ok(())
+}
+
+#[test]
+fn a_version_line_names_path_symbol_and_provider(rt: HostRuntime) -> Result<(), Fail> {
+    let alloc = rt.alloc();
+    let stop = Stop::from(Refusal::Version {
+        path: path(alloc, b"kernel/w.ko")?,
+        symbol: name(alloc, b"maybe")?,
+        provider: path(alloc, b"kernel/p.ko")?,
+    });
+    expect(
+        &rt,
+        alloc,
+        stop,
+        (1, "kmod: version kernel/w.ko maybe kernel/p.ko\n"),
+    )?;
+    Ok(())
+}
+
+#[test]
+fn a_bad_line_has_its_number(rt: HostRuntime) -> Result<(), Fail> {
+    let alloc = rt.alloc();
+    let file = path(alloc, b"/etc/modprobe.d/a.conf")?;
+    let stop = Stop::from(Refusal::BadLine { file, number: 10 });
+    expect(
+        &rt,
+        alloc,
+        stop,
+        (1, "kmod: /etc/modprobe.d/a.conf: bad line 10\n"),
+    )?;
+    Ok(())
+}
+
+#[test]
+fn an_inner_line_is_handed_on(rt: HostRuntime) -> Result<(), Fail> {
+    let alloc = rt.alloc();
+    let line = Blob::from_slice(alloc, b"kmod: cycle a -> a\n")?;
+    let stop = Stop::from(End::Inner { line });
+    expect(&rt, alloc, stop, (1, "kmod: cycle a -> a\n"))?;
+    Ok(())
+}
+
+#[test]
+fn a_failed_call_names_its_path(rt: HostRuntime) -> Result<(), Fail> {
+    let alloc = rt.alloc();
+    let path = path(alloc, b"/m/a.ko")?;
+    expect(
+        &rt,
+        alloc,
+        Stop::FileFault { path },
+        (3, "kmod: file fault /m/a.ko\n"),
+    )?;
+    expect(&rt, alloc, Stop::WarningFault, (3, ""))?;
+    expect(&rt, alloc, Stop::Memory, (4, "kmod: out of memory\n"))?;
+    Ok(())
+}

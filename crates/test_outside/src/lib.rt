@@ -1,0 +1,9 @@
+//! Tests of the world outside: files and outputs in memory and real ones, and the calls that carry out the acts of a course.
+//!
+//! It stands on `km_outside` and `km_course`.
+#![tactic(auto)]
+
+#[cfg(test)]
+mod courses;
+#[cfg(test)]
+mod world;

@@ -1,0 +1,82 @@
+// Rows that are run.
+use crate::objects::Objects;
+use crate::row::{Failing, FileRow, IndexedRow, ModuleRow, TreeRow, USUAL};
+use std::alloc::Global;
+use std::test::Fail;
+use test_objects::object_with;
+
+/// Puts the modules of a row into the folder of the kernel.
+fn put_modules(
+    alloc: Global,
+    objects: &mut Objects,
+    modules: &[ModuleRow<'_>],
+) -> Result<(), Fail> {
+    for (path, sheet, more) in modules {
+        let object = object_with(alloc, sheet, more)?;
+        let path = format!(in alloc; "/r/lib/modules/6.1.0/{path}")?;
+        objects.put(alloc, path.as_str(), object.as_bytes())?;
+    }
+    Ok(())
+}
+
+/// Makes fail what a row says.
+fn set_failing(objects: &mut Objects, failing: Failing) -> Result<(), Fail> {
+    match failing {
+        Failing::Nothing => {}
+        Failing::Call(kind, number) => objects.files.fail_call(kind, u64::from(number))?,
+        Failing::Write(number) => objects.out.fail_write(u64::from(number))?,
+        Failing::Line(number) => objects.err.fail_write(u64::from(number))?,
+    }
+    Ok(())
+}
+
+/// Puts the other files of a row.
+fn put_files(alloc: Global, objects: &mut Objects, files: &[FileRow]) -> Result<(), Fail> {
+    for file in files {
+        objects.put(alloc, file.path, file.bytes)?;
+    }
+    Ok(())
+}
+
+/// The objects of a row: its modules and other files, and what fails.
+fn objects_with(
+    alloc: Global,
+    modules: &[ModuleRow<'_>],
+    files: &[FileRow],
+    failing: Failing,
+) -> Result<Objects, Fail> {
+    let mut objects = Objects::new(alloc)?;
+    put_modules(alloc, &mut objects, modules)?;
+    put_files(alloc, &mut objects, files)?;
+    set_failing(&mut objects, failing)?;
+    Ok(objects)
+}
+
+/// Runs words over files while something fails.
+pub fn run_over(
+    alloc: Global,
+    files: &[FileRow],
+    failing: Failing,
+    words: &str,
+) -> Result<Objects, Fail> {
+    let mut objects = objects_with(alloc, &[], files, failing)?;
+    objects.run(alloc, words)?;
+    Ok(objects)
+}
+
+/// Runs a command over a tree.
+pub fn run_tree(alloc: Global, row: &TreeRow<'_>) -> Result<Objects, Fail> {
+    let mut objects = objects_with(alloc, row.modules, row.files, row.failing)?;
+    objects.run(alloc, row.words)?;
+    Ok(objects)
+}
+
+/// Runs depmod over a tree, and then words, unless depmod answers another status than 0.
+pub fn run_indexed(alloc: Global, tree: &IndexedRow<'_>, words: &str) -> Result<Objects, Fail> {
+    let mut objects = objects_with(alloc, tree.modules, tree.files, tree.failing)?;
+    objects.run(alloc, USUAL.words)?;
+    if objects.status == 0 {
+        objects.run(alloc, words)?;
+    }
+    Ok(objects)
+}

@@ -1,0 +1,56 @@
+// Trials, whole. The digests of images were worked out from the made trees by a program of its own: an image is of 8192
+// bytes, which are 0 but for the address of `printk` at byte 4096 and, after the first, that of `s0000` at byte 4104.
+use std::alloc::Global;
+use std::process::Abort;
+use std::test::Fail;
+use test_rows::{Failing, Row, USAGE, run_over, wanted};
+
+/// Trees of one, two and three modules.
+static TRIALS: [Row; 3] = [
+    (
+        "trial 1 1",
+        0,
+        "modules 1\ndependencies 0\nplanned 1\nloaded 1\nimages c6c95917cef2d89bf138a45b46ef4155f44b4dba3fdef5bd3e0dd145c1741227\n",
+        "",
+    ),
+    (
+        "trial 1 2",
+        0,
+        "modules 2\ndependencies 1\nplanned 2\nloaded 2\nimages 6e01d8a1a0adb080eac0b219e0d389f1fd57a7baed14adfbaa0d581bd54b07a0\n",
+        "",
+    ),
+    (
+        "trial 1 3",
+        0,
+        "modules 3\ndependencies 2\nplanned 3\nloaded 3\nimages fe1d27353d8fe48d7d22f38f5a781d684f526252c8b571272bde9301d03a620a\n",
+        "",
+    ),
+];
+
+/// Words that aren't understood.
+static NOT_UNDERSTOOD: [Row; 4] = [
+    ("trial 1 0", 2, "", USAGE),
+    ("trial 1 2001", 2, "", USAGE),
+    ("trial 18446744073709551616 1", 2, "", USAGE),
+    ("trial 1", 2, "", USAGE),
+];
+
+/// Runs the rows, each over no file.
+fn expect_rows(rt: &impl Abort, alloc: Global, rows: &[Row]) -> Result<(), Fail> {
+    for row in rows {
+        let (words, ..) = *row;
+        let objects = run_over(alloc, &[], Failing::Nothing, words)?;
+        assert_eq!(rt; objects.seen(), wanted(*row));
+    }
+    Ok(())
+}
+
+#[test]
+fn made_trees_are_indexed_and_loaded(rt: HostRuntime) -> Result<(), Fail> {
+    expect_rows(&rt, rt.alloc(), &TRIALS)
+}
+
+#[test]
+fn a_seed_and_a_count_are_needed(rt: HostRuntime) -> Result<(), Fail> {
+    expect_rows(&rt, rt.alloc(), &NOT_UNDERSTOOD)
+}
