@@ -71,12 +71,14 @@ pub fn run_tree(alloc: Global, row: &TreeRow<'_>) -> Result<Objects, Fail> {
     Ok(objects)
 }
 
-/// Runs depmod over a tree, and then words, unless depmod answers another status than 0.
+/// Runs depmod over a tree, which is to be done and write nothing, and then words.
 pub fn run_indexed(alloc: Global, tree: &IndexedRow<'_>, words: &str) -> Result<Objects, Fail> {
     let mut objects = objects_with(alloc, tree.modules, tree.files, tree.failing)?;
     objects.run(alloc, USUAL.words)?;
-    if objects.status == 0 {
-        objects.run(alloc, words)?;
+    let (status, out, err) = objects.seen();
+    if status != 0 || !out.is_empty() || !err.is_empty() {
+        return Err("the tree wasn't indexed".into());
     }
+    objects.run(alloc, words)?;
     Ok(objects)
 }
