@@ -1,4 +1,5 @@
--- What the front of a set's items, and of a pattern, means for the whole.
+-- What the front of a set's items, and of a pattern, means for the whole, as the code takes it. No public meaning rests on
+-- these definitions.
 use Rattle.std.specs.Prelude.{◌≡◌, ◌≢◌, ◌≤◌, ◌<◌, ◌↔◌, ◌⊎◌, ℕ, List, ◌∷◌, ◌++◌, length, drop, Contains}
 use Rattle.glob_match.specs.Pattern.{Lists, Has, Matches, star, question, bracket, closing}
 use Rattle.glob_match.specs.declared.element.Element.{Element}

@@ -1,4 +1,4 @@
--- The arguments of the code as `clap` reads them.
+-- The arguments of the code as `clap` reads them. No public meaning rests on this definition.
 use Rattle.std.specs.Prelude.{◌∷◌, []}
 use Rattle.clap.specs.Words.{Rule}
 use Rattle.kmod_words.specs.Arguments.{flag, required, valued, word, words}

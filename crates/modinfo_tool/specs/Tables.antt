@@ -1,4 +1,4 @@
--- Tables of what is told of parameters.
+-- Tables of what is told of parameters, as the code keeps them. No public meaning rests on this definition.
 use Rattle.std.specs.Prelude.{ℕ, List, Option, option_map}
 use Rattle.std.specs.Borrow.{Bor}
 use Rattle.std.specs.Str.{bytes_eq}

@@ -1,4 +1,4 @@
--- How the members of a group are found.
+-- How the code finds the members of a group. No public meaning rests on these definitions.
 use Rattle.std.specs.Prelude.{ℕ, List, [], ◌∷◌, Bool, true, false, ◌≡◌, ◌<◌, ◌||◌, ◌&&◌, ◌++◌, length, take}
 use Rattle.std.specs.Global.{Vec}
 use Rattle.relation_order.specs.Sets.{Relation, has, marked}

@@ -1,4 +1,5 @@
--- What is kept between groups: all that was found is listed, and with each module what comes before it.
+-- What the code keeps between groups: all that was found is listed, and with each module what comes before it. No public
+-- meaning rests on this definition.
 use Rattle.std.specs.Prelude.{ℕ, List, true, ◌≡◌, length}
 use Rattle.relation_order.specs.Sets.{Relation, has}
 use Rattle.relation_order.specs.Search.{Marks}

@@ -1,4 +1,4 @@
--- Requests that lead to no cycle.
+-- Requests that lead to no cycle, as the code passes that on. No public meaning rests on this definition.
 use Rattle.std.specs.Prelude.{ℕ, List, [], true, ◌≡◌}
 use Rattle.relation_order.specs.Sets.{Relation, has}
 use Rattle.relation_order.specs.Cycle.{cycle}

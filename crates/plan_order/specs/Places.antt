@@ -1,4 +1,4 @@
--- Modules by their places among some rising ones.
+-- Modules by their places among some rising ones, as the code names them. No public meaning rests on these definitions.
 use Rattle.std.specs.Prelude.{ℕ, List, false, ◌≡◌, ◌<◌, length, slice_index, Option, Some, None}
 use Rattle.std.specs.Global.{Vec}
 use Rattle.relation_order.specs.Sets.{Relation, has, goes}

@@ -5,7 +5,20 @@ ghost use Rattle.hex.specs.declared.error.FromHexError.TheVariants.{OutOfMemory}
 
 use hex::FromHexError;
 use km_names::Blob;
-use std::alloc::Global;
+use std::alloc::{AllocError, Global};
+
+/// Digits without the spaces between them.
+fn packed(alloc: Global, digits: &[u8]) -> Result<Vec<u8>, AllocError>
+    ensures { IfOk result (λ packed. packed.items ≡ filter (λ b. not (b == 32)) digits.now) }
+{
+    let mut packed = Vec::new(alloc);
+    for digit in digits {
+        if *digit != b' ' {
+            packed.push(*digit)?;
+        }
+    }
+    Ok(packed)
+}
 
 /// The bytes of hexadecimal digits, two for each byte. Spaces part the fields, and count for nothing.
 pub fn bytes_of(alloc: Global, digits: &str) -> Result<Blob, FromHexError>
@@ -13,11 +26,6 @@ pub fn bytes_of(alloc: Global, digits: &str) -> Result<Blob, FromHexError>
     ensures refused { IfErr result (λ fault.
         (fault ≡ OutOfMemory) ⊎ (decode_of (filter (λ b. not (b == 32)) digits.now) ≡ Err fault)) }
 {
-    let mut packed = Vec::new(alloc);
-    for digit in digits.as_bytes() {
-        if *digit != b' ' {
-            packed.push(*digit)?;
-        }
-    }
+    let packed = packed(alloc, digits.as_bytes())?;
     Ok(Blob::from_vec(hex::decode(alloc, packed.as_slice())?))
 }
