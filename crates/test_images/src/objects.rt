@@ -1,12 +1,12 @@
 // Objects by hand: the bytes were worked out from the ELF structures by a program of its own, and readelf
 // shows what the sheets say.
+use km_names::{Blob, List, Name, Names};
+use std::alloc::{AllocError, Global};
+use std::test::Fail;
 use tree_gen::{
     Sheet, SheetExport, SheetMore, SheetNeed, SheetPlace, SheetSpace, SheetVersion, is_sheet,
     object, object_more,
 };
-use km_names::{Blob, List, Name, Names};
-use std::alloc::{AllocError, Global};
-use std::test::Fail;
 
 /// What is not 0 in the object of one text, each run by its place.
 const TEXT_ALONE: [(usize, &[u8]); 35] = [

@@ -1,10 +1,10 @@
 // Trees by hand: lengths and hashes of files were worked out from the ELF structures and the generator of the draws
 // by a program of its own.
-use tree_gen::generate;
 use km_names::PathText;
 use km_outside::MemFiles;
 use std::alloc::{AllocError, Global};
 use std::test::Fail;
+use tree_gen::generate;
 
 /// Files by their paths, with how many bytes they have, and the hash of these.
 type Rows = [(&'static str, usize, u64); 4];

@@ -1,6 +1,6 @@
-use symbol_binding::{agree, may_use, sees};
 use km_names::{Name, Names};
 use std::test::Fail;
+use symbol_binding::{agree, may_use, sees};
 
 #[test]
 fn versions_of_64_and_of_32_bits(rt: HostRuntime) {

@@ -1,7 +1,7 @@
-use unmet_file::Unmet;
 use km_names::{ConfFault, PathText};
 use std::test::Fail;
 use symbol_binding::Unbound;
+use unmet_file::Unmet;
 
 #[test]
 fn a_line_of_each_form(rt: HostRuntime) -> Result<(), Fail> {

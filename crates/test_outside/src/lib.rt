@@ -6,4 +6,6 @@
 #[cfg(test)]
 mod courses;
 #[cfg(test)]
+mod streams;
+#[cfg(test)]
 mod world;

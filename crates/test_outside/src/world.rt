@@ -1,15 +1,14 @@
+use km_names::{Blob, Bytes, FILE_LIMIT, List, PathText};
 use km_outside::{
     CallKind, DiskFiles, FileAnswer, FileBuffer, Files, MemFiles, MemOut, Out, OutFailed,
-    ReplaceAnswer, StdErr, StdOut, Stream,
+    ReplaceAnswer, StdErr, StdOut,
 };
-use km_names::{Blob, Bytes, FILE_LIMIT, List, PathText};
 use std::alloc::Global;
+use std::fs;
 use std::fs::File;
-use std::io::{ErrorKind, Read, Write};
 use std::os::unix::fs::{PermissionsExt, symlink};
 use std::process::Abort;
 use std::test::Fail;
-use std::{fs, io};
 
 /// A read through the bound, as the crates above make it.
 fn read<F: Files>(files: &mut F, alloc: Global, path: &[u8]) -> Result<Blob, FileAnswer> {
@@ -17,7 +16,7 @@ fn read<F: Files>(files: &mut F, alloc: Global, path: &[u8]) -> Result<Blob, Fil
 }
 
 /// A write through the bound, as the crates above make it.
-fn write<O: Out>(out: &mut O, bytes: &[u8]) -> Result<(), OutFailed> {
+pub(crate) fn write<O: Out>(out: &mut O, bytes: &[u8]) -> Result<(), OutFailed> {
     out.write(bytes)
 }
 
@@ -346,145 +345,5 @@ fn real_files_are_replaced_whole_or_not_at_all(rt: HostRuntime) -> Result<(), Fa
 fn standard_outputs_take_a_text(rt: HostRuntime) -> Result<(), Fail> {
     assert!(rt; write(&mut StdOut::new(rt.stdout()), b"out\n").is_ok());
     assert!(rt; write(&mut StdErr::new(rt.stderr()), b"err\n").is_ok());
-    Ok(())
-}
-
-/// A stream that moves at most two bytes a call, by a list of what its next calls do.
-#[derive(Drop)]
-struct Stutter {
-    bytes: Vec<u8>,
-    calls: &'static [Step],
-    made: usize,
-}
-
-#[derive(Clone, Copy)]
-enum Step {
-    Moves,
-    Ends,
-    Fails(ErrorKind),
-}
-
-impl Stutter {
-    fn next(&mut self) -> Step {
-        let step = self.calls.get(self.made).copied().unwrap_or(Step::Ends);
-        self.made = self.made.saturating_add(1);
-        step
-    }
-}
-
-impl Write for Stutter {
-    fn write(&mut self, buf: &[u8]) -> io::Result<usize> {
-        match self.next() {
-            Step::Moves => {
-                let taken = &buf[..buf.len().min(2)];
-                self.bytes.extend_from_slice(taken)?;
-                Ok(taken.len())
-            }
-            Step::Ends => Ok(0),
-            Step::Fails(kind) => Err(io::Error::from(kind)),
-        }
-    }
-
-    fn flush(&mut self) -> io::Result<()> {
-        Ok(())
-    }
-}
-
-impl Read for Stutter {
-    fn read(&mut self, buf: &mut [u8]) -> io::Result<usize> {
-        match self.next() {
-            Step::Moves => {
-                let count = buf.len().min(2);
-                buf[..count].fill(b'x');
-                Ok(count)
-            }
-            Step::Ends => Ok(0),
-            Step::Fails(kind) => Err(io::Error::from(kind)),
-        }
-    }
-}
-
-/// The steps of a stream, whether it takes or gives all, and how many bytes were moved.
-static STEPS: [(&[Step], bool, usize); 5] = [
-    (&[Step::Moves, Step::Moves, Step::Moves], true, 5),
-    (
-        &[
-            Step::Fails(ErrorKind::Interrupted),
-            Step::Moves,
-            Step::Fails(ErrorKind::Interrupted),
-            Step::Moves,
-            Step::Moves,
-        ],
-        true,
-        5,
-    ),
-    (
-        &[Step::Moves, Step::Moves, Step::Fails(ErrorKind::BrokenPipe)],
-        false,
-        4,
-    ),
-    (
-        &[Step::Moves, Step::Ends, Step::Moves, Step::Moves],
-        false,
-        2,
-    ),
-    (
-        &[Step::Fails(ErrorKind::Other), Step::Moves, Step::Moves],
-        false,
-        0,
-    ),
-];
-
-#[test]
-fn a_write_takes_several_turns_or_fails(rt: HostRuntime) -> Result<(), Fail> {
-    for (calls, whole, length) in STEPS {
-        let mut writer = Stutter {
-            bytes: Vec::new(rt.alloc()),
-            calls,
-            made: 0,
-        };
-        let mut out = Stream::new(&mut writer);
-        assert_eq!(rt; write(&mut out, b"bytes").is_ok(), whole);
-        assert_eq!(rt; writer.bytes.as_slice(), &b"bytes"[..length]);
-    }
-    Ok(())
-}
-
-/// The steps of a reader, and how many bytes it gives, or none where it fails.
-static READS: [(&[Step], Option<usize>); 4] = [
-    (&[Step::Ends, Step::Moves], Some(0)),
-    (
-        &[Step::Moves, Step::Moves, Step::Ends, Step::Moves],
-        Some(4),
-    ),
-    (
-        &[
-            Step::Moves,
-            Step::Fails(ErrorKind::Interrupted),
-            Step::Moves,
-        ],
-        Some(4),
-    ),
-    (
-        &[Step::Moves, Step::Fails(ErrorKind::TimedOut), Step::Moves],
-        None,
-    ),
-];
-
-#[test]
-fn a_read_goes_on_to_the_end_or_fails(rt: HostRuntime) -> Result<(), Fail> {
-    for (calls, want) in READS {
-        let mut reader = Stutter {
-            bytes: Vec::new(rt.alloc()),
-            calls,
-            made: 0,
-        };
-        let mut buffer = FileBuffer::new(rt.alloc());
-        match (buffer.read_from(&mut reader, 0), want) {
-            (Ok(()), Some(length)) => assert_eq!(rt; buffer.as_bytes().len(), length),
-            (Err(error), None) => assert_eq!(rt; error.kind(), ErrorKind::TimedOut),
-            _ => panic!(rt; "another answer"),
-        }
-    }
     Ok(())
 }

@@ -115,7 +115,10 @@ fn each_prefix_is_refused(rt: HostRuntime) -> Result<(), Fail> {
                 need: 192,
             },
         };
-        let answer = Sections::read(rt.alloc(), Blob::from_slice(rt.alloc(), &LICENSE_OBJECT[..n])?);
+        let answer = Sections::read(
+            rt.alloc(),
+            Blob::from_slice(rt.alloc(), &LICENSE_OBJECT[..n])?,
+        );
         assert_eq!(rt; answer.err(), Some(fault), "the first {n} bytes");
     }
     Ok(())

@@ -1,6 +1,6 @@
-use modinfo_tool::{ShowOptions, show};
 use km_names::{Blob, Name, PathText};
 use modinfo_fields::fields;
+use modinfo_tool::{ShowOptions, show};
 use std::alloc::{AllocError, Global};
 use std::test::Fail;
 

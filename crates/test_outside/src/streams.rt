@@ -1,0 +1,232 @@
+use crate::world::write;
+use km_names::PathText;
+use km_outside::{DiskFiles, FileAnswer, FileBuffer, Reads, Stream};
+use std::alloc::{Allocator, Global};
+use std::fs::{Metadata, OpenFile, OpenOptions};
+use std::io::{ErrorKind, Read, Seek, SeekFrom, Write};
+use std::test::Fail;
+use std::{io, rt};
+
+/// A stream that moves at most two bytes a call, by a list of what its next calls do.
+#[derive(Drop)]
+struct Stutter {
+    bytes: Vec<u8>,
+    calls: &'static [Step],
+    made: usize,
+}
+
+#[derive(Clone, Copy)]
+enum Step {
+    Moves,
+    Ends,
+    Fails(ErrorKind),
+}
+
+impl Stutter {
+    fn next(&mut self) -> Step {
+        let step = self.calls.get(self.made).copied().unwrap_or(Step::Ends);
+        self.made = self.made.saturating_add(1);
+        step
+    }
+}
+
+impl Write for Stutter {
+    fn write(&mut self, buf: &[u8]) -> io::Result<usize> {
+        match self.next() {
+            Step::Moves => {
+                let taken = &buf[..buf.len().min(2)];
+                self.bytes.extend_from_slice(taken)?;
+                Ok(taken.len())
+            }
+            Step::Ends => Ok(0),
+            Step::Fails(kind) => Err(io::Error::from(kind)),
+        }
+    }
+
+    fn flush(&mut self) -> io::Result<()> {
+        Ok(())
+    }
+}
+
+impl Read for Stutter {
+    fn read(&mut self, buf: &mut [u8]) -> io::Result<usize> {
+        match self.next() {
+            Step::Moves => {
+                let count = buf.len().min(2);
+                buf[..count].fill(b'x');
+                Ok(count)
+            }
+            Step::Ends => Ok(0),
+            Step::Fails(kind) => Err(io::Error::from(kind)),
+        }
+    }
+}
+
+impl Seek for Stutter {
+    fn seek(&mut self, _to: SeekFrom) -> io::Result<u64> {
+        Err(refused())
+    }
+}
+
+impl OpenFile for Stutter {
+    fn metadata(&self) -> io::Result<Metadata> {
+        Err(refused())
+    }
+
+    fn set_len(&self, _size: u64) -> io::Result<()> {
+        Err(refused())
+    }
+
+    fn sync_all(&self) -> io::Result<()> {
+        Err(refused())
+    }
+
+    fn sync_data(&self) -> io::Result<()> {
+        Err(refused())
+    }
+}
+
+/// A machine that opens one stream under every path, and refuses all else.
+#[derive(Clone, Copy)]
+struct OneFile {
+    alloc: Global,
+    calls: &'static [Step],
+}
+
+/// What such a machine answers otherwise.
+fn refused() -> io::Error {
+    io::Error::from(ErrorKind::Unsupported)
+}
+
+impl rt::Files for OneFile {
+    type File = Stutter;
+
+    type Dir = Stutter;
+
+    fn open_file(&self, _how: &OpenOptions, _path: &str) -> io::Result<Stutter> {
+        Ok(Stutter {
+            bytes: Vec::new(self.alloc),
+            calls: self.calls,
+            made: 0,
+        })
+    }
+
+    fn open_dir(&self, _path: &str) -> io::Result<Stutter> {
+        Err(refused())
+    }
+
+    fn metadata(&self, _path: &str) -> io::Result<Metadata> {
+        Err(refused())
+    }
+
+    fn symlink_metadata(&self, _path: &str) -> io::Result<Metadata> {
+        Err(refused())
+    }
+
+    fn copy(&self, _from: &str, _to: &str) -> io::Result<u64> {
+        Err(refused())
+    }
+
+    fn rename(&self, _from: &str, _to: &str) -> io::Result<()> {
+        Err(refused())
+    }
+
+    fn remove_file(&self, _path: &str) -> io::Result<()> {
+        Err(refused())
+    }
+
+    fn create_dir(&self, _path: &str) -> io::Result<()> {
+        Err(refused())
+    }
+
+    fn remove_dir(&self, _path: &str) -> io::Result<()> {
+        Err(refused())
+    }
+
+    fn remove_dir_all<B: Allocator>(&self, _alloc: B, _path: &str) -> io::Result<()> {
+        Err(refused())
+    }
+}
+
+/// The steps of a stream, whether it takes or gives all, and how many bytes were moved.
+static STEPS: [(&[Step], bool, usize); 5] = [
+    (&[Step::Moves, Step::Moves, Step::Moves], true, 5),
+    (
+        &[
+            Step::Fails(ErrorKind::Interrupted),
+            Step::Moves,
+            Step::Fails(ErrorKind::Interrupted),
+            Step::Moves,
+            Step::Moves,
+        ],
+        true,
+        5,
+    ),
+    (
+        &[Step::Moves, Step::Moves, Step::Fails(ErrorKind::BrokenPipe)],
+        false,
+        4,
+    ),
+    (
+        &[Step::Moves, Step::Ends, Step::Moves, Step::Moves],
+        false,
+        2,
+    ),
+    (
+        &[Step::Fails(ErrorKind::Other), Step::Moves, Step::Moves],
+        false,
+        0,
+    ),
+];
+
+#[test]
+fn a_write_takes_several_turns_or_fails(rt: HostRuntime) -> Result<(), Fail> {
+    for (calls, whole, length) in STEPS {
+        let mut writer = Stutter {
+            bytes: Vec::new(rt.alloc()),
+            calls,
+            made: 0,
+        };
+        let mut out = Stream::new(&mut writer);
+        assert_eq!(rt; write(&mut out, b"bytes").is_ok(), whole);
+        assert_eq!(rt; writer.bytes.as_slice(), &b"bytes"[..length]);
+    }
+    Ok(())
+}
+
+/// The steps of a reader, and how many bytes it gives, or none where it fails.
+static READS: [(&[Step], Option<usize>); 4] = [
+    (&[Step::Ends, Step::Moves], Some(0)),
+    (
+        &[Step::Moves, Step::Moves, Step::Ends, Step::Moves],
+        Some(4),
+    ),
+    (
+        &[
+            Step::Moves,
+            Step::Fails(ErrorKind::Interrupted),
+            Step::Moves,
+        ],
+        Some(4),
+    ),
+    (
+        &[Step::Moves, Step::Fails(ErrorKind::TimedOut), Step::Moves],
+        None,
+    ),
+];
+
+#[test]
+fn a_read_goes_on_to_the_end_or_fails(rt: HostRuntime) -> Result<(), Fail> {
+    let alloc = rt.alloc();
+    let path = PathText::from_slice(alloc, b"file")?;
+    for (calls, want) in READS {
+        let mut files = DiskFiles::new((OneFile { alloc, calls }, alloc));
+        let mut buffer = FileBuffer::new(alloc);
+        match (files.read_into(&path, &mut buffer), want) {
+            (Ok(()), Some(length)) => assert_eq!(rt; buffer.as_bytes().len(), length),
+            (Err(answer), None) => assert_eq!(rt; answer, FileAnswer::Failed),
+            _ => panic!(rt; "another answer"),
+        }
+    }
+    Ok(())
+}
