@@ -1,5 +1,4 @@
-//! What a row over a tree comes to.
-
+// What a row over a tree comes to.
 use std::alloc::Global;
 use std::process::Abort;
 use std::test::Fail;

@@ -1,3 +1,4 @@
+// Trees that are indexed, and those that are refused.
 use crate::expect::expect_tree;
 use crate::sheets::{ALIASES, CIRCLE_A, CIRCLE_B, CIRCLE_C, CIRCLE_P};
 use km_outside::CallKind;

@@ -1,5 +1,4 @@
-//! Sheets of small modules, which rows share.
-
+// Sheets of small modules, which rows share.
 use test_objects::{EMPTY_SHEET, ExportRow, NeedRow, SheetRow};
 
 /// A module with two aliases, one of which has no normal form, and a soft dependency.

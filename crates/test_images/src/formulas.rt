@@ -1,3 +1,4 @@
+// The words of relocations.
 use elf_format::{
     R_X86_64_32, R_X86_64_32S, R_X86_64_64, R_X86_64_NONE, R_X86_64_PC32, R_X86_64_PC64,
     R_X86_64_PLT32, width,

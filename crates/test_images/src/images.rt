@@ -1,3 +1,4 @@
+// Images.
 use raw_image::Image;
 use std::test::Fail;
 

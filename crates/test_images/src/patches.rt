@@ -1,3 +1,4 @@
+// Patches that are applied to an image.
 ghost use Rattle.std.specs.Prelude.{◌≡◌};
 
 use km_names::List;

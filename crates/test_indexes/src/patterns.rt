@@ -1,3 +1,4 @@
+// Patterns.
 use glob_match::matches;
 use std::test::Fail;
 

@@ -1,5 +1,4 @@
-//! What a row over files comes to.
-
+// What a row over files comes to.
 use std::alloc::Global;
 use std::process::Abort;
 use std::test::Fail;

@@ -1,3 +1,4 @@
+// Modules that are shown by their names.
 use crate::expect::expect_over;
 use km_outside::CallKind;
 use std::alloc::Global;

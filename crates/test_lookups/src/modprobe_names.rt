@@ -1,3 +1,4 @@
+// What names stand for, by files of a folder and a configuration.
 use crate::expect::expect_over;
 use crate::modinfo_names::{CUT_VALUE, FORWARD_CHILD, REACHED_TWICE};
 use std::alloc::Global;

@@ -1,3 +1,4 @@
+// Modules that are shown by their paths.
 use km_outside::CallKind;
 use std::alloc::Global;
 use std::process::Abort;

@@ -1,5 +1,4 @@
-//! What rows over a tree that depmod indexed come to.
-
+// What rows over a tree that depmod indexed come to.
 use std::alloc::Global;
 use std::process::Abort;
 use std::test::Fail;

@@ -1,3 +1,4 @@
+// Loads into the modelled machine.
 use crate::expect::expect_indexed;
 use crate::sheets::{EXT4, JBD2, MBCACHE};
 use km_outside::CallKind;

@@ -1,3 +1,4 @@
+// Plans, and what is in the way of one.
 use crate::expect::expect_indexed;
 use crate::sheets::ASKS_FOR_MORE;
 use std::test::Fail;

@@ -1,5 +1,4 @@
-//! Sheets of small modules, which rows share.
-
+// Sheets of small modules, which rows share.
 use test_objects::{EMPTY_SHEET, ExportRow, NeedRow, PlaceRow, SheetRow};
 
 /// A module that needs `fa`, and asks for modules before and after it.

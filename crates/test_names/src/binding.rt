@@ -1,3 +1,4 @@
+// Whether versions agree, and who may use an export.
 use km_names::{Name, Names};
 use std::test::Fail;
 use symbol_binding::{agree, may_use, sees};

@@ -1,3 +1,4 @@
+// Lists and words.
 use km_names::{Blob, Name, Names, PathText, Word};
 use std::test::Fail;
 

@@ -1,3 +1,4 @@
+// The names of loaded modules.
 use loaded_list::Loaded;
 use std::test::Fail;
 

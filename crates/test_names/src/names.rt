@@ -1,3 +1,4 @@
+// Names of modules, paths, aliases, lines, words, strings and numbers.
 use km_names::{
     PathText, conf_lines, hexadecimal, is_compressed, is_graphic, join, module_name, normal_alias,
     split_word, string_at, words,

@@ -1,3 +1,4 @@
+// The rules of modprobe.d.
 ghost use Rattle.std.specs.Prelude.{◌≤◌, length, All, IfOk};
 ghost use Rattle.km_names.specs.Limit.{file_limit};
 

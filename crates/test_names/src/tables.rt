@@ -1,3 +1,4 @@
+// Tables of names.
 use name_table::{NameTable, OwnedNameTable};
 use std::alloc::{AllocError, Global};
 use std::test::Fail;

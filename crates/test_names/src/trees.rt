@@ -1,3 +1,4 @@
+// The tree of a listing, search lists, and dependency lines.
 ghost use Rattle.std.specs.Prelude.{◌≤◌, length, All, IfOk};
 ghost use Rattle.km_names.specs.Limit.{file_limit};
 

@@ -1,3 +1,4 @@
+// The lines of modules.unmet.
 use km_names::{ConfFault, PathText};
 use std::test::Fail;
 use symbol_binding::Unbound;

@@ -1,3 +1,4 @@
+// Acts of a course that are carried out, and the lines of its ends.
 use km_course::{
     End, Refusal, Stop, conclude, list_conf_needed, list_conf_optional, list_tree_needed, put,
     read_needed, read_needed_into, read_optional, say, say_any, warn,

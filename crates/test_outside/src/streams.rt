@@ -1,3 +1,4 @@
+// Streams that move some bytes a call.
 use crate::world::write;
 use km_names::PathText;
 use km_outside::{DiskFiles, FileAnswer, FileBuffer, Reads, Stream};

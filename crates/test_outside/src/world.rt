@@ -1,3 +1,4 @@
+// Files and outputs, in memory and real.
 use km_names::{Blob, Bytes, FILE_LIMIT, List, PathText};
 use km_outside::{
     CallKind, DiskFiles, FileAnswer, FileBuffer, Files, MemFiles, MemOut, Out, OutFailed,

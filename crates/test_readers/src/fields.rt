@@ -1,3 +1,4 @@
+// The fields of a `.modinfo` section.
 use modinfo_fields::{Field, field_values, fields};
 use std::alloc::{AllocError, Global};
 use std::process::Abort;

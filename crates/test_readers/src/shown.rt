@@ -1,3 +1,4 @@
+// What modinfo shows of a module.
 use km_names::{Blob, Name, PathText};
 use modinfo_fields::fields;
 use modinfo_tool::{ShowOptions, show};
