@@ -1,3 +1,2 @@
 pub mod TableSteps
-pub mod PieceLemmas
 pub mod SeenSteps

@@ -1,3 +1,2 @@
 pub mod NameTable
-pub mod Pieces
 pub mod FirstSeen

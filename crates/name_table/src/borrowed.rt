@@ -4,16 +4,17 @@ ghost use Rattle.std.specs.Str.{bytes_eq};
 ghost use Rattle.indexmap.specs.IndexMap.{get_by, IsUnchanged};
 ghost use Rattle.name_table.specs.NameTable.{IsTableOf, place_of};
 
-use crate::key::Key;
+use crate::key::{Key, NameHash};
 use indexmap::IndexMap;
 use std::alloc::{AllocError, Global};
+use std::hash::BuildHasherDefault;
 use std::marker::Model;
 
 /// For each of some names the place of the first item that states it. The names stand elsewhere. Contracts see the
 /// names with their places, and the count of items.
 #[derive(Drop)]
 pub struct NameTable<'a> {
-    places: IndexMap<Key<'a>, u32>,
+    places: IndexMap<Key<'a>, u32, NameHash>,
     count: u32,
 }
 
@@ -29,7 +30,7 @@ impl<'a> Model for NameTable<'a> {
 // Puts a name in with its place; one that was there gets back the place that it had. So a new name, as most are, is
 // looked up once.
 fn keep_first<'a>(
-    places: &mut IndexMap<Key<'a>, u32>,
+    places: &mut IndexMap<Key<'a>, u32, NameHash>,
     name: &'a [u8],
     place: u32,
 ) -> Result<(), AllocError>
@@ -51,7 +52,7 @@ impl<'a> NameTable<'a> {
         ensures count { result.count ≡ 0 }
     {
         NameTable {
-            places: IndexMap::new(alloc),
+            places: IndexMap::with_hasher(alloc, BuildHasherDefault::new()),
             count: 0,
         }
     }
@@ -62,7 +63,7 @@ impl<'a> NameTable<'a> {
         ensures count { IfOk result (λ table. table.count ≡ 0) }
     {
         Ok(NameTable {
-            places: IndexMap::with_capacity(alloc, names)?,
+            places: IndexMap::with_capacity_and_hasher(alloc, names, BuildHasherDefault::new())?,
             count: 0,
         })
     }

@@ -1,17 +1,17 @@
-// Names as keys of tables.
-ghost use Rattle.std.specs.Prelude.{◌≡◌, nat_eq};
+// Names as keys of tables, and how they are hashed.
+ghost use Rattle.std.specs.Prelude.{◌≡◌, nat_eq, [], ◌∷◌};
 ghost use Rattle.std.specs.Cmp.Lexicographic.{bytes_decides, pointwise, nat_list_eq_equiv};
 ghost use Rattle.std.specs.Cmp.{partial_equiv_from_equiv, on_per, on_equiv};
 ghost use Rattle.std.proofs.Common.{ap};
-ghost use Rattle.name_table.specs.Pieces.{pieces};
 
-use std::hash::{Hash, Hasher};
+use std::hash::{BuildHasherDefault, DefaultHasher, Hash, Hasher};
 
-/// How many bytes are hashed at once.
-const PIECE: usize = 8;
+/// What hashes the names of a table: SipHash-1-3 with both keys 0. Names come from files, which anybody may have written.
+/// The library's fast hasher joins what it is given by a product that can be made 0, so names that all have one hash can
+/// be computed; for SipHash nothing better than trying is known.
+pub type NameHash = BuildHasherDefault<DefaultHasher>;
 
-/// A name that is hashed 8 bytes at a time; a slice is hashed byte by byte. Longer pieces aren't taken: the hasher
-/// joins what it is given by a product, and one factor of a longer piece is free to make that 0.
+/// A name that the hasher is given whole; a slice gives it the length and then each byte alone, which takes longer.
 #[derive(Clone, Copy)]
 pub(crate) struct Key<'a> {
     pub(crate) bytes: &'a [u8],
@@ -41,16 +41,11 @@ impl<'a> Eq for Key<'a> {
 }
 
 impl<'a> Hash for Key<'a> {
-    ghost hash_input = { λ k. pieces k.bytes.now };
+    ghost hash_input = { λ k. k.bytes.now ∷ [] };
 
-    ghost respects_eq = { λ x y same. ap pieces ((bytes_decides x.bytes.now y.bytes.now).0 same) };
+    ghost respects_eq = { λ x y same. ap (λ bytes. bytes ∷ []) ((bytes_decides x.bytes.now y.bytes.now).0 same) };
 
     fn hash<H: Hasher>(&self, state: &mut H) {
-        let mut rest = self.bytes;
-        for _ in 0..self.bytes.len() / PIECE + 1 {
-            let (piece, after) = rest.split_at(rest.len().min(PIECE));
-            state.write(piece);
-            rest = after;
-        }
+        state.write(self.bytes);
     }
 }

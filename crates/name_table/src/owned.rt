@@ -4,15 +4,17 @@ ghost use Rattle.std.specs.Str.{bytes_eq};
 ghost use Rattle.indexmap.specs.IndexMap.{get_by, IsUnchanged};
 ghost use Rattle.name_table.specs.NameTable.{IsTableOf, place_of};
 
+use crate::key::NameHash;
 use indexmap::IndexMap;
 use std::alloc::{AllocError, Global};
+use std::hash::BuildHasherDefault;
 use std::marker::Model;
 
 /// For each of some names the place of the first item that states it. The table has copies of the names. Contracts
 /// see the names with their places, and the count of items.
 #[derive(Drop)]
 pub struct OwnedNameTable {
-    places: IndexMap<Vec<u8>, u32>,
+    places: IndexMap<Vec<u8>, u32, NameHash>,
     count: u32,
 }
 
@@ -28,7 +30,7 @@ impl Model for OwnedNameTable {
 // Puts a copy of a name in with its place, unless the name is there.
 fn keep_first(
     alloc: Global,
-    places: &mut IndexMap<Vec<u8>, u32>,
+    places: &mut IndexMap<Vec<u8>, u32, NameHash>,
     name: &[u8],
     place: u32,
 ) -> Result<(), AllocError>
@@ -49,7 +51,7 @@ impl OwnedNameTable {
         ensures count { result.count ≡ 0 }
     {
         OwnedNameTable {
-            places: IndexMap::new(alloc),
+            places: IndexMap::with_hasher(alloc, BuildHasherDefault::new()),
             count: 0,
         }
     }

@@ -2,15 +2,17 @@ ghost use Rattle.std.specs.Prelude.{◌≡◌, ◌++◌, ◌∷◌, ◌||◌, �
 ghost use Rattle.std.specs.Str.{bytes_eq};
 ghost use Rattle.name_table.specs.FirstSeen.{first_seen, is_among, with_name};
 
+use crate::key::NameHash;
 use indexmap::IndexSet;
 use std::alloc::{AllocError, Global};
+use std::hash::BuildHasherDefault;
 use std::marker::Model;
 
 /// Names without repeats, in the order in which they were first put in. The names stand elsewhere. Contracts see the
 /// list of names.
 #[derive(Drop)]
 pub struct NameSet<'a> {
-    names: IndexSet<&'a [u8]>,
+    names: IndexSet<&'a [u8], NameHash>,
 }
 
 impl<'a> Model for NameSet<'a> {
@@ -27,7 +29,7 @@ impl<'a> NameSet<'a> {
         ensures { result ≡ [] }
     {
         NameSet {
-            names: IndexSet::new(alloc),
+            names: IndexSet::with_hasher(alloc, BuildHasherDefault::new()),
         }
     }
 
