@@ -8,8 +8,10 @@ ghost use Rattle.model_loader.specs.Standing.{standing_in, standing_of};
 
 use indexmap::IndexMap;
 use km_names::Name;
+use name_table::NameHash;
 use std::alloc::{AllocError, Global};
 use std::collections::VecDeque;
+use std::hash::BuildHasherDefault;
 
 /// What is kept of an exported name: what those ask for who need it, and who exports it.
 #[derive(Debug, Drop)]
@@ -31,7 +33,7 @@ pub(crate) struct Named {
 /// For each exported name what is kept of it.
 #[derive(Drop)]
 pub(crate) struct ExportTable {
-    standings: IndexMap<Vec<u8>, Standing>,
+    standings: IndexMap<Vec<u8>, Standing, NameHash>,
 }
 
 impl ExportTable {
@@ -40,7 +42,7 @@ impl ExportTable {
         ensures { (x : List ℕ) → standing_of result x ≡ None }
     {
         ExportTable {
-            standings: IndexMap::new(alloc),
+            standings: IndexMap::with_hasher(alloc, BuildHasherDefault::new()),
         }
     }
 

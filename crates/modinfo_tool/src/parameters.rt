@@ -7,10 +7,12 @@ ghost use Rattle.modinfo_tool.specs.Tables.{told_in};
 use indexmap::{IndexMap, IndexSet};
 use km_names::{Blob, Texts, split_at_byte};
 use modinfo_fields::{Field, FieldList};
+use name_table::NameHash;
 use std::alloc::{AllocError, Global};
+use std::hash::BuildHasherDefault;
 
 // What is told of parameters, by their names.
-type Told<'a> = IndexMap<&'a [u8], &'a [u8]>;
+type Told<'a> = IndexMap<&'a [u8], &'a [u8], NameHash>;
 
 /// Whether the field tells of a parameter.
 pub(crate) fn is_parameter(field: &Field) -> bool
@@ -82,7 +84,7 @@ fn describe(
 fn first_told<'a>(alloc: Global, values: &'a [Blob]) -> Result<Told<'a>, AllocError>
     ensures { IfOk result (λ told. (name : List ℕ) → told_in told name ≡ first_told_of values.now name) }
 {
-    let mut told = IndexMap::new(alloc);
+    let mut told = IndexMap::with_hasher(alloc, BuildHasherDefault::new());
     for value in values {
         let (name, rest) = split_at_byte(value.as_bytes(), b':');
         keep_first(&mut told, name, rest)?;
@@ -105,10 +107,10 @@ fn keep_first<'a>(told: &mut Told<'a>, name: &'a [u8], rest: &'a [u8]) -> Result
 fn parameter_names<'a>(
     alloc: Global,
     fields: &'a FieldList,
-) -> Result<IndexSet<&'a [u8]>, AllocError>
+) -> Result<IndexSet<&'a [u8], NameHash>, AllocError>
     ensures { IfOk result (λ names. map (λ name. name.now) names.keys ≡ names_of_parameters fields.now) }
 {
-    let mut names = IndexSet::new(alloc);
+    let mut names = IndexSet::with_hasher(alloc, BuildHasherDefault::new());
     for i in 0..fields.len() {
         if let Some(field) = fields.get(i) {
             if is_parameter(field) {

@@ -4,12 +4,21 @@ ghost use Rattle.std.specs.Prelude.{◌≡◌, ℕ, List, None, Some, OnOk, if�
 ghost use Rattle.std.specs.Str.{bytes_eq};
 
 use indexmap::IndexMap;
+use name_table::NameHash;
 use std::alloc::{AllocError, Global};
+use std::hash::BuildHasherDefault;
 
-/// How often some names were seen: once, or 2 for more.
+/// How often a name was seen.
+#[derive(Debug, Clone, Copy, PartialEq, Eq)]
+pub(crate) enum Seen {
+    Once,
+    Again,
+}
+
+/// How often some names were seen.
 #[derive(Drop)]
 pub(crate) struct SeenNames<'a> {
-    times: IndexMap<&'a [u8], u8>,
+    times: IndexMap<&'a [u8], Seen, NameHash>,
 }
 
 impl<'a> SeenNames<'a> {
@@ -20,12 +29,12 @@ impl<'a> SeenNames<'a> {
         ensures { (name : List ℕ) → times_seen result name ≡ None }
     {
         SeenNames {
-            times: IndexMap::new(alloc),
+            times: IndexMap::with_hasher(alloc, BuildHasherDefault::new()),
         }
     }
 
     /// Puts in how often a name was seen.
-    pub(crate) fn put(&mut self, name: &'a [u8], times: u8) -> Result<(), AllocError>
+    pub(crate) fn put(&mut self, name: &'a [u8], times: Seen) -> Result<(), AllocError>
         ensures { OnOk result ((other : List ℕ) → times_seen self.new other
             ≡ (if bytes_eq name.now other then Some times else times_seen self.old other)) }
     {
@@ -34,7 +43,7 @@ impl<'a> SeenNames<'a> {
     }
 
     /// How often a name was seen, if it was.
-    pub(crate) fn get(&self, name: &[u8]) -> Option<u8>
+    pub(crate) fn get(&self, name: &[u8]) -> Option<Seen>
         ensures { result ≡ times_seen self.now name.now }
     {
         self.times.get(name).copied()

@@ -1,5 +1,5 @@
 -- Names without repeats, with one more name.
-use Rattle.std.proofs.Common.{◌≡◌, ℕ, Bool, true, false, cond, not, ◌||◌, List, [], ◌∷◌, ◌++◌, Bor, map, filter, refl, sym, ap, ◌∙◌, append-nil}
+use Rattle.std.proofs.Common.{◌≡◌, ℕ, Bool, true, false, cond, not, ◌||◌, List, [], ◌∷◌, ◌++◌, map, filter, refl, sym, ap, ◌∙◌, append-nil}
 use Rattle.std.specs.List.{list_any}
 use Rattle.std.specs.Str.{bytes_eq}
 use Rattle.std.proofs.lemmas.Cmp.{nat_list_eq_equiv}
@@ -61,35 +61,33 @@ first_seen-push [] y = refl
 first_seen-push (x ∷ xs) y =
     ap (λ l. x ∷ filter (is_other x) l) (first_seen-push xs y) ∙ seen-later x y (first_seen xs) (bytes_eq y x) refl (list_any (bytes_eq y) (first_seen xs)) refl
 
-pub any-shown : (name : List ℕ) (ks : List (Bor (List ℕ))) → list_any (bytes_eq name) (map (λ (n : Bor (List ℕ)). n.now) ks) ≡ list_any (λ (y : Bor (List ℕ)). bytes_eq name y.now) ks
-any-shown name [] = refl
-any-shown name (k ∷ ks) = ap (λ b. bytes_eq name k.now || b) (any-shown name ks)
+-- names by the keys that they stand in
+module _ {K : Type 0} (bytes : K → List ℕ) where
+  pub any-shown : (name : List ℕ) (ks : List K) → list_any (bytes_eq name) (map bytes ks) ≡ list_any (λ k. bytes_eq name (bytes k)) ks
+  any-shown name [] = refl
+  any-shown name (k ∷ ks) = ap (λ b. bytes_eq name (bytes k) || b) (any-shown name ks)
 
-shown-push : (ks : List (Bor (List ℕ))) (k : Bor (List ℕ)) → map (λ (n : Bor (List ℕ)). n.now) (ks ++ k ∷ []) ≡ map (λ (n : Bor (List ℕ)). n.now) ks ++ k.now ∷ []
-shown-push [] k = refl
-shown-push (x ∷ ks) k = ap (λ l. x.now ∷ l) (shown-push ks k)
+  shown-push : (ks : List K) (k : K) → map bytes (ks ++ k ∷ []) ≡ map bytes ks ++ bytes k ∷ []
+  shown-push [] k = refl
+  shown-push (x ∷ ks) k = ap (λ l. bytes x ∷ l) (shown-push ks k)
 
--- the names of some keys after one more is put in
-keys-put : (ks : List (Bor (List ℕ))) (k : Bor (List ℕ))
-    → map (λ (n : Bor (List ℕ)). n.now) (insert_key (λ (x y : Bor (List ℕ)). bytes_eq x.now y.now) ks k)
-    ≡ cond (list_any (bytes_eq k.now) (map (λ (n : Bor (List ℕ)). n.now) ks)) (map (λ (n : Bor (List ℕ)). n.now) ks) (map (λ (n : Bor (List ℕ)). n.now) ks ++ k.now ∷ [])
-keys-put ks k = by (list_any (λ (y : Bor (List ℕ)). bytes_eq k.now y.now) ks) refl
-  where
-    by : (b : Bool) → list_any (λ (y : Bor (List ℕ)). bytes_eq k.now y.now) ks ≡ b
-        → map (λ (n : Bor (List ℕ)). n.now) (cond (list_any (λ (y : Bor (List ℕ)). bytes_eq k.now y.now) ks) ks (ks ++ k ∷ []))
-        ≡ cond (list_any (bytes_eq k.now) (map (λ (n : Bor (List ℕ)). n.now) ks)) (map (λ (n : Bor (List ℕ)). n.now) ks) (map (λ (n : Bor (List ℕ)). n.now) ks ++ k.now ∷ [])
-    by true is =
-        ap (λ b. map (λ (n : Bor (List ℕ)). n.now) (cond b ks (ks ++ k ∷ []))) is
-        ∙ sym (ap (λ b. cond b (map (λ (n : Bor (List ℕ)). n.now) ks) (map (λ (n : Bor (List ℕ)). n.now) ks ++ k.now ∷ [])) (any-shown k.now ks ∙ is))
-    by false is =
-        ap (λ b. map (λ (n : Bor (List ℕ)). n.now) (cond b ks (ks ++ k ∷ []))) is
-        ∙ shown-push ks k
-        ∙ sym (ap (λ b. cond b (map (λ (n : Bor (List ℕ)). n.now) ks) (map (λ (n : Bor (List ℕ)). n.now) ks ++ k.now ∷ [])) (any-shown k.now ks ∙ is))
+  -- the names of some keys after one more is put in
+  keys-put : (ks : List K) (k : K) → map bytes (insert_key (λ x y. bytes_eq (bytes x) (bytes y)) ks k) ≡ with_name (map bytes ks) (bytes k)
+  keys-put ks k = by (list_any (λ y. bytes_eq (bytes k) (bytes y)) ks) refl
+    where
+      by : (b : Bool) → list_any (λ y. bytes_eq (bytes k) (bytes y)) ks ≡ b
+          → map bytes (cond (list_any (λ y. bytes_eq (bytes k) (bytes y)) ks) ks (ks ++ k ∷ [])) ≡ cond (list_any (bytes_eq (bytes k)) (map bytes ks)) (map bytes ks) (map bytes ks ++ bytes k ∷ [])
+      by true is =
+          ap (λ b. map bytes (cond b ks (ks ++ k ∷ []))) is
+          ∙ sym (ap (λ b. cond b (map bytes ks) (map bytes ks ++ bytes k ∷ [])) (any-shown (bytes k) ks ∙ is))
+      by false is =
+          ap (λ b. map bytes (cond b ks (ks ++ k ∷ []))) is
+          ∙ shown-push ks k
+          ∙ sym (ap (λ b. cond b (map bytes ks) (map bytes ks ++ bytes k ∷ [])) (any-shown (bytes k) ks ∙ is))
 
--- a set's names after one more is put in, by the keys of the map that it stands in
-pub with_name-put : (ks new : List (Bor (List ℕ))) (k : Bor (List ℕ)) → new ≡ insert_key (λ (x y : Bor (List ℕ)). bytes_eq x.now y.now) ks k
-    → map (λ (n : Bor (List ℕ)). n.now) new ≡ with_name (map (λ (n : Bor (List ℕ)). n.now) ks) k.now
-with_name-put ks new k put = ap (map (λ (n : Bor (List ℕ)). n.now)) put ∙ keys-put ks k
+  -- a set's names after one more is put in, by the keys of the map that it stands in
+  pub with_name-put : (ks new : List K) (k : K) → new ≡ insert_key (λ x y. bytes_eq (bytes x) (bytes y)) ks k → map bytes new ≡ with_name (map bytes ks) (bytes k)
+  with_name-put ks new k put = ap (map bytes) put ∙ keys-put ks k
 
 pub seen_with_name : (names seen : List (List ℕ)) (name : List ℕ) → seen ≡ first_seen names → with_name seen name ≡ first_seen (names ++ name ∷ [])
 seen_with_name names seen name is = ap (λ l. with_name l name) is ∙ sym (first_seen-push names name)

@@ -1,2 +1,3 @@
 pub mod NameTable
 pub mod FirstSeen
+pub mod Keys

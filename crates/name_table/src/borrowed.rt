@@ -4,7 +4,7 @@ ghost use Rattle.std.specs.Str.{bytes_eq};
 ghost use Rattle.indexmap.specs.IndexMap.{get_by, IsUnchanged};
 ghost use Rattle.name_table.specs.NameTable.{IsTableOf, place_of};
 
-use crate::key::{Key, NameHash};
+use crate::key::{NameHash, NameKey};
 use indexmap::IndexMap;
 use std::alloc::{AllocError, Global};
 use std::hash::BuildHasherDefault;
@@ -14,7 +14,7 @@ use std::marker::Model;
 /// names with their places, and the count of items.
 #[derive(Drop)]
 pub struct NameTable<'a> {
-    places: IndexMap<Key<'a>, u32, NameHash>,
+    places: IndexMap<NameKey<'a>, u32, NameHash>,
     count: u32,
 }
 
@@ -30,7 +30,7 @@ impl<'a> Model for NameTable<'a> {
 // Puts a name in with its place; one that was there gets back the place that it had. So a new name, as most are, is
 // looked up once.
 fn keep_first<'a>(
-    places: &mut IndexMap<Key<'a>, u32, NameHash>,
+    places: &mut IndexMap<NameKey<'a>, u32, NameHash>,
     name: &'a [u8],
     place: u32,
 ) -> Result<(), AllocError>
@@ -38,7 +38,7 @@ fn keep_first<'a>(
         ≡ option_or (get_by (λ k. bytes_eq other k.bytes.now) places.old) (if bytes_eq name.now other then Some place else None)) }
     ensures err { OnErr result (IsUnchanged places.old places.new) }
 {
-    let key = Key::new(name);
+    let key = NameKey::new(name);
     if let Some(first) = places.insert(key, place)? {
         places.insert(key, first)?;
     }
@@ -87,6 +87,6 @@ impl<'a> NameTable<'a> {
     pub fn place(&self, name: &[u8]) -> Option<u32>
         ensures { result ≡ place_of self.now name.now }
     {
-        self.places.get(&Key::new(name)).copied()
+        self.places.get(&NameKey::new(name)).copied()
     }
 }

@@ -3,6 +3,7 @@ ghost use Rattle.std.specs.Prelude.{◌≡◌, nat_eq, [], ◌∷◌};
 ghost use Rattle.std.specs.Cmp.Lexicographic.{bytes_decides, pointwise, nat_list_eq_equiv};
 ghost use Rattle.std.specs.Cmp.{partial_equiv_from_equiv, on_per, on_equiv};
 ghost use Rattle.std.proofs.Common.{ap};
+ghost use Rattle.name_table.specs.Keys.{name_of};
 
 use std::hash::{BuildHasherDefault, DefaultHasher, Hash, Hasher};
 
@@ -11,22 +12,24 @@ use std::hash::{BuildHasherDefault, DefaultHasher, Hash, Hasher};
 /// be computed; for SipHash nothing better than trying is known.
 pub type NameHash = BuildHasherDefault<DefaultHasher>;
 
-/// A name that the hasher is given whole; a slice gives it the length and then each byte alone, which takes longer.
+/// A name as a key of a table that borrows its names. The hasher is given the name whole; a slice gives it the length
+/// and then each byte alone, which takes twice as long.
 #[derive(Clone, Copy)]
-pub(crate) struct Key<'a> {
-    pub(crate) bytes: &'a [u8],
+pub struct NameKey<'a> {
+    /// The name.
+    pub bytes: &'a [u8],
 }
 
-impl<'a> Key<'a> {
+impl<'a> NameKey<'a> {
     /// The key of a name.
-    pub(crate) fn new(bytes: &'a [u8]) -> Self
+    pub fn new(bytes: &'a [u8]) -> Self
         ensures { result.bytes.now ≡ bytes.now }
     {
-        Key { bytes }
+        NameKey { bytes }
     }
 }
 
-impl<'a> PartialEq for Key<'a> {
+impl<'a> PartialEq for NameKey<'a> {
     ghost eq = { λ x y. pointwise nat_eq x.bytes.now y.bytes.now };
 
     ghost laws = { on_per (λ k. k.bytes.now) (partial_equiv_from_equiv nat_list_eq_equiv) };
@@ -36,16 +39,61 @@ impl<'a> PartialEq for Key<'a> {
     }
 }
 
-impl<'a> Eq for Key<'a> {
+impl<'a> Eq for NameKey<'a> {
     ghost laws = { on_equiv (λ k. k.bytes.now) nat_list_eq_equiv };
 }
 
-impl<'a> Hash for Key<'a> {
+impl<'a> Hash for NameKey<'a> {
     ghost hash_input = { λ k. k.bytes.now ∷ [] };
 
     ghost respects_eq = { λ x y same. ap (λ bytes. bytes ∷ []) ((bytes_decides x.bytes.now y.bytes.now).0 same) };
 
     fn hash<H: Hasher>(&self, state: &mut H) {
         state.write(self.bytes);
+    }
+}
+
+/// A name as a key of a table that owns its names. The hasher is given the name whole, as by [`NameKey`].
+#[derive(Drop)]
+pub enum OwnedNameKey<'a> {
+    /// A name that the table owns.
+    Owned(Vec<u8>),
+    /// A name that the table is asked for.
+    Asked(&'a [u8]),
+}
+
+impl<'a> OwnedNameKey<'a> {
+    /// The name.
+    pub fn bytes(&self) -> &[u8]
+        ensures { result.now ≡ name_of self.now }
+    {
+        match self {
+            OwnedNameKey::Owned(bytes) => bytes.as_slice(),
+            OwnedNameKey::Asked(bytes) => bytes,
+        }
+    }
+}
+
+impl<'a> PartialEq for OwnedNameKey<'a> {
+    ghost eq = { λ x y. pointwise nat_eq (name_of x) (name_of y) };
+
+    ghost laws = { on_per name_of (partial_equiv_from_equiv nat_list_eq_equiv) };
+
+    fn eq(&self, other: &Self) -> bool {
+        self.bytes() == other.bytes()
+    }
+}
+
+impl<'a> Eq for OwnedNameKey<'a> {
+    ghost laws = { on_equiv name_of nat_list_eq_equiv };
+}
+
+impl<'a> Hash for OwnedNameKey<'a> {
+    ghost hash_input = { λ k. name_of k ∷ [] };
+
+    ghost respects_eq = { λ x y same. ap (λ bytes. bytes ∷ []) ((bytes_decides (name_of x) (name_of y)).0 same) };
+
+    fn hash<H: Hasher>(&self, state: &mut H) {
+        state.write(self.bytes());
     }
 }

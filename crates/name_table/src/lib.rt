@@ -12,6 +12,6 @@ mod owned;
 mod set;
 
 pub use borrowed::NameTable;
-pub use key::NameHash;
+pub use key::{NameHash, NameKey, OwnedNameKey};
 pub use owned::OwnedNameTable;
 pub use set::NameSet;

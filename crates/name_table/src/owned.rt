@@ -2,9 +2,10 @@ ghost use Rattle.std.specs.Prelude.{◌≡◌, ◌<◌, ◌+◌, ◌-◌, ◌^�
 ghost use Rattle.std.specs.Option.{option_or};
 ghost use Rattle.std.specs.Str.{bytes_eq};
 ghost use Rattle.indexmap.specs.IndexMap.{get_by, IsUnchanged};
+ghost use Rattle.name_table.specs.Keys.{name_of};
 ghost use Rattle.name_table.specs.NameTable.{IsTableOf, place_of};
 
-use crate::key::NameHash;
+use crate::key::{NameHash, OwnedNameKey};
 use indexmap::IndexMap;
 use std::alloc::{AllocError, Global};
 use std::hash::BuildHasherDefault;
@@ -14,32 +15,34 @@ use std::marker::Model;
 /// see the names with their places, and the count of items.
 #[derive(Drop)]
 pub struct OwnedNameTable {
-    places: IndexMap<Vec<u8>, u32, NameHash>,
+    places: IndexMap<OwnedNameKey<'static>, u32, NameHash>,
     count: u32,
 }
 
 impl Model for OwnedNameTable {
     ghost use Rattle.std.specs.Prelude.{map};
+    ghost use Rattle.name_table.specs.Keys.{name_of};
     ghost use Rattle.name_table.specs.NameTable.{Table};
 
     ghost Value = { Table };
 
-    ghost view = { λ t. record { entries = map (λ e. (e.0.items, e.1)) t.places.entries; count = t.count } };
+    ghost view = { λ t. record { entries = map (λ e. (name_of e.0, e.1)) t.places.entries; count = t.count } };
 }
 
 // Puts a copy of a name in with its place, unless the name is there.
 fn keep_first(
     alloc: Global,
-    places: &mut IndexMap<Vec<u8>, u32, NameHash>,
+    places: &mut IndexMap<OwnedNameKey<'static>, u32, NameHash>,
     name: &[u8],
     place: u32,
 ) -> Result<(), AllocError>
-    ensures ok { OnOk result ((other : List ℕ) → get_by (λ k. bytes_eq other k.items) places.new
-        ≡ option_or (get_by (λ k. bytes_eq other k.items) places.old) (if bytes_eq name.now other then Some place else None)) }
+    ensures ok { OnOk result ((other : List ℕ) → get_by (λ k. bytes_eq other (name_of k)) places.new
+        ≡ option_or (get_by (λ k. bytes_eq other (name_of k)) places.old) (if bytes_eq name.now other then Some place else None)) }
     ensures err { OnErr result (IsUnchanged places.old places.new) }
 {
-    if places.get(name).is_none() {
-        places.insert(Vec::from_slice(alloc, name)?, place)?;
+    if places.get(&OwnedNameKey::Asked(name)).is_none() {
+        let key = OwnedNameKey::Owned(Vec::from_slice(alloc, name)?);
+        places.insert(key, place)?;
     }
     Ok(())
 }
@@ -75,6 +78,6 @@ impl OwnedNameTable {
     pub fn place(&self, name: &[u8]) -> Option<u32>
         ensures { result ≡ place_of self.now name.now }
     {
-        self.places.get(name).copied()
+        self.places.get(&OwnedNameKey::Asked(name)).copied()
     }
 }

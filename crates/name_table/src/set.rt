@@ -2,7 +2,7 @@ ghost use Rattle.std.specs.Prelude.{◌≡◌, ◌++◌, ◌∷◌, ◌||◌, �
 ghost use Rattle.std.specs.Str.{bytes_eq};
 ghost use Rattle.name_table.specs.FirstSeen.{first_seen, is_among, with_name};
 
-use crate::key::NameHash;
+use crate::key::{NameHash, NameKey};
 use indexmap::IndexSet;
 use std::alloc::{AllocError, Global};
 use std::hash::BuildHasherDefault;
@@ -12,7 +12,7 @@ use std::marker::Model;
 /// list of names.
 #[derive(Drop)]
 pub struct NameSet<'a> {
-    names: IndexSet<&'a [u8], NameHash>,
+    names: IndexSet<NameKey<'a>, NameHash>,
 }
 
 impl<'a> Model for NameSet<'a> {
@@ -20,7 +20,7 @@ impl<'a> Model for NameSet<'a> {
 
     ghost Value = { List (List ℕ) };
 
-    ghost view = { λ s. map (λ name. name.now) s.names.keys };
+    ghost view = { λ s. map (λ key. key.bytes.now) s.names.keys };
 }
 
 impl<'a> NameSet<'a> {
@@ -41,7 +41,7 @@ impl<'a> NameSet<'a> {
         ensures among { OnOk result ((other : List ℕ) → is_among self.new other ≡ (is_among self.old other || bytes_eq other name.now)) }
         ensures err { OnErr result (self.new ≡ self.old) }
     {
-        self.names.insert(name)?;
+        self.names.insert(NameKey::new(name))?;
         Ok(())
     }
 
@@ -49,14 +49,15 @@ impl<'a> NameSet<'a> {
     pub fn contains(&self, name: &[u8]) -> bool
         ensures { result ≡ is_among self.now name.now }
     {
-        self.names.contains(name)
+        self.names.contains(&NameKey::new(name))
     }
 
     /// The name at a place, from 0.
     pub fn get(&self, place: usize) -> Option<&'a [u8]>
         ensures { option_map (λ name. name.now) result ≡ slice_get self.now place }
     {
-        self.names.get_index(place).copied()
+        let key = self.names.get_index(place)?;
+        Some(key.bytes)
     }
 
     /// How many names there are.

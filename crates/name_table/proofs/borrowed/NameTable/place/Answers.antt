@@ -2,7 +2,7 @@ use Rattle.std.proofs.Common.{ap, ◌∙◌}
 use Rattle.std.specs.Map.{lookup}
 use Rattle.std.specs.Str.{bytes_eq}
 use Rattle.name_table.specs.NameTable.{Table}
-use Rattle.name_table.specs.declared.key.Key.{Key}
+use Rattle.name_table.specs.declared.key.NameKey.{NameKey}
 use Rattle.name_table.proofs.TableSteps.{lookup-shown}
 use Rattle.name_table.proofs.borrowed.NameTable.place.Goals as goal
 
@@ -10,6 +10,6 @@ pub returns : goal.returns
 returns c =
     let name = c.new.result.bytes.now in
     c.copied.ensures ∙ c.get.ensures.value
-    ∙ lookup-shown (λ (k : Key). k.bytes.now) name c.self.inside.places.entries
+    ∙ lookup-shown (λ (k : NameKey). k.bytes.now) name c.self.inside.places.entries
     ∙ ap (λ (t : Table). lookup (bytes_eq name) t.entries) c.self.view_is
     ∙ ap (λ n. lookup (bytes_eq n) c.args.self.now.entries) c.new.ensures

@@ -1,4 +1,4 @@
-use Rattle.std.proofs.Common.{ℕ, Vec, Global}
+use Rattle.name_table.specs.Keys.{name_of}
 use Rattle.name_table.proofs.TableSteps.{or-none, entries-push}
 use Rattle.name_table.proofs.owned.OwnedNameTable.push.Goals as goal
 use Rattle.name_table.proofs.owned.OwnedNameTable.push.Goals.{in-Some+in_ok-keep_first, in_default}
@@ -8,8 +8,8 @@ returns-clause-ok c = λ items is.
     elim c.match-name.branch [
       | in-Some+in_ok-keep_first w ↦
           rw (w.self-inside-is, w.in-Some.is)
-          (entries-push (λ (k : Vec ℕ Global). k.items) _ _ c.self.inside.count _ items _ c.self.view_is is w.in_ok-keep_first.ensures.ok)
+          (entries-push name_of _ _ c.self.inside.count _ items _ c.self.view_is is w.in_ok-keep_first.ensures.ok)
       | in_default w ↦
           rw (w.self-inside-is, w.in_default.is)
-          (entries-push (λ (k : Vec ℕ Global). k.items) _ _ c.self.inside.count _ items _ c.self.view_is is (λ other. or-none _))
+          (entries-push name_of _ _ c.self.inside.count _ items _ c.self.view_is is (λ other. or-none _))
     ]
