@@ -1,13 +1,14 @@
 -- Where a field ends, and whether it is whole.
 use Rattle.std.proofs.Common.{◌≡◌, sym, ap, ◌∙◌, ⊎_elim, ℕ, suc, ◌+◌, ◌-◌, ◌*◌, ◌<◌, ◌≤◌, Bool, true, false, not, cond, ◌==◌, ◌&&◌, ◌||◌, nat_lt, nat_le, List, [], ◌∷◌, length, take, drop, get_or, arith}
 use Rattle.std.proofs.lemmas.Bool.{eq-eqb, ne_eqb, lt-ltb, le-ltb, le-leb, lt-leb, cases_lt, and_from, and_left, and_right}
-use Rattle.std.proofs.lemmas.List.{drop-drop, length-drop, length-take, take_rest}
+use Rattle.std.proofs.lemmas.List.{drop-drop, length-drop, length-take}
 use Rattle.std.specs.List.{prefix_len}
 use Rattle.km_names.specs.Number.{be}
 use Rattle.std.specs.Prelude.{bit_and}
 use Rattle.index_format.specs.Link.{place_of, has_prefix, has_values, has_children}
 use Rattle.index_format.specs.Node.{is_nul, text, after_text, prefix, after_prefix, first_byte, last_byte, children_size, after_children}
 use Rattle.index_format.specs.Check.{has_nul, prefix_fits, children_fit, whole_values, values_fit}
+use Rattle.index_format.proofs.BigEndian.{be-at}
 use Rattle.index_nodes.specs.Fields.{IsPrefixEnd, IsChildrenEnd}
 
 -- ---- flags
@@ -173,11 +174,15 @@ with_values b link rest h is =
     ∙ ap (λ r. nat_le 4 (length r) && whole_values (be r 0 4) (drop 4 r)) (sym is)
 
 -- the values of a node decide, by those that follow their number
-pub values-counted : (b : List ℕ) (link count : ℕ) (rest : List ℕ) → has_values link ≡ true → rest ≡ after_children b link → 4 ≤ length rest → count ≡ be rest 0 4 → values_fit b link ≡ whole_values count (take (length rest - 4) (drop 4 rest))
-values-counted b link count rest h is four count_is =
-    with_values b link rest h is
-    ∙ ap (λ t. t && whole_values (be rest 0 4) (drop 4 rest)) (le-leb 4 (length rest) four)
-    ∙ sym (λ i. whole_values (count_is i) (take_rest rest 4 i))
+pub values-counted : (b : List ℕ) (link start count : ℕ) → has_values link ≡ true → drop start b ≡ after_children b link → start + 4 ≤ length b → count ≡ be b start 4 → values_fit b link ≡ whole_values count (drop (start + 4) b)
+values-counted b link start count h is room count_is =
+    with_values b link (drop start b) h is
+    ∙ ap (λ t. t && whole_values (be (drop start b) 0 4) (drop 4 (drop start b))) (le-leb 4 (length (drop start b)) (omega (arith, length-drop start b, room)))
+    ∙ (λ i. whole_values (sym (count_is ∙ be-at b start 4) i) (drop-drop 4 start b i))
+
+pub values-short : (b : List ℕ) (link start : ℕ) → has_values link ≡ true → drop start b ≡ after_children b link → start ≤ length b → length b - start < 4 → values_fit b link ≡ false
+values-short b link start h is within short =
+    with_values b link (drop start b) h is ∙ and_left _ _ (lt-leb 4 (length (drop start b)) (omega (arith, length-drop start b, within, short)))
 
 -- one value more
 pub whole-next : (n : ℕ) (bytes text_from after : List ℕ) → 4 ≤ length bytes → text_from ≡ drop 4 bytes → length (text text_from) < length text_from → after ≡ after_text text_from → whole_values (suc n) bytes ≡ whole_values n after

@@ -1,7 +1,9 @@
 pub mod FieldLemmas
+pub mod TextEndLemmas
 pub mod PlaceLemmas
 pub mod ChildLemmas
 pub mod ArrivalLemmas
 pub mod CheckLemmas
 pub mod SoundNodes
 pub mod ReadLemmas
+pub mod ValueStartLemmas

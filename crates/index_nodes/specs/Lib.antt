@@ -3,3 +3,5 @@ pub mod Fields
 pub mod Places
 pub mod Visited
 pub mod Pending
+pub mod TextEnds
+pub mod ValueStarts

@@ -6,57 +6,37 @@ ghost use Rattle.index_format.specs.Link.{place_of, has_prefix, has_values, has_
 ghost use Rattle.index_format.specs.Check.{children_fit, is_sound, arrival_fault, index_fault};
 ghost use Rattle.index_nodes.specs.Faults.{IsFirstFault};
 ghost use Rattle.index_nodes.specs.Fields.{HasFields};
+ghost use Rattle.index_nodes.specs.TextEnds.{AreTextEnds};
+ghost use Rattle.index_nodes.specs.ValueStarts.{AreValueStarts};
 ghost use Rattle.index_nodes.specs.Pending.{links_of, arrivals_left, child_arrivals, nodes_fault, IsInside, HasPlaces, arrival_of, IsPendingOf};
 
 use crate::fault::IndexFault;
-use crate::fields::{ValuesEnd, node_at, place, values_end};
+use crate::fields::{has_whole_values, node_at, place};
 use crate::node::Node;
 use crate::place_set::PlaceSet;
-use crate::read::prefix_of;
+use crate::text_ends::TextEnds;
+use crate::value_starts::ValueStarts;
 use index_format::{FIRST_PLACE, HAS_CHILDREN, HAS_PREFIX, HAS_VALUES, MAGIC, VERSION};
-use km_names::{FILE_LIMIT, be_u32_at};
+use km_names::be_u32_at;
 use std::alloc::{AllocError, Global};
 
 /// The bytes of an offset.
 const OFFSET_SIZE: usize = 4;
 
-/// How many bytes the keys of all values may have together: four times as many as a file may have. Keys that begin alike
-/// share their bytes in a file; those of a kernel's modules together have less than a hundredth of this.
-const KEY_LIMIT: usize = 4 * FILE_LIMIT;
-
-/// A node to which the reader comes: its offset, the place below which it has to stand, and how many bytes its key has
-/// before its prefix.
+/// A node to which the reader comes: its offset, and the place below which it has to stand.
 #[derive(Clone, Copy)]
 pub(crate) struct Visit {
     pub(crate) above: usize,
     pub(crate) is_root: bool,
     pub(crate) link: u32,
-    pub(crate) key_length: usize,
 }
 
-/// Children that are still to be visited: so many offsets from a place on, of the node at the place `above`, whose key has
-/// so many bytes.
+/// Children that are still to be visited: so many offsets from a place on, of the node at the place `above`.
 #[derive(Clone, Copy)]
 pub(crate) struct Pending {
     pub(crate) above: u32,
     pub(crate) next: usize,
     pub(crate) left: usize,
-    pub(crate) key_length: usize,
-}
-
-/// A node that is sound, with the end of its values.
-#[derive(Clone, Copy)]
-struct SoundNode {
-    node: Node,
-    values: ValuesEnd,
-}
-
-/// How many bytes nodes may still have, and the keys of values. Nodes may stand in one another, and the keys of a deep
-/// chain have one another's bytes, so both are added up before anything is kept.
-#[derive(Clone, Copy)]
-struct Room {
-    nodes: usize,
-    keys: usize,
 }
 
 /// Whether this number stands at a place. Its last byte isn't 0, so it doesn't where the file ends before.
@@ -68,8 +48,8 @@ fn has_number(bytes: &[u8], at: usize, number: u32) -> bool
     bytes.len() >= at + 4 && be_u32_at(bytes, at) == number
 }
 
-/// The children of a node whose key has so many bytes.
-fn children_of(bytes: &[u8], node: &Node, key_length: usize) -> Pending
+/// The children of a node.
+fn children_of(bytes: &[u8], node: &Node) -> Pending
     requires fields { HasFields bytes.now node.now }
     requires fit { children_fit bytes.now node.now.link ≡ true }
     ensures { IsPendingOf bytes.now node.now.link result }
@@ -80,7 +60,6 @@ fn children_of(bytes: &[u8], node: &Node, key_length: usize) -> Pending
             above,
             next: 0,
             left: 0,
-            key_length,
         };
     }
     let first = bytes[node.children];
@@ -89,7 +68,6 @@ fn children_of(bytes: &[u8], node: &Node, key_length: usize) -> Pending
         above,
         next: node.children + 2,
         left: usize::from(last - first) + 1,
-        key_length,
     }
 }
 
@@ -101,62 +79,48 @@ fn has_field(link: u32) -> bool
 }
 
 /// The node of a visit. None where it isn't sound.
-fn sound_node(bytes: &[u8], visit: &Visit) -> Option<SoundNode>
-    ensures { MatchOption result (is_sound bytes.now (arrival_of visit.now) ≡ false)
-        (λ s. (is_sound bytes.now (arrival_of visit.now) ≡ true) × (s.node.link ≡ visit.now.link) × HasFields bytes.now s.node) }
+fn sound_node(
+    bytes: &[u8],
+    ends: &TextEnds,
+    visit: &Visit,
+    starts: &mut ValueStarts,
+) -> Result<Option<Node>, AllocError>
+    requires ends { AreTextEnds bytes.now ends.now }
+    requires starts { AreValueStarts bytes.now starts.old }
+    ensures sound { IfOk result (λ o. MatchOption o (is_sound bytes.now (arrival_of visit.now) ≡ false)
+        (λ n. (is_sound bytes.now (arrival_of visit.now) ≡ true) × (n.link ≡ visit.now.link) × HasFields bytes.now n)) }
+    ensures starts { AreValueStarts bytes.now starts.new }
 {
     let at = place(visit.link);
     if at < FIRST_PLACE || at as usize > bytes.len() {
-        return None;
+        return Ok(None);
     }
     if !visit.is_root && !has_field(visit.link) {
-        return None;
+        return Ok(None);
     }
-    let Some(node) = node_at(bytes, visit.link) else {
-        return None;
+    let Some(node) = node_at(bytes, ends, visit.link) else {
+        return Ok(None);
     };
-    let Some(values) = values_end(bytes, &node) else {
-        return None;
-    };
-    Some(SoundNode { node, values })
-}
-
-impl Room {
-    /// As many bytes for the nodes as the file has: only nodes that stand in one another have more.
-    fn new(bytes: &[u8]) -> Room {
-        Room {
-            nodes: bytes.len(),
-            keys: KEY_LIMIT,
-        }
-    }
-
-    /// Takes the room of a node whose key has so many bytes.
-    ///
-    /// # Errors
-    ///
-    /// Where there isn't as much.
-    fn take(&mut self, sound: &SoundNode, key_length: usize) -> Result<(), AllocError> {
-        let start = place(sound.node.link) as usize;
-        let size = sound.values.end.saturating_sub(start);
-        let keys = key_length.saturating_mul(sound.values.count as usize);
-        if self.nodes < size || self.keys < keys {
-            return Err(AllocError);
-        }
-        self.nodes -= size;
-        self.keys -= keys;
-        Ok(())
+    if has_whole_values(bytes, &node, starts)? {
+        Ok(Some(node))
+    } else {
+        Ok(None)
     }
 }
 
 /// Visits a node: the tests of the reader, in their order. Its place is then visited.
 fn visit_node(
     bytes: &[u8],
+    ends: &TextEnds,
     visit: &Visit,
     visited: &mut PlaceSet,
-    room: &mut Room,
+    starts: &mut ValueStarts,
 ) -> Result<Pending, IndexFault>
-    requires { length bytes.now / 64 < vec_len visited.old.words }
+    requires room { length bytes.now / 64 < vec_len visited.old.words }
+    requires ends { AreTextEnds bytes.now ends.now }
+    requires starts { AreValueStarts bytes.now starts.old }
     ensures room { vec_len visited.new.words ≡ vec_len visited.old.words }
+    ensures starts { AreValueStarts bytes.now starts.new }
     ensures fault { (seen : List ℕ) → HasPlaces visited.old seen
         → IfErr result (λ fault. IsFirstFault (arrival_fault bytes.now seen (arrival_of visit.now)) fault) }
     ensures passes { (seen : List ℕ) → HasPlaces visited.old seen
@@ -172,14 +136,11 @@ fn visit_node(
     if visited.has(offset as usize) {
         return Err(IndexFault::Revisited { offset });
     }
-    let Some(sound) = sound_node(bytes, visit) else {
+    let Some(node) = sound_node(bytes, ends, visit, starts)? else {
         return Err(IndexFault::BadNode { offset });
     };
-    let prefix = prefix_of(bytes, &sound.node);
-    let key_length = visit.key_length.saturating_add(prefix.len());
-    room.take(&sound, key_length)?;
     visited.add(offset as usize);
-    Ok(children_of(bytes, &sound.node, key_length))
+    Ok(children_of(bytes, &node))
 }
 
 /// The next child that is present, and those after it. None where there is none.
@@ -197,7 +158,6 @@ fn next_child(bytes: &[u8], pending: &Pending) -> Option<(u32, Pending)>
                 above: pending.above,
                 next: next + OFFSET_SIZE,
                 left: pending.left - n - 1,
-                key_length: pending.key_length,
             };
             return Some((link, rest));
         }
@@ -220,23 +180,23 @@ fn push_pending(stack: &mut Vec<Pending>, pending: Pending) -> Result<(), AllocE
 }
 
 /// Visits all nodes of a file.
-fn check_nodes(alloc: Global, bytes: &[u8]) -> Result<(), IndexFault>
-    requires { FIRST_PLACE ≤ length bytes.now }
+fn check_nodes(alloc: Global, bytes: &[u8], ends: &TextEnds) -> Result<(), IndexFault>
+    requires first { FIRST_PLACE ≤ length bytes.now }
+    requires ends { AreTextEnds bytes.now ends.now }
     ensures fault { IfErr result (IsFirstFault (nodes_fault bytes.now)) }
     ensures passes { OnOk result (nodes_fault bytes.now ≡ None) }
 {
     let mut visited = PlaceSet::new(alloc, bytes.len())?;
+    let mut starts = ValueStarts::new(alloc, bytes)?;
     let root = Visit {
         above: bytes.len() + 1,
         is_root: true,
         link: be_u32_at(bytes, 8),
-        key_length: 0,
     };
-    let mut room = Room::new(bytes);
     let mut stack = Vec::new(alloc);
     push_pending(
         &mut stack,
-        visit_node(bytes, &root, &mut visited, &mut room)?,
+        visit_node(bytes, ends, &root, &mut visited, &mut starts)?,
     )?;
     while let Some(pending) = stack.pop() {
         let Some((link, rest)) = next_child(bytes, &pending) else {
@@ -246,9 +206,8 @@ fn check_nodes(alloc: Global, bytes: &[u8]) -> Result<(), IndexFault>
             above: pending.above as usize,
             is_root: false,
             link,
-            key_length: pending.key_length.saturating_add(1),
         };
-        let below = visit_node(bytes, &child, &mut visited, &mut room)?;
+        let below = visit_node(bytes, ends, &child, &mut visited, &mut starts)?;
         push_pending(&mut stack, rest)?;
         push_pending(&mut stack, below)?;
     }
@@ -256,7 +215,8 @@ fn check_nodes(alloc: Global, bytes: &[u8]) -> Result<(), IndexFault>
 }
 
 /// Whether the bytes are an index: the tests of the reader, in their order.
-pub(crate) fn check(alloc: Global, bytes: &[u8]) -> Result<(), IndexFault>
+pub(crate) fn check(alloc: Global, bytes: &[u8], ends: &TextEnds) -> Result<(), IndexFault>
+    requires { AreTextEnds bytes.now ends.now }
     ensures fault { IfErr result (IsFirstFault (index_fault bytes.now)) }
     ensures passes { OnOk result (index_fault bytes.now ≡ None) }
 {
@@ -269,5 +229,5 @@ pub(crate) fn check(alloc: Global, bytes: &[u8]) -> Result<(), IndexFault>
     if bytes.len() < FIRST_PLACE as usize {
         return Err(IndexFault::BadNode { offset: 8 });
     }
-    check_nodes(alloc, bytes)
+    check_nodes(alloc, bytes, ends)
 }

@@ -21,6 +21,8 @@ mod place;
 mod place_set;
 mod read;
 mod steps;
+mod text_ends;
+mod value_starts;
 
 pub use fault::IndexFault;
 pub use node::{Node, NodeRef};

@@ -13,6 +13,7 @@ use crate::node::{Node, NodeRef};
 use crate::place::Place;
 use crate::read::{child_link, first_place, next_link, next_place, prefix_of, text_at};
 use crate::steps::Steps;
+use crate::text_ends::TextEnds;
 use km_names::{Blob, be_u32_at};
 use std::alloc::Global;
 use std::marker::Model;
@@ -25,30 +26,32 @@ const ROOT_PLACE: usize = 8;
 #[derive(Drop)]
 pub struct Nodes {
     bytes: Blob,
+    ends: TextEnds,
 }
 
 impl Model for Nodes {
     ghost use Rattle.std.specs.Prelude.{◌≡◌, List, ℕ, None};
     ghost use Rattle.index_format.specs.Check.{index_fault};
+    ghost use Rattle.index_nodes.specs.TextEnds.{AreTextEnds};
 
     ghost Value = { List ℕ };
 
     ghost view = { λ n. n.bytes };
 
-    ghost invariant = { λ n. index_fault n.bytes ≡ None };
+    ghost invariant = { λ n. (index_fault n.bytes ≡ None) × AreTextEnds n.bytes n.ends };
 }
 
 impl Nodes {
     /// Takes the bytes of a file in kmod's index format 2.1. It is refused exactly for the first fault that the
-    /// format's reader meets, or for want of memory: that also comes where nodes stand in one another and have more bytes
-    /// together than the file, and where the keys of all values together have more than 268,435,456.
+    /// format's reader meets, or for want of memory.
     pub fn adopt(alloc: Global, bytes: Blob) -> Result<Nodes, IndexFault>
         ensures bytes { IfOk result (λ nodes. nodes ≡ bytes) }
         ensures accepted { OnOk result (index_fault bytes ≡ None) }
         ensures fault { IfErr result (IsFirstFault (index_fault bytes)) }
     {
-        check(alloc, bytes.as_bytes())?;
-        Ok(Nodes { bytes })
+        let ends = TextEnds::new(alloc, bytes.as_bytes())?;
+        check(alloc, bytes.as_bytes(), &ends)?;
+        Ok(Nodes { bytes, ends })
     }
 
     /// The name of the root.
@@ -70,7 +73,7 @@ impl Nodes {
         ensures step { steps.new ≡ steps.old + 1 }
     {
         steps.tick();
-        node_at(self.bytes.as_bytes(), at.link).unwrap()
+        node_at(self.bytes.as_bytes(), &self.ends, at.link).unwrap()
     }
 
     /// The prefix of a node, empty where it has none.

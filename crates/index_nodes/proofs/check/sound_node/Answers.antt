@@ -6,8 +6,9 @@ use Rattle.index_nodes.proofs.ChildLemmas.{unsound_place, unsound_field, unsound
 use Rattle.index_nodes.proofs.check.sound_node.Goals as goal
 use Rattle.index_nodes.proofs.check.sound_node.Goals.{then-at-lt-FIRST_PLACE-via-then-at-lt-FIRST_PLACE, then-at-lt-FIRST_PLACE-via-else-at-lt-FIRST_PLACE+then-at-bytes, else-not-visit-via-then-not-visit+else-not-has_field, else-not-visit-via-else-not-visit}
 
-pub returns-then-at-lt-FIRST_PLACE : goal.returns-then-at-lt-FIRST_PLACE
-returns-then-at-lt-FIRST_PLACE c =
+pub returns-then-at-lt-FIRST_PLACE-clause-sound :
+    goal.returns-then-at-lt-FIRST_PLACE-clause-sound
+returns-then-at-lt-FIRST_PLACE-clause-sound c =
     let place = c.place-at.ensures.place in
     unsound_place c.args.bytes.now (arrival_of c.args.visit.now)
     (elim c.then-at-lt-FIRST_PLACE.branch [
@@ -15,26 +16,21 @@ returns-then-at-lt-FIRST_PLACE c =
       | then-at-lt-FIRST_PLACE-via-else-at-lt-FIRST_PLACE+then-at-bytes w ↦ inr (omega (arith, w.if-at-bytes.true, place))
     ])
 
-pub returns-then-not-has_field : goal.returns-then-not-has_field
-returns-then-not-has_field c =
+pub returns-then-not-has_field-clause-sound : goal.returns-then-not-has_field-clause-sound
+returns-then-not-has_field-clause-sound c =
     unsound_field c.args.bytes.now (arrival_of c.args.visit.now) c.if-not-visit.true (sym c.has_field.ensures ∙ c.if-not-has_field.true)
 
-pub returns-in_default : goal.returns-in_default
-returns-in_default c = unsound_parts c.args.bytes.now (arrival_of c.args.visit.now) c.in_default.ensures
+pub returns-in_default-clause-sound : goal.returns-in_default-clause-sound
+returns-in_default-clause-sound c = unsound_parts c.args.bytes.now (arrival_of c.args.visit.now) c.in_default.ensures
 
-pub returns-in_default-values_end : goal.returns-in_default-values_end
-returns-in_default-values_end c =
-    let b = c.args.bytes.now in
-    unsound_values b (arrival_of c.args.visit.now) (ap (values_fit b) (sym c.in-Some.ensures.1) ∙ c.in_default-values_end.ensures)
-
-pub returns : goal.returns
-returns c =
+pub returns-then-branch-clause-sound : goal.returns-then-branch-clause-sound
+returns-then-branch-clause-sound c =
     let b = c.args.bytes.now in
     let a = arrival_of c.args.visit.now in
     let place = c.place-at.ensures.place in
     let link = c.in-Some.ensures.1 in (
       sound_from b a (omega (arith, c.if-at-lt-FIRST_PLACE.false, place)) (omega (arith, c.if-at-bytes.false, place)) c.in-Some.ensures.0
-          (ap (values_fit b) (sym link) ∙ c.in-Some-values_end.ensures)
+          (ap (values_fit b) (sym link) ∙ sym c.in_ok-has_whole_values.ensures.whole ∙ c.if-branch.true)
           (elim c.else-not-visit.branch [
             | else-not-visit-via-then-not-visit+else-not-has_field w ↦ or_right a.is_root _ (sym w.has_field.ensures ∙ w.if-not-has_field.false)
             | else-not-visit-via-else-not-visit w ↦ or_left a.is_root _ w.if-not-visit.false
@@ -42,3 +38,8 @@ returns c =
       link,
       c.in-Some.ensures.2,
     )
+
+pub returns-else-branch-clause-sound : goal.returns-else-branch-clause-sound
+returns-else-branch-clause-sound c =
+    unsound_values c.args.bytes.now (arrival_of c.args.visit.now)
+    (ap (values_fit c.args.bytes.now) (sym c.in-Some.ensures.1) ∙ sym c.in_ok-has_whole_values.ensures.whole ∙ c.if-branch.false)

@@ -29,14 +29,15 @@ returns-in_default-clause-fault c =
     λ seen h.
     fault_by_sound c.args.bytes.now seen a false (omega (arith, c.if-offset-visit.false, place))
     (sym (h (place_of a.link)) ∙ ap (has_place c.args.visited.now) (sym place) ∙ sym c.has.ensures ∙ c.if-has.false)
-    c.in_default.ensures
+    (rw c.in_default.is at c.in_ok-node.ensures.sound)
     ∙ ap (λ q. Some (BadNode q)) (sym place)
 
 pub add-requires : goal.add-requires
 add-requires c =
     let place = c.place-offset.ensures.place in
-    let parts = sound_parts c.args.bytes.now (arrival_of c.args.visit.now) c.in-Some.ensures.0 in
-    omega (arith, place, parts.within, c.requires)
+    let sound = rw c.in-Some.is at c.in_ok-node.ensures.sound in
+    let parts = sound_parts c.args.bytes.now (arrival_of c.args.visit.now) sound.0 in
+    omega (arith, place, parts.within, c.requires.room)
 
 pub returns-clause-passes : goal.returns-clause-passes
 returns-clause-passes c =
@@ -45,10 +46,11 @@ returns-clause-passes c =
     λ seen h.
     fault_by_sound c.args.bytes.now seen a true (omega (arith, c.if-offset-visit.false, place))
     (sym (h (place_of a.link)) ∙ ap (has_place c.args.visited.now) (sym place) ∙ sym c.has.ensures ∙ c.if-has.false)
-    c.in-Some.ensures.0
+    (rw c.in-Some.is at c.in_ok-node.ensures.sound).0
 
 pub children_of-requires-clause-fit : goal.children_of-requires-clause-fit
 children_of-requires-clause-fit c =
     let b = c.args.bytes.now in
-    let parts = sound_parts b (arrival_of c.args.visit.now) c.in-Some.ensures.0 in
-    ap (children_fit b) c.in-Some.ensures.1 ∙ parts.children
+    let sound = rw c.in-Some.is at c.in_ok-node.ensures.sound in
+    let parts = sound_parts b (arrival_of c.args.visit.now) sound.0 in
+    ap (children_fit b) sound.1 ∙ parts.children

@@ -8,7 +8,7 @@ use Rattle.index_nodes.proofs.nodes.Nodes.next_child.Goals as goal
 pub next_link-requires-clause-fit : goal.next_link-requires-clause-fit
 next_link-requires-clause-fit c =
     let same = c.as_bytes.ensures ∙ c.self.view_is in
-    let accepted = subst (λ b. index_fault b ≡ None) c.self.view_is c.self.invariant in
+    let accepted = subst (λ b. index_fault b ≡ None) c.self.view_is c.self.invariant.0 in
     let link = c.args.node.now.link in
     subst (λ b. children_fit b link ≡ true) (sym same) (node_sound c.args.self.now accepted link c.requires.node).children
 

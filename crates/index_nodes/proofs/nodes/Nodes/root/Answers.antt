@@ -8,7 +8,7 @@ use Rattle.index_nodes.proofs.nodes.Nodes.root.Goals as goal
 pub be_u32_at-requires : goal.be_u32_at-requires
 be_u32_at-requires c =
     let size = ap length c.as_bytes.ensures in
-    omega (arith, size, long_enough c.self.inside.bytes c.self.invariant)
+    omega (arith, size, long_enough c.self.inside.bytes c.self.invariant.0)
 
 pub returns-clause-root : goal.returns-clause-root
 unfolding root

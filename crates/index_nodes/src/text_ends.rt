@@ -1,0 +1,67 @@
+ghost use Rattle.std.specs.Prelude.{◌≡◌, ◌+◌, ◌/◌, ◌≤◌, length, IfOk};
+ghost use Rattle.index_nodes.specs.TextEnds.{block_start, IsTextEnd, AreTextEnds};
+
+use memchr::memchr;
+use std::alloc::{AllocError, Global};
+
+/// The bytes of one block.
+const BLOCK: usize = 256;
+
+/// Where the texts of a file end, each before its first NUL or at the end of the file: for every block of the file the end
+/// of the text that begins with it. So the end of any text is found within one block, however many texts share it.
+#[derive(Drop)]
+pub(crate) struct TextEnds {
+    pub(crate) ends: Vec<usize>,
+}
+
+/// Where a block of a file begins, the end of the file where that is before.
+fn start_of(bytes: &[u8], block: usize) -> usize
+    requires { block ≤ length bytes.now / BLOCK + 1 }
+    ensures { result ≡ block_start bytes.now block }
+{
+    (block * BLOCK).min(bytes.len())
+}
+
+/// Where the text from `start` on ends, by the end of that from a later place on.
+fn earlier_end(bytes: &[u8], start: usize, later: usize, later_end: usize) -> usize
+    requires order { start ≤ later }
+    requires within { later ≤ length bytes.now }
+    requires end { IsTextEnd bytes.now later later_end }
+    ensures { IsTextEnd bytes.now start result }
+{
+    match memchr(0, &bytes[start..later]) {
+        Some(place) => start + place,
+        None => later_end,
+    }
+}
+
+impl TextEnds {
+    /// The ends of the texts of these bytes.
+    pub(crate) fn new(alloc: Global, bytes: &[u8]) -> Result<TextEnds, AllocError>
+        ensures { IfOk result (AreTextEnds bytes.now) }
+    {
+        let count = bytes.len() / BLOCK + 2;
+        let mut end = bytes.len();
+        let mut ends = vec![in alloc; end; count]?;
+        for block in (0..count - 1).rev() {
+            end = earlier_end(
+                bytes,
+                start_of(bytes, block),
+                start_of(bytes, block + 1),
+                end,
+            );
+            ends[block] = end;
+        }
+        Ok(TextEnds { ends })
+    }
+
+    /// Where the text from a place on ends.
+    pub(crate) fn end(&self, bytes: &[u8], start: usize) -> usize
+        requires ends { AreTextEnds bytes.now self.now }
+        requires within { start ≤ length bytes.now }
+        ensures { IsTextEnd bytes.now start result }
+    {
+        let next = start / BLOCK + 1;
+        earlier_end(bytes, start, start_of(bytes, next), self.ends[next])
+    }
+}
