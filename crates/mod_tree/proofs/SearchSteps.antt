@@ -7,16 +7,15 @@ use Rattle.km_names.specs.Statements.{parsed}
 use Rattle.km_names.specs.declared.conf.ConfFile.{ConfFile}
 use Rattle.km_names.specs.declared.conf.ConfFault.{ConfFault}
 use Rattle.km_names.specs.declared.conf.ConfFault.TheVariants.{Memory}
-use Rattle.mod_tree.specs.declared.search.SearchLine.{SearchLine}
 use Rattle.mod_tree.specs.Search.{some_words, search_line, search_of_lines, search_of}
 
 pub no_words : (words list : List (List ℕ)) → list ≡ words → true ≡ eqb (length list) 0 → None ≡ some_words words
 no_words [] list e zero = refl
 no_words (w ∷ ws) list e zero = absurd (omega (arith, ap length e, eqb-true (length list) 0 (sym zero)))
 
-pub words-there : (words list : List (List ℕ)) → list ≡ words → false ≡ eqb (length list) 0 → Some (record { words = list }) ≡ some_words words
+pub words-there : (words list : List (List ℕ)) → list ≡ words → false ≡ eqb (length list) 0 → Some list ≡ some_words words
 words-there [] list e some = absurd (true≢false (sym (some ∙ ap (λ ws. eqb (length ws) 0) e)))
-words-there (w ∷ ws) list e some = ap (λ (l : List (List ℕ)). Some (record { words = l })) e
+words-there (w ∷ ws) list e some = ap Some e
 
 not_cancels : (a b : Bool) → not a ≡ not b → a ≡ b
 not_cancels true true e = refl
@@ -29,7 +28,7 @@ pub command-is : {cut word slice command : List ℕ} {r : Bool} (v : Bool) → c
 command-is {cut = cut} {command = command} v first same test is =
     ap (λ w. bytes_eq w command) (sym first) ∙ ap (bytes_eq cut) (sym same) ∙ not_cancels _ v (sym test ∙ is)
 
-pub search-ok : (files : List ConfFile) (lines : List SearchLine) → parsed search_line files ≡ Ok lines → search_of files ≡ search_of_lines (Ok lines)
+pub search-ok : (files : List ConfFile) (lines : List (List (List ℕ))) → parsed search_line files ≡ Ok lines → search_of files ≡ search_of_lines (Ok lines)
 unfolding search_of
 search-ok files lines e = ap search_of_lines e
 

@@ -6,24 +6,23 @@ use Rattle.km_names.specs.Space.{first_word, rest_after_word, words}
 use Rattle.km_names.specs.Statements.{parsed}
 use Rattle.km_names.specs.declared.conf.ConfFile.{ConfFile}
 use Rattle.km_names.specs.declared.conf.ConfFault.{ConfFault}
-use Rattle.mod_tree.specs.declared.search.SearchLine.{SearchLine}
 
 -- The words of a line, where there is one.
-abbrev pub some_words : List (List ℕ) → Option SearchLine
+abbrev pub some_words : List (List ℕ) → Option (List (List ℕ))
 some_words [] = None
-some_words (word ∷ words) = Some (record { words = word ∷ words })
+some_words (word ∷ words) = Some (word ∷ words)
 
--- What a line of depmod.d states, if it is understood: `search` and one word or more.
-unfoldable pub search_line : List ℕ → Option SearchLine
+-- The words that a line of depmod.d states, if it is understood: one or more after `search`.
+unfoldable pub search_line : List ℕ → Option (List (List ℕ))
 search_line text = if bytes_eq (first_word text) (codes "search") then some_words (words (rest_after_word text)) else None
 
 -- The words of all lines, in order, or `updates built-in` where there is no line.
-abbrev pub words_of_lines : List SearchLine → List (List ℕ)
+abbrev pub words_of_lines : List (List (List ℕ)) → List (List ℕ)
 words_of_lines [] = codes "updates" ∷ codes "built-in" ∷ []
-words_of_lines (line ∷ lines) = flat_map (λ (l : SearchLine). l.words) (line ∷ lines)
+words_of_lines (line ∷ lines) = flat_map (λ words. words) (line ∷ lines)
 
 -- The search list of the lines, unless one isn't understood.
-abbrev pub search_of_lines : Result (List SearchLine) ConfFault → Result (List (List ℕ)) ConfFault
+abbrev pub search_of_lines : Result (List (List (List ℕ))) ConfFault → Result (List (List ℕ)) ConfFault
 search_of_lines (Ok lines) = Ok (words_of_lines lines)
 search_of_lines (Err fault) = Err fault
 

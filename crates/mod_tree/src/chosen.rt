@@ -59,8 +59,8 @@ fn word_places<'a>(alloc: Global, search: &'a Search) -> Result<Places<'a>, Allo
     ensures { IfOk result (λ places. IsPlacesOf search.now places) }
 {
     let mut places = Places::new(alloc);
-    for word in &search.words(alloc)? {
-        places.add(word)?;
+    for word in search.as_slice() {
+        places.add(word.as_bytes())?;
     }
     Ok(places)
 }

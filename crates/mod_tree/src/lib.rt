@@ -13,5 +13,5 @@ mod search;
 mod tree;
 
 pub use dependency_line::line_path;
-pub use search::{Search, SearchLine, parse_search};
+pub use search::{Search, parse_search};
 pub use tree::{Tree, TreeFault, choose};

@@ -1,63 +1,68 @@
 ghost use Rattle.std.specs.Prelude.{◌≡◌, ◌≤◌, ◌⊎◌, ◌++◌, length, All, IfOk, IfErr, OnOk};
 ghost use Rattle.km_names.specs.Limit.{file_limit};
-ghost use Rattle.mod_tree.specs.Search.{search_of};
-ghost use Rattle.mod_tree.specs.Shown.{shown};
+ghost use Rattle.mod_tree.specs.Search.{search_of, words_of_lines as listed_words};
 
 use km_names::{
-    ConfFault, ConfFiles, List as Items, Statement, Texts, parse_files, split_word, words,
+    Blob, ConfFault, ConfFiles, List as Items, Name, Names, Statement, Texts, parse_files,
+    split_word, words,
 };
 use std::alloc::{AllocError, Global};
 use std::marker::Model;
 
-/// The words that say in which folders modules are looked for first: those of the `search` lines of
-/// depmod.d(5), or `updates built-in` where there is no line. Contracts see the list of the words, in order.
-#[derive(Drop)]
-pub struct Search {
-    lines: Items<SearchLine>,
+/// The words that say in which folders modules are looked for first, in order. `built-in` stands for the folders
+/// that no word names. depmod.d(5), "search".
+pub type Search = Names;
+
+/// The search list of the files of depmod.d(5): the words of all their `search` lines, in order, or
+/// `updates built-in` where there is none. `BadLine` comes exactly at the first line that states anything
+/// else, or that has no word after `search`.
+pub fn parse_search(alloc: Global, files: &ConfFiles) -> Result<Search, ConfFault>
+    requires { All (λ file. length file.bytes ≤ file_limit) files.now }
+    ensures ok { IfOk result (λ search. search_of files.now ≡ Ok search) }
+    ensures err { IfErr result (λ fault.
+        (fault ≡ ConfFault.Memory) ⊎ (search_of files.now ≡ Err fault)) }
+{
+    let lines = parse_files(alloc, files)?;
+    Ok(words_of_lines(alloc, &lines)?)
 }
 
-impl Model for Search {
-    ghost use Rattle.std.specs.Prelude.{List, ℕ};
-
-    ghost Value = { List (List ℕ) };
-
-    ghost use Rattle.mod_tree.specs.Search.{words_of_lines};
-
-    ghost view = { λ s. words_of_lines s.lines };
-}
-
-impl Search {
-    /// The words, in order.
-    pub(crate) fn words(&self, alloc: Global) -> Result<Vec<&[u8]>, AllocError>
-        ensures { IfOk result (λ words. shown words.items ≡ self.now) }
-    {
-        let mut words = Vec::new(alloc);
-        if self.lines.is_empty() {
-            words.push(b"updates".as_slice())?;
-            words.push(b"built-in".as_slice())?;
-            return Ok(words);
-        }
-        for line in self.lines.as_slice() {
-            push_words(&mut words, line)?;
-        }
-        Ok(words)
+/// The words of all lines, in order, or those of the usual list where there is no line.
+fn words_of_lines(alloc: Global, lines: &Items<SearchLine>) -> Result<Search, AllocError>
+    ensures { IfOk result (λ search. search ≡ listed_words lines.now) }
+{
+    let mut search = Search::new(alloc);
+    if lines.is_empty() {
+        search.push(Name::from_slice(alloc, b"updates")?)?;
+        search.push(Name::from_slice(alloc, b"built-in")?)?;
     }
+    for line in lines.as_slice() {
+        push_words(alloc, &mut search, line.words.as_slice())?;
+    }
+    Ok(search)
 }
 
 /// Puts the words of a line at the end.
-fn push_words<'a>(words: &mut Vec<&'a [u8]>, line: &'a SearchLine) -> Result<(), AllocError>
-    ensures { OnOk result (shown words.new.items ≡ shown words.old.items ++ line.now.words) }
+fn push_words(alloc: Global, search: &mut Search, words: &[Blob]) -> Result<(), AllocError>
+    ensures { OnOk result (search.new ≡ search.old ++ words.now) }
 {
-    for word in line.words.as_slice() {
-        words.push(word.as_bytes())?;
+    for word in words {
+        search.push(Name::from_slice(alloc, word.as_bytes())?)?;
     }
     Ok(())
 }
 
-/// A line `search WORDS` of depmod.d(5), with its words, one or more.
+/// A line `search WORDS` of depmod.d(5). Contracts see it as its words, one or more.
 #[derive(Drop)]
-pub struct SearchLine {
-    pub words: Texts,
+pub(crate) struct SearchLine {
+    words: Texts,
+}
+
+impl Model for SearchLine {
+    ghost use Rattle.std.specs.Prelude.{List, ℕ};
+
+    ghost Value = { List (List ℕ) };
+
+    ghost view = { λ line. line.words };
 }
 
 impl Statement for SearchLine {
@@ -76,17 +81,4 @@ impl Statement for SearchLine {
         }
         Ok(Some(SearchLine { words }))
     }
-}
-
-/// The search list of the files of depmod.d(5): the words of all their `search` lines, in order, or
-/// `updates built-in` where there is none. `BadLine` comes exactly at the first line that states anything
-/// else, or that has no word after `search`.
-pub fn parse_search(alloc: Global, files: &ConfFiles) -> Result<Search, ConfFault>
-    requires { All (λ file. length file.bytes ≤ file_limit) files.now }
-    ensures ok { IfOk result (λ search. search_of files.now ≡ Ok search) }
-    ensures err { IfErr result (λ fault.
-        (fault ≡ ConfFault.Memory) ⊎ (search_of files.now ≡ Err fault)) }
-{
-    let lines = parse_files(alloc, files)?;
-    Ok(Search { lines })
 }

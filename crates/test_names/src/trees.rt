@@ -129,11 +129,11 @@ fn search_lists(rt: HostRuntime) -> Result<(), Fail> {
     for (text, want) in rows {
         let search = search_of(&rt, rt.alloc(), text)?;
         let mut words = Vec::new(rt.alloc());
-        for word in &search.words(rt.alloc())? {
+        for word in search.as_slice() {
             if !words.is_empty() {
                 words.push(b' ')?;
             }
-            words.extend_from_slice(word)?;
+            words.extend_from_slice(word.as_bytes())?;
         }
         assert_eq!(rt; words.as_slice(), want);
     }
