@@ -1,6 +1,7 @@
 pub mod Answer
 pub mod Builder
 pub mod Closures
+pub mod Components
 pub mod Cycle
 pub mod Least
 pub mod Nearest

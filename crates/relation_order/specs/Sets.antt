@@ -1,5 +1,5 @@
 -- Sets of items, as lists of them, and relations between items.
-use Rattle.std.specs.Prelude.{ℕ, zero, suc, List, Bool, false, map, length, nat_eq, slice_index_or, [], filter}
+use Rattle.std.specs.Prelude.{ℕ, zero, suc, List, Bool, true, false, map, length, nat_eq, slice_index_or, [], ◌∷◌, filter, ◌≡◌, ◌<◌}
 use Rattle.std.specs.List.{list_any, range_with_len}
 use Rattle.std.specs.Global.{Vec}
 
@@ -31,3 +31,8 @@ successors lists x = slice_index_or (map (λ (v : Vec ℕ). v.items) lists) x []
 -- Each item goes to those in its list.
 abbrev pub goes : List (Vec ℕ) → Relation
 goes lists x y = has (successors lists x) y
+
+-- Each number is below those after it.
+abbrev pub Rising : List ℕ → Type 0
+Rising [] = Unit {0}
+Rising (x ∷ xs) = ((y : ℕ) → has xs y ≡ true → x < y) × Rising xs

@@ -8,7 +8,9 @@
 #![tactic(auto)]
 
 mod closures;
+mod components;
 mod cycle;
+mod distances;
 mod laws;
 mod order;
 mod placed;

@@ -50,8 +50,12 @@ pub(crate) fn is_open(members: &[bool], listed: &[bool], item: usize) -> bool
     members[item] && !listed[item]
 }
 
-// Adds an item to the list at a place.
-fn add_at(lists: &mut Vec<Vec<usize>>, place: usize, item: usize) -> Result<(), AllocError>
+/// Adds an item to the list at a place.
+pub(crate) fn add_at(
+    lists: &mut Vec<Vec<usize>>,
+    place: usize,
+    item: usize,
+) -> Result<(), AllocError>
     requires { place < length lists.old.items }
     ensures long { OnOk result (length lists.new.items ≡ length lists.old.items) }
     ensures added { OnOk result ((z y : ℕ) → goes lists.new.items z y ≡ (goes lists.old.items z y || (z == place && y == item))) }
@@ -89,15 +93,15 @@ pub fn least(
     Ok(builder.order)
 }
 
-// As many zeros.
-fn zeros(alloc: Global, count: usize) -> Result<Vec<usize>, AllocError>
+/// As many zeros.
+pub(crate) fn zeros(alloc: Global, count: usize) -> Result<Vec<usize>, AllocError>
     ensures { IfOk result (λ zeros. zeros.items ≡ replicate count 0) }
 {
     vec![in alloc; 0; count]
 }
 
-// A number of empty lists.
-fn empty_lists(alloc: Global, count: usize) -> Result<Vec<Vec<usize>>, AllocError>
+/// A number of empty lists.
+pub(crate) fn empty_lists(alloc: Global, count: usize) -> Result<Vec<Vec<usize>>, AllocError>
     ensures long { IfOk result (λ lists. length lists.items ≡ count) }
     ensures empty { IfOk result (λ lists. (z y : ℕ) → goes lists.items z y ≡ false) }
 {

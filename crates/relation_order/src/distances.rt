@@ -1,0 +1,123 @@
+//! How far each member is from one of them: a breadth-first search back from that one.
+ghost use Rattle.std.specs.Prelude.{◌≡◌, ◌≢◌, ◌<◌, ◌&&◌, ◌||◌, ◌==◌, [], ℕ, true, length, All, IfOk, OnOk};
+ghost use Rattle.std.specs.List.{list_any};
+ghost use Rattle.std.proofs.Common.{replicate};
+ghost use Rattle.relation_order.specs.Sets.{goes, has, marked as marks_places};
+ghost use Rattle.relation_order.specs.Search.{Inside};
+ghost use Rattle.relation_order.specs.Nearest.{IsFar};
+ghost use Rattle.relation_order.specs.Rounds.{Finds};
+
+use crate::order::{add_at, empty_lists};
+use crate::reach::marked;
+use std::alloc::{AllocError, Global};
+
+/// How many steps within the members lead from each of them to one at the least, or how many members there are.
+pub(crate) fn distances_to(
+    alloc: Global,
+    lists: &[Vec<usize>],
+    members: &[bool],
+    goal: usize,
+) -> Result<Vec<usize>, AllocError>
+    requires long { length members.now ≡ length lists.now }
+    requires inside { Inside (length lists.now) lists.now }
+    requires goal { has (marks_places members.now) goal ≡ true }
+    ensures long { IfOk result (λ far. length far.items ≡ length members.now) }
+    ensures far { IfOk result (λ far. IsFar (goes lists.now) (marks_places members.now) goal far.items) }
+{
+    let all = marked(alloc, members)?;
+    let sources = reversed(alloc, lists, &all)?;
+    let mut far = filled(alloc, members.len(), all.len())?;
+    far[goal] = 0;
+    let mut last = Vec::new(alloc);
+    last.push(goal)?;
+    for round in 1..all.len() {
+        last = find_round(alloc, &sources, &mut far, &last, round, all.len())?;
+    }
+    Ok(far)
+}
+
+// For each item those of some items that go to it.
+fn reversed(
+    alloc: Global,
+    lists: &[Vec<usize>],
+    items: &[usize],
+) -> Result<Vec<Vec<usize>>, AllocError>
+    requires inside { Inside (length lists.now) lists.now }
+    requires items { All (λ x. x < length lists.now) items.now }
+    ensures long { IfOk result (λ sources. length sources.items ≡ length lists.now) }
+    ensures goes { IfOk result (λ sources. (y x : ℕ) → goes sources.items y x ≡ (has items.now x && goes lists.now x y)) }
+{
+    let mut sources = empty_lists(alloc, lists.len())?;
+    for x in items {
+        add_source(&mut sources, &lists[*x], *x)?;
+    }
+    Ok(sources)
+}
+
+// Adds an item to the lists of all that it goes to.
+fn add_source(
+    sources: &mut Vec<Vec<usize>>,
+    targets: &[usize],
+    item: usize,
+) -> Result<(), AllocError>
+    requires { All (λ y. y < length sources.old.items) targets.now }
+    ensures long { OnOk result (length sources.new.items ≡ length sources.old.items) }
+    ensures goes { OnOk result ((y x : ℕ) → goes sources.new.items y x ≡ (goes sources.old.items y x || (has targets.now y && x == item))) }
+{
+    for y in targets {
+        add_at(sources, *y, item)?;
+    }
+    Ok(())
+}
+
+// A value a number of times.
+fn filled(alloc: Global, count: usize, value: usize) -> Result<Vec<usize>, AllocError>
+    ensures { IfOk result (λ list. list.items ≡ replicate count value) }
+{
+    vec![in alloc; value; count]
+}
+
+// One round: each item without a distance that goes to one of those found last gets the round's number. What was found.
+fn find_round(
+    alloc: Global,
+    sources: &[Vec<usize>],
+    far: &mut Vec<usize>,
+    last: &[usize],
+    round: usize,
+    none: usize,
+) -> Result<Vec<usize>, AllocError>
+    requires long { length far.old.items ≡ length sources.now }
+    requires inside { Inside (length sources.now) sources.now }
+    requires last { All (λ y. y < length sources.now) last.now }
+    requires round { round ≢ none }
+    ensures long { OnOk result (length far.new.items ≡ length far.old.items) }
+    ensures finds { IfOk result (λ found. Finds (λ x. list_any (λ y. goes sources.now y x) last.now) round none far.old.items far.new.items [] found.items) }
+{
+    let mut found = Vec::new(alloc);
+    for y in last {
+        find_all(&sources[*y], far, &mut found, round, none)?;
+    }
+    Ok(found)
+}
+
+// Each of some items without a distance gets the round's number, and is found.
+fn find_all(
+    items: &[usize],
+    far: &mut Vec<usize>,
+    found: &mut Vec<usize>,
+    round: usize,
+    none: usize,
+) -> Result<(), AllocError>
+    requires inside { All (λ x. x < length far.old.items) items.now }
+    requires round { round ≢ none }
+    ensures long { OnOk result (length far.new.items ≡ length far.old.items) }
+    ensures finds { OnOk result (Finds (has items.now) round none far.old.items far.new.items found.old.items found.new.items) }
+{
+    for x in items {
+        if far[*x] == none {
+            far[*x] = round;
+            found.push(*x)?;
+        }
+    }
+    Ok(())
+}
