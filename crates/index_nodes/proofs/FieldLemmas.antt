@@ -183,21 +183,3 @@ values-counted b link start count h is room count_is =
 pub values-short : (b : List ℕ) (link start : ℕ) → has_values link ≡ true → drop start b ≡ after_children b link → start ≤ length b → length b - start < 4 → values_fit b link ≡ false
 values-short b link start h is within short =
     with_values b link (drop start b) h is ∙ and_left _ _ (lt-leb 4 (length (drop start b)) (omega (arith, length-drop start b, within, short)))
-
--- one value more
-pub whole-next : (n : ℕ) (bytes text_from after : List ℕ) → 4 ≤ length bytes → text_from ≡ drop 4 bytes → length (text text_from) < length text_from → after ≡ after_text text_from → whole_values (suc n) bytes ≡ whole_values n after
-unfolding whole_values
-whole-next n bytes text_from after four is lt after_is =
-    ap (λ t. t && (has_nul (drop 4 bytes) && whole_values n (after_text (drop 4 bytes)))) (le-leb 4 (length bytes) four)
-    ∙ ap (λ r. has_nul r && whole_values n (after_text r)) (sym is)
-    ∙ ap (λ t. t && whole_values n (after_text text_from)) (nul_there text_from lt)
-    ∙ ap (whole_values n) (sym after_is)
-
-pub whole-short : (n : ℕ) (bytes : List ℕ) → length bytes < 4 → whole_values (suc n) bytes ≡ false
-unfolding whole_values
-whole-short n bytes h = and_left _ _ (lt-leb 4 (length bytes) h)
-
-pub whole-cut : (n : ℕ) (bytes text_from : List ℕ) → text_from ≡ drop 4 bytes → length text_from ≤ length (text text_from) → whole_values (suc n) bytes ≡ false
-unfolding whole_values
-whole-cut n bytes text_from is le =
-    and_right _ _ (and_left _ _ (ap has_nul (sym is) ∙ nul_absent text_from le))

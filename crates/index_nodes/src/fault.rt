@@ -21,8 +21,7 @@ pub enum IndexFault {
     /// Two ways lead to the node at `offset`.
     #[error("index node twice at {offset}")]
     Revisited { offset: u32 },
-    /// Memory ran out, or would: nodes that stand in one another have more bytes together than the file, or the keys of
-    /// all values more than are kept.
+    /// Memory ran out.
     #[error("out of memory")]
     Memory,
 }

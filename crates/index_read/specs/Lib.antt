@@ -3,3 +3,4 @@ pub mod Keys
 pub mod Walks
 pub mod Fronts
 pub mod Contents
+pub mod Lookups

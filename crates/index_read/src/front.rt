@@ -1,12 +1,14 @@
 // Whether a key, and each that begins with it, can match a text.
-ghost use Rattle.std.specs.Prelude.{◌≡◌, ◌⊎◌, [], true, false};
+ghost use Rattle.std.specs.Prelude.{◌≡◌, ◌⊎◌, [], true, false, IfOk};
 ghost use Rattle.glob_match.specs.Pattern.{Matches};
 ghost use Rattle.index_format.specs.Node.{values};
 ghost use Rattle.index_nodes.specs.Fields.{link_of, IsNodeOf};
 ghost use Rattle.index_read.specs.Fronts.{Agrees, StopsAt, is_special_byte, may_match_after};
 
+use crate::room::Room;
 use glob_match::matches;
 use index_nodes::{Node, Nodes};
+use std::alloc::AllocError;
 
 /// Whether a byte of a pattern stands for others than itself.
 fn is_special(byte: u8) -> bool
@@ -41,12 +43,24 @@ pub(crate) fn may_match(key: &[u8], agreed: usize) -> bool
 }
 
 /// Whether a node has values and its key, of which so many bytes agree, matches the text. The bytes that agree
-/// aren't read again.
-pub(crate) fn is_wanted(nodes: &Nodes, node: &Node, key: &[u8], text: &[u8], agreed: usize) -> bool
+/// aren't read again, and there has to be room for the others.
+pub(crate) fn is_wanted(
+    nodes: &Nodes,
+    node: &Node,
+    key: &[u8],
+    text: &[u8],
+    agreed: usize,
+    room: &mut Room,
+) -> Result<bool, AllocError>
     requires node { IsNodeOf nodes.now node.now }
     requires agrees { Agrees key.now text.now agreed }
-    ensures wanted { result ≡ true → Matches key.now text.now }
-    ensures unwanted { result ≡ false → (¬ Matches key.now text.now) ⊎ (values nodes.now (link_of node.now) ≡ []) }
+    ensures wanted { IfOk result (λ wanted. wanted ≡ true → Matches key.now text.now) }
+    ensures unwanted { IfOk result (λ wanted. wanted ≡ false → (¬ Matches key.now text.now) ⊎ (values nodes.now (link_of node.now) ≡ [])) }
 {
-    nodes.first_value(node).is_some() && matches(&key[agreed..], &text[agreed..])
+    if nodes.first_value(node).is_none() {
+        return Ok(false);
+    }
+    let rest = &key[agreed..];
+    room.take(rest.len())?;
+    Ok(matches(rest, &text[agreed..]))
 }

@@ -14,6 +14,7 @@ ghost use Rattle.index_read.specs.Values.{shown, shown_pairs, IsWild, IsMatching
 
 use crate::front::{agreed_length, is_wanted, may_match};
 use crate::reach::reach;
+use crate::room::Room;
 use crate::value::{Pairs, Value, Values, push_pairs, push_values};
 use crate::walk::KeyWalk;
 use index_nodes::{IndexFault, Nodes, Place, Steps};
@@ -81,21 +82,29 @@ impl Index {
             return Ok(Values::new(alloc));
         };
         let mut found = Vec::new(alloc);
-        push_values(alloc, &self.nodes, &node, &mut found)?;
+        push_values(alloc, &self.nodes, &node, &mut found, &mut Room::for_key())?;
         Ok(Values::from_vec(found))
     }
 
     /// All keys, each with its values, by the bytes of the keys and then by place. Each node is read once.
+    ///
+    /// # Errors
+    ///
+    /// For want of memory, which also comes where the list would take more than 1,073,741,824 bytes, or where the prefixes
+    /// of nodes that stand in one another have more than 268,435,456 together.
     pub fn all<L: Ledger>(&self, alloc: Global, steps: &mut Steps<L>) -> Result<Pairs, AllocError>
         ensures listing { IfOk result (λ found. IsListing (at self.now.nodes (root self.now.nodes)) (shown_pairs found)) }
         ensures map { (m : KeyValues) → Holds self.now.nodes m → IfOk result (λ found. IsListing (values_of m) (shown_pairs found)) }
+        ensures held { IfOk result (λ found. IsListing (values_of (contents self.now.nodes)) (shown_pairs found)) }
         ensures cost { steps.new ≤ steps.old + node_count self.now.nodes }
     {
         let mut found = Vec::new(alloc);
+        let mut room = Room::for_list();
         let (mut walk, root) = KeyWalk::start(alloc, &self.nodes, steps)?;
         let mut next = Some(root);
         while let Some(node) = next {
-            push_pairs(alloc, &self.nodes, &node, walk.key.as_slice(), &mut found)?;
+            let key = walk.key.as_slice();
+            push_pairs(alloc, &self.nodes, &node, key, &mut found, &mut room)?;
             next = walk.next(&self.nodes, steps)?;
         }
         Ok(Pairs::from_vec(found))
@@ -103,6 +112,12 @@ impl Index {
 
     /// The values of every key that as a pattern matches the text: by rising priority, then by the bytes of the
     /// key, then by place. Each node is read at most once.
+    ///
+    /// # Errors
+    ///
+    /// For want of memory, which also comes where the list would take more than 1,073,741,824 bytes, where the keys that
+    /// are matched have more than 8,589,934,592 together, or where the prefixes of nodes that stand in one another have
+    /// more than 268,435,456.
     pub fn wild<L: Ledger>(
         &self,
         alloc: Global,
@@ -131,6 +146,8 @@ impl Index {
         ensures cost { steps.new ≤ steps.old + node_count self.now.nodes }
     {
         let mut found = Vec::new(alloc);
+        let mut room = Room::for_list();
+        let mut matched = Room::for_matches();
         let (mut walk, root) = KeyWalk::start(alloc, &self.nodes, steps)?;
         let mut agreed = 0;
         let mut next = Some(root);
@@ -139,8 +156,8 @@ impl Index {
             agreed = agreed_length(key, text, agreed.min(walk.kept));
             if !may_match(key, agreed) {
                 walk.skip_below(&self.nodes);
-            } else if is_wanted(&self.nodes, &node, key, text, agreed) {
-                push_values(alloc, &self.nodes, &node, &mut found)?;
+            } else if is_wanted(&self.nodes, &node, key, text, agreed, &mut matched)? {
+                push_values(alloc, &self.nodes, &node, &mut found, &mut room)?;
             }
             next = walk.next(&self.nodes, steps)?;
         }

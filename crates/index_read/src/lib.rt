@@ -10,7 +10,9 @@
 
 mod front;
 mod index;
+pub mod plain;
 mod reach;
+mod room;
 mod value;
 mod walk;
 

@@ -5,6 +5,7 @@ ghost use Rattle.index_nodes.specs.Fields.{link_of, IsNodeOf};
 ghost use Rattle.index_read.specs.Keys.{all_items};
 ghost use Rattle.index_read.specs.Walks.{left, left_after, IsWalking, IsAtNode, GoesOn, LeavesOut, after_byte, level_of};
 
+use crate::room::Room;
 use index_nodes::{Node, Nodes, Steps};
 use std::alloc::{AllocError, Global};
 use std::sync::ledger::Ledger;
@@ -25,6 +26,8 @@ pub(crate) struct KeyWalk {
     pub(crate) levels: Vec<Level>,
     /// How many bytes of the key are those of the key before.
     pub(crate) kept: usize,
+    /// For the prefixes of the nodes to come.
+    pub(crate) room: Room,
 }
 
 impl KeyWalk {
@@ -54,6 +57,7 @@ impl KeyWalk {
             key,
             levels,
             kept: 0,
+            room: Room::for_prefixes(),
         };
         Ok((walk, node))
     }
@@ -72,10 +76,12 @@ impl KeyWalk {
         ensures levels { OnOk result (self.new.levels.items ≡ (self.old.levels.items ++ after_byte level.now byte ∷ []) ++ level_of node.now (length self.new.key.items) ∷ []) }
         ensures kept { OnOk result (self.new.kept ≡ level.now.key_length) }
     {
+        let prefix = nodes.prefix(node);
+        self.room.take(prefix.len())?;
         self.kept = level.key_length;
         self.key.truncate(level.key_length);
         self.key.push(byte)?;
-        self.key.extend_from_slice(nodes.prefix(node))?;
+        self.key.extend_from_slice(prefix)?;
         self.levels.push(Level {
             node: level.node,
             key_length: level.key_length,

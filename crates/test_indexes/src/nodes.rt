@@ -45,7 +45,15 @@ fn files_are_adopted_or_refused(rt: HostRuntime) -> Result<(), Fail> {
         (
             "b007f457 00020001 2000001d 6b6b6b6b6b6b6b6b6b6b6b6b6b6b6b6b00 \
              61 64 8000000c 8000000d 8000000e 8000000f",
-            Err(IndexFault::Memory),
+            Ok(()),
+        ),
+        (
+            "b007f457 00020001 2000001a 00000003 0000000000 0000000000 61 62 4000000c 40000010",
+            Ok(()),
+        ),
+        (
+            "b007f457 00020001 2000001a 00000004 0000000000 0000000000 61 62 4000000c 40000010",
+            bad(12),
         ),
     ] {
         let got = Nodes::adopt(alloc, bytes_of(alloc, digits)?).map(|_| ());

@@ -5,16 +5,16 @@ use Rattle.glob_match.specs.Pattern.{Matches}
 use Rattle.index_read.proofs.FrontLemmas.{matches_rest}
 use Rattle.index_read.proofs.front.is_wanted.Goals as goal
 
-pub returns-then-is_some-clause-wanted : goal.returns-then-is_some-clause-wanted
-returns-then-is_some-clause-wanted c =
+pub returns-clause-wanted : goal.returns-clause-wanted
+returns-clause-wanted c =
     let key = c.args.key.now in
     let text = c.args.text.now in
     let n = c.args.agreed in
     λ yes.
     (matches_rest key text n c.requires.agrees).0 (subst (λ k. Matches k (drop n text)) (take_rest key n) (subst (Matches (take (length key - n) (drop n key))) (take_rest text n) (c.matches.ensures.related.0 yes)))
 
-pub returns-then-is_some-clause-unwanted : goal.returns-then-is_some-clause-unwanted
-returns-then-is_some-clause-unwanted c =
+pub returns-clause-unwanted : goal.returns-clause-unwanted
+returns-clause-unwanted c =
     let key = c.args.key.now in
     let text = c.args.text.now in
     let n = c.args.agreed in

@@ -5,8 +5,10 @@ use Rattle.index_format.specs.Map.{values_of}
 use Rattle.index_format.specs.Walk.{at}
 use Rattle.index_format.specs.Listing.{IsListing}
 use Rattle.index_nodes.specs.Fields.{link_of}
+use Rattle.index_read.specs.Contents.{contents}
 use Rattle.index_read.specs.Keys.{Item, all_items}
 use Rattle.index_read.specs.Values.{shown_pairs}
+use Rattle.index_read.proofs.ContentsLemmas.{values_held}
 use Rattle.index_read.proofs.CountLemmas.{count_all, root_counted}
 use Rattle.index_read.proofs.ListingLemmas.{Chosen, none, taken, pairs_of, listing}
 use Rattle.index_read.proofs.RoundLemmas.{still_to_do, still_going, owed_few}
@@ -50,7 +52,7 @@ loop-next-preserved g c =
       onward =
           λ ps more.
           subst (Chosen b Every (all_items b))
-          (sym (append_assoc (shown_pairs c.loop-next.found.items) (pairs_of b item) ps) ∙ ap (λ qs. qs ++ ps) (sym (c.in_ok-push_pairs.ensures ∙ ap (λ k. shown_pairs c.loop-next.found.items ++ map (λ v. (k, v)) (values b (link_of n))) c.as_slice.ensures.value)))
+          (sym (append_assoc (shown_pairs c.loop-next.found.items) (pairs_of b item) ps) ∙ ap (λ qs. qs ++ ps) (sym (c.in_ok-push_pairs.ensures ∙ ap (λ k. shown_pairs c.loop-next.found.items ++ map (λ v. (k, v)) (values b (link_of n))) c.as_slice-key.ensures.value)))
           (w.onward (pairs_of b item ++ ps) (taken item tt (subst (λ is. Chosen b Every is ps) (sym (still_to_do b old new o on)) more)));
       cost = omega (arith, w.cost, c.in_ok-next.ensures.cost, few);
     }
@@ -74,6 +76,16 @@ returns-clause-map g c =
     λ m h.
     subst (λ fs. IsListing (values_of m) (shown_pairs fs)) (sym c.from_vec.ensures)
     (record { keys = whole.keys; each = λ key. whole.each key ∙ h.values key })
+
+pub returns-clause-held : goal.returns-clause-held
+returns-clause-held g c =
+    let b = c.args.self.now.nodes in
+    let w = subst (λ o. Listing b c.loop-next.walk o (shown_pairs c.loop-next.found.items) c.args.steps.now c.loop-next.steps) c.in_default.is c.loop-next.invariant in
+    let found = shown_pairs c.loop-next.found.items in
+    let chosen = subst (Chosen b Every (all_items b)) (append-nil found) (w.onward [] none) in
+    let whole = listing b w.accepted found chosen in
+    subst (λ fs. IsListing (values_of (contents b)) (shown_pairs fs)) (sym c.from_vec.ensures)
+    (record { keys = whole.keys; each = λ key. whole.each key ∙ values_held b w.accepted key })
 
 pub returns-clause-cost : goal.returns-clause-cost
 returns-clause-cost g c =
