@@ -193,25 +193,29 @@ fn check_nodes(alloc: Global, bytes: &[u8], ends: &TextEnds) -> Result<(), Index
         is_root: true,
         link: be_u32_at(bytes, 8),
     };
-    let mut stack = Vec::new(alloc);
-    push_pending(
-        &mut stack,
-        visit_node(bytes, ends, &root, &mut visited, &mut starts)?,
-    )?;
-    while let Some(pending) = stack.pop() {
-        let Some((link, rest)) = next_child(bytes, &pending) else {
+    let mut above = Vec::new(alloc);
+    let mut level = visit_node(bytes, ends, &root, &mut visited, &mut starts)?;
+    'level: loop {
+        let Some((link, rest)) = next_child(bytes, &level) else {
+            match above.pop() {
+                Some(pending) => level = pending,
+                None => return Ok(()),
+            }
             continue;
         };
         let child = Visit {
-            above: pending.above as usize,
+            above: level.above as usize,
             is_root: false,
             link,
         };
         let below = visit_node(bytes, ends, &child, &mut visited, &mut starts)?;
-        push_pending(&mut stack, rest)?;
-        push_pending(&mut stack, below)?;
+        if below.left == 0 {
+            level = rest;
+        } else {
+            push_pending(&mut above, rest)?;
+            level = below;
+        }
     }
-    Ok(())
 }
 
 /// Whether the bytes are an index: the tests of the reader, in their order.

@@ -1,87 +1,128 @@
-use Rattle.std.proofs.Common.{◌≡◌, sym, ap, subst, ◌∙◌, ◌+◌, [], ◌++◌, length, arith}
+use Rattle.std.proofs.Common.{◌≡◌, refl, sym, ap, subst, ◌∙◌, ◌+◌, [], ◌∷◌, ◌++◌, length, arith}
 use Rattle.std.specs.List.{AllByRecursion}
 use Rattle.std.proofs.lemmas.Result.{err_from_is_err_and}
 use Rattle.std.proofs.lemmas.List.{nil_from_length}
 use Rattle.km_names.specs.First.{first}
 use Rattle.index_format.specs.Check.{arrival_faults}
 use Rattle.index_nodes.specs.Pending.{arrivals_left, child_arrivals, links_of, IsInside}
-use Rattle.index_nodes.proofs.CheckLemmas.{at_root, root_rest, first_fault, first_walk, top_inside, left_none, walk_on, stops_here, walk_below, fewer}
+use Rattle.index_nodes.proofs.ArrivalLemmas.{arrivals_left-push, none_left, inside-push}
+use Rattle.index_nodes.proofs.CheckLemmas.{Walking, at_root, root_rest, first_fault, first_walk, top_inside, left_none, walk_on, stops_here, walk_below, fewer}
 use Rattle.index_nodes.proofs.check.check_nodes.Goals as goal
 
-pub returns-in_err-visit_node-clause-fault : goal.returns-in_err-visit_node-clause-fault
-returns-in_err-visit_node-clause-fault c =
-    let p = err_from_is_err_and c.from_residual-in_err-visit_node.result c.from_residual-in_err-visit_node.ensures.1 in
+pub returns-in_err-level-clause-fault : goal.returns-in_err-level-clause-fault
+returns-in_err-level-clause-fault c =
+    let p = err_from_is_err_and c.from_residual-in_err-level.result c.from_residual-in_err-level.ensures.1 in
     let b = c.args.bytes.now in
     let link = c.be_u32_at.result in
-    rw (p.1, p.2) (first_fault b [] (length b + 1) (at_root b link) [] _ (c.in_err-visit_node.ensures.fault [] c.in_ok-visited.ensures.empty) (root_rest b link c.be_u32_at.ensures))
+    rw (p.1, p.2) (first_fault b [] (length b + 1) (at_root b link) [] _ (c.in_err-level.ensures.fault [] c.in_ok-visited.ensures.empty) (root_rest b link c.be_u32_at.ensures))
 
-pub loop-pending-init : goal.loop-pending-init
-loop-pending-init c =
+pub level-init : goal.level-init
+level-init c =
     let b = c.args.bytes.now in
-    let link = c.be_u32_at.result in
-    let p = c.in_ok-visit_node.field-0 in
-    let empty = c.new-stack.ensures.items in
+    let p = c.in_ok-level.level in
+    let none = c.new-above.result.items in
+    let empty : none ≡ [] = c.new-above.ensures.items in
     record {
       walk =
-          first_walk b link c.visit_node.new.visited c.push_pending.new.stack.items p c.be_u32_at.ensures
-          (c.in_ok-visit_node.ensures.passes [] c.in_ok-visited.ensures.empty)
-          (c.in_ok-visit_node.ensures.places [] c.in_ok-visited.ensures.empty)
-          c.in_ok-visit_node.ensures.pending
-          (c.in_ok-push_pending.ensures.left b ∙ ap (λ ps. child_arrivals b p.above (links_of b p) ++ arrivals_left b ps) empty)
+          first_walk b c.be_u32_at.result c.visit_node.new.visited (none ++ p ∷ []) p c.be_u32_at.ensures
+          (c.in_ok-level.ensures.passes [] c.in_ok-visited.ensures.empty)
+          (c.in_ok-level.ensures.places [] c.in_ok-visited.ensures.empty)
+          c.in_ok-level.ensures.pending
+          (arrivals_left-push b none p ∙ ap (λ ps. child_arrivals b p.above (links_of b p) ++ arrivals_left b ps) empty)
           (omega (arith, c.visit_node.ensures.room, c.in_ok-visited.ensures.room))
-          (c.in_ok-push_pending.ensures.inside b c.in_ok-visit_node.ensures.pending.inside (subst (AllByRecursion (IsInside b)) (sym empty) tt));
+          (inside-push (IsInside b) none p (subst (AllByRecursion (IsInside b)) (sym empty) tt) c.in_ok-level.ensures.pending.inside);
       starts_known = c.visit_node.ensures.starts;
     }
 
 pub next_child-requires : goal.next_child-requires
 next_child-requires c =
-    (top_inside c.args.bytes.now c.loop-pending.visited c.loop-pending.stack.items c.pop.new.self.items c.in-Some.pending c.loop-pending.invariant.walk c.in-Some.ensures.items).1
+    (top_inside c.args.bytes.now c.level.visited (c.level.above.items ++ c.level.level ∷ []) c.level.above.items c.level.level c.level.invariant.walk refl).1
 
-pub loop-pending-smaller-in_default-next_child : goal.loop-pending-smaller-in_default-next_child
-loop-pending-smaller-in_default-next_child c =
-    let same = ap length (left_none c.args.bytes.now c.loop-pending.visited c.loop-pending.stack.items c.pop.new.self.items c.in-Some.pending c.loop-pending.invariant.walk c.in-Some.ensures.items c.in_default-next_child.ensures) in
-    omega (arith, same, c.in-Some.ensures.cases)
+pub returns-in-None-clause-passes : goal.returns-in-None-clause-passes
+unfolding arrival_faults
+returns-in-None-clause-passes c =
+    let b = c.args.bytes.now in
+    let ps = c.level.above.items in
+    let w = c.level.invariant.walk in
+    let none : ps ≡ [] = nil_from_length ps (omega (arith, c.in-None.ensures.cases.0, c.level.above.ok.0)) in
+    let left = left_none b c.level.visited (ps ++ c.level.level ∷ []) ps c.level.level w refl c.in_default.ensures in
+    sym w.rest ∙ ap (λ rs. first (arrival_faults b w.seen rs)) (left ∙ ap (arrivals_left b) none)
 
-pub loop-pending-preserved-in_default-next_child :
-    goal.loop-pending-preserved-in_default-next_child
-loop-pending-preserved-in_default-next_child c = record {
-  walk = walk_on c.args.bytes.now c.loop-pending.visited c.loop-pending.stack.items c.pop.new.self.items c.in-Some.pending c.loop-pending.invariant.walk c.in-Some.ensures.items c.in_default-next_child.ensures;
-  starts_known = c.loop-pending.invariant.starts_known;
-}
+pub level-smaller-in_default : goal.level-smaller-in_default
+level-smaller-in_default c =
+    let b = c.args.bytes.now in
+    let ps = c.level.above.items in
+    let left = ap length (left_none b c.level.visited (ps ++ c.level.level ∷ []) ps c.level.level c.level.invariant.walk refl c.in_default.ensures) in
+    let same = ap (λ qs. length (arrivals_left b qs)) c.in-Some-pop.ensures.items in
+    omega (arith, left, same, c.in-Some-pop.ensures.cases)
+
+pub level-preserved-in_default : goal.level-preserved-in_default
+level-preserved-in_default c =
+    let b = c.args.bytes.now in
+    let ps = c.level.above.items in
+    record {
+      walk = subst (Walking b c.level.visited) c.in-Some-pop.ensures.items
+          (walk_on b c.level.visited (ps ++ c.level.level ∷ []) ps c.level.level c.level.invariant.walk refl c.in_default.ensures);
+      starts_known = c.level.invariant.starts_known;
+    }
 
 pub returns-in_err-below-clause-fault : goal.returns-in_err-below-clause-fault
 returns-in_err-below-clause-fault c =
     let p = err_from_is_err_and c.from_residual-in_err-below.result c.from_residual-in_err-below.ensures.1 in
-    let w = c.loop-pending.invariant.walk in
-    rw (p.1, p.2) (stops_here c.args.bytes.now c.loop-pending.visited c.loop-pending.stack.items c.pop.new.self.items c.in-Some.pending w c.in-Some.ensures.items c.in-Some-next_child.link c.in-Some-next_child.rest c.in-Some-next_child.ensures.0 c.in-Some-next_child.ensures.1 _ (c.in_err-below.ensures.fault w.seen w.places))
+    let w = c.level.invariant.walk in
+    let ps = c.level.above.items in
+    rw (p.1, p.2) (stops_here c.args.bytes.now c.level.visited (ps ++ c.level.level ∷ []) ps c.level.level w refl c.in-Some.link c.in-Some.rest c.in-Some.ensures.0 c.in-Some.ensures.1 _ (c.in_err-below.ensures.fault w.seen w.places))
 
-pub loop-pending-smaller : goal.loop-pending-smaller
-loop-pending-smaller c =
-    let w = c.loop-pending.invariant.walk in
-    let less = fewer c.args.bytes.now c.loop-pending.visited c.loop-pending.stack.items c.pop.new.self.items c.in-Some.pending w c.in-Some.ensures.items c.in-Some-next_child.link c.in-Some-next_child.rest c.in-Some-next_child.ensures.0 c.in-Some-next_child.ensures.1 c.in_ok-below.below (c.in_ok-below.ensures.passes w.seen w.places) c.in_ok-below.ensures.pending c.push_pending-in-Some.new.stack.items c.push_pending-in-Some-2.new.stack.items (c.in_ok-push_pending-2.ensures.left c.args.bytes.now) (c.in_ok-push_pending-3.ensures.left c.args.bytes.now) in
-    omega (arith, less, c.in_ok-push_pending-2.ensures.count, c.in_ok-push_pending-3.ensures.count, c.in-Some.ensures.cases)
-
-pub loop-pending-preserved : goal.loop-pending-preserved
-loop-pending-preserved c =
+pub level-smaller-then-below-eq0 : goal.level-smaller-then-below-eq0
+level-smaller-then-below-eq0 c =
     let b = c.args.bytes.now in
-    let w = c.loop-pending.invariant.walk in
-    let top = top_inside b c.loop-pending.visited c.loop-pending.stack.items c.pop.new.self.items c.in-Some.pending w c.in-Some.ensures.items in
+    let w = c.level.invariant.walk in
+    let ps = c.level.above.items in
+    let one = ps ++ c.in-Some.rest ∷ [] in
+    let below = c.in_ok-below.below in
+    let less = fewer b c.level.visited (ps ++ c.level.level ∷ []) ps c.level.level w refl c.in-Some.link c.in-Some.rest c.in-Some.ensures.0 c.in-Some.ensures.1 below (c.in_ok-below.ensures.passes w.seen w.places) c.in_ok-below.ensures.pending one one (arrivals_left-push b ps c.in-Some.rest) (ap (λ rs. rs ++ arrivals_left b one) (sym (none_left b below (omega (arith, c.if-below-eq0.true))))) in
+    omega (arith, less)
+
+pub level-preserved-then-below-eq0 : goal.level-preserved-then-below-eq0
+level-preserved-then-below-eq0 c =
+    let b = c.args.bytes.now in
+    let w = c.level.invariant.walk in
+    let ps = c.level.above.items in
+    let one = ps ++ c.in-Some.rest ∷ [] in
+    let below = c.in_ok-below.below in
+    let top = top_inside b c.level.visited (ps ++ c.level.level ∷ []) ps c.level.level w refl in
     record {
       walk =
-          walk_below b c.loop-pending.visited c.loop-pending.stack.items c.pop.new.self.items c.in-Some.pending w c.in-Some.ensures.items c.in-Some-next_child.link c.in-Some-next_child.rest c.in-Some-next_child.ensures.0 c.in-Some-next_child.ensures.1
-          c.in_ok-below.below (c.in_ok-below.ensures.passes w.seen w.places) c.in_ok-below.ensures.pending
-          c.push_pending-in-Some.new.stack.items c.push_pending-in-Some-2.new.stack.items
-          (c.in_ok-push_pending-2.ensures.left b) (c.in_ok-push_pending-3.ensures.left b)
-          c.visit_node-in-Some.new.visited (c.in_ok-below.ensures.places w.seen w.places)
+          walk_below b c.level.visited (ps ++ c.level.level ∷ []) ps c.level.level w refl c.in-Some.link c.in-Some.rest c.in-Some.ensures.0 c.in-Some.ensures.1 below (c.in_ok-below.ensures.passes w.seen w.places) c.in_ok-below.ensures.pending one one (arrivals_left-push b ps c.in-Some.rest) (ap (λ rs. rs ++ arrivals_left b one) (sym (none_left b below (omega (arith, c.if-below-eq0.true)))))
+          c.visit_node-in-level.new.visited (c.in_ok-below.ensures.places w.seen w.places)
           (omega (arith, w.room, c.in_ok-below.ensures.room))
-          (c.in_ok-push_pending-3.ensures.inside b c.in_ok-below.ensures.pending.inside (c.in_ok-push_pending-2.ensures.inside b c.in-Some-next_child.ensures.2 top.0));
-      starts_known = c.visit_node-in-Some.ensures.starts;
+          (inside-push (IsInside b) ps c.in-Some.rest top.0 c.in-Some.ensures.2);
+      starts_known = c.visit_node-in-level.ensures.starts;
     }
 
-pub returns-clause-passes : goal.returns-clause-passes
-unfolding arrival_faults
-returns-clause-passes c =
-    let w = c.loop-pending.invariant.walk in
+pub level-smaller : goal.level-smaller
+level-smaller c =
     let b = c.args.bytes.now in
-    let none : c.loop-pending.stack.items ≡ [] = nil_from_length c.loop-pending.stack.items (omega (arith, c.in_default.ensures.cases.0, c.loop-pending.stack.ok.0)) in
-    sym w.rest ∙ ap (λ ps. first (arrival_faults b w.seen (arrivals_left b ps))) none
+    let w = c.level.invariant.walk in
+    let ps = c.level.above.items in
+    let one = c.push_pending.new.stack.items in
+    let below = c.in_ok-below.below in
+    let less = fewer b c.level.visited (ps ++ c.level.level ∷ []) ps c.level.level w refl c.in-Some.link c.in-Some.rest c.in-Some.ensures.0 c.in-Some.ensures.1 below (c.in_ok-below.ensures.passes w.seen w.places) c.in_ok-below.ensures.pending one (one ++ below ∷ []) (c.in_ok-push_pending.ensures.left b) (arrivals_left-push b one below) in
+    omega (arith, less, c.in_ok-push_pending.ensures.count)
+
+pub level-preserved : goal.level-preserved
+level-preserved c =
+    let b = c.args.bytes.now in
+    let w = c.level.invariant.walk in
+    let ps = c.level.above.items in
+    let one = c.push_pending.new.stack.items in
+    let below = c.in_ok-below.below in
+    let top = top_inside b c.level.visited (ps ++ c.level.level ∷ []) ps c.level.level w refl in
+    record {
+      walk =
+          walk_below b c.level.visited (ps ++ c.level.level ∷ []) ps c.level.level w refl c.in-Some.link c.in-Some.rest c.in-Some.ensures.0 c.in-Some.ensures.1 below (c.in_ok-below.ensures.passes w.seen w.places) c.in_ok-below.ensures.pending one (one ++ below ∷ []) (c.in_ok-push_pending.ensures.left b) (arrivals_left-push b one below)
+          c.visit_node-in-level.new.visited (c.in_ok-below.ensures.places w.seen w.places)
+          (omega (arith, w.room, c.in_ok-below.ensures.room))
+          (inside-push (IsInside b) one below (c.in_ok-push_pending.ensures.inside b c.in-Some.ensures.2 top.0) c.in_ok-below.ensures.pending.inside);
+      starts_known = c.visit_node-in-level.ensures.starts;
+    }
