@@ -1,12 +1,14 @@
 -- Names that stand once, an item more at a time.
-use Rattle.std.proofs.Common.{◌≡◌, ℕ, ◌+◌, ◌<◌, Bool, true, false, not, ◌&&◌, ◌||◌, List, [], ◌∷◌, ◌++◌, length, map, take, drop, get_or, Bor, Option, Some, is_some, refl, sym, ap, subst, ◌∙◌, true≢false}
-use Rattle.std.proofs.lemmas.Bool.{not_from_false, and_from, not-true}
+use Rattle.std.proofs.Common.{◌≡◌, ℕ, ◌+◌, ◌<◌, Bool, true, false, not, ◌&&◌, ◌||◌, List, [], ◌∷◌, ◌++◌, length, map, take, drop, get_or, Bor, Option, Some, is_some, refl, sym, ap, subst, ◌∙◌, true≢false, ◌≤◌, inl, inr, arith}
+use Rattle.std.proofs.lemmas.Bool.{cases_Bool, not_from_false, and_from, not-true}
+use Rattle.std.proofs.lemmas.Map.Made.{length-le_from_is_member}
+use Rattle.std.proofs.lemmas.Slice.Eq.{bytes_eq-Decides}
 use Rattle.std.proofs.lemmas.List.{get_or_default, take_more, drop_more, take-append-drop, map-append}
 use Rattle.std.proofs.lemmas.List.Folds.{list_any-append, list_all-map, list_all_at, list_all_more}
 use Rattle.std.proofs.lemmas.Cmp.{nat_list_eq_equiv}
-use Rattle.std.specs.List.{list_all, list_any}
+use Rattle.std.specs.List.{AllByRecursion, IsDistinct, list_all, list_any}
 use Rattle.std.specs.Str.{bytes_eq}
-use Rattle.tree_gen.specs.Sheet.{is_among, are_distinct}
+use Rattle.tree_gen.specs.Sheet.{is_among, are_chosen, are_distinct}
 use Rattle.tree_gen.specs.Writing.{names_of}
 use Rattle.name_table.specs.NameTable.{Table, IsTableOf, place_of}
 use Rattle.tree_gen.proofs.NameLemmas.{is_among-first_place}
@@ -38,6 +40,42 @@ distinct-push (x ∷ xs) n d a =
     let still : is_among (xs ++ n ∷ []) x ≡ false =
     list_any-append (bytes_eq x) xs (n ∷ []) ∙ (λ i. none i || (other i || false)) in
     and_from (not (is_among (xs ++ n ∷ []) x)) (are_distinct (xs ++ n ∷ [])) (not_from_false (is_among (xs ++ n ∷ []) x) still) (distinct-push xs n w.1 v.1)
+
+-- names that are distinct, as the test has them
+told-apart : (names : List (List ℕ)) → are_distinct names ≡ true → IsDistinct bytes_eq names
+unfolding IsDistinct
+told-apart [] distinct = tt
+told-apart (x ∷ xs) distinct =
+    let w = both (not (is_among xs x)) (are_distinct xs) distinct in
+    (apart xs (not-true (is_among xs x) w.0), told-apart xs w.1)
+  where
+    apart : (ys : List (List ℕ)) → is_among ys x ≡ false → AllByRecursion (λ y. bytes_eq x y ≡ false) ys
+    apart [] none = tt
+    apart (y ∷ ys) none = let w = neither (bytes_eq x y) (is_among ys x) none in (w.0, apart ys w.1)
+
+-- a name is one of the others where each of the names is
+among-too : (others names : List (List ℕ)) (q : List ℕ) → list_all (is_among others) names ≡ true → is_among names q ≡ true → is_among others q ≡ true
+among-too others [] q all there = absurd (true≢false (sym there))
+among-too others (x ∷ xs) q all there =
+    let w = both (is_among others x) (list_all (is_among others) xs) all in
+    elim (cases_Bool (bytes_eq q x)) [
+      | inl same ↦ ap (is_among others) ((bytes_eq-Decides q x).0 same) ∙ w.0
+      | inr other ↦ among-too others xs q w.1 (sym (ap (λ b. b || is_among xs q) other) ∙ there)
+    ]
+
+-- distinct names that are among others are no more than these
+pub chosen-few : (others names : List (List ℕ)) → are_chosen others names ≡ true → length names ≤ length others
+chosen-few others names chosen =
+    let w = both (are_distinct names) (list_all (is_among others) names) chosen in
+    length-le_from_is_member nat_list_eq_equiv names others (told-apart names w.0) (λ q there. among-too others names q w.1 there)
+
+-- and more names than others aren't
+pub chosen-not : (others names : List (List ℕ)) → length others < length names → are_chosen others names ≡ false
+chosen-not others names more =
+    elim (cases_Bool (are_chosen others names)) [
+      | inl chosen ↦ absurd (omega (arith, more, chosen-few others names chosen))
+      | inr is ↦ is
+    ]
 
 -- a name that is there twice
 twice-by : (b : Bool) (x n : List ℕ) (xs rest : List (List ℕ)) → bytes_eq n x ≡ b → (bytes_eq n x || is_among xs n) ≡ true → (is_among xs n ≡ true → are_distinct (xs ++ n ∷ rest) ≡ false)

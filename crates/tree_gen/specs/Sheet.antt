@@ -30,21 +30,25 @@ spaced_names m = map (λ (p : SheetSpace). p.name) m.spaces
 abbrev pub is_few : {X : Type 0} → List X → Bool
 is_few items = nat_le (length items) 65535
 
--- A text has no NUL and at most 4096 bytes.
+-- A text has no NUL, so that one can end it.
+abbrev pub has_no_nul : List ℕ → Bool
+has_no_nul text = not (list_any (λ b. b == 0) text)
+
+-- A text of a sheet has no NUL and at most 4096 bytes.
 unfoldable pub is_text : List ℕ → Bool
-is_text text = nat_le (length text) 4096 && not (list_any (λ b. b == 0) text)
+is_text text = nat_le (length text) 4096 && has_no_nul text
 
 -- The name of an entry of `__versions` is a text of at most 55 bytes, since a NUL follows it in 56.
 abbrev pub is_version : SheetVersion → Bool
 is_version v = is_text v.name && nat_le (length v.name) 55
 
--- The number of an extended version has 32 bits.
+-- The name of an extended version has no NUL, however long it is, and its number has 32 bits.
 abbrev pub is_extended : SheetVersion → Bool
-is_extended v = is_text v.name && nat_lt v.crc (2 ^ 32)
+is_extended v = has_no_nul v.name && nat_lt v.crc (2 ^ 32)
 
--- A namespace is a text that isn't empty.
+-- A namespace has no NUL and isn't empty.
 abbrev pub is_space : SheetSpace → Bool
-is_space p = is_text p.space && nat_lt 0 (length p.space)
+is_space p = has_no_nul p.space && nat_lt 0 (length p.space)
 
 -- A name is one of these.
 abbrev pub is_among : List (List ℕ) → List ℕ → Bool
@@ -55,11 +59,9 @@ abbrev pub are_distinct : List (List ℕ) → Bool
 are_distinct [] = true
 are_distinct (name ∷ names) = not (is_among names name) && are_distinct names
 
--- No list is too long.
-unfoldable pub are_few : Sheet → SheetMore → Bool
-are_few s m =
-    is_few s.texts && is_few s.versions && is_few s.exports && is_few s.needs && is_few s.places
-    && is_few m.ext && is_few m.gpl && is_few m.spaces
+-- No list of a sheet is too long.
+unfoldable pub are_few : Sheet → Bool
+are_few s = is_few s.texts && is_few s.versions && is_few s.exports && is_few s.needs && is_few s.places
 
 -- Texts and names are texts, and numbers and namespaces can be written.
 unfoldable pub are_texts : Sheet → SheetMore → Bool
@@ -79,7 +81,7 @@ are_known s m =
 
 -- A sheet, with more, of which an object can be made.
 unfoldable pub is_sheet : Sheet → SheetMore → Bool
-is_sheet s m = are_few s m && are_texts s m && are_known s m
+is_sheet s m = are_few s && are_texts s m && are_known s m
 
 -- Nothing more.
 abbrev pub no_more : SheetMore

@@ -1,7 +1,7 @@
 // The conditions of a sheet, as a test.
 ghost use Rattle.std.specs.Prelude.{◌≡◌, ◌≤◌, ◌&&◌, true, length, IfOk};
 ghost use Rattle.std.specs.List.{list_all};
-ghost use Rattle.tree_gen.specs.Sheet.{is_few, is_text, is_version, is_extended, is_space, is_among, are_distinct, are_chosen, are_few, are_texts, are_known, symbol_names, is_sheet as is_the_sheet};
+ghost use Rattle.tree_gen.specs.Sheet.{has_no_nul, is_few, is_text, is_version, is_extended, is_space, is_among, are_distinct, are_chosen, are_few, are_texts, are_known, symbol_names, is_sheet as is_the_sheet};
 ghost use Rattle.tree_gen.specs.Writing.{names_of};
 
 use crate::names::{names, symbol_names, table_of};
@@ -29,19 +29,23 @@ fn is_few<T: Drop>(items: &List<T>) -> bool
     items.len() <= ITEM_LIMIT
 }
 
-/// Whether no list is too long.
+/// Whether no list of a sheet is too long.
 #[tactic(auto, unfolding(crate::specs::Sheet::are_few))]
-fn are_few(sheet: &Sheet, more: &SheetMore) -> bool
-    ensures { result ≡ are_few sheet.now more.now }
+fn are_few(sheet: &Sheet) -> bool
+    ensures { result ≡ are_few sheet.now }
 {
     is_few(&sheet.texts)
         && is_few(&sheet.versions)
         && is_few(&sheet.exports)
         && is_few(&sheet.needs)
         && is_few(&sheet.places)
-        && is_few(&more.ext)
-        && is_few(&more.gpl)
-        && is_few(&more.spaces)
+}
+
+/// Whether these bytes have no NUL.
+fn has_no_nul(text: &[u8]) -> bool
+    ensures { result ≡ has_no_nul text.now }
+{
+    !text.contains(&0)
 }
 
 /// Whether these bytes are short and have no NUL.
@@ -49,7 +53,7 @@ fn are_few(sheet: &Sheet, more: &SheetMore) -> bool
 fn is_text(text: &[u8]) -> bool
     ensures { result ≡ is_text text.now }
 {
-    text.len() <= LONGEST_TEXT && !text.contains(&0)
+    text.len() <= LONGEST_TEXT && has_no_nul(text)
 }
 
 /// Whether the name of a version is a text that fits its entry.
@@ -59,18 +63,18 @@ fn is_version(version: &SheetVersion) -> bool
     is_text(version.name.as_bytes()) && version.name.len() <= LONGEST_VERSION_NAME
 }
 
-/// Whether an extended version has 32 bits, and its name is a text.
+/// Whether an extended version has 32 bits, and its name has no NUL.
 fn is_extended(version: &SheetVersion) -> bool
     ensures { result ≡ is_extended version.now }
 {
-    is_text(version.name.as_bytes()) && version.crc <= GREATEST_EXTENDED
+    has_no_nul(version.name.as_bytes()) && version.crc <= GREATEST_EXTENDED
 }
 
-/// Whether a namespace is a text that isn't empty.
+/// Whether a namespace has no NUL and isn't empty.
 fn is_space(space: &SheetSpace) -> bool
     ensures { result ≡ is_space space.now }
 {
-    is_text(space.space.as_bytes()) && !space.space.is_empty()
+    has_no_nul(space.space.as_bytes()) && !space.space.is_empty()
 }
 
 /// Whether each of these is a text.
@@ -150,12 +154,14 @@ fn are_among(alloc: Global, others: &[&[u8]], names: &[&[u8]]) -> Result<bool, A
     Ok(true)
 }
 
-/// Whether names are distinct, and each is one of the others.
+/// Whether names are distinct, and each is one of the others, of which there are then as many at least.
 fn are_chosen(alloc: Global, others: &[&[u8]], names: &[&[u8]]) -> Result<bool, AllocError>
-    requires others { length others.now ≤ 131070 }
-    requires names { length names.now ≤ 131070 }
+    requires { length others.now ≤ 131070 }
     ensures { IfOk result (λ b. b ≡ are_chosen (names_of others.now) (names_of names.now)) }
 {
+    if names.len() > others.len() {
+        return Ok(false);
+    }
     let distinct = are_distinct(alloc, names)?;
     let among = are_among(alloc, others, names)?;
     Ok(distinct && among)
@@ -176,7 +182,7 @@ fn are_known(
     more: &SheetMore,
     symbols: &[&[u8]],
 ) -> Result<bool, AllocError>
-    requires few { are_few sheet.now more.now ≡ true }
+    requires few { are_few sheet.now ≡ true }
     requires symbols { names_of symbols.now ≡ symbol_names sheet.now }
     ensures { IfOk result (λ b. b ≡ are_known sheet.now more.now) }
 {
@@ -191,15 +197,16 @@ fn are_known(
     Ok(all_of(distinct, placed, gpl, spaced))
 }
 
-/// Whether an object can be made of a sheet, and of what is more: no list is longer than 65,535 items, texts and names
-/// have no NUL and at most 4096 bytes (of a version 55), namespaces aren't empty, extended versions have 32 bits, names
-/// of symbols are distinct, places are by them, and so are the names of GPL-only exports and of those in namespaces by
-/// exports, each at most once.
+/// Tests whether an object can be made of a sheet, and of what is more. No list of the sheet is longer than 65,535 items,
+/// its texts and names have no NUL and at most 4096 bytes (of a version 55), names of symbols are distinct, and places
+/// are by them. The names of extended versions and the namespaces have no NUL, the namespaces aren't empty, extended
+/// versions have 32 bits, and GPL-only names and the names of those in namespaces are exports, each at most once. Only
+/// memory can be wanting.
 #[tactic(auto, unfolding(crate::specs::Sheet::is_sheet))]
 pub fn is_sheet(alloc: Global, sheet: &Sheet, more: &SheetMore) -> Result<bool, AllocError>
     ensures { IfOk result (λ b. b ≡ is_the_sheet sheet.now more.now) }
 {
-    if !are_few(sheet, more) {
+    if !are_few(sheet) {
         return Ok(false);
     }
     let symbols = symbol_names(alloc, sheet)?;

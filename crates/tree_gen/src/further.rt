@@ -160,15 +160,18 @@ pub(crate) struct Further<'a> {
 
 /// Where each of the texts of namespaces begins.
 fn text_places(alloc: Global, spaces: &[SheetSpace]) -> Result<List<u64>, AllocError>
-    requires few { length spaces.now ≤ 65535 }
-    requires short { All (λ p. length p.space ≤ 4096) spaces.now }
     ensures { IfOk result (λ l. l ≡ map (text_place spaces.now) (range_with_len 0 (length spaces.now))) }
 {
     let mut places = Vec::with_capacity(alloc, spaces.len())?;
-    let mut place = 0;
+    let mut place = 0_u64;
     for space in spaces {
         places.push(place)?;
-        place += space.space.len() as u64 + 1;
+        let length = space.space.as_bytes().len() as u64 + 1;
+        // No memory has texts whose lengths add up past 64 bits.
+        let Some(end) = place.checked_add(length) else {
+            return Err(AllocError);
+        };
+        place = end;
     }
     Ok(List::from_vec(places))
 }
@@ -177,8 +180,7 @@ impl<'a> Further<'a> {
     /// The tables of what is more.
     pub(crate) fn new(alloc: Global, more: &'a SheetMore) -> Result<Further<'a>, AllocError>
         requires gpl { length more.now.gpl ≤ 65535 }
-        requires few { length more.now.spaces ≤ 65535 }
-        requires short { All (λ p. length p.space ≤ 4096) more.now.spaces }
+        requires spaces { length more.now.spaces ≤ 65535 }
         ensures { IfOk result (λ f. f.more.now ≡ more.now) }
     {
         let gpl = names(alloc, more.gpl.as_slice())?;

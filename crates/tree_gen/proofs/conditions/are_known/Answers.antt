@@ -13,34 +13,24 @@ use Rattle.tree_gen.proofs.conditions.are_known.Goals as goal
 pub are_distinct-requires : goal.are_distinct-requires
 are_distinct-requires c =
     let s = c.args.sheet.now in
-    let f = few s c.args.more.now c.requires.few in
+    let f = few s c.requires.few in
     omega (arith, length-names_of c.args.symbols.now, ap length c.requires.symbols, length-symbol_names s, f.exports, f.needs)
 
 pub are_among-requires : goal.are_among-requires
 are_among-requires c =
     let s = c.args.sheet.now in
-    let f = few s c.args.more.now c.requires.few in
+    let f = few s c.requires.few in
     omega (arith, length-names_of c.args.symbols.now, ap length c.requires.symbols, length-symbol_names s, f.exports, f.needs)
 
-pub are_chosen-requires-clause-others : goal.are_chosen-requires-clause-others
-are_chosen-requires-clause-others c =
-    let f = few c.args.sheet.now c.args.more.now c.requires.few in
+pub are_chosen-requires : goal.are_chosen-requires
+are_chosen-requires c =
+    let f = few c.args.sheet.now c.requires.few in
     omega (arith, ap length c.deref-2.ensures.value, length-named (λ (e : SheetExport). e.name) c.in_ok-exports.exports.items c.args.sheet.now.exports c.as_slice.result.now c.in_ok-exports.ensures c.as_slice.ensures, f.exports)
 
-pub are_chosen-requires-clause-names : goal.are_chosen-requires-clause-names
-are_chosen-requires-clause-names c =
-    let f = few c.args.sheet.now c.args.more.now c.requires.few in
-    omega (arith, ap length c.deref-3.ensures.value, length-named (λ (n : List ℕ). n) c.in_ok-gpl.gpl.items c.args.more.now.gpl c.as_slice-3.result.now c.in_ok-gpl.ensures c.as_slice-3.ensures, f.gpl)
-
-pub are_chosen-requires-2-clause-others : goal.are_chosen-requires-2-clause-others
-are_chosen-requires-2-clause-others c =
-    let f = few c.args.sheet.now c.args.more.now c.requires.few in
+pub are_chosen-requires-2 : goal.are_chosen-requires-2
+are_chosen-requires-2 c =
+    let f = few c.args.sheet.now c.requires.few in
     omega (arith, ap length c.deref-4.ensures.value, length-named (λ (e : SheetExport). e.name) c.in_ok-exports.exports.items c.args.sheet.now.exports c.as_slice.result.now c.in_ok-exports.ensures c.as_slice.ensures, f.exports)
-
-pub are_chosen-requires-2-clause-names : goal.are_chosen-requires-2-clause-names
-are_chosen-requires-2-clause-names c =
-    let f = few c.args.sheet.now c.args.more.now c.requires.few in
-    omega (arith, ap length c.deref-5.ensures.value, length-named (λ (p : SheetSpace). p.name) c.in_ok-spaces.spaces.items c.args.more.now.spaces c.as_slice-4.result.now c.in_ok-spaces.ensures c.as_slice-4.ensures, f.spaces)
 
 pub returns : goal.returns
 unfolding are_known

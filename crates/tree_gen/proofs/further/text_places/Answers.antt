@@ -1,9 +1,8 @@
-use Rattle.std.proofs.Common.{◌≤◌, ◌∷◌, [], ◌++◌, ◌∙◌, length, map, ap, sym, arith, zero-add}
+use Rattle.std.proofs.Common.{◌≡◌, ◌∷◌, [], ◌++◌, ◌∙◌, length, map, ap, sym, arith, zero-add}
 use Rattle.std.specs.List.{range_with_len}
 use Rattle.std.proofs.lemmas.List.FromFn.{map-range_with_len_more}
 use Rattle.tree_gen.specs.Further.{text_place}
 use Rattle.tree_gen.proofs.FurtherLemmas.{text_place-more}
-use Rattle.tree_gen.proofs.SymbolLemmas.{short-at}
 use Rattle.tree_gen.proofs.further.text_places.Goals as goal
 
 pub loop-space-preserved : goal.loop-space-preserved
@@ -12,7 +11,6 @@ loop-space-preserved c =
     let i = c.loop-space.space-index in
     let x = c.space-item.result in
     let f = text_place spaces in
-    let short : length x.space ≤ 4096 = short-at (λ p. p.space) spaces i x c.loop-space-test.true c.space-item.is c.requires.short in
     let now = c.loop-space.invariant in
     record {
       places =
@@ -20,6 +18,5 @@ loop-space-preserved c =
           ∙ ap (λ l. l ++ c.loop-space.place ∷ []) now.places
           ∙ ap (λ n. map f (range_with_len 0 i) ++ n ∷ []) now.place
           ∙ sym (map-range_with_len_more f 0 i i (zero-add i));
-      place = omega (arith, now.place, c.len.ensures, text_place-more spaces i x c.loop-space-test.true c.space-item.is);
-      bound = omega (arith, now.bound, c.len.ensures, short);
+      place = omega (arith, now.place, ap length c.as_bytes.ensures, c.in-Some.ensures.1, text_place-more spaces i x c.loop-space-test.true c.space-item.is);
     }

@@ -1,4 +1,4 @@
-use Rattle.std.proofs.Common.{◌≡◌, ◌≤◌, ◌*◌, map}
+use Rattle.std.proofs.Common.{◌≡◌, map}
 use Rattle.std.specs.List.{range_with_len}
 use Rattle.tree_gen.specs.Further.{text_place}
 use Rattle.tree_gen.proofs.further.text_places.Given as goal
@@ -7,5 +7,4 @@ abbrev pub invariant-loop-space : goal.invariant-loop-space
 invariant-loop-space l = record {
   places : l.places.items ≡ map (text_place l.spaces) (range_with_len 0 l.space-index);
   place : l.place ≡ text_place l.spaces l.space-index;
-  bound : l.place ≤ 4097 * l.space-index;
 }

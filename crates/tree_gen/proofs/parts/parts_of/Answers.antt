@@ -4,11 +4,8 @@ use Rattle.tree_gen.proofs.parts.parts_of.Goals as goal
 pub new-requires-clause-gpl : goal.new-requires-clause-gpl
 new-requires-clause-gpl c = (fits c.args.sheet.now c.args.more.now c.requires).gpl
 
-pub new-requires-clause-few : goal.new-requires-clause-few
-new-requires-clause-few c = (fits c.args.sheet.now c.args.more.now c.requires).spaces
-
-pub new-requires-clause-short : goal.new-requires-clause-short
-new-requires-clause-short c = (fits c.args.sheet.now c.args.more.now c.requires).texts
+pub new-requires-clause-spaces : goal.new-requires-clause-spaces
+new-requires-clause-spaces c = (fits c.args.sheet.now c.args.more.now c.requires).spaces
 
 pub push_loaded-requires-clause-exports : goal.push_loaded-requires-clause-exports
 push_loaded-requires-clause-exports c = (fits c.args.sheet.now c.args.more.now c.requires).exports
