@@ -3,7 +3,7 @@ use km_course::{
     End, Refusal, Stop, conclude, list_conf_needed, list_conf_optional, list_tree_needed, put,
     read_needed, read_needed_into, read_optional, say, say_any, warn,
 };
-use km_names::{Blob, Name, Names, PathText};
+use km_names::{Blob, Name, Names, PathText, Paths};
 use km_outside::{FileBuffer, MemFiles, MemOut};
 use std::alloc::{AllocError, Global};
 use std::process::Abort;
@@ -20,21 +20,66 @@ fn name(alloc: Global, text: &[u8]) -> Result<Name, AllocError> {
 /// Two files, put by calls.
 fn made(alloc: Global) -> Result<MemFiles, Stop> {
     let mut files = MemFiles::new(alloc);
-    put(alloc, &mut files, path(alloc, b"/e/a.conf")?, b"text")?;
-    put(alloc, &mut files, path(alloc, b"/e/d/b.conf")?, b"")?;
+    put_file(alloc, &mut files, b"/e/a.conf", b"text")?;
+    put_file(alloc, &mut files, b"/e/d/b.conf", b"")?;
     Ok(files)
+}
+
+fn put_file(alloc: Global, files: &mut MemFiles, path: &[u8], bytes: &[u8]) -> Result<(), Stop> {
+    put(alloc, files, PathText::from_slice(alloc, path)?, bytes)
+}
+
+// Each call stands in a function of its own that promises nothing: what a test compares is what the call answered, and
+// its contract needn't be carried along.
+
+fn read(alloc: Global, files: &mut MemFiles, path: &[u8]) -> Result<Blob, Stop> {
+    read_needed(alloc, files, PathText::from_slice(alloc, path)?)
+}
+
+fn read_into(alloc: Global, files: &mut MemFiles, path: &[u8]) -> Result<Blob, Stop> {
+    let mut buffer = FileBuffer::new(alloc);
+    let path = PathText::from_slice(alloc, path)?;
+    read_needed_into(alloc, files, path, &mut buffer)?;
+    Ok(buffer.into_blob())
+}
+
+fn read_any(alloc: Global, files: &mut MemFiles, path: &[u8]) -> Result<Blob, Stop> {
+    read_optional(alloc, files, PathText::from_slice(alloc, path)?)
+}
+
+fn list(alloc: Global, files: &mut MemFiles, dir: &[u8]) -> Result<Names, Stop> {
+    list_conf_needed(alloc, files, PathText::from_slice(alloc, dir)?)
+}
+
+fn list_any(alloc: Global, files: &mut MemFiles, dir: &[u8]) -> Result<Names, Stop> {
+    list_conf_optional(alloc, files, PathText::from_slice(alloc, dir)?)
+}
+
+fn list_below(alloc: Global, files: &mut MemFiles, dir: &[u8]) -> Result<Paths, Stop> {
+    list_tree_needed(alloc, files, PathText::from_slice(alloc, dir)?)
+}
+
+fn write(out: &mut MemOut, bytes: &[u8]) -> Result<(), Stop> {
+    say(out, bytes)
+}
+
+fn write_any(out: &mut MemOut, bytes: &[u8]) -> Result<(), Stop> {
+    say_any(out, bytes)
+}
+
+fn write_warning(err: &mut MemOut, bytes: &[u8]) -> Result<(), Stop> {
+    warn(err, bytes)
 }
 
 #[test]
 fn a_file_is_read(rt: HostRuntime) -> Result<(), Fail> {
     let alloc = rt.alloc();
     let mut files = made(alloc)?;
-    let needed = read_needed(alloc, &mut files, path(alloc, b"/e/a.conf")?)?;
+    let needed = read(alloc, &mut files, b"/e/a.conf")?;
     assert_eq!(rt; needed.as_bytes(), b"text".as_slice());
-    let mut buffer = FileBuffer::new(alloc);
-    read_needed_into(alloc, &mut files, path(alloc, b"/e/a.conf")?, &mut buffer)?;
-    assert_eq!(rt; buffer.as_bytes(), b"text".as_slice());
-    let optional = read_optional(alloc, &mut files, path(alloc, b"/e/a.conf")?)?;
+    let buffered = read_into(alloc, &mut files, b"/e/a.conf")?;
+    assert_eq!(rt; buffered.as_bytes(), b"text".as_slice());
+    let optional = read_any(alloc, &mut files, b"/e/a.conf")?;
     assert_eq!(rt; optional.as_bytes(), b"text".as_slice());
     Ok(())
 }
@@ -43,10 +88,8 @@ fn a_file_is_read(rt: HostRuntime) -> Result<(), Fail> {
 fn what_is_not_there_is_empty(rt: HostRuntime) -> Result<(), Fail> {
     let alloc = rt.alloc();
     let mut files = made(alloc)?;
-    let text = read_optional(alloc, &mut files, path(alloc, b"/none")?)?;
-    assert!(rt; text.is_empty());
-    let names = list_conf_optional(alloc, &mut files, path(alloc, b"/none")?)?;
-    assert!(rt; names.is_empty());
+    assert!(rt; read_any(alloc, &mut files, b"/none")?.is_empty());
+    assert!(rt; list_any(alloc, &mut files, b"/none")?.is_empty());
     Ok(())
 }
 
@@ -54,20 +97,18 @@ fn what_is_not_there_is_empty(rt: HostRuntime) -> Result<(), Fail> {
 fn a_folder_is_listed(rt: HostRuntime) -> Result<(), Fail> {
     let alloc = rt.alloc();
     let mut files = made(alloc)?;
-    let names = list_conf_needed(alloc, &mut files, path(alloc, b"/e")?)?;
-    assert_eq!(rt; names.len(), 1);
-    let paths = list_tree_needed(alloc, &mut files, path(alloc, b"/e")?)?;
-    assert_eq!(rt; paths.len(), 2);
+    assert_eq!(rt; list(alloc, &mut files, b"/e")?.len(), 1);
+    assert_eq!(rt; list_below(alloc, &mut files, b"/e")?.len(), 2);
     Ok(())
 }
 
 #[test]
 fn bytes_are_written(rt: HostRuntime) -> Result<(), Fail> {
     let mut out = MemOut::with_room(rt.alloc(), 4)?;
-    say(&mut out, b"ab")?;
-    say_any(&mut out, b"")?;
-    say_any(&mut out, b"c")?;
-    warn(&mut out, b"d")?;
+    write(&mut out, b"ab")?;
+    write_any(&mut out, b"")?;
+    write_any(&mut out, b"c")?;
+    write_warning(&mut out, b"d")?;
     assert_eq!(rt; out.bytes(), b"abcd".as_slice());
     Ok(())
 }

@@ -1,7 +1,7 @@
 // Streams that move some bytes a call.
 use crate::world::write;
 use km_names::PathText;
-use km_outside::{DiskFiles, FileAnswer, FileBuffer, Reads, Stream};
+use km_outside::{DiskFiles, FileAnswer, Reads, Stream};
 use std::alloc::{Allocator, Global};
 use std::fs::{Metadata, OpenFile, OpenOptions};
 use std::io::{ErrorKind, Read, Seek, SeekFrom, Write};
@@ -216,18 +216,18 @@ static READS: [(&[Step], Option<usize>); 4] = [
     ),
 ];
 
+/// How many bytes are read of a file whose reader takes these steps.
+fn read_length(alloc: Global, calls: &'static [Step]) -> Result<usize, FileAnswer> {
+    let mut files = DiskFiles::new((OneFile { alloc, calls }, alloc));
+    let path = PathText::from_slice(alloc, b"file")?;
+    Ok(files.read(alloc, &path)?.len())
+}
+
 #[test]
 fn a_read_goes_on_to_the_end_or_fails(rt: HostRuntime) -> Result<(), Fail> {
-    let alloc = rt.alloc();
-    let path = PathText::from_slice(alloc, b"file")?;
     for (calls, want) in READS {
-        let mut files = DiskFiles::new((OneFile { alloc, calls }, alloc));
-        let mut buffer = FileBuffer::new(alloc);
-        match (files.read_into(&path, &mut buffer), want) {
-            (Ok(()), Some(length)) => assert_eq!(rt; buffer.as_bytes().len(), length),
-            (Err(answer), None) => assert_eq!(rt; answer, FileAnswer::Failed),
-            _ => panic!(rt; "another answer"),
-        }
+        let length = read_length(rt.alloc(), calls);
+        assert_eq!(rt; length, want.ok_or(FileAnswer::Failed));
     }
     Ok(())
 }
