@@ -11,13 +11,7 @@ use std::alloc::{AllocError, Global};
 fn packed(alloc: Global, digits: &[u8]) -> Result<Vec<u8>, AllocError>
     ensures { IfOk result (λ packed. packed.items ≡ filter (λ b. not (b == 32)) digits.now) }
 {
-    let mut packed = Vec::new(alloc);
-    for digit in digits {
-        if *digit != b' ' {
-            packed.push(*digit)?;
-        }
-    }
-    Ok(packed)
+    digits.iter().copied().filter(|b| *b != b' ').collect(alloc)
 }
 
 /// The bytes of hexadecimal digits, two for each byte. Spaces part the fields, and count for nothing.
