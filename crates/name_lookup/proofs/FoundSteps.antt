@@ -2,14 +2,18 @@
 use Rattle.std.proofs.Common.{◌≡◌, ℕ, ◌+◌, ◌<◌, ◌||◌, Bool, true, false, cond, List, [], ◌∷◌, ◌++◌, length, take, get_or, filter, filter_map, Option, Some, None, refl, sym, ap, ◌∙◌, append-nil, arith}
 use Rattle.std.specs.List.{cons_option, slice_get}
 use Rattle.std.specs.Option.{option_map_or}
+use Rattle.std.specs.Str.{bytes_eq}
+use Rattle.std.proofs.lemmas.Cmp.{nat_list_eq_equiv}
 use Rattle.std.proofs.lemmas.List.{take_more}
 use Rattle.std.proofs.lemmas.List.Elements.{filter_more, filter_map-append}
 use Rattle.std.proofs.lemmas.List.Folds.{list_any-append}
 use Rattle.std.proofs.lemmas.Option.{get_or_from_slice_get, slice_get_within, slice_get-get_or}
 use Rattle.km_names.specs.AliasForm.{normal_alias}
 use Rattle.modprobe_conf.specs.declared.rule.Rule.{Rule}
+use Rattle.modprobe_conf.specs.declared.rule.Rule.TheVariants.{Alias, Blacklist, Options, Install, Remove, Softdep}
 use Rattle.name_lookup.specs.Maps.{Maps}
-use Rattle.name_lookup.specs.Found.{blacklists, is_blacklisted, found, found_normal}
+use Rattle.name_lookup.specs.Found.{installs, has_install, blacklists, is_blacklisted, found, found_normal}
+use Rattle.name_lookup.specs.Tables.{installed_name}
 
 -- The items that pass a test, with the next one looked at.
 module _ {X : Type 0} (test : X → Bool) (xs : List X) (i : ℕ) (x : X) (here : slice_get xs i ≡ Some x) where
@@ -32,6 +36,22 @@ blacklisted-more rules i rule x within here =
     ap (λ rs. is_blacklisted rs x) (take_more rules i rule within)
     ∙ list_any-append (blacklists x) (take i rules) (get_or rules i rule ∷ [])
     ∙ ap (λ r. is_blacklisted (take i rules) x || (blacklists x r || false)) (sym here)
+
+-- What install rules name, with one rule more.
+pub installed-more : (rules : List Rule) (i : ℕ) (rule : Rule) (x : List ℕ) → i < length rules → rule ≡ get_or rules i rule
+    → has_install (take (i + 1) rules) x ≡ has_install (take i rules) x || (installs x rule || false)
+installed-more rules i rule x within here =
+    ap (λ rs. has_install rs x) (take_more rules i rule within)
+    ∙ list_any-append (installs x) (take i rules) (get_or rules i rule ∷ [])
+    ∙ ap (λ r. has_install (take i rules) x || (installs x r || false)) (sym here)
+
+pub installs-name : (x : List ℕ) (rule : Rule) → installs x rule ≡ option_map_or (bytes_eq x) (installed_name rule) false
+installs-name x (Install name command) = nat_list_eq_equiv.symm name x
+installs-name x (Alias pattern name) = refl
+installs-name x (Blacklist name) = refl
+installs-name x (Options name text) = refl
+installs-name x (Remove name command) = refl
+installs-name x (Softdep name pre post) = refl
 
 pub no_more : (t : Bool) → t || (false || false) ≡ t
 no_more true = refl

@@ -1,1 +1,4 @@
 pub mod FoundSteps
+pub mod PatternLaws
+pub mod AliasLaws
+pub mod GroupLaws

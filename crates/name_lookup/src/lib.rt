@@ -2,14 +2,21 @@
 //!
 //! A name is looked up in six lists, from the aliases of the configuration to the built-in modules, and the first one
 //! that isn't empty decides. The definitions speak of the four maps that a folder's index files stand for; code asks the
-//! files in place. The crate stands on `index_read` for the lookups, on `modprobe_conf` for the rules, and on `glob_match`
-//! for the patterns of aliases.
+//! files in place. A [`Lookup`] has the rules in tables, so that many names are looked up in time in proportion to the
+//! rules once, and then to the names. The crate stands on `index_read` for the lookups, on `modprobe_conf` for the rules,
+//! on `glob_match` for the patterns of aliases, and on `indexmap` for the table of those without wildcards.
 #![tactic(auto)]
 
+mod aliases;
 mod found;
+mod groups;
+mod index_names;
 mod indexes;
 mod lookup;
 mod rules;
+mod wildcards;
 
-pub use found::{Found, resolve};
+pub use found::Found;
+pub use groups::NameGroups;
 pub use indexes::Indexes;
+pub use lookup::{Lookup, resolve};

@@ -1,87 +1,166 @@
-// Lookups in one index, whose steps nobody asks for.
-ghost use Rattle.std.specs.Prelude.{◌≡◌, ◌<◌, IfOk};
+ghost use Rattle.std.specs.Prelude.{◌≡◌, IfOk, if◌then◌else◌, []};
 ghost use Rattle.index_format.specs.Map.{values_of};
-ghost use Rattle.index_read.specs.Contents.{contents, wild_values};
-ghost use Rattle.index_read.specs.Values.{shown};
-ghost use Rattle.name_lookup.specs.Maps.{has_value as has_value_of, texts};
+ghost use Rattle.index_read.specs.Contents.{contents};
+ghost use Rattle.name_lookup.specs.Maps.{maps_of, texts};
+ghost use Rattle.name_lookup.specs.Found.{found, asks_symbol, first_list, kept as kept_of, lists};
 
-use index_read::{Index, Steps, Values};
-use km_names::{Name, Names};
+use crate::aliases::AliasTable;
+use crate::found::{Found, distinct, itself, names_but, nothing};
+use crate::index_names::{has_value, names_matching, names_under};
+use crate::indexes::Indexes;
+use crate::rules::{blacklisted_names, installed_names};
+use km_names::{Name, Names, normal_alias};
+use modprobe_conf::Rules;
+use name_table::NameSet;
 use std::alloc::{AllocError, Global};
-use std::marker::Brand;
-use std::sync::ledger::{Blank, Ledger};
+use std::marker::Model;
 
-/// Whether the index has a value of the key.
-pub(crate) fn has_value(index: &Index, key: &[u8]) -> bool
-    ensures { result ≡ has_value_of (contents index.now.nodes) key.now }
-{
-    has_value_over::<Brand>(index, key, Blank::new(1))
+/// What names are looked up in: the rules of a configuration, put into tables once, and the index files of a folder.
+/// Contracts see the rules and the index files.
+#[derive(Drop)]
+pub struct Lookup<'a> {
+    rules: &'a Rules,
+    indexes: &'a Indexes,
+    aliases: AliasTable<'a>,
+    installed: NameSet<'a>,
+    blacklisted: NameSet<'a>,
 }
 
-fn has_value_over<L: Ledger>(index: &Index, key: &[u8], blank: Blank) -> bool
-    requires ledger { blank.name ≡ L.name }
-    requires parts { blank.parts ≡ L.parts }
-    requires some { 0 < blank.parts }
-    ensures { result ≡ has_value_of (contents index.now.nodes) key.now }
-{
-    let mut steps = Steps::<L>::new(blank);
-    index.find_one(key, &mut steps).is_some()
+impl<'a> Model for Lookup<'a> {
+    ghost use Rattle.name_lookup.specs.Lookups.{RulesAndIndexes};
+    ghost use Rattle.name_lookup.specs.Tables.{AreTables};
+
+    ghost Value = { RulesAndIndexes };
+
+    ghost view = { λ l. record { rules = l.rules.now; indexes = l.indexes.now } };
+
+    ghost invariant = { λ l. AreTables l.aliases l.installed l.blacklisted l.rules.now };
 }
 
-/// The texts of all values of the key, in their order.
-pub(crate) fn names_under(alloc: Global, index: &Index, key: &[u8]) -> Result<Names, AllocError>
-    ensures { IfOk result (λ names. names ≡ texts (values_of (contents index.now.nodes) key.now)) }
-{
-    names_under_over::<Brand>(alloc, index, key, Blank::new(1))
-}
-
-fn names_under_over<L: Ledger>(
+/// What a name stands for: the first list that isn't empty, of these for the name in its normal form.
+///
+/// 1. the names of all aliases of the configuration whose pattern matches, in the order of the rules;
+/// 2. the name itself, where modules.dep.bin has it;
+/// 3. where it begins with `symbol:`, its values in modules.symbols.bin;
+/// 4. the name itself, where an install rule names it;
+/// 5. the values of all patterns of modules.alias.bin that match, by their place in the tree;
+/// 6. the name itself, where modules.builtin.bin has it.
+///
+/// Of repeated names the first is kept. Blacklisted names are dropped from list 5, and with `use_blacklist` from each.
+/// Where many names are looked up, a [`Lookup`] is made once. modprobe(8), modprobe.d(5).
+pub fn resolve(
     alloc: Global,
-    index: &Index,
-    key: &[u8],
-    blank: Blank,
-) -> Result<Names, AllocError>
-    requires ledger { blank.name ≡ L.name }
-    requires parts { blank.parts ≡ L.parts }
-    requires some { 0 < blank.parts }
-    ensures { IfOk result (λ names. names ≡ texts (values_of (contents index.now.nodes) key.now)) }
+    name: &Name,
+    use_blacklist: bool,
+    rules: &Rules,
+    indexes: &Indexes,
+) -> Result<Found, AllocError>
+    ensures { IfOk result (λ f. f ≡ found rules.now (maps_of indexes.now) use_blacklist name.now) }
 {
-    let mut steps = Steps::<L>::new(blank);
-    let values = index.find(alloc, key, &mut steps)?;
-    names_of(alloc, &values)
+    let lookup = Lookup::new(alloc, rules, indexes)?;
+    lookup.find(alloc, name, use_blacklist)
 }
 
-/// The texts of the values of every key that as a pattern matches the name: by rising priority, then by the bytes of the
-/// key, then by place.
-pub(crate) fn names_matching(alloc: Global, index: &Index, name: &[u8]) -> Result<Names, AllocError>
-    ensures { IfOk result (λ names. names ≡ texts (wild_values (contents index.now.nodes) name.now)) }
-{
-    names_matching_over::<Brand>(alloc, index, name, Blank::new(1))
-}
-
-fn names_matching_over<L: Ledger>(
-    alloc: Global,
-    index: &Index,
-    name: &[u8],
-    blank: Blank,
-) -> Result<Names, AllocError>
-    requires ledger { blank.name ≡ L.name }
-    requires parts { blank.parts ≡ L.parts }
-    requires some { 0 < blank.parts }
-    ensures { IfOk result (λ names. names ≡ texts (wild_values (contents index.now.nodes) name.now)) }
-{
-    let mut steps = Steps::<L>::new(blank);
-    let values = index.wild(alloc, name, &mut steps)?;
-    names_of(alloc, &values)
-}
-
-/// The texts of values as names.
-fn names_of(alloc: Global, values: &Values) -> Result<Names, AllocError>
-    ensures { IfOk result (λ names. names ≡ texts (shown values.now)) }
-{
-    let mut names = Names::new(alloc);
-    for value in values.as_slice() {
-        names.push(Name::from_slice(alloc, value.text.as_bytes())?)?;
+impl<'a> Lookup<'a> {
+    /// What names are looked up in, in time in proportion to the rules.
+    pub fn new(
+        alloc: Global,
+        rules: &'a Rules,
+        indexes: &'a Indexes,
+    ) -> Result<Lookup<'a>, AllocError>
+        ensures { IfOk result (λ lookup. lookup ≡ record { rules = rules.now; indexes = indexes.now }) }
+    {
+        let aliases = AliasTable::new(alloc, rules)?;
+        let installed = installed_names(alloc, rules)?;
+        let blacklisted = blacklisted_names(alloc, rules)?;
+        Ok(Lookup {
+            rules,
+            indexes,
+            aliases,
+            installed,
+            blacklisted,
+        })
     }
-    Ok(names)
+
+    /// The rules.
+    pub fn rules(&self) -> &'a Rules
+        ensures { result.now ≡ self.now.rules }
+    {
+        self.rules
+    }
+
+    /// The index files.
+    pub fn indexes(&self) -> &'a Indexes
+        ensures { result.now ≡ self.now.indexes }
+    {
+        self.indexes
+    }
+
+    /// What a name stands for, as [`resolve`] says. A rule costs nothing here, but for aliases whose pattern has a
+    /// wildcard.
+    #[tactic(auto, unfolding(crate::specs::Found::found))]
+    pub fn find(&self, alloc: Global, name: &Name, use_blacklist: bool) -> Result<Found, AllocError>
+        ensures { IfOk result (λ f. f ≡ found self.now.rules (maps_of self.now.indexes) use_blacklist name.now) }
+    {
+        match normal_alias(alloc, name.as_bytes())? {
+            Some(name) => {
+                let first = self.first_found(alloc, name.as_bytes())?;
+                self.kept(alloc, first, use_blacklist)
+            }
+            None => Ok(nothing(alloc)),
+        }
+    }
+
+    /// The first list that isn't empty.
+    fn first_found(&self, alloc: Global, name: &[u8]) -> Result<Found, AllocError>
+        ensures { IfOk result (λ f. f ≡ first_list 1 (lists self.now.rules (maps_of self.now.indexes) name.now)) }
+    {
+        let names = self.aliases.names(alloc, name)?;
+        if !names.is_empty() {
+            return Ok(Found { list: 1, names });
+        }
+        if has_value(&self.indexes.dep, name) {
+            return itself(alloc, 2, name);
+        }
+        let names = symbol_modules(alloc, name, self.indexes)?;
+        if !names.is_empty() {
+            return Ok(Found { list: 3, names });
+        }
+        if self.installed.contains(name) {
+            return itself(alloc, 4, name);
+        }
+        let names = names_matching(alloc, &self.indexes.alias, name)?;
+        if !names.is_empty() {
+            return Ok(Found { list: 5, names });
+        }
+        if has_value(&self.indexes.builtin, name) {
+            return itself(alloc, 6, name);
+        }
+        Ok(nothing(alloc))
+    }
+
+    /// What is left of a list without repeats and names that are dropped.
+    fn kept(&self, alloc: Global, first: Found, use_blacklist: bool) -> Result<Found, AllocError>
+        ensures { IfOk result (λ f. f ≡ kept_of self.now.rules use_blacklist first) }
+    {
+        let Found { list, names } = first;
+        let seen = distinct(alloc, &names)?;
+        let drops = use_blacklist || list == 5;
+        Ok(Found {
+            list,
+            names: names_but(alloc, &seen, drops, &self.blacklisted)?,
+        })
+    }
+}
+
+/// The modules of the symbol that a name asks for.
+fn symbol_modules(alloc: Global, name: &[u8], indexes: &Indexes) -> Result<Names, AllocError>
+    ensures { IfOk result (λ names. names
+        ≡ (if asks_symbol name.now then texts (values_of (contents indexes.now.symbols.nodes) name.now) else [])) }
+{
+    if name.starts_with(b"symbol:".as_slice()) {
+        names_under(alloc, &indexes.symbols, name)
+    } else {
+        Ok(Names::new(alloc))
+    }
 }

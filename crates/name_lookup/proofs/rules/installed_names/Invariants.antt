@@ -1,0 +1,7 @@
+use Rattle.std.proofs.Common.{◌≡◌, take, ℕ, List}
+use Rattle.name_table.specs.FirstSeen.{is_among}
+use Rattle.name_lookup.specs.Found.{has_install}
+use Rattle.name_lookup.proofs.rules.installed_names.Given as goal
+
+abbrev pub invariant-loop-rule : goal.invariant-loop-rule
+invariant-loop-rule l = (name : List ℕ) → is_among l.names name ≡ has_install (take l.rule-index l.rules) name
