@@ -7,11 +7,10 @@ use Rattle.std.specs.Str.{bytes_eq}
 use Rattle.std.proofs.lemmas.Cmp.{nat_list_eq_equiv}
 use Rattle.std.proofs.lemmas.List.{take_more}
 use Rattle.std.proofs.lemmas.List.Folds.{find-append}
-use Rattle.indexmap.specs.IndexSet.{insert_key}
 use Rattle.modinfo_fields.specs.declared.piece.Field.{Field}
 use Rattle.modinfo_tool.specs.Parameters.{name_of, rest_of, is_parameter, parameter_names, first_told, described}
-use Rattle.name_table.specs.FirstSeen.{first_seen, with_name}
-use Rattle.name_table.proofs.SeenSteps.{first_seen-push, with_name-put}
+use Rattle.name_table.specs.FirstSeen.{first_seen}
+use Rattle.name_table.specs.declared.key.NameKey.{NameKey}
 use Rattle.modinfo_tool.proofs.LineSteps.{passing-taken, passing-left}
 
 map-push : (xs : List Field) (x : Field) → map (λ (field : Field). name_of field.value) (xs ++ x ∷ []) ≡ map (λ (field : Field). name_of field.value) xs ++ name_of x.value ∷ []
@@ -20,14 +19,13 @@ map-push (y ∷ ys) x = ap (λ l. name_of y.value ∷ l) (map-push ys x)
 
 -- the names with the next field looked at
 module _ (xs : List Field) (i : ℕ) (x : Field) (here : slice_get xs i ≡ Some x) where
-  pub names-taken : (ks new : List (Bor (List ℕ))) (k : Bor (List ℕ)) → is_parameter x ≡ true → new ≡ insert_key (λ (x y : Bor (List ℕ)). bytes_eq x.now y.now) ks k → k.now ≡ name_of x.value
-      → map (λ (n : Bor (List ℕ)). n.now) ks ≡ parameter_names (take i xs) → map (λ (n : Bor (List ℕ)). n.now) new ≡ parameter_names (take (i + 1) xs)
+  pub names-taken : (old new : List (List ℕ)) (name : List ℕ) → is_parameter x ≡ true → ((names : List (List ℕ)) → old ≡ first_seen names → new ≡ first_seen (names ++ name ∷ [])) → name ≡ name_of x.value
+      → old ≡ parameter_names (take i xs) → new ≡ parameter_names (take (i + 1) xs)
   unfolding parameter_names
-  names-taken ks new k passes put name so_far =
-      with_name-put ks new k put
-      ∙ ap (λ l. with_name l k.now) so_far
-      ∙ sym (first_seen-push (map (λ (field : Field). name_of field.value) (filter is_parameter (take i xs))) k.now)
-      ∙ ap (λ n. first_seen (map (λ (field : Field). name_of field.value) (filter is_parameter (take i xs)) ++ n ∷ [])) name
+  names-taken old new name passes seen named so_far =
+      let names = map (λ (field : Field). name_of field.value) (filter is_parameter (take i xs)) in
+      seen names so_far
+      ∙ ap (λ n. first_seen (names ++ n ∷ [])) named
       ∙ ap first_seen (sym (map-push (filter is_parameter (take i xs)) x))
       ∙ sym (ap (λ l. first_seen (map (λ (field : Field). name_of field.value) l)) (passing-taken is_parameter xs i x here passes))
 
@@ -60,7 +58,7 @@ absent None told none is some missing = sym is
 absent (Some x) told none is some missing =
     let wrong : true ≡ false = rw missing at some in cc
 
-told-push : (test : Bor (List ℕ) → Bool) (es : List (Bor (List ℕ) × Bor (List ℕ))) (k v : Bor (List ℕ))
+told-push : (test : NameKey → Bool) (es : List (NameKey × Bor (List ℕ))) (k : NameKey) (v : Bor (List ℕ))
     → option_map (λ (t : Bor (List ℕ)). t.now) (lookup test (es ++ (k, v) ∷ [])) ≡ option_or (option_map (λ (t : Bor (List ℕ)). t.now) (lookup test es)) (cond (test k) (Some v.now) None)
 told-push test [] k v = elim (test k) as (λ b. option_map (λ (t : Bor (List ℕ)). t.now) (cond b (Some v) None) ≡ cond b (Some v.now) None) [ true ↦ refl | false ↦ refl ]
 told-push test (e ∷ es) k v =
@@ -70,23 +68,20 @@ told-push test (e ∷ es) k v =
     ]
 
 -- what is told goes to the end of the entries
-pub put-last : (old new : List (Bor (List ℕ) × Bor (List ℕ))) (k v : Bor (List ℕ)) (other : List ℕ) → new ≡ old ++ (k, v) ∷ []
-    → option_map (λ (t : Bor (List ℕ)). t.now) (lookup (λ (key : Bor (List ℕ)). bytes_eq other key.now) new)
-    ≡ option_or (option_map (λ (t : Bor (List ℕ)). t.now) (lookup (λ (key : Bor (List ℕ)). bytes_eq other key.now) old)) (cond (bytes_eq k.now other) (Some v.now) None)
+pub put-last : (old new : List (NameKey × Bor (List ℕ))) (k : NameKey) (v : Bor (List ℕ)) (other : List ℕ) → new ≡ old ++ (k, v) ∷ []
+    → option_map (λ (t : Bor (List ℕ)). t.now) (lookup (λ (key : NameKey). bytes_eq other key.bytes.now) new)
+    ≡ option_or (option_map (λ (t : Bor (List ℕ)). t.now) (lookup (λ (key : NameKey). bytes_eq other key.bytes.now) old)) (cond (bytes_eq k.bytes.now other) (Some v.now) None)
 put-last old new k v other is =
-    ap (λ es. option_map (λ (t : Bor (List ℕ)). t.now) (lookup (λ (key : Bor (List ℕ)). bytes_eq other key.now) es)) is
-    ∙ told-push (λ key. bytes_eq other key.now) old k v
-    ∙ ap (λ b. option_or (option_map (λ (t : Bor (List ℕ)). t.now) (lookup (λ (key : Bor (List ℕ)). bytes_eq other key.now) old)) (cond b (Some v.now) None)) (nat_list_eq_equiv.symm other k.now)
+    ap (λ es. option_map (λ (t : Bor (List ℕ)). t.now) (lookup (λ (key : NameKey). bytes_eq other key.bytes.now) es)) is
+    ∙ told-push (λ key. bytes_eq other key.bytes.now) old k v
+    ∙ ap (λ b. option_or (option_map (λ (t : Bor (List ℕ)). t.now) (lookup (λ (key : NameKey). bytes_eq other key.bytes.now) old)) (cond b (Some v.now) None)) (nat_list_eq_equiv.symm other k.bytes.now)
 
 -- the values of parameters by two tables that have what the fields tell
-pub all-described : (keys : List (Bor (List ℕ))) (names : List (List ℕ)) (text kind text_told kind_told : List ℕ → Option (List ℕ))
-    → map (λ (n : Bor (List ℕ)). n.now) keys ≡ names → ((name : List ℕ) → text name ≡ text_told name) → ((name : List ℕ) → kind name ≡ kind_told name)
-    → map (λ (n : Bor (List ℕ)). described n.now (text n.now) (kind n.now)) keys ≡ map (λ n. described n (text_told n) (kind_told n)) names
-all-described keys names text kind text_told kind_told shown texts kinds = go keys ∙ ap (map (λ n. described n (text_told n) (kind_told n))) shown
-  where
-    go : (keys : List (Bor (List ℕ))) → map (λ (n : Bor (List ℕ)). described n.now (text n.now) (kind n.now)) keys ≡ map (λ n. described n (text_told n) (kind_told n)) (map (λ (n : Bor (List ℕ)). n.now) keys)
-    go [] = refl
-    go (k ∷ ks) =
-        ap (λ t. described k.now t (kind k.now) ∷ map (λ (n : Bor (List ℕ)). described n.now (text n.now) (kind n.now)) ks) (texts k.now)
-        ∙ ap (λ t. described k.now (text_told k.now) t ∷ map (λ (n : Bor (List ℕ)). described n.now (text n.now) (kind n.now)) ks) (kinds k.now)
-        ∙ ap (λ l. described k.now (text_told k.now) (kind_told k.now) ∷ l) (go ks)
+pub all-described : (names : List (List ℕ)) (text kind text_told kind_told : List ℕ → Option (List ℕ))
+    → ((name : List ℕ) → text name ≡ text_told name) → ((name : List ℕ) → kind name ≡ kind_told name)
+    → map (λ name. described name (text name) (kind name)) names ≡ map (λ name. described name (text_told name) (kind_told name)) names
+all-described [] text kind text_told kind_told texts kinds = refl
+all-described (name ∷ names) text kind text_told kind_told texts kinds =
+    ap (λ t. described name t (kind name) ∷ map (λ n. described n (text n) (kind n)) names) (texts name)
+    ∙ ap (λ t. described name (text_told name) t ∷ map (λ n. described n (text n) (kind n)) names) (kinds name)
+    ∙ ap (λ l. described name (text_told name) (kind_told name) ∷ l) (all-described names text kind text_told kind_told texts kinds)

@@ -4,15 +4,15 @@ ghost use Rattle.std.specs.Str.{bytes_eq};
 ghost use Rattle.modinfo_tool.specs.Parameters.{is_parameter as tells_of_parameter, parameter_names as names_of_parameters, first_told as first_told_of, described, parameter_values as values_of_parameters};
 ghost use Rattle.modinfo_tool.specs.Tables.{told_in};
 
-use indexmap::{IndexMap, IndexSet};
+use indexmap::IndexMap;
 use km_names::{Blob, Texts, split_at_byte};
 use modinfo_fields::{Field, FieldList};
-use name_table::NameHash;
+use name_table::{NameHash, NameKey, NameSet};
 use std::alloc::{AllocError, Global};
 use std::hash::BuildHasherDefault;
 
 // What is told of parameters, by their names.
-type Told<'a> = IndexMap<&'a [u8], &'a [u8], NameHash>;
+type Told<'a> = IndexMap<NameKey<'a>, &'a [u8], NameHash>;
 
 /// Whether the field tells of a parameter.
 pub(crate) fn is_parameter(field: &Field) -> bool
@@ -32,26 +32,41 @@ pub(crate) fn parameter_values(alloc: Global, fields: &FieldList) -> Result<Text
     let types = fields.values_of(alloc, b"parmtype")?;
     let texts = first_told(alloc, parms.as_slice())?;
     let kinds = first_told(alloc, types.as_slice())?;
-    described_all(alloc, names.as_slice(), &texts, &kinds)
+    described_all(alloc, &names, &texts, &kinds)
 }
 
 // The values of parameters, by what is told of them.
 fn described_all(
     alloc: Global,
-    names: &[&[u8]],
+    names: &NameSet<'_>,
     texts: &Told<'_>,
     kinds: &Told<'_>,
 ) -> Result<Texts, AllocError>
     ensures { IfOk result (λ values. values
-        ≡ map (λ name. described name.now (told_in texts.now name.now) (told_in kinds.now name.now)) names.now) }
+        ≡ map (λ name. described name (told_in texts.now name) (told_in kinds.now name)) names.now) }
 {
     let mut values = Texts::new(alloc);
-    for name in names {
-        let text = texts.get(*name).copied();
-        let kind = kinds.get(*name).copied();
-        values.push(describe(alloc, name, text, kind)?)?;
+    for i in 0..names.len() {
+        if let Some(name) = names.get(i) {
+            values.push(describe_by(alloc, name, texts, kinds)?)?;
+        }
     }
     Ok(values)
+}
+
+// The value of a parameter, by what is told of each.
+fn describe_by(
+    alloc: Global,
+    name: &[u8],
+    texts: &Told<'_>,
+    kinds: &Told<'_>,
+) -> Result<Blob, AllocError>
+    ensures { IfOk result (λ value. value ≡ described name.now (told_in texts.now name.now) (told_in kinds.now name.now)) }
+{
+    let key = NameKey::new(name);
+    let text = texts.get(&key).copied();
+    let kind = kinds.get(&key).copied();
+    describe(alloc, name, text, kind)
 }
 
 // The value of a parameter, by its text and its type.
@@ -97,20 +112,18 @@ fn keep_first<'a>(told: &mut Told<'a>, name: &'a [u8], rest: &'a [u8]) -> Result
     ensures ok { OnOk result ((other : List ℕ) → told_in told.new other
         ≡ option_or (told_in told.old other) (if bytes_eq name.now other then Some rest.now else None)) }
 {
-    if told.get(name).is_none() {
-        told.insert(name, rest)?;
+    let key = NameKey::new(name);
+    if told.get(&key).is_none() {
+        told.insert(key, rest)?;
     }
     Ok(())
 }
 
 // The parameters that any field tells of, in the order in which they are first seen.
-fn parameter_names<'a>(
-    alloc: Global,
-    fields: &'a FieldList,
-) -> Result<IndexSet<&'a [u8], NameHash>, AllocError>
-    ensures { IfOk result (λ names. map (λ name. name.now) names.keys ≡ names_of_parameters fields.now) }
+fn parameter_names<'a>(alloc: Global, fields: &'a FieldList) -> Result<NameSet<'a>, AllocError>
+    ensures { IfOk result (λ names. names ≡ names_of_parameters fields.now) }
 {
-    let mut names = IndexSet::with_hasher(alloc, BuildHasherDefault::new());
+    let mut names = NameSet::new(alloc);
     for i in 0..fields.len() {
         if let Some(field) = fields.get(i) {
             if is_parameter(field) {

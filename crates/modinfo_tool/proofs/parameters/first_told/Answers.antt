@@ -2,13 +2,14 @@ use Rattle.std.proofs.Common.{◌≡◌, ℕ, List, Bor, Some, None, ap, sym, �
 use Rattle.std.specs.Map.{lookup}
 use Rattle.std.specs.Option.{option_or}
 use Rattle.std.specs.Str.{bytes_eq}
+use Rattle.name_table.specs.declared.key.NameKey.{NameKey}
 use Rattle.modinfo_tool.specs.Parameters.{name_of, rest_of, first_told}
 use Rattle.modinfo_tool.proofs.ParameterSteps.{first_told-next}
 use Rattle.modinfo_tool.proofs.parameters.first_told.Goals as goal
 
 pub loop-value-init : goal.loop-value-init
 unfolding first_told
-loop-value-init c = λ name. ap (λ es. option_map (λ (t : Bor (List ℕ)). t.now) (lookup (λ (key : Bor (List ℕ)). bytes_eq name key.now) es)) c.new-told.ensures.empty
+loop-value-init c = λ name. ap (λ es. option_map (λ (t : Bor (List ℕ)). t.now) (lookup (λ (key : NameKey). bytes_eq name key.bytes.now) es)) c.with_hasher-told.ensures.empty
 
 pub loop-value-preserved : goal.loop-value-preserved
 loop-value-preserved c = λ name.
