@@ -1,12 +1,10 @@
 -- How often names are seen.
-use Rattle.std.proofs.Common.{◌≡◌, ℕ, zero, suc, ◌+◌, ◌<◌, Bool, true, false, List, [], ◌∷◌, ◌++◌, cond, length, take, get_or, Option, Some, None, refl, sym, ap, ◌∙◌, add-zero, add-one, ltb, arith}
+use Rattle.std.proofs.Common.{◌≡◌, ℕ, zero, suc, ◌+◌, ◌<◌, Bool, true, false, List, [], ◌∷◌, ◌++◌, cond, length, take, get_or, Option, Some, is_some, unwrap_or, refl, sym, ap, ◌∙◌, add-zero, add-one, ltb, arith}
 use Rattle.std.proofs.lemmas.Bool.{lt-ltb}
 use Rattle.std.proofs.lemmas.List.{take_more}
 use Rattle.std.proofs.lemmas.List.Sums.{sum_by_push}
 use Rattle.std.specs.Str.{bytes_eq}
 use Rattle.module_facts.specs.declared.facts.Export.{Export}
-use Rattle.module_facts.specs.declared.seen.Seen.{Seen}
-use Rattle.module_facts.specs.declared.seen.Seen.TheVariants.{Once, Again}
 use Rattle.module_facts.specs.Times.{seen, times}
 
 -- with one export more
@@ -15,35 +13,29 @@ times-more exports i e name within is =
     ap (λ l. times l name) (take_more exports i e within ∙ ap (λ y. take i exports ++ y ∷ []) (sym is))
     ∙ sum_by_push (λ (x : Export). cond (bytes_eq x.name name) 1 0) (take i exports) e
 
-seen-either : (same : Bool) (n : ℕ) (now : Seen) (before : Option Seen) → before ≡ seen n → (same ≡ true → Some now ≡ seen (n + 1)) → cond same (Some now) before ≡ seen (n + cond same 1 0)
+seen-either : (same : Bool) (n now : ℕ) (before : Option ℕ) → before ≡ seen n → (same ≡ true → Some now ≡ seen (n + 1)) → cond same (Some now) before ≡ seen (n + cond same 1 0)
 seen-either true n now before is next = next refl
 seen-either false n now before is next = rw (add-zero n) is
 
--- what is put at the name of one export more
-pub seen-more : (exports : List Export) (i : ℕ) (e : Export) (name : List ℕ) (now : Seen) (before : Option Seen) → i < length exports → e ≡ get_or exports i e → before ≡ seen (times (take i exports) name) → (bytes_eq e.name name ≡ true → Some now ≡ seen (times (take i exports) name + 1)) → cond (bytes_eq e.name name) (Some now) before ≡ seen (times (take (i + 1) exports) name)
+-- the number put at the name of one export more
+pub seen-more : (exports : List Export) (i : ℕ) (e : Export) (name : List ℕ) (now : ℕ) (before : Option ℕ) → i < length exports → e ≡ get_or exports i e → before ≡ seen (times (take i exports) name) → (bytes_eq e.name name ≡ true → Some now ≡ seen (times (take i exports) name + 1)) → cond (bytes_eq e.name name) (Some now) before ≡ seen (times (take (i + 1) exports) name)
 seen-more exports i e name now before within is old next =
     seen-either (bytes_eq e.name name) (times (take i exports) name) now before old next
     ∙ ap seen (sym (times-more exports i e name within is))
 
--- a name that was seen is seen again
-pub seen-again : (n : ℕ) (s : Seen) → seen n ≡ Some s → Some Again ≡ seen (n + 1)
-seen-again zero s was = cc
-seen-again (suc n) s was = rw add-one refl
+-- a name that was seen is seen twice
+pub seen-again : (n : ℕ) → is_some (seen n) ≡ true → Some 2 ≡ seen (n + 1)
+seen-again zero was = cc
+seen-again (suc n) was = rw add-one refl
 
 -- one that wasn't is seen once
-pub seen-first : (n : ℕ) → seen n ≡ None → Some Once ≡ seen (n + 1)
+pub seen-first : (n : ℕ) → is_some (seen n) ≡ false → Some 1 ≡ seen (n + 1)
 seen-first zero was = refl
 seen-first (suc zero) was = cc
 seen-first (suc (suc n)) was = cc
 
--- one that was seen again was seen more than once
-pub again-twice : (n : ℕ) → seen n ≡ Some Again → ltb 1 n ≡ true
-again-twice zero is = cc
-again-twice (suc zero) is = cc
-again-twice (suc (suc n)) is = lt-ltb 1 (suc (suc n)) (omega arith)
-
--- and another wasn't
-pub else-once : (n : ℕ) → (seen n ≡ Some Again → ⊥) → ltb 1 n ≡ false
-else-once zero not = refl
-else-once (suc zero) not = refl
-else-once (suc (suc n)) not = absurd (not refl)
+-- seen more than once
+pub seen-twice : (n : ℕ) → ltb 1 (unwrap_or (seen n) 0) ≡ ltb 1 n
+seen-twice zero = refl
+seen-twice (suc zero) = refl
+seen-twice (suc (suc n)) = sym (lt-ltb 1 (suc (suc n)) (omega arith))

@@ -4,19 +4,17 @@ use Rattle.std.specs.List.{count_by}
 use Rattle.std.specs.HashMap.{get_by}
 use Rattle.std.specs.Str.{bytes_eq}
 use Rattle.module_facts.specs.declared.facts.Export.{Export}
-use Rattle.module_facts.specs.declared.seen.Seen.{Seen}
-use Rattle.module_facts.specs.declared.seen.Seen.TheVariants.{Once, Again}
 use Rattle.module_facts.specs.declared.seen.SeenNames.{SeenNames}
 
 -- What a table has for a name.
-abbrev pub times_seen : SeenNames → List ℕ → Option Seen
-times_seen t name = get_by (λ k. bytes_eq name k.now) t.times
+abbrev pub times_seen : SeenNames → List ℕ → Option ℕ
+times_seen t name = get_by (λ k. bytes_eq name k.bytes.now) t.times
 
--- What it has for a name that was seen so often.
-abbrev pub seen : ℕ → Option Seen
+-- What it has for a name that was seen so often: nothing, 1, or 2 for more.
+abbrev pub seen : ℕ → Option ℕ
 seen zero = None
-seen (suc zero) = Some Once
-seen (suc (suc n)) = Some Again
+seen (suc zero) = Some 1
+seen (suc (suc n)) = Some 2
 
 -- How many of the exports have this name.
 abbrev pub times : List Export → List ℕ → ℕ

@@ -10,7 +10,7 @@ ghost use Rattle.module_facts.specs.Faults.{facts_tests, has_bad_space, has_bad_
 
 use crate::exports::{given_space, given_version};
 use crate::role::Role;
-use crate::seen::{Seen, SeenNames};
+use crate::seen::SeenNames;
 use crate::tables::{SymbolTables, symbol_of};
 use crate::versions::is_bad_list;
 use crate::{Export, Facts, ModuleFault, Need};
@@ -52,10 +52,7 @@ fn seen_names<'a>(alloc: Global, exports: &'a [Export]) -> Result<SeenNames<'a>,
     let mut table = SeenNames::new(alloc);
     for export in exports {
         let name = export.name.as_bytes();
-        let times = match table.get(name) {
-            None => Seen::Once,
-            Some(Seen::Once | Seen::Again) => Seen::Again,
-        };
+        let times = if table.get(name).is_some() { 2 } else { 1 };
         table.put(name, times)?;
     }
     Ok(table)
@@ -67,7 +64,7 @@ fn first_twice<'a>(alloc: Global, exports: &'a [Export]) -> Result<Option<&'a Ex
 {
     let table = seen_names(alloc, exports)?;
     for export in exports {
-        if let Some(Seen::Again) = table.get(export.name.as_bytes()) {
+        if table.get(export.name.as_bytes()).unwrap_or(0) > 1 {
             return Ok(Some(export));
         }
     }

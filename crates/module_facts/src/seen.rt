@@ -4,21 +4,14 @@ ghost use Rattle.std.specs.Prelude.{◌≡◌, ℕ, List, None, Some, OnOk, if�
 ghost use Rattle.std.specs.Str.{bytes_eq};
 
 use indexmap::IndexMap;
-use name_table::NameHash;
+use name_table::{NameHash, NameKey};
 use std::alloc::{AllocError, Global};
 use std::hash::BuildHasherDefault;
 
-/// How often a name was seen.
-#[derive(Debug, Clone, Copy, PartialEq, Eq)]
-pub(crate) enum Seen {
-    Once,
-    Again,
-}
-
-/// How often some names were seen.
+/// How often some names were seen: once, or 2 for more.
 #[derive(Drop)]
 pub(crate) struct SeenNames<'a> {
-    times: IndexMap<&'a [u8], Seen, NameHash>,
+    times: IndexMap<NameKey<'a>, u8, NameHash>,
 }
 
 impl<'a> SeenNames<'a> {
@@ -34,18 +27,18 @@ impl<'a> SeenNames<'a> {
     }
 
     /// Puts in how often a name was seen.
-    pub(crate) fn put(&mut self, name: &'a [u8], times: Seen) -> Result<(), AllocError>
+    pub(crate) fn put(&mut self, name: &'a [u8], times: u8) -> Result<(), AllocError>
         ensures { OnOk result ((other : List ℕ) → times_seen self.new other
             ≡ (if bytes_eq name.now other then Some times else times_seen self.old other)) }
     {
-        self.times.insert(name, times)?;
+        self.times.insert(NameKey::new(name), times)?;
         Ok(())
     }
 
     /// How often a name was seen, if it was.
-    pub(crate) fn get(&self, name: &[u8]) -> Option<Seen>
+    pub(crate) fn get(&self, name: &[u8]) -> Option<u8>
         ensures { result ≡ times_seen self.now name.now }
     {
-        self.times.get(name).copied()
+        self.times.get(&NameKey::new(name)).copied()
     }
 }
