@@ -10,7 +10,7 @@ use Rattle.depmod_core.specs.declared.fault.OutputFault.{OutputFault}
 use Rattle.depmod_core.specs.declared.fault.OutputFault.TheVariants as faults
 use Rattle.depmod_core.specs.declared.file.OutputFile.{OutputFile}
 use Rattle.depmod_core.specs.declared.files.OutputFiles.{OutputFiles}
-use Rattle.depmod_core.specs.Files.{file_name, outputs_of}
+use Rattle.depmod_core.specs.Files.{outputs_of}
 use Rattle.km_course.specs.Course.{Stage, given}
 use Rattle.km_course.specs.Course.Outcome.{value, end}
 use Rattle.km_course.specs.declared.end.End.TheVariants.{Refused}
@@ -40,11 +40,11 @@ unfolding outputs_outcome
 made_ok o made is = ap outputs_outcome is
 
 -- a file that is too large is the first of them
-pub made_not : (facts : List Facts) (kernel : Kernel) (relation : Relation) (builtin : List ℕ) (fault : OutputFault) (file : OutputFile) (length : ℕ) (name : List ℕ) → fault ≡ faults.OutputTooLarge file length → (fault ≡ faults.Memory) ⊎ ((k : Kernel) → IsRelation (modules_of facts) k relation → outputs_of facts k builtin ≡ Err fault) → IsRelation (modules_of facts) kernel relation → name ≡ file_name file → outputs_outcome (outputs_of facts kernel builtin) ≡ end (Refused (OutputTooLarge name))
+pub made_not : (facts : List Facts) (kernel : Kernel) (relation : Relation) (builtin : List ℕ) (fault : OutputFault) (file : List ℕ) (length : ℕ) → fault ≡ faults.OutputTooLarge file length → (fault ≡ faults.Memory) ⊎ ((k : Kernel) → IsRelation (modules_of facts) k relation → outputs_of facts k builtin ≡ Err fault) → IsRelation (modules_of facts) kernel relation → outputs_outcome (outputs_of facts kernel builtin) ≡ end (Refused (OutputTooLarge file))
 unfolding outputs_outcome
-made_not facts kernel relation builtin fault file length name is (inl m) related named = absurd (differ (sym is ∙ m))
+made_not facts kernel relation builtin fault file length is (inl m) related = absurd (differ (sym is ∙ m))
   where
     differ : faults.OutputTooLarge file length ≡ faults.Memory → ⊥
     differ e = cc
-made_not facts kernel relation builtin fault file length name is (inr f) related named =
-    ap outputs_outcome (f kernel related ∙ ap Err is) ∙ ap (λ n. end (Refused (OutputTooLarge n))) (sym named)
+made_not facts kernel relation builtin fault file length is (inr f) related =
+    ap outputs_outcome (f kernel related ∙ ap Err is)

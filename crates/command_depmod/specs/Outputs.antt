@@ -16,7 +16,7 @@ use Rattle.command_depmod.specs.Relation.{Tree}
 
 -- what a fault of the files refuses; no files come to want of memory
 abbrev pub output_refusal : OutputFault → Refusal
-output_refusal (faults.OutputTooLarge file length) = OutputTooLarge (file_name file)
+output_refusal (faults.OutputTooLarge file length) = OutputTooLarge file
 output_refusal faults.Memory = InnerOutputFull
 
 -- What a tree comes to that has these files: they, or the refusal of the first that is too large, by its bare name.

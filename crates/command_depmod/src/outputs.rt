@@ -11,7 +11,7 @@ ghost use Rattle.command_depmod.specs.Outputs.{hands_out, makes_outputs, outputs
 use crate::relation::RelatedTree;
 use depmod_core::{OutputFault, OutputFile, OutputFiles, outputs};
 use km_course::{Refusal, Stop, put, read_optional, say_any};
-use km_names::{Blob, Name, PathText, join};
+use km_names::{Blob, PathText, join};
 use km_outside::{Out, Reads, Writes};
 use std::alloc::Global;
 
@@ -61,7 +61,6 @@ fn check_outputs(alloc: Global, tree: &RelatedTree, builtin: &Blob) -> Result<Ou
     match outputs(alloc, &tree.relation, &tree.facts, builtin.as_bytes()) {
         Ok(made) => Ok(made),
         Err(OutputFault::OutputTooLarge { file, length: _ }) => {
-            let file = Name::from_slice(alloc, file.name())?;
             Err(Stop::from(Refusal::OutputTooLarge { file }))
         }
         Err(OutputFault::Memory) => Err(Stop::Memory),

@@ -1,5 +1,5 @@
 -- Texts in the making: how pieces add up, and what was measured or kept.
-use Rattle.std.proofs.Common.{◌≡◌, refl, sym, ap, ◌∙◌, ℕ, ◌+◌, ◌<◌, ◌≤◌, min, List, [], ◌∷◌, ◌++◌, length, take, get_or, flat_map, Option, Some, None, option_map, cond, arith, append_assoc, length-append}
+use Rattle.std.proofs.Common.{◌≡◌, refl, sym, ap, ◌∙◌, ℕ, ◌+◌, ◌<◌, ◌≤◌, min, List, [], ◌∷◌, ◌++◌, length, take, get_or, flat_map, Option, Some, None, option_map, cond, arith, append_assoc, length-append, ◌⊎◌, inl, inr}
 use Rattle.std.proofs.lemmas.List.{take_more, take_all, append-nil}
 use Rattle.std.proofs.lemmas.Grind.{flat_map-append}
 use Rattle.std.proofs.lemmas.Option.{get_or_from_slice_get, slice_get_within}
@@ -7,9 +7,10 @@ use Rattle.std.specs.List.{slice_get}
 use Rattle.std.proofs.lemmas.Bool.{lt-ltb, le-ltb}
 use Rattle.km_names.specs.Limit.{file_limit}
 use Rattle.depmod_core.specs.declared.file.OutputFile.{OutputFile}
-use Rattle.depmod_core.specs.declared.fault.OutputFault.TheVariants.{OutputTooLarge}
+use Rattle.depmod_core.specs.declared.fault.OutputFault.{OutputFault}
+use Rattle.depmod_core.specs.declared.fault.OutputFault.TheVariants.{OutputTooLarge, Memory}
 use Rattle.depmod_core.specs.declared.text.Text.{Text}
-use Rattle.depmod_core.specs.Files.{size_fault}
+use Rattle.depmod_core.specs.Files.{file_name, size_fault}
 use Rattle.depmod_core.specs.Text.{measured, kept, with_piece}
 
 -- one piece, whatever it is
@@ -79,11 +80,16 @@ kept-bytes t [] is = ap (λ u. u.kept) is
 kept-bytes t (b ∷ bytes) is = ap (λ u. u.kept) is
 
 -- the fault of a file whose text is as long
-pub too-long : (name : OutputFile) (bytes : List ℕ) (n : ℕ) → n ≡ min (length bytes) 18446744073709551615 → file_limit < n → size_fault name bytes ≡ Some (OutputTooLarge name n)
-too-long name bytes n is past =
-    ap (λ b. cond b (Some (OutputTooLarge name (min (length bytes) 18446744073709551615))) None) (lt-ltb file_limit (length bytes) (omega arith))
-    ∙ ap (λ k. Some (OutputTooLarge name k)) (sym is)
+pub too-long : (which : OutputFile) (bytes : List ℕ) (n : ℕ) → n ≡ min (length bytes) 18446744073709551615 → file_limit < n → size_fault which bytes ≡ Some (OutputTooLarge (file_name which) n)
+too-long which bytes n is past =
+    ap (λ b. cond b (Some (OutputTooLarge (file_name which) (min (length bytes) 18446744073709551615))) None) (lt-ltb file_limit (length bytes) (omega arith))
+    ∙ ap (λ k. Some (OutputTooLarge (file_name which) k)) (sym is)
 
-pub not-too-long : (name : OutputFile) (bytes : List ℕ) (n : ℕ) → n ≡ min (length bytes) 18446744073709551615 → n ≤ file_limit → size_fault name bytes ≡ None
-not-too-long name bytes n is within =
-    ap (λ b. cond b (Some (OutputTooLarge name (min (length bytes) 18446744073709551615))) None) (le-ltb file_limit (length bytes) (omega arith))
+-- a fault that names a file as long, or is want of memory
+pub named-too-long : (which : OutputFile) (bytes : List ℕ) (n : ℕ) (fault : OutputFault) → n ≡ min (length bytes) 18446744073709551615 → file_limit < n → (fault ≡ Memory) ⊎ (fault ≡ OutputTooLarge (file_name which) n) → (fault ≡ Memory) ⊎ (size_fault which bytes ≡ Some fault)
+named-too-long which bytes n fault is past (inl memory) = inl memory
+named-too-long which bytes n fault is past (inr named) = inr (too-long which bytes n is past ∙ ap Some (sym named))
+
+pub not-too-long : (which : OutputFile) (bytes : List ℕ) (n : ℕ) → n ≡ min (length bytes) 18446744073709551615 → n ≤ file_limit → size_fault which bytes ≡ None
+not-too-long which bytes n is within =
+    ap (λ b. cond b (Some (OutputTooLarge (file_name which) (min (length bytes) 18446744073709551615))) None) (le-ltb file_limit (length bytes) (omega arith))

@@ -69,8 +69,8 @@ content fs Unmet = fs.unmet
 
 -- The fault of a file of so many bytes: it is too large. A count past 64 bits is given as the greatest of 64.
 abbrev pub size_fault : OutputFile → List ℕ → Option OutputFault
-size_fault name bytes =
-    if nat_lt file_limit (length bytes) then Some (OutputTooLarge name (min (length bytes) 18446744073709551615)) else None
+size_fault which bytes =
+    if nat_lt file_limit (length bytes) then Some (OutputTooLarge (file_name which) (min (length bytes) 18446744073709551615)) else None
 
 -- The first of the files, in their order, that is too large.
 unfoldable pub output_fault : OutputFiles → Option OutputFault

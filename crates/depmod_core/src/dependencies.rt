@@ -72,7 +72,7 @@ pub(crate) fn dep_text(
 {
     let mut measured = Text::measured();
     put_lines(&mut measured, relation, tree)?;
-    let mut text = Text::with_capacity(alloc, measured.checked_length(OutputFile::Dep)?)?;
+    let mut text = Text::with_capacity(alloc, measured.checked_length(alloc, OutputFile::Dep)?)?;
     put_lines(&mut text, relation, tree)?;
     Ok(text.into_bytes(alloc))
 }

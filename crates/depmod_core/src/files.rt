@@ -88,14 +88,15 @@ fn make(
     }
 }
 
-/// The files that depmod makes of a tree, with the tree's relation over a kernel, and of the bytes of modules.builtin.
+/// Makes the files of depmod from a tree, with the tree's relation over a kernel, and from the bytes of modules.builtin.
 /// The files stand for what they are made of: each index for its map, and modules.unmet for its lines. modules.dep(5),
 /// depmod(8).
 ///
 /// # Errors
 ///
-/// `OutputTooLarge` exactly where a file would have more than 67,108,864 bytes, with the first such; it is known before
-/// the bytes of the file are written. Or `Memory`.
+/// `OutputTooLarge` exactly where a file would have more than 67,108,864 bytes, with the name of the first such, in the
+/// order of [`OutputFiles`], and how many it would have; that is known before the bytes of the file are written. Or
+/// `Memory`.
 #[tactic(auto, using(crate::proofs::FileSteps::closures_long))]
 pub fn outputs(
     alloc: Global,

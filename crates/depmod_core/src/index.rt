@@ -19,7 +19,7 @@ pub(crate) fn index(alloc: Global, file: OutputFile, map: &KeyMap) -> Result<Blo
     match encode(alloc, map) {
         Ok(bytes) => Ok(bytes),
         Err(WriteFault::IndexTooLarge { length }) => {
-            Err(OutputFault::OutputTooLarge { file, length })
+            Err(OutputFault::too_large(alloc, file, length))
         }
         Err(WriteFault::Memory) => Err(OutputFault::Memory),
     }

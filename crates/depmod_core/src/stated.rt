@@ -164,7 +164,7 @@ pub(crate) fn stated_text(
 {
     let mut measured = Text::measured();
     put_text(alloc, &mut measured, kind, tree)?;
-    let mut text = Text::with_capacity(alloc, measured.checked_length(file)?)?;
+    let mut text = Text::with_capacity(alloc, measured.checked_length(alloc, file)?)?;
     put_text(alloc, &mut text, kind, tree)?;
     Ok(text.into_bytes(alloc))
 }

@@ -1,5 +1,5 @@
 // Texts in the making.
-ghost use Rattle.std.specs.Prelude.{◌≡◌, List, ℕ, Some, None, OnOk, IfOk, IfErr, length, flat_map};
+ghost use Rattle.std.specs.Prelude.{◌≡◌, ◌⊎◌, List, ℕ, Some, None, OnOk, IfOk, IfErr, length, flat_map};
 ghost use Rattle.depmod_core.specs.Files.{size_fault};
 ghost use Rattle.depmod_core.specs.Text.{measured as measured_text, kept, with_piece};
 
@@ -58,15 +58,17 @@ impl Text {
     }
 
     /// How long the text of a file is, which was measured, unless that is too much.
-    pub(crate) fn checked_length(&self, file: OutputFile) -> Result<usize, OutputFault>
+    pub(crate) fn checked_length(
+        &self,
+        alloc: Global,
+        file: OutputFile,
+    ) -> Result<usize, OutputFault>
         ensures ok { (bytes : List ℕ) → self.now ≡ with_piece measured_text bytes → OnOk result (size_fault file bytes ≡ None) }
-        ensures err { (bytes : List ℕ) → self.now ≡ with_piece measured_text bytes → IfErr result (λ fault. size_fault file bytes ≡ Some fault) }
+        ensures err { (bytes : List ℕ) → self.now ≡ with_piece measured_text bytes → IfErr result (λ fault.
+            (fault ≡ OutputFault.Memory) ⊎ (size_fault file bytes ≡ Some fault)) }
     {
         if self.length > FILE_LIMIT as u64 {
-            return Err(OutputFault::OutputTooLarge {
-                file,
-                length: self.length,
-            });
+            return Err(OutputFault::too_large(alloc, file, self.length));
         }
         Ok(self.length as usize)
     }

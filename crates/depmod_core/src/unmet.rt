@@ -101,7 +101,7 @@ pub(crate) fn unmet_text(alloc: Global, lines: &Obstacles) -> Result<Blob, Outpu
 {
     let mut measured = Text::measured();
     put_lines(&mut measured, lines)?;
-    let mut text = Text::with_capacity(alloc, measured.checked_length(OutputFile::Unmet)?)?;
+    let mut text = Text::with_capacity(alloc, measured.checked_length(alloc, OutputFile::Unmet)?)?;
     put_lines(&mut text, lines)?;
     Ok(text.into_bytes(alloc))
 }

@@ -13,9 +13,12 @@ use std::marker::Model;
 /// that no word names. depmod.d(5), "search".
 pub type Search = Names;
 
-/// The search list of the files of depmod.d(5): the words of all their `search` lines, in order, or
-/// `updates built-in` where there is none. `BadLine` comes exactly at the first line that states anything
-/// else, or that has no word after `search`.
+/// Reads the search list of files of depmod.d(5): the words of all their `search` lines, in order, or
+/// `updates built-in` where there is none. No file has more than 67,108,864 bytes.
+///
+/// # Errors
+///
+/// `BadLine` exactly at the first line that states anything else, or that has no word after `search`; or `Memory`.
 pub fn parse_search(alloc: Global, files: &ConfFiles) -> Result<Search, ConfFault>
     requires { All (λ file. length file.bytes ≤ file_limit) files.now }
     ensures ok { IfOk result (λ search. search_of files.now ≡ Ok search) }

@@ -48,11 +48,14 @@ impl<T: Drop> From<AllocFailed<T>> for TreeFault {
 /// The most modules that a tree may have.
 const MODULE_LIMIT: usize = 10_000;
 
-/// The tree of the listed paths: of each module name the path that the search list ranks first, ties by
+/// Chooses the tree of the listed paths: of each module name the path that the search list ranks first, ties by
 /// bytes; first those that modules.order lists, by their first line there, and then the others by bytes.
-/// `BadPath` comes exactly where the path of a module has a byte outside 33 to 126 or a `:`, with the
-/// least such path; and then `TooManyModules` exactly where there are more than 10,000 module names.
 /// depmod.d(5), "search".
+///
+/// # Errors
+///
+/// `BadPath` exactly where the path of a module has a byte outside 33 to 126 or a `:`, with the least such path by
+/// bytes; then `TooManyModules` exactly where there are more than 10,000 module names; or `Memory`.
 pub fn choose(
     alloc: Global,
     paths: &Paths,

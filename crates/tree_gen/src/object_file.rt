@@ -8,8 +8,9 @@ use crate::sheet::{Sheet, SheetMore};
 use km_names::Blob;
 use std::alloc::{AllocError, Global};
 
-/// The relocatable object of a sheet: the file header, the contents of eight sections, each begun at a
-/// multiple of 8, and the section header table. gABI 4; x86-64 psABI. Only memory can be wanting.
+/// Writes the relocatable object of a sheet: the file header, the contents of eight sections, each begun at a
+/// multiple of 8, and the section header table. [`is_sheet`](crate::is_sheet) tests what it requires. gABI 4; x86-64
+/// psABI. Only memory can be wanting.
 pub fn object(alloc: Global, sheet: &Sheet) -> Result<Blob, AllocError>
     requires { IsTrue (is_sheet sheet.now no_more) }
     ensures { IfOk result (λ bytes. bytes ≡ object_of sheet.now) }
@@ -17,8 +18,9 @@ pub fn object(alloc: Global, sheet: &Sheet) -> Result<Blob, AllocError>
     object_more(alloc, sheet, &SheetMore::none(alloc))
 }
 
-/// The relocatable object of a sheet with extended versions, GPL-only exports and namespaces: sections for these
-/// follow the eight of the sheet, each only where it isn't empty. Only memory can be wanting.
+/// Writes the relocatable object of a sheet with extended versions, GPL-only exports and namespaces: sections for these
+/// follow the eight of the sheet, each only where it isn't empty. [`is_sheet`](crate::is_sheet) tests what it requires.
+/// gABI 4; the kernel's include/linux/export.h and scripts/mod/modpost.c. Only memory can be wanting.
 #[tactic(auto, unfolding(crate::specs::Object::object_more_of))]
 pub fn object_more(alloc: Global, sheet: &Sheet, more: &SheetMore) -> Result<Blob, AllocError>
     requires { IsTrue (is_sheet sheet.now more.now) }

@@ -16,11 +16,11 @@ returns-in-Ok c =
     let kernel = kernel_of c.args.tree.now.kernel in
     made_ok _ c.in-Ok.made (ap (outputs_of c.args.tree.now.facts kernel) (sym c.as_bytes.ensures) ∙ c.in-Ok.ensures.ok kernel c.requires.relation)
 
-pub returns-in_ok-file-in-Err-OutputTooLarge : goal.returns-in_ok-file-in-Err-OutputTooLarge
-returns-in_ok-file-in-Err-OutputTooLarge c =
+pub returns-in-Err-OutputTooLarge : goal.returns-in-Err-OutputTooLarge
+returns-in-Err-OutputTooLarge c =
     let tree = c.args.tree.now in
     let kernel = kernel_of tree.kernel in
     let fault = c.in-Err-OutputTooLarge in
     subst (λ stop. Answers (λ (x : OutputFiles). x) (outputs_outcome (outputs_of tree.facts kernel c.args.builtin.now)) (Err stop)) (sym c.from.ensures)
     (ap (λ bytes. outputs_outcome (outputs_of tree.facts kernel bytes)) (sym c.as_bytes.ensures)
-    ∙ made_not tree.facts kernel tree.relation c.as_bytes.result.now fault.field-0 fault.file fault.field-0-1 _ fault.field-0-is fault.ensures.err c.requires.relation (c.in_ok-file-in-Err-OutputTooLarge.ensures ∙ c.name.ensures))
+    ∙ made_not tree.facts kernel tree.relation c.as_bytes.result.now fault.field-0 fault.file fault.field-0-1 fault.field-0-is fault.ensures.err c.requires.relation)
