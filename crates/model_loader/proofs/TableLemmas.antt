@@ -1,13 +1,11 @@
 -- Tables of names: what a name more changes.
-use Rattle.std.proofs.Common.{◌≡◌, ◌∙◌, ℕ, Bool, true, false, List, [], ◌∷◌, ◌++◌, Option, Some, None, refl, sym, ap, cond, Bor}
+use Rattle.std.proofs.Common.{◌≡◌, ◌∙◌, ℕ, Bool, true, false, List, [], ◌∷◌, ◌++◌, Option, Some, None, refl, sym, ap, cond, Vec, Global, Bor}
 use Rattle.std.specs.Prelude.{find, option_map, option_copied, is_some, IsOk, OnOk, Result, Ok, Err}
 use Rattle.std.specs.Map.{lookup}
 use Rattle.std.specs.Option.{option_or}
 use Rattle.std.specs.Str.{bytes_eq}
 use Rattle.std.proofs.lemmas.Cmp.{nat_list_eq_equiv}
 use Rattle.std.proofs.lemmas.Bool.{false≢true}
-use Rattle.name_table.specs.Keys.{name_of}
-use Rattle.name_table.specs.declared.key.OwnedNameKey.{OwnedNameKey}
 use Rattle.model_loader.specs.declared.standing.Standing.{Standing}
 use Rattle.model_loader.specs.declared.standing.Named.{Named}
 use Rattle.model_loader.specs.Standing.{standing_in}
@@ -22,12 +20,12 @@ lookup-push test (e ∷ es) k v =
     ]
 
 -- a name goes to the end of the entries
-pub put-last : (old new : List (OwnedNameKey × Standing)) (key : OwnedNameKey) (value : Standing) (x : List ℕ) → new ≡ old ++ (key, value) ∷ []
-    → lookup (λ k. bytes_eq x (name_of k)) new ≡ option_or (lookup (λ k. bytes_eq x (name_of k)) old) (cond (bytes_eq (name_of key) x) (Some value) None)
+pub put-last : (old new : List (Vec ℕ Global × Standing)) (key : Vec ℕ Global) (value : Standing) (x : List ℕ) → new ≡ old ++ (key, value) ∷ []
+    → lookup (λ (k : Vec ℕ Global). bytes_eq x k.items) new ≡ option_or (lookup (λ (k : Vec ℕ Global). bytes_eq x k.items) old) (cond (bytes_eq key.items x) (Some value) None)
 put-last old new key value x is =
-    ap (lookup (λ k. bytes_eq x (name_of k))) is
-    ∙ lookup-push (λ k. bytes_eq x (name_of k)) old key value
-    ∙ ap (λ b. option_or (lookup (λ k. bytes_eq x (name_of k)) old) (cond b (Some value) None)) (nat_list_eq_equiv.symm x (name_of key))
+    ap (lookup (λ (k : Vec ℕ Global). bytes_eq x k.items)) is
+    ∙ lookup-push (λ (k : Vec ℕ Global). bytes_eq x k.items) old key value
+    ∙ ap (λ b. option_or (lookup (λ (k : Vec ℕ Global). bytes_eq x k.items) old) (cond b (Some value) None)) (nat_list_eq_equiv.symm x key.items)
 
 pub on_ok : {T E P : Type 0} (r : Result T E) → IsOk r → OnOk r P → P
 on_ok (Ok x) is h = h

@@ -3,7 +3,6 @@ use Rattle.std.specs.Prelude.{◌≡◌, ℕ, List, [], ◌∷◌, map, find, Op
 use Rattle.std.specs.HashMap.{get_by}
 use Rattle.std.specs.Str.{bytes_eq}
 use Rattle.km_names.specs.First.{first}
-use Rattle.name_table.specs.Keys.{name_of}
 use Rattle.symbol_binding.specs.Symbols.{Export}
 use Rattle.symbol_binding.specs.Unmet.{vmlinux}
 use Rattle.model_loader.specs.declared.entry.PlacedExport.{PlacedExport}
@@ -30,7 +29,7 @@ standing_export x s = record { name = x; crc = s.crc; gpl = s.gpl; space = s.spa
 
 -- What a table has for a name.
 abbrev pub standing_of : ExportTable → List ℕ → Option Standing
-standing_of t x = get_by (λ k. bytes_eq x (name_of k)) t.standings
+standing_of t x = get_by (λ k. bytes_eq x k.items) t.standings
 
 -- What a list has for a name.
 abbrev pub standing_in : List ℕ → List Named → Option Standing

@@ -8,7 +8,7 @@ ghost use Rattle.model_loader.specs.Standing.{standing_in, standing_of};
 
 use indexmap::IndexMap;
 use km_names::Name;
-use name_table::{NameHash, OwnedNameKey};
+use name_table::NameHash;
 use std::alloc::{AllocError, Global};
 use std::collections::VecDeque;
 use std::hash::BuildHasherDefault;
@@ -33,7 +33,7 @@ pub(crate) struct Named {
 /// For each exported name what is kept of it.
 #[derive(Drop)]
 pub(crate) struct ExportTable {
-    standings: IndexMap<OwnedNameKey<'static>, Standing, NameHash>,
+    standings: IndexMap<Vec<u8>, Standing, NameHash>,
 }
 
 impl ExportTable {
@@ -50,7 +50,7 @@ impl ExportTable {
     pub(crate) fn get(&self, name: &[u8]) -> Option<&Standing>
         ensures { option_copied result ≡ standing_of self.now name.now }
     {
-        self.standings.get(&OwnedNameKey::Asked(name))
+        self.standings.get(name)
     }
 
     /// Makes room for `count` names more. No name is changed.
@@ -69,8 +69,8 @@ impl ExportTable {
         ensures room { spare self.old.standings ≤ spare self.new.standings + 1 }
     {
         let Named { name, standing } = named;
-        if self.get(name.as_slice()).is_none() {
-            let _ = self.standings.insert(OwnedNameKey::Owned(name), standing);
+        if self.standings.get(name.as_slice()).is_none() {
+            let _ = self.standings.insert(name, standing);
         }
     }
 
