@@ -42,7 +42,7 @@ one-file held path a b has_a has_b = let e : ◌≡◌ {A = Option (List ℕ)} (
 
 -- a file that isn't too large
 pub size-passed : (name : OutputFile) (bytes : List ℕ) → size_fault name bytes ≡ None → length bytes ≤ 2 ^ 26
-size-passed name bytes none = go (nat_lt file_limit (length bytes)) (OutputTooLarge name (min (length bytes) 18446744073709551615)) refl none
+size-passed name bytes none = go (nat_lt file_limit (length bytes)) (OutputTooLarge (file_name name) (min (length bytes) 18446744073709551615)) refl none
   where
     go : (b : Bool) (fault : OutputFault) → nat_lt file_limit (length bytes) ≡ b → (if b then Some fault else None) ≡ None → length bytes ≤ 2 ^ 26
     go true fault is none = absurd cc
