@@ -7,7 +7,11 @@ use Rattle.command_depmod.specs.Replaced.{LeavesFiles}
 use Rattle.command_depmod.proofs.ReplaceLaw.{leaves}
 use Rattle.laws_depmod_leaves.specs.Left.{LeavesIndexed}
 use Rattle.laws_depmod_leaves.proofs.LeftLemmas.{leaves-indexed}
+use Rattle.kmod_cli.specs.Headline.{Headline}
+use Rattle.kmod_cli.specs.Plans.{Plans}
 use Rattle.kmod_cli.specs.Program.{command_named, course}
+use Rattle.kmod_cli.proofs.HeadlineLaw.{headline}
+use Rattle.kmod_cli.proofs.PlansLaw.{plans}
 
 pub no-words : (words : List (List ℕ)) → length words < 1 → words ≡ []
 no-words [] h = refl
@@ -28,3 +32,15 @@ pub depmod-indexes : (words : List (List ℕ)) (old new : World) (status : ℕ) 
 unfolding command_named
 depmod-indexes words old new status c rest is =
     leaves-indexed rest old new status (subst (λ w. Carries (course w) old new status) is c)
+
+-- what a load did where the first word is `modprobe`
+pub modprobe-loads : (words : List (List ℕ)) (old new : World) (status : ℕ) → Carries (course words) old new status → (rest : List (List ℕ)) → words ≡ codes "modprobe" ∷ rest → Headline rest old new status
+unfolding command_named
+modprobe-loads words old new status c rest is =
+    headline rest old new status (subst (λ w. Carries (course w) old new status) is c)
+
+-- and what it planned
+pub modprobe-plans : (words : List (List ℕ)) (old new : World) (status : ℕ) → Carries (course words) old new status → (rest : List (List ℕ)) → words ≡ codes "modprobe" ∷ rest → Plans rest old new status
+unfolding command_named
+modprobe-plans words old new status c rest is =
+    plans rest old new status (subst (λ w. Carries (course w) old new status) is c)

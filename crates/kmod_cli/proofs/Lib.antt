@@ -1,2 +1,6 @@
+mod ActsLeft
+mod LoadsLeft
+mod CameLemmas
+mod HeadlineLaw
+mod PlansLaw
 pub mod CommandSteps
-pub mod HeadlineLaw

@@ -1,28 +1,46 @@
--- The headline: while tree and kernel stand as depmod indexed them, no install command is chosen and the listed modules
--- load, the modules that modprobe plans, loaded, bind. modprobe(8), depmod(8).
-use Rattle.std.specs.Prelude.{◌≡◌, ℕ, List, Some}
+-- The headline: while tree and kernel stand as depmod indexed them, no install command is chosen
+-- and the listed modules load, the modules that modprobe plans, loaded, bind; and what it prints
+-- and writes is of these loads. modprobe(8), depmod(8).
+use Rattle.std.specs.Prelude.{◌≡◌, ◌<◌, ◌≤◌, ℕ, List, [], ◌∷◌, ◌++◌, length, take, reverse, flat_map, codes, Option, Some, None, Ok, Err}
+use Rattle.std.specs.FinMap.{insert}
+use Rattle.km_names.specs.Path.{path_below}
 use Rattle.km_outside.specs.Contents.{Contents}
+use Rattle.km_course.specs.Lines.{line}
+use Rattle.km_course.specs.World.{World, Shown, Tells}
 use Rattle.kmod_words.specs.declared.modprobe.Mode.TheVariants.{Load}
 use Rattle.kmod_words.specs.declared.modprobe.ModprobeWords.{ModprobeWords}
 use Rattle.kmod_words.specs.Modprobe.{modprobe_request}
 use Rattle.module_facts.specs.declared.facts.Facts.{Facts}
+use Rattle.module_facts.specs.declared.module.Module.{Module}
 use Rattle.provider_rel.specs.declared.kernel.Kernel.{Kernel}
+use Rattle.model_loader.specs.declared.entry.Entry.{Entry}
+use Rattle.model_loader.specs.declared.fault.LoadFault.{LoadFault}
 use Rattle.model_loader.specs.declared.region.Region.{Region}
+use Rattle.model_loader.specs.FaultText.{load_fault_text}
 use Rattle.model_loader.specs.Machine.{Machine}
+use Rattle.model_loader.specs.Sound.{IsSound}
+use Rattle.model_loader.specs.Step.{step}
 use Rattle.plan_builder.specs.declared.step.PlanStep.{PlanStep}
+use Rattle.laws_closed_plans.specs.Binding.{IsLoaded}
+use Rattle.laws_closed_plans.specs.Loads.{IsPlaceFault, load_all}
 use Rattle.stages_files.specs.KernelModules.{modules_folder}
+use Rattle.stages_loads.specs.Loads.{loaded_line}
 use Rattle.command_modprobe.specs.declared.known.Known.{Known}
-use Rattle.command_modprobe.specs.Modprobe.{modprobe_course}
-use Rattle.command_modprobe.specs.Planned.{request_of}
-use Rattle.laws_planned_loads.specs.Courses.{CameToLoads, CourseBinds, IsEndOfLoads, HasMachine, IsIndexedFor, IsLoadingCourse}
+use Rattle.command_modprobe.specs.Planned.{plan_lines, request_of}
+use Rattle.laws_planned_loads.specs.Courses.{CameToLoads, HasMachine, IsIndexedFor}
+use Rattle.laws_planned_loads.specs.Files.{AreFileModules}
+use Rattle.laws_planned_loads.specs.Listed.{AreListedPaths}
+use Rattle.kmod_cli.specs.CameTo.{CameTo}
+
+-- ---- where it applies
 
 -- The folder of the modules of the kernel that is asked for.
 abbrev pub folder_asked : ModprobeWords → List ℕ
 folder_asked asked = modules_folder asked.dirname asked.version
 
--- What a load is about: the modules that were indexed, over which kernel and built-in modules; that kernel with addresses,
--- and the region; what is known of the folder and the configuration; the machine after the listed modules; the plan, and
--- the paths of its modules.
+-- What a load is about: the modules that were indexed, over which kernel and built-in modules; that
+-- kernel with addresses, and the region; what is known of the folder and the configuration; the
+-- machine after the listed modules; the plan, and the paths of its modules.
 pub record Loading : Type 0 where
   pub tree : List Facts
   pub indexed : Kernel
@@ -38,24 +56,103 @@ pub record Loading : Type 0 where
 pub record StandsAsIndexed (held : Contents) (asked : ModprobeWords) (l : Loading) : Type 0 where
   -- a load is asked for
   pub mode : asked.mode ≡ Load
-  -- the folder is as depmod indexed it, and the kernel's table is the same, with an address for each export
+  -- the folder is as depmod indexed it, and the kernel's table is the same, with an address for
+  -- each export
   pub stands : IsIndexedFor held (folder_asked asked) l.tree l.indexed l.builtin l.kernel
   pub machine : HasMachine held asked l.kernel l.region
-  -- what is read is understood, the names have a plan, no step of it runs a command, and the listed modules load
+  -- what is read is understood, the names have a plan, no step of it runs a command, and the listed
+  -- modules load
   pub came : CameToLoads held (folder_asked asked) asked.config asked.loaded (request_of asked) l.kernel l.region l.known l.listed l.steps l.paths
 
--- What modprobe with these words does then over these files.
-pub record LoadsBind (held : Contents) (words : List (List ℕ)) (asked : ModprobeWords) (l : Loading) : Type 0 where
-  -- each module of the plan is that of a valid file, and each of its strong undefined symbols is bound to an earlier
-  -- agreeing export; relocated words have the values of the ABI; images and digests are those of the machine
-  pub binds : CourseBinds held (folder_asked asked) asked.image l.kernel l.region l.known l.listed l.steps l.paths
-  -- it reads files, says the lines of the plan, and loads its modules, and does nothing else
-  pub loads : IsLoadingCourse held (folder_asked asked) asked.image l.listed l.steps l.paths ((modprobe_course words).run held)
-  -- it ends where all are loaded, or with the one that finds no room in the region or has a word that doesn't fit there
-  pub ends : IsEndOfLoads ((modprobe_course words).run held).outcome
+-- ---- how far the loads of a plan go, by the machine alone
 
--- The headline, of modprobe with these words after its name over these files.
-abbrev pub Headline : List (List ℕ) → Contents → Type 0
-Headline words held =
+-- Why no more modules go into a machine, where these are left of the plan; with the status, and the
+-- line on err.
+pub data IsEndOfPlan (machine : Machine) : List Module → ℕ → List ℕ → Type 0 where
+  -- all are loaded
+  all_loaded : IsEndOfPlan machine [] 0 []
+  -- the next one finds no room in the region, or has a word that doesn't fit there
+  no_place : (m : Module) (ms : List Module) (fault : LoadFault) → step machine m ≡ Err fault → IsPlaceFault fault → IsEndOfPlan machine (m ∷ ms) 1 (line (m.facts.name ++ (codes ": " ++ load_fault_text fault)))
+
+-- What loading a plan comes to, after listed modules were loaded and this was the machine.
+pub record ComesTo (start : Machine) (listed plan : List Module) : Type 0 where
+  -- the first modules of the plan go in, one after the other, and the others are left
+  pub loaded : List Module
+  pub left : List Module
+  pub modules : plan ≡ loaded ++ left
+  pub machine : Machine
+  pub loads : load_all start loaded ≡ Ok machine
+  -- all that is loaded is bound: each strong need to an agreeing export that stands before it, and
+  -- words have the values of the ABI; the images lie apart in the region
+  pub sound : IsSound machine (listed ++ loaded)
+  -- each that goes in has one entry more, with its image
+  pub entries : List Entry
+  pub newer : machine.entries ≡ start.entries ++ entries
+  -- and why no more go in
+  pub status : ℕ
+  pub err_line : List ℕ
+  pub ends : IsEndOfPlan machine left status err_line
+
+-- ---- what is printed and written of them
+
+-- The files with the image of each entry in the folder for images, where one is named, under the
+-- name of its module.
+abbrev pub with_images : Option (List ℕ) → List Entry → Contents → Contents
+with_images None es files = files
+with_images (Some images) [] files = files
+with_images (Some images) (e ∷ es) files =
+    with_images (Some images) es (insert files (path_below images (e.loaded.name ++ codes ".img")) e.image)
+
+-- The lines of the plan, and then a line for each entry, which has the digest of its image.
+abbrev pub printed : ModprobeWords → Loading → List Entry → List ℕ
+printed asked l es =
+    plan_lines (folder_asked asked) l.steps ++ flat_map (λ (e : Entry). loaded_line e.loaded e.image) es
+
+-- What is told after the loads of these entries and this line on err, but for the count of calls on
+-- files.
+abbrev pub told_after : ModprobeWords → Loading → List Entry → List ℕ → Shown → Shown
+told_after asked l es err_line shown = record {
+  files = with_images asked.image es shown.files;
+  calls = shown.calls;
+  out = shown.out ++ printed asked l es;
+  err = shown.err ++ err_line;
+}
+
+-- A first part of this was done: so many images were put and so many bytes printed. The image of an
+-- entry is put before any of its line is printed, and after all lines of the entries before it.
+pub record IsFirstPart (asked : ModprobeWords) (l : Loading) (entries : List Entry) (shown : Shown) (new : World) : Type 0 where
+  pub images : ℕ
+  pub bytes : ℕ
+  pub files : new.files.contents ≡ Some (with_images asked.image (take images entries) shown.files)
+  pub out : new.out.told ≡ Some (shown.out ++ take bytes (printed asked l entries))
+  pub image_before : bytes ≤ length (printed asked l (take images entries))
+  pub lines_before : (n : ℕ) → n < images → length (printed asked l (take n entries)) ≤ bytes
+
+-- ---- the headline
+
+-- What modprobe did over files and outputs that told this: it left new and answered this status.
+pub record LoadsBind (asked : ModprobeWords) (l : Loading) (shown : Shown) (old new : World) (status : ℕ) : Type 0 where
+  -- the listed modules, oldest first, are loaded: each is all of a valid file, that at the first
+  -- path of its dependency line
+  pub listed : List Module
+  pub listed_paths : List (List ℕ)
+  pub listed_lines : AreListedPaths l.known.indexes.dep (reverse l.known.loaded) listed_paths
+  pub listed_files : AreFileModules shown.files (folder_asked asked) listed_paths listed
+  pub listed_load : IsLoaded l.kernel l.region listed l.listed
+  -- each module of the plan is all of a valid file, that at the path of its step; and they bind, as
+  -- far as they load
+  pub plan : List Module
+  pub plan_files : AreFileModules shown.files (folder_asked asked) l.paths plan
+  pub loads : ComesTo l.listed listed plan
+  -- the status is that of these loads, and never 2: their images are put, the lines of the plan
+  -- and theirs are printed, a refusal has its line on err, and all else is as it was; or a first
+  -- part of this was done, for a failed call on files or outputs, or for want of memory
+  pub call : CameTo loads.status (told_after asked l loads.entries loads.err_line shown) (IsFirstPart asked l loads.entries shown) old new status
+
+-- The headline, of modprobe with these words after its name, where files and outputs tell what they
+-- hold.
+abbrev pub Headline : List (List ℕ) → World → World → ℕ → Type 0
+Headline words old new status =
+    (shown : Shown) → Tells old shown →
     (asked : ModprobeWords) → modprobe_request words ≡ Some asked →
-    (l : Loading) → StandsAsIndexed held asked l → LoadsBind held words asked l
+    (l : Loading) → StandsAsIndexed shown.files asked l → LoadsBind asked l shown old new status

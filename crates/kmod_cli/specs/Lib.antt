@@ -1,2 +1,4 @@
 pub mod Program
+pub mod CameTo
 pub mod Headline
+pub mod Plans

@@ -9,6 +9,7 @@ ghost use Rattle.command_modprobe.specs.Modprobe.{modprobe_course};
 ghost use Rattle.command_trial.specs.Trial.{trial_course};
 ghost use Rattle.laws_depmod_leaves.specs.Left.{LeavesIndexed};
 ghost use Rattle.kmod_cli.specs.Headline.{Headline};
+ghost use Rattle.kmod_cli.specs.Plans.{Plans};
 ghost use Rattle.kmod_cli.specs.Program.{course, course_named};
 
 use crate::command::{Command, command_named};
@@ -20,8 +21,8 @@ use std::alloc::Global;
 /// Does all that the program does: carries out the course of the words, which are those after the
 /// program's name, and answers the exit status. Status 0 is done, 1 refused, 2 not understood, 3 a failed
 /// call on files, `out` or `err`, and 4 want of memory; all but 0 have a line on `err`. The first word names
-/// the command. Where it is `depmod`, files are left as [`depmod`] leaves them; where it is `modprobe`, its plan binds as
-/// [`modprobe`] says.
+/// the command. Where it is `depmod`, files are left as [`depmod`] leaves them; where it is `modprobe`,
+/// it plans, its plan binds, and what it prints and writes is of these loads, as [`modprobe`] says.
 pub fn run<F: Files, O: Out, E: Out>(
     alloc: Global,
     words: &[Word],
@@ -38,8 +39,12 @@ pub fn run<F: Files, O: Out, E: Out>(
     ensures indexes { (rest : List (List ℕ)) → words.now ≡ codes "depmod" ∷ rest → (shown : Shown) →
         Tells (world (F.seen files.old) (O.seen out.old) (E.seen err.old)) shown →
         LeavesIndexed rest shown.files (F.seen files.new).contents result }
-    ensures headline { (rest : List (List ℕ)) → words.now ≡ codes "modprobe" ∷ rest → (shown : Shown) →
-        Tells (world (F.seen files.old) (O.seen out.old) (E.seen err.old)) shown → Headline rest shown.files }
+    ensures plans { (rest : List (List ℕ)) → words.now ≡ codes "modprobe" ∷ rest →
+        Plans rest (world (F.seen files.old) (O.seen out.old) (E.seen err.old))
+        (world (F.seen files.new) (O.seen out.new) (E.seen err.new)) result }
+    ensures headline { (rest : List (List ℕ)) → words.now ≡ codes "modprobe" ∷ rest →
+        Headline rest (world (F.seen files.old) (O.seen out.old) (E.seen err.old))
+        (world (F.seen files.new) (O.seen out.new) (E.seen err.new)) result }
 {
     match words {
         [] => command(alloc, None, words, files, out, err),
@@ -113,11 +118,14 @@ fn modinfo<F: Reads, O: Out, E: Out>(
     conclude(alloc, outcome, err)
 }
 
-/// Does what `modprobe` does with these words after its name, and answers the exit status, as [`run`] does: prints the plan
-/// for names and loads its modules into the modelled machine, prints it alone, or tells what names stand for. It lists no
-/// folder of modules, so that their paths come from the index alone. While tree and kernel stand as depmod indexed them, no
-/// install command is chosen and the listed modules load, the modules that it loads bind: the course ends where all are
-/// loaded, or with the one that finds no room or has a word that doesn't fit. modprobe(8).
+/// Does what `modprobe` does with these words after its name, and answers the exit status, as [`run`]
+/// does: prints the plan for names and loads its modules into the modelled machine, prints it alone,
+/// or tells what names stand for. It lists no folder of modules, so that their paths come from the
+/// index alone. Where what it reads is understood, it plans exactly where an order exists, and else
+/// names the first obstacle. While tree and kernel stand as depmod indexed them, no install command
+/// is chosen and the listed modules load, the modules that it loads bind: status 0 is that all of the
+/// plan are loaded, and 1 that one of them finds no room or has a word that doesn't fit; the images
+/// that it put and the lines that it printed are those of the modules that were loaded. modprobe(8).
 pub fn modprobe<F: Writes, O: Out, E: Out>(
     alloc: Global,
     words: &[Word],
@@ -128,8 +136,12 @@ pub fn modprobe<F: Writes, O: Out, E: Out>(
     ensures carries { Carries (modprobe_course words.now)
         (world (F.seen files.old) (O.seen out.old) (E.seen err.old))
         (world (F.seen files.new) (O.seen out.new) (E.seen err.new)) result }
-    ensures headline { (shown : Shown) → Tells (world (F.seen files.old) (O.seen out.old) (E.seen err.old)) shown →
-        Headline words.now shown.files }
+    ensures plans { Plans words.now
+        (world (F.seen files.old) (O.seen out.old) (E.seen err.old))
+        (world (F.seen files.new) (O.seen out.new) (E.seen err.new)) result }
+    ensures headline { Headline words.now
+        (world (F.seen files.old) (O.seen out.old) (E.seen err.old))
+        (world (F.seen files.new) (O.seen out.new) (E.seen err.new)) result }
 {
     let outcome = command_modprobe::modprobe(alloc, words, files, out);
     conclude(alloc, outcome, err)

@@ -27,6 +27,7 @@ use Rattle.module_facts.specs.Faults.{fact_fault}
 use Rattle.provider_rel.specs.declared.kernel.Kernel.{Kernel}
 use Rattle.provider_rel.specs.Faces.{kernel_of}
 use Rattle.model_loader.specs.declared.fault.LoadFault.{LoadFault}
+use Rattle.model_loader.specs.declared.region.Region.{Region}
 use Rattle.model_loader.specs.Machine.{Machine, new_machine}
 use Rattle.name_lookup.specs.Maps.{has_value}
 use Rattle.name_table.specs.FirstSeen.{is_among}
@@ -38,7 +39,7 @@ use Rattle.plan_builder.specs.Closed.{IsAtOwnPath, IsOwnPath}
 use Rattle.plan_builder.specs.Obstacles.{obstacle_of}
 use Rattle.plan_builder.specs.Steps.{plan_steps}
 use Rattle.laws_closed_plans.specs.Loads.{IsPlaceFault, load_all, unless_refused}
-use Rattle.laws_closed_plans.specs.Binding.{Binds}
+use Rattle.laws_closed_plans.specs.Binding.{Binds, IsLoaded}
 use Rattle.laws_closed_plans.proofs.ListLemmas.{first-none}
 use Rattle.laws_closed_plans.proofs.LoadLemmas.{load-append}
 use Rattle.depmod_core.specs.declared.file.OutputFile.TheVariants.{Unmet}
@@ -65,7 +66,6 @@ use Rattle.laws_planned_loads.proofs.ClosedLemmas.{among-reversed, closed-revers
 use Rattle.laws_planned_loads.proofs.FileLemmas.{line-module}
 use Rattle.laws_planned_loads.proofs.KnownLemmas.{KnowsFolder, knows-folder, read-there}
 use Rattle.laws_planned_loads.proofs.ListedLemmas.{listed-are-of-machine, listed-line}
-use Rattle.laws_planned_loads.proofs.LoadLemmas.{loads-are}
 
 -- ---- modules of names
 
@@ -244,7 +244,7 @@ loaded-ok (Ok other) machine is = refl
 loaded-ok (Err fault) machine is = cc
 
 pub courses-bind : CoursesBind
-courses-bind held folder tree kernel builtin addressed as_indexed config listing request region known machine steps paths came images =
+courses-bind held folder tree kernel builtin addressed as_indexed config listing request region known machine steps paths came =
     let indexed = as_indexed.indexed in
     let knows = knows-folder held config listing folder known came.knows in
     let lines = known_lines known in
@@ -262,20 +262,26 @@ courses-bind held folder tree kernel builtin addressed as_indexed config listing
     let runs : list_any runs_command (plan_steps s request) ≡ false = ap (list_any runs_command) made.1 ∙ none-runs steps given'.0 in
     let closing : AreClosedSteps s steps = subst (AreClosedSteps s) made.1 (plans-closed s request made.0 runs valued) in
     let modules = step-modules held folder tree kernel builtin indexed known knows steps closing.own_paths in
-    let plan = modules.plan in
-    let binding : Binds addressed region listed plan =
-    folders-bind held folder tree kernel builtin lines known.unmet indexed (is-read held folder tree kernel builtin indexed known knows) addressed region (reverse known.loaded) (inserted_names steps) listed plan as_indexed.same_table of_listed modules.of_names
-    (loaded-ok (load_all start listed) machine loads.loaded)
-    (closed-reversed (lines_of_map lines) known.unmet known.loaded (inserted_names steps) closing.closed) in
-    let after_listed : load_all start (listed ++ plan) ≡ load_all machine plan =
-    load-append start listed plan ∙ ap (unless_refused (λ next. load_all next plan)) loads.loaded in
     record {
       listed = listed;
-      plan = plan;
+      plan = modules.plan;
       listed_of = of_listed;
       plan_of = modules.of_names;
+      listed_paths = loads.paths;
+      listed_lines = loads.found;
+      listed_files = loads.files;
+      plan_files = subst (λ ps. AreFileModules held folder ps modules.plan) given'.1 modules.of_files;
       listed_load = loads.loaded;
-      binds = binding;
-      placed = subst (λ r. IfErr r IsPlaceFault) after_listed binding.stopped;
-      loads = loads-are folder images paths plan machine held (subst (λ ps. AreFileModules held folder ps plan) given'.1 modules.of_files);
+      binds =
+          folders-bind held folder tree kernel builtin lines known.unmet indexed (is-read held folder tree kernel builtin indexed known knows) addressed region (reverse known.loaded) (inserted_names steps) listed modules.plan as_indexed.same_table of_listed modules.of_names
+          (loaded-ok (load_all start listed) machine loads.loaded)
+          (closed-reversed (lines_of_map lines) known.unmet known.loaded (inserted_names steps) closing.closed);
     }
+
+-- after the listed modules the plan is refused for its place alone
+pub plan-placed : (addressed : Kernel) (region : Region) (listed plan : List Module) (machine : Machine) → Binds addressed region listed plan → IsLoaded addressed region listed machine → IfErr (load_all machine plan) IsPlaceFault
+plan-placed addressed region listed plan machine binds loaded =
+    let start = new_machine addressed region in
+    let after_listed : load_all start (listed ++ plan) ≡ load_all machine plan =
+    load-append start listed plan ∙ ap (unless_refused (λ next. load_all next plan)) loaded in
+    subst (λ r. IfErr r IsPlaceFault) after_listed binds.stopped

@@ -1,7 +1,7 @@
 pub mod RunLemmas
 pub mod FileLemmas
 mod RefusedLemmas
-mod LoadLemmas
+pub mod LoadLemmas
 mod ListedLemmas
 pub mod KnownLemmas
 mod ClosedLemmas

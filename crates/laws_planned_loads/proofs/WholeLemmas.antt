@@ -47,7 +47,7 @@ only-addressed map (Some symvers) =
     reads-then (given (table_outcome map (exports_of_map bytes))) (both_understood map symvers bytes) (reads-given _) (λ alone.
     reads-then (reads_symvers symvers) (both_added map bytes) (only-symvers symvers) (λ exported. reads-given _)))
 
-only-machine : (map : List ℕ) (symvers : Option (List ℕ)) (region : Region) → OnlyReads (reads_machine map symvers region)
+pub only-machine : (map : List ℕ) (symvers : Option (List ℕ)) (region : Region) → OnlyReads (reads_machine map symvers region)
 only-machine map symvers region =
     reads-then (reads_addressed map symvers) (made region) (only-addressed map symvers) (λ table. reads-given (machine_outcome table region (kernel_fault table.exports)))
 
@@ -57,7 +57,7 @@ all-read : (folder : List ℕ) (paths : List (List ℕ)) → list_all is_reading
 all-read folder [] = refl
 all-read folder (path ∷ paths) = all-read folder paths
 
-lines-said : (bytes : List ℕ) (files : Contents) → (says_any bytes).run files ≡ run_of (said bytes) (value tt)
+pub lines-said : (bytes : List ℕ) (files : Contents) → (says_any bytes).run files ≡ run_of (said bytes) (value tt)
 unfolding given act_with
 lines-said [] files = refl
 lines-said (byte ∷ bytes) files = refl

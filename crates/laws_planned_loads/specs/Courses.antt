@@ -1,5 +1,5 @@
 -- What the course of a modprobe that loads comes to over a folder that stands as depmod indexed it. modprobe(8).
-use Rattle.std.specs.Prelude.{◌≡◌, ℕ, true, List, ◌++◌, reverse, Option, Some, IfErr, ⊤}
+use Rattle.std.specs.Prelude.{◌≡◌, ℕ, true, List, ◌++◌, reverse, Option, Some, ⊤}
 use Rattle.std.specs.List.{list_all}
 use Rattle.km_outside.specs.Contents.{Contents}
 use Rattle.kmod_words.specs.declared.modprobe.ModprobeWords.{ModprobeWords}
@@ -19,7 +19,7 @@ use Rattle.model_loader.specs.FaultText.{load_fault_text}
 use Rattle.model_loader.specs.Machine.{Machine, new_machine}
 use Rattle.plan_builder.specs.declared.request.Request.{Request}
 use Rattle.plan_builder.specs.declared.step.PlanStep.{PlanStep}
-use Rattle.laws_closed_plans.specs.Loads.{load_all, IsPlaceFault}
+use Rattle.laws_closed_plans.specs.Loads.{IsPlaceFault}
 use Rattle.laws_closed_plans.specs.Binding.{Binds, IsLoaded}
 use Rattle.laws_indexed_folder.specs.Indexed.{Indexed}
 use Rattle.laws_indexed_folder.specs.Folder.{AreModulesOf}
@@ -33,7 +33,8 @@ use Rattle.command_modprobe.specs.Known.{reads_known}
 use Rattle.command_modprobe.specs.Planned.{plan_lines, plan_outcome, request_of}
 use Rattle.command_modprobe.specs.Loaded.{loads_plan, paths_outcome, region_at}
 use Rattle.laws_planned_loads.specs.Acts.{is_reading, said}
-use Rattle.laws_planned_loads.specs.Loads.{AreMachineLoads}
+use Rattle.laws_planned_loads.specs.Files.{AreFileModules}
+use Rattle.laws_planned_loads.specs.Listed.{AreListedPaths}
 
 -- The map of the modules.dep.bin that was read.
 abbrev pub known_lines : Known → KeyValues
@@ -82,19 +83,23 @@ CoursesLoad =
     → IsLoadingCourse held (modules_folder asked.dirname asked.version) asked.image machine steps paths ((loads_plan asked).run held)
 
 -- The loads of such a course bind.
-pub record CourseBinds (held : Contents) (folder : List ℕ) (images : Option (List ℕ)) (addressed : Kernel) (region : Region) (known : Known) (machine : Machine) (steps : List PlanStep) (paths : List (List ℕ)) : Type 0 where
-  -- the listed modules, oldest first, and those of the plan, each the module of its file
+pub record CourseBinds (held : Contents) (folder : List ℕ) (addressed : Kernel) (region : Region) (known : Known) (machine : Machine) (steps : List PlanStep) (paths : List (List ℕ)) : Type 0 where
+  -- the listed modules, oldest first, and those of the plan, each the module of its name
   pub listed : List Module
   pub plan : List Module
   pub listed_of : AreModulesOf held folder (known_lines known) (reverse known.loaded) listed
   pub plan_of : AreModulesOf held folder (known_lines known) (inserted_names steps) plan
+  -- each is all of a valid file: that of the plan at the path of its step, the listed one at the first path of its
+  -- dependency line
+  pub listed_paths : List (List ℕ)
+  pub listed_lines : AreListedPaths known.indexes.dep (reverse known.loaded) listed_paths
+  pub listed_files : AreFileModules held folder listed_paths listed
+  pub plan_files : AreFileModules held folder paths plan
+  -- after the listed modules the machine is this
   pub listed_load : IsLoaded addressed region listed machine
-  -- each strong need is bound to an agreeing export that stands before it, and words have the values of the ABI
+  -- each strong need is bound to an agreeing export that stands before it, words have the values of the ABI, and the loads
+  -- stop for want of room or for a word that doesn't fit alone
   pub binds : Binds addressed region listed plan
-  -- the loads stop for want of room or for a word that doesn't fit alone, and their images and lines are those of the
-  -- machines of these loads
-  pub placed : IfErr (load_all machine plan) IsPlaceFault
-  pub loads : AreMachineLoads folder images machine paths plan ((loads_all folder images machine paths).run held)
 
 -- Over a folder that stands as depmod indexed it, and the same kernel's table with addresses, the loads of each course
 -- bind that came past its reading.
@@ -104,8 +109,7 @@ CoursesBind =
     → IsIndexedFor held folder tree kernel builtin addressed
     → (config listing : Option (List ℕ)) (request : Request) (region : Region) (known : Known) (machine : Machine) (steps : List PlanStep) (paths : List (List ℕ))
     → CameToLoads held folder config listing request addressed region known machine steps paths
-    → (images : Option (List ℕ))
-    → CourseBinds held folder images addressed region known machine steps paths
+    → CourseBinds held folder addressed region known machine steps paths
 
 -- A course of loads came to its end: all modules of the plan were loaded, or one of them found no room in the region, or a
 -- word of it didn't fit there.

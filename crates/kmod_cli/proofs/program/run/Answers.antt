@@ -3,8 +3,7 @@ use Rattle.std.proofs.lemmas.List.{take_rest}
 use Rattle.km_course.specs.World.{world}
 use Rattle.km_course.specs.Carries.{Carries}
 use Rattle.kmod_cli.specs.Program.{command_named, course, course_named}
-use Rattle.kmod_cli.proofs.CommandSteps.{no-words, name-first, depmod-leaves, depmod-indexes}
-use Rattle.kmod_cli.proofs.HeadlineLaw.{headline}
+use Rattle.kmod_cli.proofs.CommandSteps.{no-words, name-first, depmod-leaves, depmod-indexes, modprobe-loads, modprobe-plans}
 use Rattle.kmod_cli.proofs.program.run.Goals as goal
 
 pub returns-in-empty : goal.returns-in-empty
@@ -18,7 +17,8 @@ returns-in-empty g c =
       carries = carries;
       replaces = depmod-leaves words old new c.command.result carries;
       indexes = depmod-indexes words old new c.command.result carries;
-      headline = λ rest is shown told. headline rest shown.files;
+      headline = modprobe-loads words old new c.command.result carries;
+      plans = modprobe-plans words old new c.command.result carries;
     }
 
 pub returns-in-len1-up : goal.returns-in-len1-up
@@ -37,5 +37,6 @@ returns-in-len1-up g c =
       carries = carries;
       replaces = depmod-leaves words old new c.command-in-len1-up.result carries;
       indexes = depmod-indexes words old new c.command-in-len1-up.result carries;
-      headline = λ after is shown told. headline after shown.files;
+      headline = modprobe-loads words old new c.command-in-len1-up.result carries;
+      plans = modprobe-plans words old new c.command-in-len1-up.result carries;
     }
