@@ -10,7 +10,7 @@ use Rattle.std.proofs.lemmas.List.Folds.{list_any_more}
 use Rattle.relation_order.specs.Sets.{Relation, has, goes, successors, marked, Rising}
 use Rattle.relation_order.proofs.PlaceSteps.{successors-at}
 use Rattle.relation_order.specs.Reached.{reached}
-use Rattle.relation_order.specs.Components.{Searching, EndsIn, Enters, DropsAbove, Finishes, SearchOf, KeepsMet, state_of, is_new, is_done, is_on_cycle, looked_at, with_step, steps_left}
+use Rattle.relation_order.specs.Components.{Searching, EndsIn, Enters, DropsAbove, Finishes, SearchOf, KeepsMet, state_of, is_new, is_on_cycle, looked_at, with_step, steps_left}
 use Rattle.relation_order.specs.declared.components.State.{State}
 use Rattle.relation_order.specs.declared.components.State.TheVariants.{New, Open, Done}
 use Rattle.relation_order.specs.declared.components.CycleSearch.{CycleSearch}
@@ -136,11 +136,6 @@ looked-open r looked all states stack starts starts' path at target place is las
     looked-more r looked all states stack starts' path at target
     (joined r looked all states stack starts starts' path last.0 at place s last.1 o.0 (ap (r (get_or stack at 0)) o.1 ∙ step) kept (dropped-rises starts starts' place s.starts_rise d)) low
     (λ m. inr (place, is, λ b h k. leb-true b place (and_parts _ _ (sym (kept b) ∙ h)).1))
-
--- a step to an item that is done
-pub looked-done : (r looked : Relation) (all : List ℕ) (states : List State) (stack starts path : List ℕ) (at target : ℕ) (b : Bool) → state_of states target ≡ Done b → at < length stack → Searching r looked all states stack starts path → Searching r (with_step looked (get_or stack at 0) target) all states stack starts path
-looked-done r looked all states stack starts path at target b is low s =
-    looked-more r looked all states stack starts path at target s low (λ m. inl (ap is_done is))
 
 -- a step out of the set
 pub looked-outside : (r looked : Relation) (members : List Bool) (states : List State) (stack starts path : List ℕ) (at target : ℕ) → slice_index_or members target false ≡ false → at < length stack → Searching r looked (marked members) states stack starts path → Searching r (with_step looked (get_or stack at 0) target) (marked members) states stack starts path
@@ -293,10 +288,6 @@ pub not-new : (v : State) → (v ≡ New → ⊥) → is_new v ≡ false
 not-new New ne = absurd (ne refl)
 not-new (Open p) ne = refl
 not-new (Done b) ne = refl
-
--- a search that has ended
-pub search-over : (lists : List (Vec ℕ)) (members : List Bool) (search : CycleSearch) → search.path.items ≡ [] → SearchOf lists members search search.path.items → SearchOf lists members search []
-search-over lists members search e s = subst (SearchOf lists members search) e s
 
 -- what passes first, by two tests that agree
 find-same : (p q : ℕ → Bool) (xs : List ℕ) → ((k : ℕ) → k < length xs → p (get_or xs k 0) ≡ q (get_or xs k 0)) → find p xs ≡ find q xs

@@ -8,6 +8,7 @@ pub mod Nearest
 pub mod Placing
 pub mod Reached
 pub mod Rounds
+pub mod Rows
 pub mod Search
 pub mod Sets
 pub mod Spread

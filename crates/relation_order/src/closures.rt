@@ -1,29 +1,32 @@
 // What walks reach from each item, of a relation without a cycle.
-ghost use Rattle.std.specs.Prelude.{◌≡◌, ◌<◌, ◌^◌, ◌||◌, ◌==◌, [], ℕ, false, true, length, map, filter, All, IfOk, slice_index_or};
+ghost use Rattle.std.specs.Prelude.{◌≡◌, ◌<◌, ◌≤◌, ◌*◌, ◌/◌, ◌^◌, ◌&&◌, ◌||◌, ◌==◌, [], ℕ, true, not, length, map, filter, All, IfOk, slice_index_or};
 ghost use Rattle.std.specs.List.{sum_by};
+ghost use Rattle.std.specs.Int.{div_ceil};
+ghost use Rattle.std.proofs.Common.{replicate};
 ghost use Rattle.relation_order.specs.Sets.{goes, has, below};
 ghost use Rattle.relation_order.specs.Least.{least_order};
 ghost use Rattle.relation_order.specs.Cycle.{cycle};
 ghost use Rattle.relation_order.specs.Search.{Inside};
-ghost use Rattle.relation_order.specs.Closures.{closures, marked_in, row_of as marks_of_row, AreReached, Fitting};
+ghost use Rattle.relation_order.specs.Closures.{closures};
+ghost use Rattle.relation_order.specs.Rows.{has_mark, row_at, AreReached, Fitting};
 
-use crate::cycle::marks_of;
-use crate::order::is_open;
-use crate::reach::unmarked;
 use std::alloc::{AllocError, Global};
 use std::marker::Model;
 
+// How many marks a word of a row has.
+const WORD_BITS: usize = 64;
+
 /// The closures of all items: what walks reach from each, in the least order. Contracts see them as a list for each item.
-/// They take a byte for each pair of items until they are asked for.
+/// They take a bit for each pair of items, and none for the items that go nowhere, until they are asked for.
 #[derive(Drop)]
 pub struct Closures {
-    rows: Vec<Vec<bool>>,
+    rows: Vec<Vec<u64>>,
     order: Vec<usize>,
 }
 
 impl Model for Closures {
     ghost use Rattle.std.specs.Prelude.{List, ℕ, map};
-    ghost use Rattle.relation_order.specs.Closures.{Fitting, marked_in};
+    ghost use Rattle.relation_order.specs.Rows.{Fitting, marked_in};
 
     ghost Value = { List (List ℕ) };
 
@@ -45,7 +48,7 @@ impl Closures {
         requires acyclic { cycle (goes lists.now) (below (length lists.now)) ≡ [] }
         ensures { IfOk result (λ all. all ≡ closures (goes lists.now) (length lists.now)) }
     {
-        let mut rows = unmarked_rows(alloc, lists.len())?;
+        let mut rows = empty_rows(alloc, lists.len())?;
         for i in 0..order.len() {
             let x = order[i];
             rows[x] = row_of(alloc, lists, &rows, &order[..i], x)?;
@@ -60,7 +63,7 @@ impl Closures {
     {
         let mut count = 0;
         for row in &self.rows {
-            count += count_marked(&self.order, row) as u64;
+            count += count_marks(row);
         }
         count
     }
@@ -74,74 +77,130 @@ impl Closures {
     }
 }
 
-// A row for each item, without a mark.
-fn unmarked_rows(alloc: Global, count: usize) -> Result<Vec<Vec<bool>>, AllocError>
+// As many rows, none of which has a mark, nor room for one.
+fn empty_rows(alloc: Global, count: usize) -> Result<Vec<Vec<u64>>, AllocError>
     ensures long { IfOk result (λ rows. length rows.items ≡ count) }
-    ensures rows_long { IfOk result (λ rows. All (λ row. length row.items ≡ count) rows.items) }
+    ensures empty { IfOk result (λ rows. All (λ row. row.items ≡ []) rows.items) }
 {
     let mut rows = Vec::new(alloc);
     for _ in 0..count {
-        rows.push(unmarked(alloc, count)?)?;
+        rows.push(Vec::new(alloc))?;
     }
     Ok(rows)
 }
 
-// Marks for what is reached from an item, where those of the items before it are known, among which are all that it goes
-// to. The last is looked at first: mostly it has reached those that come before it, which need not be added again.
+// A row with room for a mark for each of as many items, and without a mark.
+fn unmarked_row(alloc: Global, count: usize) -> Result<Vec<u64>, AllocError>
+    ensures { IfOk result (λ row. row.items ≡ replicate (div_ceil count 64) 0) }
+{
+    vec![in alloc; 0; count.div_ceil(WORD_BITS)]
+}
+
+// A row with marks for some items below a number.
+fn row_with(alloc: Global, count: usize, items: &[usize]) -> Result<Vec<u64>, AllocError>
+    requires { All (λ y. y < count) items.now }
+    ensures { IfOk result (λ row. (y : ℕ) → has_mark row.items y ≡ has items.now y) }
+{
+    let mut row = unmarked_row(alloc, count)?;
+    for y in items {
+        mark(&mut row, *y);
+    }
+    Ok(row)
+}
+
+// The row of what is reached from an item, where those of the items before it are known, among which are all that it
+// goes to. The last is looked at first: mostly it has reached those that come before it, which need not be added again.
 fn row_of(
     alloc: Global,
     lists: &[Vec<usize>],
-    rows: &[Vec<bool>],
+    rows: &[Vec<u64>],
     before: &[usize],
     x: usize,
-) -> Result<Vec<bool>, AllocError>
+) -> Result<Vec<u64>, AllocError>
     requires inside { Inside (length lists.now) lists.now }
     requires place { x < length lists.now }
     requires rows { length rows.now ≡ length lists.now }
-    requires rows_long { All (λ row. length row.items ≡ length lists.now) rows.now }
+    requires rows_long { All (λ row. length row.items ≤ div_ceil (length lists.now) 64) rows.now }
     requires before { All (λ y. y < length lists.now) before.now }
-    requires known { (y : ℕ) → has before.now y ≡ true → AreReached (goes lists.now) (length lists.now) (marks_of_row rows.now y) y }
+    requires known { (y : ℕ) → has before.now y ≡ true → AreReached (goes lists.now) (length lists.now) (row_at rows.now y) y }
     requires direct { (y : ℕ) → goes lists.now x y ≡ true → has before.now y ≡ true }
-    ensures long { IfOk result (λ row. length row.items ≡ length lists.now) }
+    ensures long { IfOk result (λ row. length row.items ≤ div_ceil (length lists.now) 64) }
     ensures reached { IfOk result (λ row. AreReached (goes lists.now) (length lists.now) row.items x) }
 {
-    let direct = marks_of(alloc, lists.len(), &lists[x])?;
-    let mut row = unmarked(alloc, lists.len())?;
+    if lists[x].is_empty() {
+        return Ok(Vec::new(alloc));
+    }
+    let direct = row_with(alloc, lists.len(), &lists[x])?;
+    let mut row = unmarked_row(alloc, lists.len())?;
     let mut at = before.len();
     while at > 0 {
         at -= 1;
         let y = before[at];
-        if is_open(&direct, &row, y) {
+        if is_missing(&direct, &row, y) {
             add_row(&mut row, &rows[y], y);
         }
     }
     Ok(row)
 }
 
-// Marks an item, and all that are marked in a row.
-fn add_row(row: &mut Vec<bool>, other: &[bool], item: usize)
-    requires long { length row.old.items ≡ length other.now }
-    requires item { item < length row.old.items }
-    ensures long { length row.new.items ≡ length row.old.items }
-    ensures marks { (y : ℕ) → slice_index_or row.new.items y false ≡ (slice_index_or row.old.items y false || (y == item || slice_index_or other.now y false)) }
+// Whether an item is marked.
+fn is_marked(row: &[u64], item: usize) -> bool
+    ensures { result ≡ has_mark row.now item }
 {
-    row[item] = true;
-    for y in 0..other.len() {
-        row[y] = row[y] || other[y];
+    match row.get(item / WORD_BITS) {
+        Some(word) => (*word >> (item % WORD_BITS)) & 1 == 1,
+        None => false,
+    }
+}
+
+// Whether an item is marked in a row and not in another.
+fn is_missing(direct: &[u64], row: &[u64], item: usize) -> bool
+    ensures { result ≡ (has_mark direct.now item && not (has_mark row.now item)) }
+{
+    is_marked(direct, item) && !is_marked(row, item)
+}
+
+// Marks an item.
+fn mark(row: &mut Vec<u64>, item: usize)
+    requires { item / 64 < length row.old.items }
+    ensures long { length row.new.items ≡ length row.old.items }
+    ensures marks { (y : ℕ) → has_mark row.new.items y ≡ (has_mark row.old.items y || y == item) }
+{
+    row[item / WORD_BITS] |= 1 << (item % WORD_BITS);
+}
+
+// Marks an item, and all that are marked in another row.
+fn add_row(row: &mut Vec<u64>, other: &[u64], item: usize)
+    requires long { length other.now ≤ length row.old.items }
+    requires item { item / 64 < length row.old.items }
+    ensures long { length row.new.items ≡ length row.old.items }
+    ensures marks { (y : ℕ) → has_mark row.new.items y ≡ (has_mark row.old.items y || (y == item || has_mark other.now y)) }
+{
+    mark(row, item);
+    for k in 0..other.len() {
+        row[k] |= other[k];
     }
 }
 
 // The marked ones of an order.
-fn marked_items(alloc: Global, order: &[usize], row: &[bool]) -> Result<Vec<usize>, AllocError>
-    requires { All (λ y. y < length row.now) order.now }
-    ensures { IfOk result (λ found. found.items ≡ filter (λ y. slice_index_or row.now y false) order.now) }
+fn marked_items(alloc: Global, order: &[usize], row: &[u64]) -> Result<Vec<usize>, AllocError>
+    ensures { IfOk result (λ found. found.items ≡ filter (has_mark row.now) order.now) }
 {
-    order.iter().copied().filter(|y| row[*y]).collect(alloc)
+    order
+        .iter()
+        .copied()
+        .filter(|y| is_marked(row, *y))
+        .collect(alloc)
 }
 
-fn count_marked(order: &[usize], row: &[bool]) -> usize
-    requires { All (λ y. y < length row.now) order.now }
-    ensures { result ≡ length (filter (λ y. slice_index_or row.now y false) order.now) }
+// How many items are marked.
+fn count_marks(row: &[u64]) -> u64
+    requires { length row.now < 2 ^ 32 }
+    ensures { result ≡ length (filter (has_mark row.now) (below (64 * length row.now))) }
 {
-    order.iter().filter(|y| row[**y]).count()
+    let mut count = 0;
+    for word in row {
+        count += u64::from(word.count_ones());
+    }
+    count
 }

@@ -1,10 +1,10 @@
-use Rattle.std.proofs.Common.{◌≡◌, ℕ, ◌||◌, ◌==◌, false, length, take}
-use Rattle.std.specs.Prelude.{slice_index_or}
+use Rattle.std.proofs.Common.{◌≡◌, ℕ, cond, length, ltb, get_or}
+use Rattle.std.specs.Prelude.{bit_or}
 use Rattle.relation_order.proofs.closures.add_row.Given as goal
 
-abbrev pub invariant-loop-y : goal.invariant-loop-y
-invariant-loop-y l =
+abbrev pub invariant-loop-k : goal.invariant-loop-k
+invariant-loop-k l =
     record {
-      long : length l.row.items ≡ length l.fn.row.items;
-      marks : (y : ℕ) → slice_index_or l.row.items y false ≡ (slice_index_or l.fn.row.items y false || (y == l.item || slice_index_or (take l.y l.other) y false));
+      long : length l.row.items ≡ length l.initial.row.items;
+      words : (j : ℕ) → get_or l.row.items j 0 ≡ cond (ltb j l.k) (bit_or (get_or l.initial.row.items j 0) (get_or l.other j 0)) (get_or l.initial.row.items j 0);
     }

@@ -1,27 +1,28 @@
-use Rattle.std.proofs.Common.{◌≡◌, ◌-◌, ◌<◌, true, false, length, get_or, sym, ap, ◌∙◌, inl, inr, arith}
-use Rattle.std.specs.Prelude.{slice_index_or}
-use Rattle.std.proofs.lemmas.Bool.{cases_eq}
-use Rattle.std.proofs.lemmas.List.{get_or_default}
+use Rattle.std.proofs.Common.{◌≡◌, ◌-◌, ◌<◌, ℕ, true, length, get_or, sym, ap, ◌∙◌, inl, inr, arith}
+use Rattle.std.proofs.lemmas.Bool.{true≢false, cases_eq, eqb-true}
+use Rattle.std.specs.Int.{div_ceil}
+use Rattle.std.proofs.lemmas.List.{get_or_default, length-replicate}
 use Rattle.relation_order.specs.Sets.{goes, has}
-use Rattle.relation_order.specs.Closures.{AreReached}
+use Rattle.relation_order.specs.Rows.{has_mark, AreReached}
 use Rattle.relation_order.proofs.Lists.{goes-at, has-range, has-at}
 use Rattle.relation_order.proofs.PlaceSteps.{open-parts}
-use Rattle.relation_order.proofs.ClosureSteps.{row-grown, row-item, row-sound, row-closed, row-complete, row_of-at}
+use Rattle.relation_order.proofs.MarkSteps.{unmarked}
+use Rattle.relation_order.proofs.ClosureSteps.{none-reached, row-grown, row-item, row-sound, row-closed, row-complete, row_at-at}
 use Rattle.relation_order.proofs.closures.row_of.Goals as goal
 
-pub loop-at-preserved-then-is_open : goal.loop-at-preserved-then-is_open
-loop-at-preserved-then-is_open c =
+pub loop-at-preserved-then-is_missing : goal.loop-at-preserved-then-is_missing
+loop-at-preserved-then-is_missing c =
     let lists = c.args.lists.now in
     let before = c.args.before.now in
     let at = c.loop-at.at - 1 in
     let y = get_or before at 0 in
     let inside : y < length lists = c.requires.before at 0 (omega arith) in
-    let direct : goes lists c.args.x y ≡ true = goes-at lists c.args.x y c.index-lists-x.result (omega arith) c.index-lists-x.is ∙ ap (λ ys. has ys y) (sym c.deref.ensures.value) ∙ sym (c.in_ok-direct.ensures.marks y) ∙ ap (λ bs. slice_index_or bs y false) (sym c.deref-in-loop-at.ensures.value) ∙ (open-parts _ _ (sym c.is_open.ensures ∙ c.if-is_open.true)).0 in
-    let known : AreReached (goes lists) (length lists) c.deref-then-is_open.result.now y = λ z. ap (λ bs. slice_index_or bs z false) (c.deref-then-is_open.ensures.value ∙ sym (row_of-at c.args.rows.now y c.index-rows-y.result (omega arith) c.index-rows-y.is)) ∙ c.requires.known y (has-at before at y (omega arith) (get_or_default before at 0 y (omega arith))) z in
+    let direct : goes lists c.args.x y ≡ true = goes-at lists c.args.x y c.index-lists-x-2.result (omega arith) c.index-lists-x-2.is ∙ ap (λ ys. has ys y) (sym c.deref.ensures.value) ∙ sym (c.in_ok-direct.ensures y) ∙ ap (λ ws. has_mark ws y) (sym c.deref-in-loop-at.ensures.value) ∙ (open-parts _ _ (sym c.is_missing.ensures ∙ c.if-is_missing.true)).0 in
+    let known : AreReached (goes lists) (length lists) c.deref-then-is_missing.result.now y = λ z. ap (λ ws. has_mark ws z) (c.deref-then-is_missing.ensures.value ∙ sym (row_at-at c.args.rows.now y c.index-rows-y.result (omega arith) c.index-rows-y.is)) ∙ c.requires.known y (has-at before at y (omega arith) (get_or_default before at 0 y (omega arith))) z in
     let member = has-range 0 (length lists) y (omega arith) (omega arith) in
     let old = c.loop-at.row.items in
     let new = c.add_row.new.row.items in
-    let other = c.deref-then-is_open.result.now in
+    let other = c.deref-then-is_missing.result.now in
     record {
       within = omega arith;
       long = c.add_row.ensures.long ∙ c.loop-at.invariant.long;
@@ -39,3 +40,19 @@ returns-clause-reached c =
     row-complete (goes c.args.lists.now) (length c.args.lists.now) c.args.x c.args.before.now c.loop-at.row.items c.loop-at.invariant.sound
     (λ p l g. c.loop-at.invariant.direct p (omega arith) l g)
     c.loop-at.invariant.closed c.requires.direct
+
+pub returns-then-is_empty-clause-reached : goal.returns-then-is_empty-clause-reached
+returns-then-is_empty-clause-reached c = λ y.
+    ap (λ ws. has_mark ws y) c.new.ensures.items ∙ unmarked 0 y
+    ∙ sym (none-reached c.args.lists.now c.args.x y c.index-lists-x.result (omega arith) c.index-lists-x.is (omega (arith, eqb-true c.index-lists-x.result.len 0 (sym c.if-is_empty.ensures), c.index-lists-x.result.ok.0)))
+
+pub loop-at-init : goal.loop-at-init
+loop-at-init c =
+    let none = λ (y : ℕ) (h : has_mark c.in_ok-row.row.items y ≡ true). true≢false (sym h ∙ ap (λ ws. has_mark ws y) c.in_ok-row.ensures ∙ unmarked (div_ceil (length c.args.lists.now) 64) y) in
+    record {
+      within = omega arith;
+      long = ap length c.in_ok-row.ensures ∙ length-replicate (div_ceil (length c.args.lists.now) 64) 0;
+      sound = λ y h. absurd (none y h);
+      direct = λ p l m g. absurd (omega arith);
+      closed = λ y z h m g. absurd (none y h);
+    }

@@ -1,20 +1,25 @@
-use Rattle.std.proofs.Common.{◌≡◌, false, length, get_or, ap, ◌∙◌, arith}
-use Rattle.std.specs.Prelude.{slice_index_or, filter}
+use Rattle.std.proofs.Common.{◌≡◌, ◌<◌, ℕ, List, [], length, get_or, sym, ap, ◌∙◌, arith}
 use Rattle.std.proofs.lemmas.List.{length-map}
-use Rattle.relation_order.specs.Closures.{marked_in}
-use Rattle.relation_order.proofs.ClosureSteps.{count-more, count-bound, count-next, count-small}
+use Rattle.std.proofs.lemmas.List.Sums.{sum_by_more}
+use Rattle.relation_order.specs.Rows.{marked_in}
+use Rattle.relation_order.proofs.ClosureSteps.{count-row, count-next, count-small}
 use Rattle.relation_order.proofs.closures.Closures.count.Goals as goal
 
 pub overflow_add-count : goal.overflow_add-count
 overflow_add-count c =
-    let now : c.count_marked.result ≡ length (marked_in c.self.inside.order.items c.row-item.result) = c.count_marked.ensures ∙ ap (λ bs. length (filter (λ y. slice_index_or bs y false) c.deref.result.now)) c.deref-in-loop-row.ensures.value ∙ ap (λ o. length (filter (λ y. slice_index_or c.row-item.result.items y false) o)) c.deref.ensures.value in
-    let small = count-small c.loop-row.row-index (length c.self.inside.order.items) (length c.self.inside.rows.items) c.loop-row.count c.count_marked.result c.loop-row.invariant.bound (omega (arith, now, count-bound c.self.inside.order.items c.row-item.result)) c.self.invariant.order_long (omega (arith, c.deref-row-items.ensures.len)) (omega (arith, c.requires, ap length c.self.view_is, length-map c.self.inside.rows.items (marked_in c.self.inside.order.items))) in
+    let long : length c.args.self.now ≡ length c.self.inside.rows.items = ap (λ v. length v) (sym c.self.view_is) ∙ length-map c.self.inside.rows.items (marked_in c.self.inside.order.items) in
+    let i : c.loop-row.row-index < length c.self.inside.rows.items = omega (arith, c.deref-row-items.ensures.len, ap length c.deref-row-items.ensures.value) in
+    let row = count-row c.self.inside.rows.items c.self.inside.order.items c.args.self.now c.loop-row.row-index c.count_marks-count.result c.row-item.result c.deref.result.now c.self.invariant (sym c.self.view_is) i (c.row-item.is ∙ ap (λ rows. get_or rows c.loop-row.row-index c.row-item.result) c.deref-row-items.ensures.value) c.deref.ensures.value c.count_marks-count.ensures in
+    let small = count-small c.loop-row.row-index (length c.args.self.now) (length c.args.self.now) c.loop-row.count c.count_marks-count.result c.loop-row.invariant.bound (omega (arith, row.1)) (omega arith) (omega arith) c.requires in
     omega arith
 
 pub loop-row-preserved : goal.loop-row-preserved
 loop-row-preserved c =
-    let now : c.count_marked.result ≡ length (marked_in c.self.inside.order.items c.row-item.result) = c.count_marked.ensures ∙ ap (λ bs. length (filter (λ y. slice_index_or bs y false) c.deref.result.now)) c.deref-in-loop-row.ensures.value ∙ ap (λ o. length (filter (λ y. slice_index_or c.row-item.result.items y false) o)) c.deref.ensures.value in
+    let long : length c.args.self.now ≡ length c.self.inside.rows.items = ap (λ v. length v) (sym c.self.view_is) ∙ length-map c.self.inside.rows.items (marked_in c.self.inside.order.items) in
+    let i : c.loop-row.row-index < length c.self.inside.rows.items = omega (arith, c.deref-row-items.ensures.len, ap length c.deref-row-items.ensures.value) in
+    let row = count-row c.self.inside.rows.items c.self.inside.order.items c.args.self.now c.loop-row.row-index c.count_marks-count.result c.row-item.result c.deref.result.now c.self.invariant (sym c.self.view_is) i (c.row-item.is ∙ ap (λ rows. get_or rows c.loop-row.row-index c.row-item.result) c.deref-row-items.ensures.value) c.deref.ensures.value c.count_marks-count.ensures in
+    let more = sum_by_more (λ (xs : List ℕ). length xs) c.args.self.now c.loop-row.row-index [] (omega arith) in
     record {
-      value = count-more c.self.inside.order.items c.self.inside.rows.items c.loop-row.row-index c.loop-row.count c.count_marked.result c.row-item.result (omega (arith, ap length c.deref-row-items.ensures.value)) (c.row-item.is ∙ ap (λ rows. get_or rows c.loop-row.row-index c.row-item.result) c.deref-row-items.ensures.value) c.loop-row.invariant.value now;
-      bound = count-next c.loop-row.row-index (length c.self.inside.order.items) c.loop-row.count c.count_marked.result c.loop-row.invariant.bound (omega (arith, now, count-bound c.self.inside.order.items c.row-item.result));
+      value = omega (arith, more, row.0, c.loop-row.invariant.value);
+      bound = count-next c.loop-row.row-index (length c.args.self.now) c.loop-row.count c.count_marks-count.result c.loop-row.invariant.bound (omega (arith, row.1));
     }

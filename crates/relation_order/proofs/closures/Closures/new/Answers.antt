@@ -1,9 +1,18 @@
-use Rattle.std.proofs.Common.{◌≡◌, ◌<◌, length, take, get_or, sym, ap, ◌∙◌, subst, arith}
-use Rattle.std.specs.Prelude.{All}
+use Rattle.std.proofs.Common.{◌≡◌, ◌≤◌, ◌<◌, ℕ, true, length, take, get_or, sym, ap, ◌∙◌, subst, arith}
+use Rattle.std.specs.Prelude.{◌≢◌, All}
+use Rattle.std.specs.Int.{div_ceil}
+use Rattle.std.specs.List.{AllPairs}
 use Rattle.std.proofs.lemmas.List.{length-set, get_or_default}
+use Rattle.std.proofs.lemmas.Bool.{true≢false}
+use Rattle.std.proofs.lemmas.Bool.Decides.{Decides-eqb}
 use Rattle.std.proofs.lemmas.List.Elements.{All-take, All-set}
-use Rattle.relation_order.specs.Sets.{goes, has}
-use Rattle.relation_order.proofs.ClosureSteps.{all-taken, known-more, direct-before, order-inside, order-short, rows-closures, all-in}
+use Rattle.std.proofs.lemmas.Map.Made.{AllPairs-from_IsDistinct}
+use Rattle.relation_order.specs.Sets.{goes, has, below}
+use Rattle.relation_order.specs.Least.{least_order}
+use Rattle.relation_order.specs.Rows.{has_mark}
+use Rattle.relation_order.proofs.LeastLaws.{least-distinct}
+use Rattle.relation_order.proofs.MarkSteps.{unmarked}
+use Rattle.relation_order.proofs.ClosureSteps.{all-taken, known-more, direct-before, order-inside, order-short, rows-closures, all-in, marks-inside}
 use Rattle.relation_order.proofs.closures.Closures.new.Goals as goal
 
 pub row_of-requires-clause-place : goal.row_of-requires-clause-place
@@ -39,16 +48,27 @@ loop-i-preserved c =
     let here : x ≡ get_or order c.loop-i.i 0 = c.index-x.ensures ∙ get_or_default order c.loop-i.i x 0 (omega arith) in
     record {
       long = length-set rows x row ∙ c.loop-i.invariant.long;
-      rows_long = All-set (λ row. length row.items ≡ count) rows x row c.in_ok-rows-2.ensures.long c.loop-i.invariant.rows_long;
+      rows_long = All-set (λ row. length row.items ≤ div_ceil count 64) rows x row c.in_ok-rows-2.ensures.long c.loop-i.invariant.rows_long;
+      in_order = All-set (λ row. (y : ℕ) → has_mark row.items y ≡ true → has order y ≡ true) rows x row (marks-inside (goes c.args.lists.now) count order c.requires.order c.requires.acyclic row.items x c.in_ok-rows-2.ensures.reached) c.loop-i.invariant.in_order;
       known = known-more (goes c.args.lists.now) count order rows c.loop-i.i x row (omega arith) here (omega (arith, c.loop-i.invariant.long)) c.in_ok-rows-2.ensures.reached c.loop-i.invariant.known;
+    }
+
+pub loop-i-init : goal.loop-i-init
+loop-i-init c =
+    record {
+      long = c.in_ok-rows.ensures.long;
+      rows_long = λ k d l. let e = ap length (c.in_ok-rows.ensures.empty k d l) in omega (arith, e);
+      in_order = λ k d l y h. absurd (true≢false (sym h ∙ ap (λ ws. has_mark ws y) (c.in_ok-rows.ensures.empty k d l) ∙ unmarked 0 y));
+      known = λ y h. absurd (true≢false (sym h));
     }
 
 pub invariant_of-result : goal.invariant_of-result
 invariant_of-result c =
     record {
       order_long = omega (arith, c.loop-i.invariant.long, order-short (goes c.args.lists.now) (length c.args.lists.now) c.args.order.items c.requires.order);
-      order_inside = rw c.loop-i.invariant.long (order-inside (goes c.args.lists.now) (length c.args.lists.now) c.args.order.items c.requires.order);
-      rows_long = λ k d l. c.loop-i.invariant.rows_long k d l ∙ sym c.loop-i.invariant.long;
+      order_once = subst (λ xs. AllPairs (λ x y. x ≢ y) xs) (sym c.requires.order) (AllPairs-from_IsDistinct Decides-eqb (least_order (goes c.args.lists.now) (below (length c.args.lists.now))) (least-distinct (goes c.args.lists.now) (below (length c.args.lists.now))));
+      rows_long = λ k d l. subst (λ n. length (get_or c.loop-i.rows.items k d).items ≤ div_ceil n 64) (sym c.loop-i.invariant.long) (c.loop-i.invariant.rows_long k d l);
+      in_order = c.loop-i.invariant.in_order;
     }
 
 pub returns : goal.returns
