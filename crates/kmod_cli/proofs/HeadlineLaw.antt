@@ -150,8 +150,8 @@ headline words old new status c = λ shown tells asked is l s.
     subst (λ c. IsLoadingCourse held folder asked.image l.listed l.steps l.paths (c.run held)) (sym (load-course held words asked l is s))
     (courses-load held asked l.kernel l.region l.known l.listed l.steps l.paths s.machine s.came) in
     let h = comes held asked l b run course (load_all l.listed b.plan) refl
-        (plan-placed l.kernel l.region b.listed b.plan l.listed b.binds b.listed_load)
-        (loads-are folder asked.image l.paths b.plan l.listed held b.plan_files) in
+    (plan-placed l.kernel l.region b.listed b.plan l.listed b.binds b.listed_load)
+    (loads-are folder asked.image l.paths b.plan l.listed held b.plan_files) in
     record {
       listed = b.listed;
       listed_paths = b.listed_paths;
