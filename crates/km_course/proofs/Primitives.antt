@@ -2,7 +2,7 @@
 use Rattle.std.proofs.Common.{◌≡◌, ◌≢◌, ℕ, ◌+◌, ◌≤◌, ◌<◌, List, [], ◌∷◌, ◌++◌, take, length, refl, sym, ◌∙◌, ap, subst, arith, min, if◌then◌else◌, true, false, Bool, cond, filter, inl, inr}
 use Rattle.std.specs.Prelude.{◌==◌}
 use Rattle.std.proofs.lemmas.Bool.{le-ltb, lt-ltb, eqb-true}
-use Rattle.std.specs.Prelude.{Option, Some, None, Result, Ok, Err, is_some, IfSome, IsSomeAnd, ⊤}
+use Rattle.std.specs.Prelude.{Option, Some, None, Result, Ok, Err, ◌⊎◌, is_some, IfSome, IsSomeAnd, ⊤}
 use Rattle.std.specs.Option.{option_map}
 use Rattle.std.specs.FinMap as map
 use Rattle.km_names.specs.Limit.{file_limit}
@@ -140,6 +140,12 @@ read_told absent path bytes files a told h =
 read_long : (absent : Outcome (List ℕ)) (path : List ℕ) (n : ℕ) (found : Option (List ℕ)) → file_limit < n → IsSomeAnd found (λ bytes. n ≡ min (length bytes) count_end) → read_outcome absent path found ≡ end (TooLarge path)
 read_long absent path n None h is = absurd is
 read_long absent path n (Some bytes) h is = ap (λ b. if b then end (TooLarge path) else value bytes) (lt-ltb file_limit (length bytes) (long n (length bytes) file_limit h is))
+
+-- an answer of another kind is no absence
+pub present : (answer : FileAnswer) → (answer ≡ answers.Failed) ⊎ ((n : ℕ) × (answer ≡ answers.TooLarge n)) ⊎ (answer ≡ answers.Memory) → answer ≡ answers.Absent → ⊥
+present answer (inl failed) absent = cc
+present answer (inr (inl (n, large))) absent = cc
+present answer (inr (inr memory)) absent = cc
 
 pub read_ok : (absent : Outcome (List ℕ)) (path bytes : List ℕ) (old new : FilesSeen) (out err : OutSeen) → ReadAnswers path old new (Ok bytes) → Follows (λ (x : List ℕ). x) (reads_or absent path) (world old out err) (world new out err) (Ok bytes)
 read_ok absent path bytes old new out err a =

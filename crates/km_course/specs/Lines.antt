@@ -3,7 +3,7 @@ use Rattle.std.specs.Prelude.{ℕ, List, [], ◌∷◌, ◌++◌, codes}
 use Rattle.std.specs.List.{flat_map}
 use Rattle.std.specs.Fmt.{decimal}
 use Rattle.km_course.specs.declared.refusal.Refusal.{Refusal}
-use Rattle.km_course.specs.declared.refusal.Refusal.TheVariants.{BadModule, Compressed, Cycle, NotFound, Missing, Gpl, Version, Namespace, Double, BadIndex, BadDependencyLine, BadLine, InstallChosen, KernelWithoutAddress, ListedNotFound, ListedRefused, LoadRefused, TooManyModules, TooManyDependencies, TooManyDoubles, OutputTooLarge, BadPath, InnerOutputFull}
+use Rattle.km_course.specs.declared.refusal.Refusal.TheVariants.{BadModule, Compressed, Cycle, NotFound, Obstacle, BadIndex, BadLine, InstallChosen, KernelWithoutAddress, ListedNotFound, ListedRefused, LoadRefused, TooManyModules, TooManyDependencies, TooManyDoubles, OutputTooLarge, BadPath, InnerOutputFull}
 use Rattle.km_course.specs.declared.end.End.{End}
 use Rattle.km_course.specs.declared.end.End.TheVariants.{Refused, NotUnderstood, NoFile, TooLarge, Inner}
 
@@ -46,17 +46,8 @@ refusal_text (BadModule path text) = path ++ (codes ": " ++ text)
 refusal_text (Compressed path) = path ++ codes ": compressed"
 refusal_text (Cycle names) = codes "cycle " ++ cycle_text names
 refusal_text (NotFound name) = codes "not found " ++ name
-refusal_text (Missing path symbol) = codes "missing " ++ (path ++ (codes " " ++ symbol))
-refusal_text (Version path symbol provider) =
-    codes "version " ++ (path ++ (codes " " ++ (symbol ++ (codes " " ++ provider))))
-refusal_text (Gpl path symbol provider) =
-    codes "gpl " ++ (path ++ (codes " " ++ (symbol ++ (codes " " ++ provider))))
-refusal_text (Namespace path symbol provider) =
-    codes "namespace " ++ (path ++ (codes " " ++ (symbol ++ (codes " " ++ provider))))
-refusal_text (Double symbol first second) =
-    codes "double " ++ (symbol ++ (codes " " ++ (first ++ (codes " " ++ second))))
+refusal_text (Obstacle text) = text
 refusal_text (BadIndex file text) = file ++ (codes ": " ++ text)
-refusal_text (BadDependencyLine name) = codes "bad dependency line " ++ name
 refusal_text (BadLine file number) = file ++ (codes ": bad line " ++ decimal number)
 refusal_text (InstallChosen name) = codes "install chosen " ++ name
 refusal_text (KernelWithoutAddress name) = codes "kernel without address " ++ name
@@ -69,15 +60,6 @@ refusal_text TooManyDoubles = codes "too many doubles"
 refusal_text (OutputTooLarge file) = file ++ codes ": output too large"
 refusal_text (BadPath path) = codes "bad path " ++ path
 refusal_text InnerOutputFull = codes "inner output full"
-
--- What a refusal says of a symbol between modules, and nothing where it speaks of something else.
-abbrev pub symbol_text : Refusal → List ℕ
-symbol_text (Missing path symbol) = refusal_text (Missing path symbol)
-symbol_text (Version path symbol provider) = refusal_text (Version path symbol provider)
-symbol_text (Gpl path symbol provider) = refusal_text (Gpl path symbol provider)
-symbol_text (Namespace path symbol provider) = refusal_text (Namespace path symbol provider)
-symbol_text (Double symbol first second) = refusal_text (Double symbol first second)
-symbol_text refusal = []
 
 -- The line of an end.
 abbrev pub end_line : End → List ℕ

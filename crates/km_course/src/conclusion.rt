@@ -17,12 +17,12 @@ const REFUSED: u8 = 1;
 const NOT_UNDERSTOOD: u8 = 2;
 /// The status after a call on files or an output failed.
 const FAULT: u8 = 3;
-/// The status after memory was wanting.
+/// The status after running out of memory.
 const OUT_OF_MEMORY: u8 = 4;
 
-/// The exit status of a command that ended so, after the line of its stop was written to err. Where the
-/// line can't be written the status is 3, or 4 after want of memory, which may also be wanting for what a
-/// refusal says. The line of a failed call is written in pieces and takes no memory.
+/// Writes the line of a command's stop to err and returns the exit status. If the line can't be
+/// written the status is 3, or 4 when the command or the text of its refusal ran out of memory. The
+/// line of a failed call is written in pieces and takes no memory.
 pub fn conclude<E: Out>(alloc: Global, outcome: Result<(), Stop>, err: &mut E) -> u8
     ensures { Concludes outcome (E.seen err.old) (E.seen err.new) result }
 {
@@ -42,7 +42,13 @@ fn said(alloc: Global, stop: &Stop) -> Result<Blob, AllocError>
 {
     match stop {
         Stop::Ended(End::Refused(refusal)) => refusal.text(alloc),
-        _ => Ok(Blob::new(alloc)),
+        Stop::Ended(
+            End::NotUnderstood | End::NoFile { .. } | End::TooLarge { .. } | End::Inner { .. },
+        )
+        | Stop::FileFault { .. }
+        | Stop::OutputFault
+        | Stop::WarningFault
+        | Stop::Memory => Ok(Blob::new(alloc)),
     }
 }
 

@@ -1,3 +1,5 @@
+// Reads of files and listings of folders, each of which follows its stage. The path is copied before the call, since the
+// stop of a failed call takes no memory.
 ghost use Rattle.std.specs.Prelude.{◌≡◌, ◌≤◌, length, IfOk, OnOk};
 ghost use Rattle.km_names.specs.Limit.{file_limit};
 ghost use Rattle.km_outside.specs.OutSeen.{OutSeen};
@@ -10,100 +12,110 @@ use km_names::{Blob, Names, PathText, Paths};
 use km_outside::{FileAnswer, FileBuffer, Files, Reads};
 use std::alloc::Global;
 
-/// The bytes of the file at the path, which is needed: an absent file and one past the limit end the
-/// command with status 1, and a failed read stops it with status 3.
-pub fn read_needed<F: Reads>(alloc: Global, files: &mut F, path: PathText) -> Result<Blob, Stop>
-    ensures follows { (out err : OutSeen) → Follows (λ bytes. bytes) (reads path)
+/// Reads the file at the path, which is needed: an absent file and one past the limit end the command with
+/// status 1, and a failed read stops it with status 3.
+pub fn read_needed<F: Reads>(alloc: Global, files: &mut F, path: &PathText) -> Result<Blob, Stop>
+    ensures follows { (out err : OutSeen) → Follows (λ bytes. bytes) (reads path.now)
         (world (F.seen files.old) out err) (world (F.seen files.new) out err) result }
     ensures limit { IfOk result (λ bytes. length bytes ≤ file_limit) }
 {
-    match files.read(alloc, &path) {
+    let named = PathText::from_slice(alloc, path.as_bytes())?;
+    match files.read(alloc, path) {
         Ok(bytes) => Ok(bytes),
-        Err(answer) => Err(stop_at(answer, path)),
+        Err(answer) => Err(stop_at(answer, named)),
     }
 }
 
-/// Reads the file at the path into the buffer. It is needed, as that of [`read_needed`].
+/// Reads the file at the path into the buffer. It is needed, as in [`read_needed`].
 pub fn read_needed_into<F: Reads>(
     alloc: Global,
     files: &mut F,
-    path: PathText,
+    path: &PathText,
     buffer: &mut FileBuffer,
 ) -> Result<(), Stop>
-    ensures follows { (out err : OutSeen) → Follows (λ done. buffer.new) (reads path)
+    ensures follows { (out err : OutSeen) → Follows (λ done. buffer.new) (reads path.now)
         (world (F.seen files.old) out err) (world (F.seen files.new) out err) result }
     ensures limit { OnOk result (length buffer.new ≤ file_limit) }
 {
-    match files.read_into(alloc, &path, buffer) {
+    let named = PathText::from_slice(alloc, path.as_bytes())?;
+    match files.read_into(alloc, path, buffer) {
         Ok(()) => Ok(()),
-        Err(answer) => Err(stop_at(answer, path)),
+        Err(answer) => Err(stop_at(answer, named)),
     }
 }
 
-/// The bytes of the file at the path, and none where nothing is there.
-pub fn read_optional<F: Reads>(alloc: Global, files: &mut F, path: PathText) -> Result<Blob, Stop>
-    ensures follows { (out err : OutSeen) → Follows (λ bytes. bytes) (reads_any path)
+/// Reads the file at the path, and gives no bytes if nothing is there.
+pub fn read_optional<F: Reads>(alloc: Global, files: &mut F, path: &PathText) -> Result<Blob, Stop>
+    ensures follows { (out err : OutSeen) → Follows (λ bytes. bytes) (reads_any path.now)
         (world (F.seen files.old) out err) (world (F.seen files.new) out err) result }
     ensures limit { IfOk result (λ bytes. length bytes ≤ file_limit) }
 {
-    match files.read(alloc, &path) {
+    let named = PathText::from_slice(alloc, path.as_bytes())?;
+    match files.read(alloc, path) {
         Ok(bytes) => Ok(bytes),
         Err(answer) => match answer {
             FileAnswer::Absent => Ok(Blob::new(alloc)),
-            _ => Err(stop_at(answer, path)),
+            FileAnswer::Failed | FileAnswer::TooLarge { .. } | FileAnswer::Memory => {
+                Err(stop_at(answer, named))
+            }
         },
     }
 }
 
-/// The names of the configuration files in the folder, which is needed.
+/// Lists the names of the configuration files in the folder, which is needed.
 pub fn list_conf_needed<F: Reads>(
     alloc: Global,
     files: &mut F,
-    dir: PathText,
+    dir: &PathText,
 ) -> Result<Names, Stop>
-    ensures { (out err : OutSeen) → Follows (λ names. names) (lists_conf dir)
+    ensures { (out err : OutSeen) → Follows (λ names. names) (lists_conf dir.now)
         (world (F.seen files.old) out err) (world (F.seen files.new) out err) result }
 {
-    match files.list_conf(alloc, &dir) {
+    let named = PathText::from_slice(alloc, dir.as_bytes())?;
+    match files.list_conf(alloc, dir) {
         Ok(names) => Ok(names),
-        Err(answer) => Err(stop_at(answer, dir)),
+        Err(answer) => Err(stop_at(answer, named)),
     }
 }
 
-/// The names of the configuration files in the folder, and none where nothing is there.
+/// Lists the names of the configuration files in the folder, and gives none if nothing is there.
 pub fn list_conf_optional<F: Reads>(
     alloc: Global,
     files: &mut F,
-    dir: PathText,
+    dir: &PathText,
 ) -> Result<Names, Stop>
-    ensures { (out err : OutSeen) → Follows (λ names. names) (lists_any_conf dir)
+    ensures { (out err : OutSeen) → Follows (λ names. names) (lists_any_conf dir.now)
         (world (F.seen files.old) out err) (world (F.seen files.new) out err) result }
 {
-    match files.list_conf(alloc, &dir) {
+    let named = PathText::from_slice(alloc, dir.as_bytes())?;
+    match files.list_conf(alloc, dir) {
         Ok(names) => Ok(names),
         Err(answer) => match answer {
             FileAnswer::Absent => Ok(Names::new(alloc)),
-            _ => Err(stop_at(answer, dir)),
+            FileAnswer::Failed | FileAnswer::TooLarge { .. } | FileAnswer::Memory => {
+                Err(stop_at(answer, named))
+            }
         },
     }
 }
 
-/// The paths of all files below the folder, relative to it, which is needed.
+/// Lists the paths of all files below the folder, relative to it. The folder is needed.
 pub fn list_tree_needed<F: Files>(
     alloc: Global,
     files: &mut F,
-    dir: PathText,
+    dir: &PathText,
 ) -> Result<Paths, Stop>
-    ensures { (out err : OutSeen) → Follows (λ paths. paths) (lists_tree dir)
+    ensures { (out err : OutSeen) → Follows (λ paths. paths) (lists_tree dir.now)
         (world (F.seen files.old) out err) (world (F.seen files.new) out err) result }
 {
-    match files.list_tree(alloc, &dir) {
+    let named = PathText::from_slice(alloc, dir.as_bytes())?;
+    match files.list_tree(alloc, dir) {
         Ok(paths) => Ok(paths),
-        Err(answer) => Err(stop_at(answer, dir)),
+        Err(answer) => Err(stop_at(answer, named)),
     }
 }
 
-/// How a refused call on files at the path stops the command, where what it asks for is needed.
+/// Returns how a refused call on files at the path stops the command, if what it asks for is needed.
 fn stop_at(answer: FileAnswer, path: PathText) -> Stop
     ensures { result ≡ stop_for answer path }
 {

@@ -1,5 +1,5 @@
 ghost use Rattle.std.specs.Prelude.{◌≡◌, ◌++◌, IfOk, codes};
-ghost use Rattle.km_course.specs.Lines.{cycle_text, refusal_text, symbol_text};
+ghost use Rattle.km_course.specs.Lines.{cycle_text, refusal_text};
 
 use km_names::{Blob, Name, Names, PathText};
 use std::alloc::{AllocError, Global};
@@ -9,89 +9,29 @@ use std::alloc::{AllocError, Global};
 #[derive(Debug, Drop)]
 pub enum Refusal {
     /// The module at the path is bad: the text of its fault.
-    BadModule {
-        path: PathText,
-        text: Blob,
-    },
+    BadModule { path: PathText, text: Blob },
     /// The module at the path is compressed.
-    Compressed {
-        path: PathText,
-    },
+    Compressed { path: PathText },
     /// Modules need each other: their names in order, the first one named once.
-    Cycle {
-        names: Names,
-    },
+    Cycle { names: Names },
     /// No module, command or built-in of the name is known.
-    NotFound {
-        name: Name,
-    },
-    /// The module at the path needs a symbol that nobody provides.
-    Missing {
-        path: PathText,
-        symbol: Name,
-    },
-    /// The module at the path needs a symbol in another version than its provider has, the path of a
-    /// module or `vmlinux`.
-    Version {
-        path: PathText,
-        symbol: Name,
-        provider: PathText,
-    },
-    /// The module at the path has no free licence, and needs a symbol that its provider, the path of a
-    /// module or `vmlinux`, exports to free modules alone.
-    Gpl {
-        path: PathText,
-        symbol: Name,
-        provider: PathText,
-    },
-    /// The module at the path needs a symbol of a namespace that it doesn't import.
-    Namespace {
-        path: PathText,
-        symbol: Name,
-        provider: PathText,
-    },
-    /// Two modules, or the kernel and a module, export one symbol.
-    Double {
-        symbol: Name,
-        first: PathText,
-        second: PathText,
-    },
+    NotFound { name: Name },
+    /// A plan can't be made: the text of its first obstacle.
+    Obstacle { text: Blob },
     /// The file is no index: the text of its fault.
-    BadIndex {
-        file: PathText,
-        text: Blob,
-    },
-    /// The value of a module's name in modules.dep.bin is no dependency line.
-    BadDependencyLine {
-        name: Name,
-    },
+    BadIndex { file: PathText, text: Blob },
     /// A line of the file isn't understood, counted from 1.
-    BadLine {
-        file: PathText,
-        number: u32,
-    },
+    BadLine { file: PathText, number: u32 },
     /// A load was asked, and the plan has an install command for this module.
-    InstallChosen {
-        name: Name,
-    },
+    InstallChosen { name: Name },
     /// The kernel exports the symbol without an address.
-    KernelWithoutAddress {
-        name: Name,
-    },
+    KernelWithoutAddress { name: Name },
     /// A module that is listed as loaded isn't in modules.dep.bin.
-    ListedNotFound {
-        name: Name,
-    },
+    ListedNotFound { name: Name },
     /// A module that is listed as loaded can't be: the text of its fault.
-    ListedRefused {
-        name: Name,
-        text: Blob,
-    },
+    ListedRefused { name: Name, text: Blob },
     /// The module can't be loaded: the text of its fault.
-    LoadRefused {
-        name: Name,
-        text: Blob,
-    },
+    LoadRefused { name: Name, text: Blob },
     /// The tree has more modules than the limit.
     TooManyModules,
     /// The closures have more members than the limit.
@@ -99,13 +39,9 @@ pub enum Refusal {
     /// More symbols are exported twice than the limit.
     TooManyDoubles,
     /// The output file of the name would have more bytes than the limit.
-    OutputTooLarge {
-        file: Name,
-    },
+    OutputTooLarge { file: Name },
     /// The path can't be one of a module.
-    BadPath {
-        path: PathText,
-    },
+    BadPath { path: PathText },
     /// An output of an inner command is full.
     InnerOutputFull,
 }
@@ -120,10 +56,8 @@ impl Refusal {
             Refusal::Compressed { path } => two(alloc, path.as_bytes(), b": compressed"),
             Refusal::Cycle { names } => two(alloc, b"cycle ", cycle_text(alloc, names)?.as_bytes()),
             Refusal::NotFound { name } => two(alloc, b"not found ", name.as_bytes()),
+            Refusal::Obstacle { text } => Blob::from_slice(alloc, text.as_bytes()),
             Refusal::BadIndex { file, text } => faulty(alloc, file.as_bytes(), text.as_bytes()),
-            Refusal::BadDependencyLine { name } => {
-                two(alloc, b"bad dependency line ", name.as_bytes())
-            }
             Refusal::BadLine { file, number } => {
                 let number = format!(in alloc; "{number}")?;
                 three(alloc, file.as_bytes(), b": bad line ", number.as_bytes())
@@ -146,42 +80,6 @@ impl Refusal {
             Refusal::OutputTooLarge { file } => two(alloc, file.as_bytes(), b": output too large"),
             Refusal::BadPath { path } => two(alloc, b"bad path ", path.as_bytes()),
             Refusal::InnerOutputFull => Blob::from_slice(alloc, b"inner output full"),
-            _ => self.symbol_text(alloc),
-        }
-    }
-
-    /// What the refusal says of a symbol between modules, and nothing where it speaks of something else.
-    fn symbol_text(&self, alloc: Global) -> Result<Blob, AllocError>
-        ensures { IfOk result (λ text. text ≡ symbol_text self.now) }
-    {
-        match self {
-            Refusal::Missing { path, symbol } => {
-                spaced(alloc, b"missing ", path.as_bytes(), symbol.as_bytes())
-            }
-            Refusal::Version {
-                path,
-                symbol,
-                provider,
-            } => unmet(alloc, b"version ", path, symbol, provider),
-            Refusal::Gpl {
-                path,
-                symbol,
-                provider,
-            } => unmet(alloc, b"gpl ", path, symbol, provider),
-            Refusal::Namespace {
-                path,
-                symbol,
-                provider,
-            } => unmet(alloc, b"namespace ", path, symbol, provider),
-            Refusal::Double {
-                symbol,
-                first,
-                second,
-            } => {
-                let sides = three(alloc, first.as_bytes(), b" ", second.as_bytes())?;
-                spaced(alloc, b"double ", symbol.as_bytes(), sides.as_bytes())
-            }
-            _ => Ok(Blob::new(alloc)),
         }
     }
 }
@@ -210,31 +108,6 @@ fn faulty(alloc: Global, what: &[u8], fault: &[u8]) -> Result<Blob, AllocError>
     ensures { IfOk result (λ text. text ≡ what.now ++ (codes ": " ++ fault.now)) }
 {
     three(alloc, what, b": ", fault)
-}
-
-/// A word and two texts with a space between them.
-fn spaced(alloc: Global, word: &[u8], first: &[u8], second: &[u8]) -> Result<Blob, AllocError>
-    ensures { IfOk result (λ text. text ≡ word.now ++ (first.now ++ (codes " " ++ second.now))) }
-{
-    let mut text = Blob::from_slice(alloc, word)?;
-    text.extend(first)?;
-    text.push(b' ')?;
-    text.extend(second)?;
-    Ok(text)
-}
-
-/// A word, the path of a module, a symbol that it needs and the symbol's provider.
-fn unmet(
-    alloc: Global,
-    word: &[u8],
-    path: &PathText,
-    symbol: &Name,
-    provider: &PathText,
-) -> Result<Blob, AllocError>
-    ensures { IfOk result (λ text. text ≡ word.now ++ (path.now ++ (codes " " ++ (symbol.now ++ (codes " " ++ provider.now))))) }
-{
-    let need = three(alloc, symbol.as_bytes(), b" ", provider.as_bytes())?;
-    spaced(alloc, word, path.as_bytes(), need.as_bytes())
 }
 
 /// The names along a cycle, an arrow between each two, and the first one again.

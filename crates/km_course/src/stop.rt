@@ -18,7 +18,7 @@ pub enum Stop {
     OutputFault,
     /// A write to err failed: status 3.
     WarningFault,
-    /// Memory was wanting: status 4.
+    /// Out of memory: status 4.
     Memory,
 }
 

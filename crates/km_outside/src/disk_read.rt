@@ -36,7 +36,7 @@ pub(crate) fn read_file<R: rt::Files>(
     }
 }
 
-/// The length that a regular file tells of itself, and 0 for all else.
+/// The length of a regular file, and 0 for all else.
 fn told_length<F: OpenFile>(file: &F) -> u64 {
     match file.metadata() {
         Ok(metadata) if metadata.is_file() => metadata.len(),

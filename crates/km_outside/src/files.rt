@@ -18,7 +18,7 @@ pub enum FileAnswer {
     Failed,
     /// There is more than the limit: how many bytes, or entries of the folder, were met.
     TooLarge { length: u64 },
-    /// Memory was wanting.
+    /// Out of memory.
     Memory,
 }
 
@@ -47,7 +47,7 @@ impl<T: Drop> From<AllocFailed<T>> for FileAnswer {
 pub enum ReplaceAnswer {
     /// The call failed.
     Failed,
-    /// Memory was wanting.
+    /// Out of memory.
     Memory,
 }
 

@@ -1,11 +1,11 @@
 //! The world outside as traits: the files that the program reads, lists and replaces, and the outputs that
 //! it writes to.
 //!
-//! A contract sees of each object what it counted and what it tells. Objects in memory tell all; the
-//! real files and outputs tell nothing and only count, so what is proved over told contents speaks of
-//! the same code that runs over the real ones. What a real file holds and what becomes of the bytes
-//! written is trusted. Files that are read one after the other may share the memory of one [`FileBuffer`]. It stands on
-//! `km_names`.
+//! A contract sees of each object how many calls it had and, if it is known, what it holds. The
+//! contents of objects in memory are known. Those of real files and outputs aren't: they only count.
+//! So what is proved over known contents speaks of the same code that runs over real files. What a
+//! real file holds, and what becomes of the bytes written, is trusted. Files that are read one after
+//! the other may share the memory of one [`FileBuffer`]. The crate uses `km_names`.
 #![tactic(auto)]
 
 mod calls;

@@ -8,8 +8,8 @@ use crate::{Out, OutFailed};
 use std::alloc::{AllocError, Global};
 use std::marker::Model;
 
-/// An output that keeps the bytes in memory, up to a room that is fixed when it is made. It tells its
-/// bytes, and its room as long as no write is listed to fail.
+/// An output that keeps the bytes in memory, up to a capacity that is fixed when it is made. Its
+/// bytes are known, and so is its capacity as long as no write is listed to fail.
 #[derive(Drop)]
 pub struct MemOut {
     bytes: Vec<u8>,

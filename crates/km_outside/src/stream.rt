@@ -8,7 +8,7 @@ use std::io::Write;
 use std::marker::Model;
 use std::rt::{Stderr, Stdout};
 
-/// An output over a writer of the library. It tells neither its bytes nor a room.
+/// An output over a writer of the library. Neither its bytes nor its capacity is known.
 #[derive(Drop)]
 pub struct Stream<W: Write> {
     writer: W,
