@@ -17,17 +17,9 @@ use Rattle.relation_order.specs.declared.components.CycleSearch.{CycleSearch}
 use Rattle.relation_order.proofs.Lists.{has-marked}
 use Rattle.relation_order.proofs.ReachedLaws.{reached-step, reached-further}
 use Rattle.relation_order.proofs.LeastLaws.{push-has}
+use Rattle.relation_order.proofs.Ordered.{first-place}
 use Rattle.relation_order.proofs.Restricted.{same-tests}
 use Rattle.relation_order.proofs.ComponentSteps.{entered, joined, looked-more, left, closed, none-open, met-known, at-most}
-
--- the place of an item
-place-of : (xs : List ℕ) (y : ℕ) → has xs y ≡ true → (i : ℕ) × (i < length xs) × (get_or xs i 0 ≡ y)
-place-of [] y h = absurd (true≢false (sym h))
-place-of (x ∷ xs) y h =
-    elim (or_cases (eqb y x) (has xs y) h) [
-      | inl e ↦ (0, omega arith, sym (eqb-true y x e))
-      | inr m ↦ let w = place-of xs y m in (suc w.0, omega arith, w.2)
-    ]
 
 -- the first part of a list
 has-front : (n : ℕ) (xs : List ℕ) (i : ℕ) → i < n → i < length xs → has (take n xs) (get_or xs i 0) ≡ true
@@ -73,7 +65,7 @@ dropped old new place up d b = same-tests _ _ there back
         low : (n : ℕ) → n ≡ length new → has (take n old) b ≡ true → b ≤ place
         low zero e m = absurd (true≢false (sym m))
         low (suc k) e m =
-            let w = place-of (take (suc k) old) b m in
+            let w = first-place (take (suc k) old) b m in
             elim (cases_lt k (length old)) [
               | inl l ↦ let u = rising-last k old b up l m in let v = d.below k (omega arith) in omega arith
               | inr short ↦ absurd (omega (arith, ap length d.front, length-take (length new) old))
@@ -82,7 +74,7 @@ dropped old new place up d b = same-tests _ _ there back
     back : (has old b && leb b place) ≡ true → has new b ≡ true
     back h =
         let e = and_parts _ _ h in
-        let w = place-of old b e.0 in
+        let w = first-place old b e.0 in
         elim (cases_lt w.0 (length new)) [
           | inl l ↦ ap (λ xs. has xs b) d.front ∙ ap (has (take (length new) old)) (sym w.2) ∙ has-front (length new) old w.0 l w.1
           | inr high ↦ let u = d.above w.0 high w.1 in let v = leb-true b place e.1 in absurd (omega arith)
@@ -146,7 +138,7 @@ looked-outside r looked members states stack starts path at target off low s =
 not-start : (starts : List ℕ) (at : ℕ) → Rising starts → ((b : ℕ) → has starts b ≡ true → b ≤ at) → (ltb 0 (length starts) && eqb (get_or starts (length starts - 1) 0) at) ≡ false → has starts at ≡ false
 not-start starts at up most h =
     false_from_ne_true _ (λ m.
-    let w = place-of starts at m in
+    let w = first-place starts at m in
     let k : length starts ≡ suc (length starts - 1) = omega (arith, w.1) in
     let above = rising-last (length starts - 1) starts at up (omega (arith, w.1)) (subst (λ n. has (take n starts) at ≡ true) k (subst (λ y. has (take (length starts) starts) y ≡ true) w.2 (has-front (length starts) starts w.0 w.1 w.1))) in
     let below = most (get_or starts (length starts - 1) 0) (front-has (length starts) starts _ (has-front (length starts) starts (length starts - 1) (omega (arith, w.1)) (omega (arith, w.1)))) in

@@ -8,8 +8,8 @@ use Rattle.relation_order.specs.declared.placed.OrderOrCycle.TheVariants.{Order,
 
 -- Each item of the order stands after those members of the set that it goes to.
 abbrev pub After : Relation → List ℕ → List ℕ → Type 0
-After r set order =
-    (i : ℕ) → i < length order → (y : ℕ) → has set y ≡ true → r (slice_index order i) y ≡ true → has (take i order) y ≡ true
+After r set order = (i : ℕ) → i < length order → (y : ℕ) → has set y ≡ true
+    → r (slice_index order i) y ≡ true → has (take i order) y ≡ true
 
 -- The order has just the members of the set, each once, and each after those that it goes to.
 pub record IsOrder (r : Relation) (set order : List ℕ) : Type 0 where
@@ -29,5 +29,6 @@ Closes r (first ∷ rest) = Goes r first rest first
 
 -- The order is the least one, where there is no cycle; else the cycle is the named one.
 abbrev pub IsAnswer : Relation → List ℕ → OrderOrCycle → Type 0
-IsAnswer r set (Order order) = (cycle r set ≡ []) × (order.items ≡ least_order r set) × IsOrder r set order.items
+IsAnswer r set (Order order) = (cycle r set ≡ []) × (order.items ≡ least_order r set)
+    × IsOrder r set order.items
 IsAnswer r set (Cycle found) = (found.items ≡ cycle r set) × Closes r found.items

@@ -1,5 +1,7 @@
 -- What a search for strongly connected components keeps. Only private contracts cite this file.
-use Rattle.std.specs.Prelude.{ℕ, List, [], ◌∷◌, ◌++◌, Bool, true, false, ◌≡◌, ◌⊎◌, ◌<◌, ◌≤◌, ◌+◌, ◌-◌, ◌*◌, ◌||◌, ◌&&◌, length, take, nat_eq, nat_lt, slice_index, slice_index_or, slice_set, ◌≢◌}
+use Rattle.std.specs.Prelude.{ℕ, List, [], ◌∷◌, ◌++◌, Bool, true, false, ◌≡◌, ◌⊎◌, ◌<◌, ◌≤◌, ◌+◌}
+use Rattle.std.specs.Prelude.{◌-◌, ◌*◌, ◌||◌, ◌&&◌, length, take, nat_eq, nat_lt, slice_index}
+use Rattle.std.specs.Prelude.{slice_index_or, slice_set, ◌≢◌}
 use Rattle.std.specs.Global.{Vec}
 use Rattle.relation_order.specs.Sets.{Relation, has, goes, marked, successors, Rising}
 use Rattle.relation_order.specs.Reached.{reached}
@@ -45,32 +47,43 @@ IsNoEarlier starts p q = (b : ℕ) → has starts b ≡ true → b ≤ p → b �
 abbrev pub EndsIn : List ℕ → ℕ → Type 0
 EndsIn xs x = (front : List ℕ) × (xs ≡ front ++ x ∷ [])
 
--- The open items stand at their places. Walks lead from each to those after it, and back to those before it in its
--- component. What was looked at from an open item is done, or in its component or a later one; and all was that it goes
--- to, unless it is on the path. The path has the first item of each component. What is done goes to nothing but what
--- is done, and is known to lie on a cycle or not.
-pub record Searching (r looked : Relation) (set : List ℕ) (states : List State) (stack starts path : List ℕ) : Type 0 where
+-- The open items stand at their places. Walks lead from each to those after it, and back to those
+-- before it in its component. What was looked at from an open item is done, or in its component or
+-- a later one; and all was that it goes to, unless it is on the path. The path has the first item
+-- of each component. What is done goes to nothing but what is done, and is known to lie on a cycle
+-- or not.
+pub record Searching (r looked : Relation) (set : List ℕ) (states : List State)
+    (stack starts path : List ℕ) : Type 0 where
   pub members : (p : ℕ) → p < length stack → has set (slice_index stack p) ≡ true
   pub placed : (p : ℕ) → p < length stack → state_of states (slice_index stack p) ≡ Open p
-  pub at_place : (x p : ℕ) → state_of states x ≡ Open p → (p < length stack) × (slice_index stack p ≡ x)
-  pub forth : (p q : ℕ) → p < q → q < length stack → has (reached r set (slice_index stack p)) (slice_index stack q) ≡ true
-  pub back : (p q : ℕ) → p < q → q < length stack → IsNoEarlier starts q p → has (reached r set (slice_index stack q)) (slice_index stack p) ≡ true
-  pub settled : (p y : ℕ) → p < length stack → looked (slice_index stack p) y ≡ true → has set y ≡ true → (is_done (state_of states y) ≡ true) ⊎ ((q : ℕ) × (state_of states y ≡ Open q) × IsNoEarlier starts p q)
+  pub at_place : (x p : ℕ) → state_of states x ≡ Open p → (p < length stack)
+      × (slice_index stack p ≡ x)
+  pub forth : (p q : ℕ) → p < q → q < length stack
+      → has (reached r set (slice_index stack p)) (slice_index stack q) ≡ true
+  pub back : (p q : ℕ) → p < q → q < length stack → IsNoEarlier starts q p
+      → has (reached r set (slice_index stack q)) (slice_index stack p) ≡ true
+  pub settled : (p y : ℕ) → p < length stack → looked (slice_index stack p) y ≡ true → has set y
+      ≡ true → (is_done (state_of states y) ≡ true)
+      ⊎ ((q : ℕ) × (state_of states y ≡ Open q) × IsNoEarlier starts p q)
   pub fresh : (x y : ℕ) → state_of states x ≡ New → looked x y ≡ false
-  pub whole : (p y : ℕ) → p < length stack → has path p ≡ false → has set y ≡ true → r (slice_index stack p) y ≡ true → looked (slice_index stack p) y ≡ true
+  pub whole : (p y : ℕ) → p < length stack → has path p ≡ false → has set y ≡ true
+      → r (slice_index stack p) y ≡ true → looked (slice_index stack p) y ≡ true
   pub starts_on_path : (b : ℕ) → has starts b ≡ true → has path b ≡ true
   pub first_start : 0 < length stack → has starts 0 ≡ true
   pub path_open : (p : ℕ) → has path p ≡ true → p < length stack
   pub path_rises : Rising path
   pub starts_rise : Rising starts
-  pub done_closed : (x y : ℕ) → is_done (state_of states x) ≡ true → has set y ≡ true → r x y ≡ true → is_done (state_of states y) ≡ true
+  pub done_closed : (x y : ℕ) → is_done (state_of states x) ≡ true → has set y ≡ true → r x y ≡ true
+      → is_done (state_of states y) ≡ true
   pub done_known : (x : ℕ) (b : Bool) → state_of states x ≡ Done b → b ≡ has (reached r set x) x
 
 -- How a search has come along when its path is this one.
-pub record SearchOf (lists : List (Vec ℕ)) (members : List Bool) (search : CycleSearch) (path : List ℕ) : Type 0 where
+pub record SearchOf (lists : List (Vec ℕ)) (members : List Bool) (search : CycleSearch)
+    (path : List ℕ) : Type 0 where
   pub states_long : length search.states.items ≡ length lists
   pub looked_long : length search.looked.items ≡ length lists
-  pub searching : Searching (goes lists) (looked_at lists search.looked.items) (marked members) search.states.items search.stack.items search.starts.items path
+  pub searching : Searching (goes lists) (looked_at lists search.looked.items) (marked members)
+      search.states.items search.stack.items search.starts.items path
 
 -- How many steps weren't looked at.
 abbrev pub steps_left : List (Vec ℕ) → List ℕ → ℕ
@@ -100,8 +113,10 @@ pub record DropsAbove (old new : List ℕ) (place : ℕ) : Type 0 where
   pub above : (i : ℕ) → length new ≤ i → i < length old → place < slice_index old i
   pub below : (k : ℕ) → k + 1 ≡ length new → slice_index old k ≤ place
 
--- The open items from a place on are done; they lie on a cycle if there is more than one, or one goes to itself. The
--- rest stay as they were.
+-- The open items from a place on are done; they lie on a cycle if there is more than one, or one
+-- goes to itself. The rest stay as they were.
 pub record Finishes (r : Relation) (stack : List ℕ) (from : ℕ) (old new : List State) : Type 0 where
-  pub finished : (p : ℕ) → from ≤ p → p < length stack → state_of new (slice_index stack p) ≡ Done (nat_lt (from + 1) (length stack) || r (slice_index stack p) (slice_index stack p))
-  pub rest : (x : ℕ) → ((p : ℕ) → from ≤ p → p < length stack → slice_index stack p ≢ x) → state_of new x ≡ state_of old x
+  pub finished : (p : ℕ) → from ≤ p → p < length stack → state_of new (slice_index stack p)
+      ≡ Done (nat_lt (from + 1) (length stack) || r (slice_index stack p) (slice_index stack p))
+  pub rest : (x : ℕ) → ((p : ℕ) → from ≤ p → p < length stack → slice_index stack p ≢ x)
+      → state_of new x ≡ state_of old x

@@ -3,6 +3,7 @@ pub mod Builder
 pub mod Closures
 pub mod Components
 pub mod Cycle
+pub mod Distances
 pub mod Least
 pub mod Nearest
 pub mod Placing

@@ -1,5 +1,6 @@
--- Rows of marks, 64 in a word. Only private contracts and an invariant cite this file.
-use Rattle.std.specs.Prelude.{ℕ, List, [], Bool, true, ◌≡◌, ◌≤◌, ◌/◌, ◌%◌, ◌≢◌, length, map, filter, All, nat_eq, slice_index, slice_index_or}
+-- Rows of marks, 64 in a word. Only private contracts, a view and its invariant cite this file.
+use Rattle.std.specs.Prelude.{ℕ, List, [], Bool, true, ◌≡◌, ◌≤◌, ◌/◌, ◌%◌, ◌≢◌, length, map, filter}
+use Rattle.std.specs.Prelude.{All, nat_eq, slice_index, slice_index_or}
 use Rattle.std.specs.Int.{bit_at, div_ceil}
 use Rattle.std.specs.Global.{Vec}
 use Rattle.std.specs.List.{AllPairs}
@@ -14,12 +15,14 @@ has_mark words y = nat_eq (bit_at (slice_index words (y / 64)) (y % 64)) 1
 abbrev pub marked_in : List ℕ → Vec ℕ → List ℕ
 marked_in order row = filter (has_mark row.items) order
 
--- A row for each item has no more words than it takes, and marks for items of the order alone, which has each once.
+-- A row for each item has no more words than it takes, and marks for items of the order alone,
+-- which has each once.
 pub record Fitting (rows : List (Vec ℕ)) (order : List ℕ) : Type 0 where
   pub order_long : length order ≤ length rows
   pub order_once : AllPairs (λ x y. x ≢ y) order
   pub rows_long : All (λ (row : Vec ℕ). length row.items ≤ div_ceil (length rows) 64) rows
-  pub in_order : All (λ (row : Vec ℕ). (y : ℕ) → has_mark row.items y ≡ true → has order y ≡ true) rows
+  pub in_order : All (λ (row : Vec ℕ). (y : ℕ) → has_mark row.items y ≡ true → has order y
+      ≡ true) rows
 
 -- The row of an item, empty where it has none.
 abbrev pub row_at : List (Vec ℕ) → ℕ → List ℕ

@@ -1,5 +1,6 @@
 -- Sets of items, as lists of them, and relations between items.
-use Rattle.std.specs.Prelude.{ℕ, zero, suc, List, Bool, true, false, map, length, nat_eq, slice_index_or, [], ◌∷◌, filter, ◌≡◌, ◌<◌}
+use Rattle.std.specs.Prelude.{ℕ, zero, suc, List, Bool, true, false, map, length, nat_eq}
+use Rattle.std.specs.Prelude.{slice_index_or, [], ◌∷◌, filter, ◌≡◌, ◌<◌}
 use Rattle.std.specs.List.{list_any, range_with_len}
 use Rattle.std.specs.Global.{Vec}
 

@@ -1,5 +1,6 @@
 // What walks reach from each item, of a relation without a cycle.
-ghost use Rattle.std.specs.Prelude.{◌≡◌, ◌<◌, ◌≤◌, ◌*◌, ◌/◌, ◌^◌, ◌&&◌, ◌||◌, ◌==◌, [], ℕ, true, not, length, map, filter, All, IfOk, slice_index_or};
+ghost use Rattle.std.specs.Prelude.{◌≡◌, ◌<◌, ◌≤◌, ◌*◌, ◌/◌, ◌^◌, ◌&&◌, ◌||◌, ◌==◌, [], ℕ, true};
+ghost use Rattle.std.specs.Prelude.{not, length, map, filter, All, IfOk, slice_index_or};
 ghost use Rattle.std.specs.List.{sum_by};
 ghost use Rattle.std.specs.Int.{div_ceil};
 ghost use Rattle.std.proofs.Common.{replicate};
@@ -16,8 +17,9 @@ use std::marker::Model;
 // How many marks a word of a row has.
 const WORD_BITS: usize = 64;
 
-/// The closures of all items: what walks reach from each, in the least order. Contracts see them as a list for each item.
-/// They take a bit for each pair of items, and none for the items that go nowhere, until they are asked for.
+/// The closures of all items: what walks reach from each, in the least order. Contracts see them as
+/// a list for each item. They take a bit for each pair of items, and none for the items that go
+/// nowhere, until they are asked for.
 #[derive(Drop)]
 pub struct Closures {
     rows: Vec<Vec<u64>>,
@@ -36,8 +38,8 @@ impl Model for Closures {
 }
 
 impl Closures {
-    /// The closures of the items below `lists.len()`, each of which goes to those in its list, by their least order. No
-    /// walk leads back to its start.
+    /// Makes the closures of the items below `lists.len()`, each of which goes to those in its
+    /// list, by their least order. No walk leads back to its start.
     pub fn new(
         alloc: Global,
         lists: &[Vec<usize>],
@@ -56,7 +58,7 @@ impl Closures {
         Ok(Closures { rows, order })
     }
 
-    /// How many items all closures have together.
+    /// Counts the items of all closures together.
     pub fn count(&self) -> u64
         requires { length self.now < 2 ^ 32 }
         ensures { result ≡ sum_by length self.now }
@@ -68,7 +70,7 @@ impl Closures {
         count
     }
 
-    /// The closure of the item `x`.
+    /// Lists the closure of the item `x`.
     pub fn closure(&self, alloc: Global, x: usize) -> Result<Vec<usize>, AllocError>
         requires { x < length self.now }
         ensures { IfOk result (λ found. found.items ≡ slice_index_or self.now x []) }
@@ -108,8 +110,9 @@ fn row_with(alloc: Global, count: usize, items: &[usize]) -> Result<Vec<u64>, Al
     Ok(row)
 }
 
-// The row of what is reached from an item, where those of the items before it are known, among which are all that it
-// goes to. The last is looked at first: mostly it has reached those that come before it, which need not be added again.
+// The row of what is reached from an item, where those of the items before it are known, among
+// which are all that it goes to. The last is looked at first: mostly it has reached those that come
+// before it, which need not be added again.
 fn row_of(
     alloc: Global,
     lists: &[Vec<usize>],
@@ -122,10 +125,12 @@ fn row_of(
     requires rows { length rows.now ≡ length lists.now }
     requires rows_long { All (λ row. length row.items ≤ div_ceil (length lists.now) 64) rows.now }
     requires before { All (λ y. y < length lists.now) before.now }
-    requires known { (y : ℕ) → has before.now y ≡ true → AreReached (goes lists.now) (length lists.now) (row_at rows.now y) y }
+    requires known { (y : ℕ) → has before.now y ≡ true
+        → AreReached (goes lists.now) (length lists.now) (row_at rows.now y) y }
     requires direct { (y : ℕ) → goes lists.now x y ≡ true → has before.now y ≡ true }
     ensures long { IfOk result (λ row. length row.items ≤ div_ceil (length lists.now) 64) }
-    ensures reached { IfOk result (λ row. AreReached (goes lists.now) (length lists.now) row.items x) }
+    ensures reached { IfOk result
+        (λ row. AreReached (goes lists.now) (length lists.now) row.items x) }
 {
     if lists[x].is_empty() {
         return Ok(Vec::new(alloc));
@@ -174,7 +179,8 @@ fn add_row(row: &mut Vec<u64>, other: &[u64], item: usize)
     requires long { length other.now ≤ length row.old.items }
     requires item { item / 64 < length row.old.items }
     ensures long { length row.new.items ≡ length row.old.items }
-    ensures marks { (y : ℕ) → has_mark row.new.items y ≡ (has_mark row.old.items y || (y == item || has_mark other.now y)) }
+    ensures marks { (y : ℕ) → has_mark row.new.items y
+        ≡ (has_mark row.old.items y || (y == item || has_mark other.now y)) }
 {
     mark(row, item);
     for k in 0..other.len() {

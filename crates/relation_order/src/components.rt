@@ -1,11 +1,16 @@
-//! Which members of a set lie on a cycle, found in one pass over the members and their steps: the path-based search for
-//! strongly connected components (Purdom and Munro 1968, Dijkstra 1976, Gabow 2000).
-ghost use Rattle.std.specs.Prelude.{◌≡◌, ◌+◌, ◌<◌, ◌≤◌, ◌-◌, ◌++◌, ◌∷◌, ◌&&◌, [], ℕ, List, Bool, true, false, length, All, IfOk, OnOk, nat_eq, nat_lt, slice_index};
+//! Which members of a set lie on a cycle, found in one pass over the members and their steps: the
+//! path-based search for strongly connected components (Purdom and Munro 1968, Dijkstra 1976, Gabow
+//! 2000).
+ghost use Rattle.std.specs.Prelude.{◌≡◌, ◌+◌, ◌<◌, ◌≤◌, ◌-◌, ◌++◌, ◌∷◌, ◌&&◌, [], ℕ, List, Bool};
+ghost use Rattle.std.specs.Prelude.{true, false, length, All, IfOk, OnOk, nat_eq, nat_lt};
+ghost use Rattle.std.specs.Prelude.{slice_index};
 ghost use Rattle.std.specs.Global.{Vec};
 ghost use Rattle.std.proofs.Common.{replicate};
 ghost use Rattle.relation_order.specs.Sets.{Relation, goes, has, marked as marks_places};
 ghost use Rattle.relation_order.specs.Search.{Inside};
-ghost use Rattle.relation_order.specs.Components.{Searching, SearchOf, EndsIn, Enters, KeepsMet, DropsAbove, Finishes, state_of, is_new, is_on_cycle, with_step, work};
+ghost use Rattle.relation_order.specs.Components.{Searching, SearchOf, EndsIn, Enters, KeepsMet};
+ghost use Rattle.relation_order.specs.Components.{DropsAbove, Finishes, state_of, is_new};
+ghost use Rattle.relation_order.specs.Components.{is_on_cycle, with_step, work};
 
 use crate::cycle::stands_in;
 use crate::order::zeros;
@@ -16,14 +21,15 @@ use std::alloc::{AllocError, Global};
 pub(crate) enum State {
     /// The search hasn't met it.
     New,
-    /// Its component isn't whole yet; the place where the item stands among those of which this holds.
+    /// Its component isn't whole yet; the place where the item stands among those of which this
+    /// holds.
     Open(usize),
     /// Its component is whole; whether the item lies on a cycle.
     Done(bool),
 }
 
-/// A search for the strongly connected components of a set. The open items stand in the order in which they were met,
-/// those of a component side by side.
+/// A search for the strongly connected components of a set. The open items stand in the order in
+/// which they were met, those of a component side by side.
 #[derive(Drop)]
 pub(crate) struct CycleSearch {
     /// The state of each item.
@@ -39,9 +45,10 @@ pub(crate) struct CycleSearch {
 }
 
 impl CycleSearch {
-    /// A search that has met nothing.
+    /// Begins a search that has met nothing.
     pub(crate) fn new(alloc: Global, count: usize) -> Result<CycleSearch, AllocError>
-        ensures search { IfOk result (λ search. (lists : List (Vec ℕ)) (members : List Bool) → length lists ≡ count → SearchOf lists members search []) }
+        ensures search { IfOk result (λ search. (lists : List (Vec ℕ)) (members : List Bool)
+            → length lists ≡ count → SearchOf lists members search []) }
         ensures path { IfOk result (λ search. search.path.items ≡ []) }
     {
         Ok(CycleSearch {
@@ -107,9 +114,13 @@ impl CycleSearch {
         requires last { EndsIn self.old.path.items at }
         requires target { target < length members.now }
         requires long { length self.old.states.items ≡ length members.now }
-        ensures search { OnOk result ((r looked : Relation) → r (slice_index self.old.stack.items at) target ≡ true
-            → Searching r looked (marks_places members.now) self.old.states.items self.old.stack.items self.old.starts.items self.old.path.items
-            → Searching r (with_step looked (slice_index self.old.stack.items at) target) (marks_places members.now) self.new.states.items self.new.stack.items self.new.starts.items self.new.path.items) }
+        ensures search { OnOk result ((r looked : Relation)
+            → r (slice_index self.old.stack.items at) target ≡ true
+            → Searching r looked (marks_places members.now) self.old.states.items
+            self.old.stack.items self.old.starts.items self.old.path.items
+            → Searching r (with_step looked (slice_index self.old.stack.items at) target)
+            (marks_places members.now) self.new.states.items self.new.stack.items
+            self.new.starts.items self.new.path.items) }
         ensures looked { OnOk result (self.new.looked.items ≡ self.old.looked.items) }
         ensures long { OnOk result (length self.new.states.items ≡ length self.old.states.items) }
         ensures path { OnOk result (length self.new.path.items ≤ length self.old.path.items + 1) }
@@ -138,14 +149,19 @@ impl CycleSearch {
         Ok(())
     }
 
-    // Leaves the item at a place, all of whose steps were looked at. Where its component begins with it, that is whole.
+    // Leaves the item at a place, all of whose steps were looked at. Where its component begins
+    // with it, that is whole.
     fn leave(&mut self, lists: &[Vec<usize>], at: usize)
         requires at { at < length self.old.stack.items }
         requires within { All (λ x. x < length lists.now) self.old.stack.items }
         requires long { length self.old.states.items ≡ length lists.now }
-        ensures search { (looked : Relation) (set : List ℕ) → ((y : ℕ) → has set y ≡ true → goes lists.now (slice_index self.old.stack.items at) y ≡ true → looked (slice_index self.old.stack.items at) y ≡ true)
-            → Searching (goes lists.now) looked set self.old.states.items self.old.stack.items self.old.starts.items (self.old.path.items ++ at ∷ [])
-            → Searching (goes lists.now) looked set self.new.states.items self.new.stack.items self.new.starts.items self.new.path.items }
+        ensures search { (looked : Relation) (set : List ℕ)
+            → ((y : ℕ) → has set y ≡ true → goes lists.now (slice_index self.old.stack.items at) y
+            ≡ true → looked (slice_index self.old.stack.items at) y ≡ true)
+            → Searching (goes lists.now) looked set self.old.states.items self.old.stack.items
+            self.old.starts.items (self.old.path.items ++ at ∷ [])
+            → Searching (goes lists.now) looked set self.new.states.items self.new.stack.items
+            self.new.starts.items self.new.path.items }
         ensures looked { self.new.looked.items ≡ self.old.looked.items }
         ensures long { length self.new.states.items ≡ length self.old.states.items }
         ensures path { self.new.path.items ≡ self.old.path.items }
@@ -158,7 +174,7 @@ impl CycleSearch {
         }
     }
 
-    /// Whether an item was found to lie on a cycle.
+    /// Tells whether an item was found to lie on a cycle.
     pub(crate) fn is_on_cycle(&self, item: usize) -> bool
         requires { item < length self.now.states.items }
         ensures { result ≡ is_on_cycle (state_of self.now.states.items item) }
@@ -179,7 +195,8 @@ fn new_states(alloc: Global, count: usize) -> Result<Vec<State>, AllocError>
 
 // Whether a list ends in a number.
 fn ends_in(items: &[usize], item: usize) -> bool
-    ensures { result ≡ (nat_lt 0 (length items.now) && nat_eq (slice_index items.now (length items.now - 1)) item) }
+    ensures { result ≡ (nat_lt 0 (length items.now)
+        && nat_eq (slice_index items.now (length items.now - 1)) item) }
 {
     match items {
         [] => false,
@@ -198,8 +215,8 @@ fn drop_above(starts: &mut Vec<usize>, place: usize)
     starts.truncate(count);
 }
 
-// Finishes the component that is made of the open items from a place on. Each of them lies on a cycle if it has another
-// beside it, or goes to itself.
+// Finishes the component that is made of the open items from a place on. Each of them lies on a
+// cycle if it has another beside it, or goes to itself.
 fn finish(states: &mut Vec<State>, stack: &[usize], lists: &[Vec<usize>], from: usize)
     requires from { from < length stack.now }
     requires within { All (λ x. x < length lists.now) stack.now }

@@ -1,5 +1,6 @@
 //! How far each member is from one of them: a breadth-first search back from that one.
-ghost use Rattle.std.specs.Prelude.{◌≡◌, ◌≢◌, ◌<◌, ◌&&◌, ◌||◌, ◌==◌, [], ℕ, true, length, All, IfOk, OnOk};
+ghost use Rattle.std.specs.Prelude.{◌≡◌, ◌≢◌, ◌<◌, ◌&&◌, ◌||◌, ◌==◌, [], ℕ, true, length, All};
+ghost use Rattle.std.specs.Prelude.{IfOk, OnOk};
 ghost use Rattle.std.specs.List.{list_any};
 ghost use Rattle.std.proofs.Common.{replicate};
 ghost use Rattle.relation_order.specs.Sets.{goes, has, marked as marks_places};
@@ -11,7 +12,8 @@ use crate::order::{add_at, empty_lists};
 use crate::reach::marked;
 use std::alloc::{AllocError, Global};
 
-/// How many steps within the members lead from each of them to one at the least, or how many members there are.
+/// Finds how many steps within the members lead from each of them to one at the least, or how many
+/// members there are.
 pub(crate) fn distances_to(
     alloc: Global,
     lists: &[Vec<usize>],
@@ -22,7 +24,8 @@ pub(crate) fn distances_to(
     requires inside { Inside (length lists.now) lists.now }
     requires goal { has (marks_places members.now) goal ≡ true }
     ensures long { IfOk result (λ far. length far.items ≡ length members.now) }
-    ensures far { IfOk result (λ far. IsFar (goes lists.now) (marks_places members.now) goal far.items) }
+    ensures far { IfOk result (λ far. IsFar (goes lists.now) (marks_places members.now) goal
+        far.items) }
 {
     let all = marked(alloc, members)?;
     let sources = reversed(alloc, lists, &all)?;
@@ -45,7 +48,8 @@ fn reversed(
     requires inside { Inside (length lists.now) lists.now }
     requires items { All (λ x. x < length lists.now) items.now }
     ensures long { IfOk result (λ sources. length sources.items ≡ length lists.now) }
-    ensures goes { IfOk result (λ sources. (y x : ℕ) → goes sources.items y x ≡ (has items.now x && goes lists.now x y)) }
+    ensures goes { IfOk result (λ sources. (y x : ℕ) → goes sources.items y x
+        ≡ (has items.now x && goes lists.now x y)) }
 {
     let mut sources = empty_lists(alloc, lists.len())?;
     for x in items {
@@ -62,7 +66,8 @@ fn add_source(
 ) -> Result<(), AllocError>
     requires { All (λ y. y < length sources.old.items) targets.now }
     ensures long { OnOk result (length sources.new.items ≡ length sources.old.items) }
-    ensures goes { OnOk result ((y x : ℕ) → goes sources.new.items y x ≡ (goes sources.old.items y x || (has targets.now y && x == item))) }
+    ensures goes { OnOk result ((y x : ℕ) → goes sources.new.items y x
+        ≡ (goes sources.old.items y x || (has targets.now y && x == item))) }
 {
     for y in targets {
         add_at(sources, *y, item)?;
@@ -77,7 +82,8 @@ fn filled(alloc: Global, count: usize, value: usize) -> Result<Vec<usize>, Alloc
     vec![in alloc; value; count]
 }
 
-// One round: each item without a distance that goes to one of those found last gets the round's number. What was found.
+// One round: each item without a distance that goes to one of those found last gets the round's
+// number. What was found.
 fn find_round(
     alloc: Global,
     sources: &[Vec<usize>],
@@ -91,7 +97,8 @@ fn find_round(
     requires last { All (λ y. y < length sources.now) last.now }
     requires round { round ≢ none }
     ensures long { OnOk result (length far.new.items ≡ length far.old.items) }
-    ensures finds { IfOk result (λ found. Finds (λ x. list_any (λ y. goes sources.now y x) last.now) round none far.old.items far.new.items [] found.items) }
+    ensures finds { IfOk result (λ found. Finds (λ x. list_any (λ y. goes sources.now y x) last.now)
+        round none far.old.items far.new.items [] found.items) }
 {
     let mut found = Vec::new(alloc);
     for y in last {
@@ -111,7 +118,8 @@ fn find_all(
     requires inside { All (λ x. x < length far.old.items) items.now }
     requires round { round ≢ none }
     ensures long { OnOk result (length far.new.items ≡ length far.old.items) }
-    ensures finds { OnOk result (Finds (has items.now) round none far.old.items far.new.items found.old.items found.new.items) }
+    ensures finds { OnOk result (Finds (has items.now) round none far.old.items far.new.items
+        found.old.items found.new.items) }
 {
     for x in items {
         if far[*x] == none {

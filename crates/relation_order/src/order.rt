@@ -1,4 +1,6 @@
-ghost use Rattle.std.specs.Prelude.{◌≡◌, ◌||◌, ◌&&◌, ◌==◌, ◌<◌, ◌≤◌, ◌∷◌, [], not, ℕ, List, Bool, true, false, length, take, All, IfOk, OnOk, slice_index, slice_index_or};
+ghost use Rattle.std.specs.Prelude.{◌≡◌, ◌||◌, ◌&&◌, ◌==◌, ◌<◌, ◌≤◌, ◌∷◌, [], not, ℕ, List, Bool};
+ghost use Rattle.std.specs.Prelude.{true, false, length, take, All, IfOk, OnOk, slice_index};
+ghost use Rattle.std.specs.Prelude.{slice_index_or};
 ghost use Rattle.relation_order.specs.Sets.{goes, marked as marks_places, has};
 ghost use Rattle.relation_order.specs.Least.{least_order, with_next};
 ghost use Rattle.relation_order.specs.Search.{Inside};
@@ -12,8 +14,9 @@ use std::alloc::{AllocError, Global};
 use std::collections::BTreeSet;
 use std::mem;
 
-/// An order as it is made: what is listed, which members are ready to be, which wait for each place, and how many of
-/// the items that each goes to were found listed, so that none is looked at twice.
+/// An order as it is made: what is listed, which members are ready to be, which wait for each
+/// place, and how many of the items that each goes to were found listed, so that none is looked at
+/// twice.
 #[derive(Drop)]
 pub struct OrderBuilder {
     pub order: Vec<usize>,
@@ -23,8 +26,8 @@ pub struct OrderBuilder {
     pub looked: Vec<usize>,
 }
 
-// Where the first of some items stands that is a member and isn't listed, looked for from a place on, before which
-// there is none; or how many items there are.
+// Where the first of some items stands that is a member and isn't listed, looked for from a place
+// on, before which there is none; or how many items there are.
 fn first_open(items: &[usize], from: usize, members: &[bool], listed: &[bool]) -> usize
     requires in_members { All (λ y. y < length members.now) items.now }
     requires in_listed { All (λ y. y < length listed.now) items.now }
@@ -32,7 +35,9 @@ fn first_open(items: &[usize], from: usize, members: &[bool], listed: &[bool]) -
     requires front { AllListed members.now listed.now (take from items.now) }
     ensures within { result ≤ length items.now }
     ensures front { AllListed members.now listed.now (take result items.now) }
-    ensures open { result < length items.now → (slice_index_or members.now (slice_index items.now result) false ≡ true) × (slice_index_or listed.now (slice_index items.now result) false ≡ false) }
+    ensures open { result < length items.now
+        → (slice_index_or members.now (slice_index items.now result) false ≡ true)
+        × (slice_index_or listed.now (slice_index items.now result) false ≡ false) }
 {
     let mut at = from;
     while at < items.len() && !is_open(members, listed, items[at]) {
@@ -41,11 +46,12 @@ fn first_open(items: &[usize], from: usize, members: &[bool], listed: &[bool]) -
     at
 }
 
-/// Whether an item is marked as a member and not as listed.
-pub(crate) fn is_open(members: &[bool], listed: &[bool], item: usize) -> bool
+// Whether an item is marked as a member and not as listed.
+fn is_open(members: &[bool], listed: &[bool], item: usize) -> bool
     requires member { item < length members.now }
     requires listed { item < length listed.now }
-    ensures { result ≡ (slice_index_or members.now item false && not (slice_index_or listed.now item false)) }
+    ensures { result ≡ (slice_index_or members.now item false
+        && not (slice_index_or listed.now item false)) }
 {
     members[item] && !listed[item]
 }
@@ -58,7 +64,8 @@ pub(crate) fn add_at(
 ) -> Result<(), AllocError>
     requires { place < length lists.old.items }
     ensures long { OnOk result (length lists.new.items ≡ length lists.old.items) }
-    ensures added { OnOk result ((z y : ℕ) → goes lists.new.items z y ≡ (goes lists.old.items z y || (z == place && y == item))) }
+    ensures added { OnOk result ((z y : ℕ) → goes lists.new.items z y
+        ≡ (goes lists.old.items z y || (z == place && y == item))) }
 {
     lists[place].push(item)?;
     Ok(())
@@ -69,12 +76,14 @@ fn take_at(alloc: Global, lists: &mut Vec<Vec<usize>>, place: usize) -> Vec<usiz
     requires { place < length lists.old.items }
     ensures long { length lists.new.items ≡ length lists.old.items }
     ensures taken { (y : ℕ) → has result.items y ≡ goes lists.old.items place y }
-    ensures rest { (z y : ℕ) → goes lists.new.items z y ≡ (not (z == place) && goes lists.old.items z y) }
+    ensures rest { (z y : ℕ) → goes lists.new.items z y
+        ≡ (not (z == place) && goes lists.old.items z y) }
 {
     mem::replace(&mut lists[place], Vec::new(alloc))
 }
 
-/// The least order of the marked members in which each stands after those that it goes to: as many as can be listed.
+/// Finds the least order of the marked members in which each stands after those that it goes to: as
+/// many as can be listed.
 pub fn least(
     alloc: Global,
     lists: &[Vec<usize>],
@@ -82,7 +91,8 @@ pub fn least(
 ) -> Result<Vec<usize>, AllocError>
     requires long { length members.now ≡ length lists.now }
     requires inside { Inside (length lists.now) lists.now }
-    ensures { IfOk result (λ order. order.items ≡ least_order (goes lists.now) (marks_places members.now)) }
+    ensures { IfOk result (λ order. order.items
+        ≡ least_order (goes lists.now) (marks_places members.now)) }
 {
     let mut builder = OrderBuilder::new(alloc, members.len())?;
     let all = marked(alloc, members)?;
@@ -93,14 +103,14 @@ pub fn least(
     Ok(builder.order)
 }
 
-/// As many zeros.
+/// Makes as many zeros.
 pub(crate) fn zeros(alloc: Global, count: usize) -> Result<Vec<usize>, AllocError>
     ensures { IfOk result (λ zeros. zeros.items ≡ replicate count 0) }
 {
     vec![in alloc; 0; count]
 }
 
-/// A number of empty lists.
+/// Makes a number of empty lists.
 pub(crate) fn empty_lists(alloc: Global, count: usize) -> Result<Vec<Vec<usize>>, AllocError>
     ensures long { IfOk result (λ lists. length lists.items ≡ count) }
     ensures empty { IfOk result (λ lists. (z y : ℕ) → goes lists.items z y ≡ false) }
@@ -113,12 +123,13 @@ pub(crate) fn empty_lists(alloc: Global, count: usize) -> Result<Vec<Vec<usize>>
 }
 
 impl OrderBuilder {
-    /// An order with nothing listed yet.
+    /// Begins an order with nothing listed yet.
     pub fn new(alloc: Global, count: usize) -> Result<OrderBuilder, AllocError>
         ensures order { IfOk result (λ builder. builder.order.items ≡ []) }
         ensures ready { IfOk result (λ builder. builder.ready.keys ≡ []) }
         ensures waits { IfOk result (λ builder. (z y : ℕ) → goes builder.waits.items z y ≡ false) }
-        ensures fits { IfOk result (λ builder. (lists : List (Vec ℕ)) (members : List Bool) → length members ≡ count → Fits lists members builder) }
+        ensures fits { IfOk result (λ builder. (lists : List (Vec ℕ)) (members : List Bool)
+            → length members ≡ count → Fits lists members builder) }
     {
         Ok(OrderBuilder {
             order: Vec::new(alloc),
@@ -139,10 +150,14 @@ impl OrderBuilder {
         requires long { length members.now ≡ length lists.now }
         requires inside { Inside (length members.now) lists.now }
         requires fits { Fits lists.now members.now self.old }
-        requires placing { Placing (goes lists.now) (marks_places members.now) self.old.order.items self.old.ready.keys (goes self.old.waits.items) [] }
+        requires placing { Placing (goes lists.now) (marks_places members.now) self.old.order.items
+            self.old.ready.keys (goes self.old.waits.items) [] }
         ensures fits { OnOk result (Fits lists.now members.now self.new) }
-        ensures placing { OnOk result (Placing (goes lists.now) (marks_places members.now) self.new.order.items self.new.ready.keys (goes self.new.waits.items) []) }
-        ensures order { OnOk result (self.new.order.items ≡ with_next (goes lists.now) (marks_places members.now) self.old.order.items) }
+        ensures placing { OnOk result
+            (Placing (goes lists.now) (marks_places members.now) self.new.order.items
+            self.new.ready.keys (goes self.new.waits.items) []) }
+        ensures order { OnOk result (self.new.order.items
+            ≡ with_next (goes lists.now) (marks_places members.now) self.old.order.items) }
     {
         if let Some(next) = self.ready.pop_first() {
             self.listed[next] = true;
@@ -166,8 +181,11 @@ impl OrderBuilder {
         requires fits { Fits lists.now members.now self.old }
         ensures fits { OnOk result (Fits lists.now members.now self.new) }
         ensures order { OnOk result (self.new.order.items ≡ self.old.order.items) }
-        ensures placing { OnOk result (Placing (goes lists.now) (marks_places members.now) self.old.order.items self.old.ready.keys (goes self.old.waits.items) items.now
-            → Placing (goes lists.now) (marks_places members.now) self.new.order.items self.new.ready.keys (goes self.new.waits.items) []) }
+        ensures placing { OnOk result
+            (Placing (goes lists.now) (marks_places members.now) self.old.order.items
+            self.old.ready.keys (goes self.old.waits.items) items.now
+            → Placing (goes lists.now) (marks_places members.now) self.new.order.items
+            self.new.ready.keys (goes self.new.waits.items) []) }
     {
         for item in items {
             self.place(lists, members, *item)?;
@@ -188,8 +206,11 @@ impl OrderBuilder {
         requires fits { Fits lists.now members.now self.old }
         ensures fits { OnOk result (Fits lists.now members.now self.new) }
         ensures order { OnOk result (self.new.order.items ≡ self.old.order.items) }
-        ensures placing { OnOk result ((left : List ℕ) → Placing (goes lists.now) (marks_places members.now) self.old.order.items self.old.ready.keys (goes self.old.waits.items) (item ∷ left)
-            → Placing (goes lists.now) (marks_places members.now) self.new.order.items self.new.ready.keys (goes self.new.waits.items) left) }
+        ensures placing { OnOk result ((left : List ℕ)
+            → Placing (goes lists.now) (marks_places members.now) self.old.order.items
+            self.old.ready.keys (goes self.old.waits.items) (item ∷ left)
+            → Placing (goes lists.now) (marks_places members.now) self.new.order.items
+            self.new.ready.keys (goes self.new.waits.items) left) }
     {
         let items = &lists[item];
         let at = first_open(items, self.looked[item], members, &self.listed);
