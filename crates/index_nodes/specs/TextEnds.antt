@@ -3,7 +3,8 @@ use Rattle.std.specs.Prelude.{◌≡◌, ◌≢◌, ℕ, ◌+◌, ◌*◌, ◌/�
 use Rattle.index_nodes.specs.declared.text_ends.TextEnds.{TextEnds}
 use Rattle.index_nodes.specs.declared.text_ends.TheConstants.{BLOCK}
 
--- The text from a place on ends before this one: at the first NUL, or at the end of the file where there is none.
+-- The text from a place on ends before this one: at the first NUL, or at the end of the file where
+-- there is none.
 pub record IsTextEnd (b : List ℕ) (start end : ℕ) : Type 0 where
   pub low : start ≤ end
   pub high : end ≤ length b
@@ -14,7 +15,8 @@ pub record IsTextEnd (b : List ℕ) (start end : ℕ) : Type 0 where
 abbrev pub block_start : List ℕ → ℕ → ℕ
 block_start b block = min (block * BLOCK) (length b)
 
--- Each entry is the end of the text that begins with its block, and the last block begins at the end of the file.
+-- Each entry is the end of the text that begins with its block, and the last block begins at the
+-- end of the file.
 pub record AreTextEnds (b : List ℕ) (t : TextEnds) : Type 0 where
   pub count : vec_len t.ends ≡ length b / BLOCK + 2
   pub each : (block : ℕ) → block < vec_len t.ends → IsTextEnd b (block_start b block) (slice_index t.ends.items block)

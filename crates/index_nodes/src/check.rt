@@ -31,7 +31,8 @@ pub(crate) struct Visit {
     pub(crate) link: u32,
 }
 
-/// Children that are still to be visited: so many offsets from a place on, of the node at the place `above`.
+/// Children that are still to be visited: so many offsets from a place on, of the node at the place
+/// `above`.
 #[derive(Clone, Copy)]
 pub(crate) struct Pending {
     pub(crate) above: u32,
@@ -39,7 +40,8 @@ pub(crate) struct Pending {
     pub(crate) left: usize,
 }
 
-/// Whether this number stands at a place. Its last byte isn't 0, so it doesn't where the file ends before.
+/// Whether this number stands at a place. Its last byte isn't 0, so it doesn't where the file ends
+/// before.
 fn has_number(bytes: &[u8], at: usize, number: u32) -> bool
     requires place { at ≤ 4 }
     requires last { 0 < number % 256 }

@@ -1,14 +1,15 @@
-//! The nodes of a module index, read in place: a file is checked once, and from then on each node that is read is
-//! one step on a ledger that the caller gives.
+//! The nodes of a module index, read in place: a file is checked once, and from then on each node
+//! that is read is one step on a ledger that the caller gives.
 //!
-//! `Nodes` keeps the bytes of a file and, for every 256 of them, where the text that begins there ends. [`Nodes::adopt`]
-//! refuses a file exactly for the first fault that a reader meets, in time linear in the file, also where nodes stand in
-//! one another: the end of a prefix is found within 256 bytes, and whether so many values are whole by one comparison with
-//! the last place from which they are. Beside that it takes one bit a byte for the places that were visited, one such place
-//! for each number of values up to the greatest that is asked for, and an entry for each level on which children are still
-//! to be visited; nothing in it calls itself. The crate is the only one that reads an index's bytes. It stands on `km_names`
-//! for numbers and names, on the definitions of `index_format`, on `memchr` for the search of NULs, and on `thiserror` for
-//! the error traits.
+//! `Nodes` keeps the bytes of a file and, for every 256 of them, where the text that begins there
+//! ends. [`Nodes::adopt`] refuses a file exactly for the first fault that a reader meets, in time
+//! linear in the file, also where nodes stand in one another: the end of a prefix is found within
+//! 256 bytes, and whether so many values are whole by one comparison with the last place from which
+//! they are. Beside that it takes one bit a byte for the places that were visited, one such place
+//! for each number of values up to the greatest that is asked for, and an entry for each level on
+//! which children are still to be visited; nothing in it calls itself. The crate is the only one
+//! that reads an index's bytes. It stands on `km_names` for numbers and names, on the definitions
+//! of `index_format`, on `memchr` for the search of NULs, and on `thiserror` for the error traits.
 #![tactic(auto)]
 
 mod check;

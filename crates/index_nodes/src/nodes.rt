@@ -42,8 +42,8 @@ impl Model for Nodes {
 }
 
 impl Nodes {
-    /// Takes the bytes of a file in kmod's index format 2.1. It is refused exactly for the first fault that the
-    /// format's reader meets, or for want of memory.
+    /// Takes the bytes of a file in kmod's index format 2.1. It is refused exactly for the first
+    /// fault that the format's reader meets, or out of memory.
     pub fn adopt(alloc: Global, bytes: Blob) -> Result<Nodes, IndexFault>
         ensures bytes { IfOk result (λ nodes. nodes ≡ bytes) }
         ensures accepted { OnOk result (index_fault bytes ≡ None) }
@@ -95,8 +95,8 @@ impl Nodes {
         Some(NodeRef { link })
     }
 
-    /// The first child of a node for a byte from `from` on: its byte and its name. None exactly where there is no
-    /// such child.
+    /// The first child of a node for a byte from `from` on: its byte and its name. None exactly
+    /// where there is no such child.
     pub fn next_child(&self, node: &Node, from: u8) -> Option<(u8, NodeRef)>
         requires { IsNodeOf self.now node.now }
         ensures none { IfNone result ((byte : ℕ) → from ≤ byte → child self.now (link_of node.now) byte ≡ None) }
@@ -121,7 +121,8 @@ impl Nodes {
         first_place(self.bytes.as_bytes(), node)
     }
 
-    /// The place of the value after another one. None exactly where that one is the last of its node.
+    /// The place of the value after another one. None exactly where that one is the last of its
+    /// node.
     pub fn next_value(&self, at: &Place) -> Option<Place>
         requires { IsPlaceOf self.now at.now }
         ensures none { IfNone result (values_left self.now at.now ≡ value_at self.now at.now ∷ []) }

@@ -7,8 +7,9 @@ use std::alloc::{AllocError, Global};
 /// The bytes of one block.
 const BLOCK: usize = 256;
 
-/// Where the texts of a file end, each before its first NUL or at the end of the file: for every block of the file the end
-/// of the text that begins with it. So the end of any text is found within one block, however many texts share it.
+/// Where the texts of a file end, each before its first NUL or at the end of the file: for every
+/// block of the file the end of the text that begins with it. So the end of any text is found
+/// within one block, however many texts share it.
 #[derive(Drop)]
 pub(crate) struct TextEnds {
     pub(crate) ends: Vec<usize>,

@@ -17,7 +17,8 @@ fn is_special(byte: u8) -> bool
     byte == b'*' || byte == b'?' || byte == b'['
 }
 
-/// How many bytes at the front of a key are plain and those of the text, where so many are known to be.
+/// How many bytes at the front of a key are plain and those of the text, where so many are known to
+/// be.
 pub(crate) fn agreed_length(key: &[u8], text: &[u8], known: usize) -> usize
     requires { Agrees key.now text.now known }
     ensures agrees { Agrees key.now text.now result }
@@ -34,16 +35,16 @@ pub(crate) fn agreed_length(key: &[u8], text: &[u8], known: usize) -> usize
     agreed
 }
 
-/// Whether a key of which so many bytes agree, or one that begins with it, may match the text. Where the next byte is
-/// plain, none does.
+/// Whether a key of which so many bytes agree, or one that begins with it, may match the text.
+/// Where the next byte is plain, none does.
 pub(crate) fn may_match(key: &[u8], agreed: usize) -> bool
     ensures { result ≡ may_match_after key.now agreed }
 {
     agreed >= key.len() || is_special(key[agreed])
 }
 
-/// Whether a node has values and its key, of which so many bytes agree, matches the text. The bytes that agree
-/// aren't read again, and there has to be room for the others.
+/// Whether a node has values and its key, of which so many bytes agree, matches the text. The bytes
+/// that agree aren't read again, and there has to be room for the others.
 pub(crate) fn is_wanted(
     nodes: &Nodes,
     node: &Node,
@@ -55,7 +56,8 @@ pub(crate) fn is_wanted(
     requires node { IsNodeOf nodes.now node.now }
     requires agrees { Agrees key.now text.now agreed }
     ensures wanted { IfOk result (λ wanted. wanted ≡ true → Matches key.now text.now) }
-    ensures unwanted { IfOk result (λ wanted. wanted ≡ false → (¬ Matches key.now text.now) ⊎ (values nodes.now (link_of node.now) ≡ [])) }
+    ensures unwanted { IfOk result (λ wanted. wanted ≡ false
+        → (¬ Matches key.now text.now) ⊎ (values nodes.now (link_of node.now) ≡ [])) }
 {
     if nodes.first_value(node).is_none() {
         return Ok(false);

@@ -30,8 +30,9 @@ pub struct Index {
 }
 
 impl Index {
-    /// Takes the bytes of a file in kmod's index format 2.1. It is refused exactly for the first fault that the
-    /// format's reader meets, or for want of memory, as by [`Nodes::adopt`](index_nodes::Nodes::adopt).
+    /// Takes the bytes of a file in kmod's index format 2.1. It is refused exactly for the first
+    /// fault that the format's reader meets, or out of memory, as by
+    /// [`Nodes::adopt`](index_nodes::Nodes::adopt).
     pub fn adopt(alloc: Global, bytes: Blob) -> Result<Index, IndexFault>
         ensures bytes { IfOk result (λ index. index.nodes ≡ bytes) }
         ensures accepted { OnOk result (index_fault bytes ≡ None) }
@@ -42,8 +43,8 @@ impl Index {
         Ok(Index { nodes })
     }
 
-    /// The place of the first value of a key. None exactly where the key has no value. It reads the nodes of the
-    /// key's walk, at most one more than the key has bytes.
+    /// The place of the first value of a key. None exactly where the key has no value. It reads the
+    /// nodes of the key's walk, at most one more than the key has bytes.
     pub fn find_one<L: Ledger>(&self, key: &[u8], steps: &mut Steps<L>) -> Option<Place>
         ensures none { IfNone result (at self.now.nodes (root self.now.nodes) key.now ≡ []) }
         ensures first { IfSome result (λ place. slice_get (at self.now.nodes (root self.now.nodes) key.now) 0 ≡ Some (value_at self.now.nodes place)) }
@@ -64,8 +65,8 @@ impl Index {
         self.nodes.text(at)
     }
 
-    /// All values of a key, in their order. It reads the nodes of the key's walk, at most one more than the key has
-    /// bytes.
+    /// All values of a key, in their order. It reads the nodes of the key's walk, at most one more
+    /// than the key has bytes.
     pub fn find<L: Ledger>(
         &self,
         alloc: Global,
@@ -82,16 +83,18 @@ impl Index {
             return Ok(Values::new(alloc));
         };
         let mut found = Vec::new(alloc);
-        push_values(alloc, &self.nodes, &node, &mut found, &mut Room::for_key())?;
+        let mut room = Room::of_one_key();
+        push_values(alloc, &self.nodes, &node, &mut found, &mut room)?;
         Ok(Values::from_vec(found))
     }
 
-    /// All keys, each with its values, by the bytes of the keys and then by place. Each node is read once.
+    /// All keys, each with its values, by the bytes of the keys and then by place. Each node is
+    /// read once.
     ///
     /// # Errors
     ///
-    /// For want of memory, which also comes where the list would take more than 1,073,741,824 bytes, or where the prefixes
-    /// of nodes that stand in one another have more than 268,435,456 together.
+    /// Out of memory, also where the list would take more than 268,435,456 bytes, or where the
+    /// prefixes of nodes that stand in one another have more together.
     pub fn all<L: Ledger>(&self, alloc: Global, steps: &mut Steps<L>) -> Result<Pairs, AllocError>
         ensures listing { IfOk result (λ found. IsListing (at self.now.nodes (root self.now.nodes)) (shown_pairs found)) }
         ensures map { (m : KeyValues) → Holds self.now.nodes m → IfOk result (λ found. IsListing (values_of m) (shown_pairs found)) }
@@ -99,7 +102,7 @@ impl Index {
         ensures cost { steps.new ≤ steps.old + node_count self.now.nodes }
     {
         let mut found = Vec::new(alloc);
-        let mut room = Room::for_list();
+        let mut room = Room::new();
         let (mut walk, root) = KeyWalk::start(alloc, &self.nodes, steps)?;
         let mut next = Some(root);
         while let Some(node) = next {
@@ -110,14 +113,14 @@ impl Index {
         Ok(Pairs::from_vec(found))
     }
 
-    /// The values of every key that as a pattern matches the text: by rising priority, then by the bytes of the
-    /// key, then by place. Each node is read at most once.
+    /// The values of every key that as a pattern matches the text: by rising priority, then by the
+    /// bytes of the key, then by place. Each node is read at most once.
     ///
     /// # Errors
     ///
-    /// For want of memory, which also comes where the list would take more than 1,073,741,824 bytes, where the keys that
-    /// are matched have more than 8,589,934,592 together, or where the prefixes of nodes that stand in one another have
-    /// more than 268,435,456.
+    /// Out of memory, also where the list would take more than 268,435,456 bytes, or where the
+    /// keys that are matched, or the prefixes of nodes that stand in one another, have more
+    /// together.
     pub fn wild<L: Ledger>(
         &self,
         alloc: Global,
@@ -146,8 +149,8 @@ impl Index {
         ensures cost { steps.new ≤ steps.old + node_count self.now.nodes }
     {
         let mut found = Vec::new(alloc);
-        let mut room = Room::for_list();
-        let mut matched = Room::for_matches();
+        let mut room = Room::new();
+        let mut matched = Room::new();
         let (mut walk, root) = KeyWalk::start(alloc, &self.nodes, steps)?;
         let mut agreed = 0;
         let mut next = Some(root);

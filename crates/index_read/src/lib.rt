@@ -1,11 +1,15 @@
-//! Lookups in a module index, in place: the values of one key, of all keys, and of all keys that as patterns
-//! match a text.
+//! Lookups in a module index, in place: the values of one key, of all keys, and of all keys that as
+//! patterns match a text.
 //!
-//! [`Index`] keeps the nodes of an adopted file and nothing beside them. A lookup of one key walks from the root
-//! and reads exactly the nodes of that walk; the others read each node at most once and keep the levels that they
-//! are on in a vector. Each node that is read is a step on the ledger that the caller gives. The crate stands on
-//! `index_nodes`, which reads the nodes, and on `glob_match` for the patterns; `IndexFault`, `Place` and `Steps`
-//! are those of `index_nodes`.
+//! [`Index`] keeps the nodes of an adopted file and nothing beside them. A lookup of one key walks
+//! from the root and reads exactly the nodes of that walk, in time linear in the key and the values
+//! that it answers; the others read each node at most once and keep the levels that they are on in
+//! a vector. A small file may stand for a map of any size: so they count the bytes of the list that
+//! they answer, of the prefixes that they go over and of the keys that they match, and are out of
+//! memory past 268,435,456. Each node that is read is a step on the ledger that the caller gives;
+//! the lookups of [`plain`] count nothing. The crate stands on `index_nodes`, which reads the
+//! nodes, on `glob_match` for the patterns, and on `km_names` for bytes and lists; `IndexFault`,
+//! `Place` and `Steps` are those of `index_nodes`.
 #![tactic(auto)]
 
 mod front;

@@ -1,4 +1,5 @@
-//! Lookups that count nothing: each reads its nodes on a ledger of its own, which is dropped with it.
+//! Lookups that count nothing: each reads its nodes on a ledger of its own, which is dropped with
+//! it.
 ghost use Rattle.std.specs.Prelude.{◌≡◌, ◌<◌, IfOk, option_copied};
 ghost use Rattle.index_format.specs.Map.{values_of};
 ghost use Rattle.index_format.specs.Node.{root};
@@ -56,7 +57,7 @@ fn first_text_over<'a, L: Ledger>(index: &'a Index, key: &[u8], blank: Blank) ->
 ///
 /// # Errors
 ///
-/// For want of memory.
+/// Out of memory.
 pub fn values(alloc: Global, index: &Index, key: &[u8]) -> Result<Values, AllocError>
     ensures { IfOk result (λ found. shown found ≡ values_of (contents index.now.nodes) key.now) }
 {
@@ -78,12 +79,12 @@ fn values_over<L: Ledger>(
     index.find(alloc, key, &mut steps)
 }
 
-/// The values of every key that as a pattern matches the text: by rising priority, then by the bytes of the key, then by
-/// place.
+/// The values of every key that as a pattern matches the text: by rising priority, then by the
+/// bytes of the key, then by place.
 ///
 /// # Errors
 ///
-/// For want of memory, as by [`Index::wild`].
+/// Out of memory, as by [`Index::wild`].
 pub fn matching(alloc: Global, index: &Index, text: &[u8]) -> Result<Values, AllocError>
     ensures { IfOk result (λ found. shown found ≡ wild_values (contents index.now.nodes) text.now) }
 {
@@ -109,7 +110,7 @@ fn matching_over<L: Ledger>(
 ///
 /// # Errors
 ///
-/// For want of memory, as by [`Index::all`].
+/// Out of memory, as by [`Index::all`].
 pub fn all_pairs(alloc: Global, index: &Index) -> Result<Pairs, AllocError>
     ensures { IfOk result (λ pairs. IsListing (values_of (contents index.now.nodes)) (shown_pairs pairs)) }
 {

@@ -10,7 +10,8 @@ use index_nodes::{Node, Nodes, Steps};
 use std::alloc::{AllocError, Global};
 use std::sync::ledger::Ledger;
 
-/// A node whose children are visited: how long its key is, and the byte from which on they are still to come.
+/// A node whose children are visited: how long its key is, and the byte from which on they are
+/// still to come.
 #[derive(Clone, Copy)]
 pub(crate) struct Level {
     pub(crate) node: Node,
@@ -57,7 +58,7 @@ impl KeyWalk {
             key,
             levels,
             kept: 0,
-            room: Room::for_prefixes(),
+            room: Room::new(),
         };
         Ok((walk, node))
     }

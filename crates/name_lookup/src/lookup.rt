@@ -6,9 +6,10 @@ ghost use Rattle.name_lookup.specs.Found.{found, asks_symbol, first_list, kept a
 
 use crate::aliases::AliasTable;
 use crate::found::{Found, distinct, itself, names_but, nothing};
-use crate::index_names::{has_value, names_matching, names_under};
+use crate::index_names::{names_matching, names_under};
 use crate::indexes::Indexes;
 use crate::rules::{blacklisted_names, installed_names};
+use index_read::plain;
 use km_names::{Name, Names, normal_alias};
 use modprobe_conf::Rules;
 use name_table::NameSet;
@@ -119,7 +120,7 @@ impl<'a> Lookup<'a> {
         if !names.is_empty() {
             return Ok(Found { list: 1, names });
         }
-        if has_value(&self.indexes.dep, name) {
+        if plain::has_value(&self.indexes.dep, name) {
             return itself(alloc, 2, name);
         }
         let names = symbol_modules(alloc, name, self.indexes)?;
@@ -133,7 +134,7 @@ impl<'a> Lookup<'a> {
         if !names.is_empty() {
             return Ok(Found { list: 5, names });
         }
-        if has_value(&self.indexes.builtin, name) {
+        if plain::has_value(&self.indexes.builtin, name) {
             return itself(alloc, 6, name);
         }
         Ok(nothing(alloc))
