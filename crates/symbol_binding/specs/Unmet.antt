@@ -1,6 +1,7 @@
 -- The lines of modules.unmet: what stands in the way of loading modules of a tree. This file of depmod is this
 -- project's own; missing symbols and versions are what depmod(8) warns of with `-e`.
-use Rattle.std.specs.Prelude.{ℕ, Bool, false, List, [], ◌∷◌, ◌++◌, map, filter, flat_map, codes, Option, is_some, if◌then◌else◌}
+use Rattle.std.specs.Prelude.{ℕ, Bool, false, List, [], ◌∷◌, ◌++◌, length, take, slice_get, map, filter, flat_map, codes, Option, is_some, if◌then◌else◌}
+use Rattle.std.specs.List.{range_with_len}
 use Rattle.std.specs.Option.{option_map_or}
 use Rattle.std.specs.Str.{bytes_eq}
 use Rattle.symbol_binding.specs.Symbols.{Module, Kernel}
@@ -38,20 +39,18 @@ exporters kernel earlier x =
     (if is_some (of_kernel {M = Module} kernel x) then vmlinux ∷ [] else [])
     ++ map (λ p. p.path) (filter (λ p. is_some (of_one module_exports x p)) earlier)
 
--- The lines of a module on what is exported before it.
+-- The lines of a module on what these export before it: per export, in order.
 abbrev pub doubles_of : Kernel → List Module → Module → List Unbound
 doubles_of kernel earlier m =
     flat_map (λ e. map (λ path. Double e.name path m.path) (exporters kernel earlier e.name)) m.face.exports
 
--- The same of each module of a list, in order, with those before it.
-abbrev pub doubles_after : Kernel → List Module → List Module → List Unbound
-doubles_after kernel earlier [] = []
-doubles_after kernel earlier (m ∷ ms) =
-    doubles_of kernel earlier m ++ doubles_after kernel (earlier ++ m ∷ []) ms
+-- The double lines on the module at a place of a tree, and what is exported before it.
+abbrev pub doubles_at : Kernel → List Module → ℕ → List Unbound
+doubles_at kernel tree i = option_map_or (doubles_of kernel (take i tree)) (slice_get tree i) []
 
--- The double lines of a tree.
+-- The double lines of a tree: per module in tree order.
 abbrev pub doubles : Kernel → List Module → List Unbound
-doubles kernel tree = doubles_after kernel [] tree
+doubles kernel tree = flat_map (doubles_at kernel tree) (range_with_len 0 (length tree))
 
 -- All lines of a tree over a kernel: five kinds, one after the other.
 unfoldable pub unmet : List Module → Kernel → List Unbound

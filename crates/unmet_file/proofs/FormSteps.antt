@@ -1,13 +1,14 @@
 -- What a line states, by its form.
 use Rattle.std.proofs.Common.{◌≡◌, ℕ, Bool, true, false, List, Option, Some, None, refl, ap, ◌∙◌}
-use Rattle.std.specs.Prelude.{codes, option_map, if◌then◌else◌}
+use Rattle.std.specs.Prelude.{option_map, if◌then◌else◌}
 use Rattle.std.specs.Str.{bytes_eq}
 use Rattle.symbol_binding.specs.declared.unbound.Unbound.{Unbound}
 use Rattle.symbol_binding.specs.declared.unbound.Unbound.TheVariants as unbound
 use Rattle.unmet_file.specs.declared.line.Form.{Form}
 use Rattle.unmet_file.specs.declared.line.Form.TheVariants.{Missing, Provided, Double}
 use Rattle.unmet_file.specs.declared.line.Kind.TheVariants.{Gpl, Version, Namespace}
-use Rattle.unmet_file.specs.Line.{front, rest, two_words, three_words, unmet_line}
+use Rattle.unmet_file.specs.declared.kind.LineKind.TheVariants as kinds
+use Rattle.unmet_file.specs.Line.{first_word, front, rest, two_words, three_words, unmet_line}
 use Rattle.unmet_file.specs.Forms.{form_named, stated}
 
 -- what the words after the first state, by the form if there is one
@@ -18,8 +19,8 @@ stated_if (Some form) words = stated form words
 by_form : (text : List ℕ) → stated_if (form_named (front text)) (rest text) ≡ unmet_line text
 unfolding form_named unmet_line stated_if
 by_form text =
-    go (bytes_eq (front text) (codes "missing")) (bytes_eq (front text) (codes "gpl")) (bytes_eq (front text) (codes "version"))
-    (bytes_eq (front text) (codes "namespace")) (bytes_eq (front text) (codes "double"))
+    go (bytes_eq (front text) (first_word kinds.Missing)) (bytes_eq (front text) (first_word kinds.Gpl)) (bytes_eq (front text) (first_word kinds.Version))
+    (bytes_eq (front text) (first_word kinds.Namespace)) (bytes_eq (front text) (first_word kinds.Double))
   where
     go : (a b c d e : Bool) → stated_if (if a then Some Missing else if b then Some (Provided Gpl) else if c then Some (Provided Version) else if d then Some (Provided Namespace) else if e then Some Double else None) (rest text)
         ≡ (if a then option_map (λ w. unbound.Missing w.0 w.1) (two_words (rest text))

@@ -1,5 +1,5 @@
 -- A line's form, and what it states by its form. No public meaning rests on these definitions.
-use Rattle.std.specs.Prelude.{ℕ, List, codes, Option, Some, None, option_map, if◌then◌else◌}
+use Rattle.std.specs.Prelude.{ℕ, List, Option, Some, None, option_map, if◌then◌else◌}
 use Rattle.std.specs.Str.{bytes_eq}
 use Rattle.symbol_binding.specs.declared.unbound.Unbound.{Unbound}
 use Rattle.symbol_binding.specs.declared.unbound.Unbound.TheVariants as unbound
@@ -7,16 +7,17 @@ use Rattle.unmet_file.specs.declared.line.Form.{Form}
 use Rattle.unmet_file.specs.declared.line.Form.TheVariants.{Missing, Provided, Double}
 use Rattle.unmet_file.specs.declared.line.Kind.{Kind}
 use Rattle.unmet_file.specs.declared.line.Kind.TheVariants.{Gpl, Version, Namespace}
-use Rattle.unmet_file.specs.Line.{two_words, three_words}
+use Rattle.unmet_file.specs.declared.kind.LineKind.TheVariants as kinds
+use Rattle.unmet_file.specs.Line.{first_word, two_words, three_words}
 
 -- the form whose first word this is
 unfoldable pub form_named : List ℕ → Option Form
 form_named word =
-    if bytes_eq word (codes "missing") then Some Missing
-    else if bytes_eq word (codes "gpl") then Some (Provided Gpl)
-    else if bytes_eq word (codes "version") then Some (Provided Version)
-    else if bytes_eq word (codes "namespace") then Some (Provided Namespace)
-    else if bytes_eq word (codes "double") then Some Double
+    if bytes_eq word (first_word kinds.Missing) then Some Missing
+    else if bytes_eq word (first_word kinds.Gpl) then Some (Provided Gpl)
+    else if bytes_eq word (first_word kinds.Version) then Some (Provided Version)
+    else if bytes_eq word (first_word kinds.Namespace) then Some (Provided Namespace)
+    else if bytes_eq word (first_word kinds.Double) then Some Double
     else None
 
 -- what the words after the first state

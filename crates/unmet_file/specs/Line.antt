@@ -6,18 +6,32 @@ use Rattle.std.specs.Str.{bytes_eq}
 use Rattle.km_names.specs.Ascii.{is_graphic}
 use Rattle.symbol_binding.specs.declared.unbound.Unbound.{Unbound}
 use Rattle.symbol_binding.specs.declared.unbound.Unbound.TheVariants.{Missing, Gpl, Version, Namespace, Double}
+use Rattle.unmet_file.specs.declared.kind.LineKind.{LineKind}
+use Rattle.unmet_file.specs.declared.kind.LineKind.TheVariants as kinds
+
+-- The first word of a line of a kind. All who write, read or print such lines cite it.
+abbrev pub first_word : LineKind → List ℕ
+first_word kinds.Missing = codes "missing"
+first_word kinds.Gpl = codes "gpl"
+first_word kinds.Version = codes "version"
+first_word kinds.Namespace = codes "namespace"
+first_word kinds.Double = codes "double"
+
+-- Two words with a space between.
+abbrev pub two_text : List ℕ → List ℕ → List ℕ
+two_text first second = first ++ (codes " " ++ second)
 
 -- Three words with a space between.
 abbrev pub three_text : List ℕ → List ℕ → List ℕ → List ℕ
-three_text first second third = first ++ (codes " " ++ (second ++ (codes " " ++ third)))
+three_text first second third = two_text first (two_text second third)
 
 -- The text of a line, without its line end: its first word says what it states, and names follow.
 unfoldable pub line_text : Unbound → List ℕ
-line_text (Missing path symbol) = codes "missing " ++ (path ++ (codes " " ++ symbol))
-line_text (Gpl path symbol provider) = codes "gpl " ++ three_text path symbol provider
-line_text (Version path symbol provider) = codes "version " ++ three_text path symbol provider
-line_text (Namespace path symbol provider) = codes "namespace " ++ three_text path symbol provider
-line_text (Double symbol first second) = codes "double " ++ three_text symbol first second
+line_text (Missing path symbol) = two_text (first_word kinds.Missing) (two_text path symbol)
+line_text (Gpl path symbol provider) = two_text (first_word kinds.Gpl) (three_text path symbol provider)
+line_text (Version path symbol provider) = two_text (first_word kinds.Version) (three_text path symbol provider)
+line_text (Namespace path symbol provider) = two_text (first_word kinds.Namespace) (three_text path symbol provider)
+line_text (Double symbol first second) = two_text (first_word kinds.Double) (three_text symbol first second)
 
 -- The names in a line.
 abbrev pub names_in : Unbound → List (List ℕ)
@@ -51,9 +65,9 @@ three_words text =
 -- What a line states, if it is one: its first word, and the words after it.
 unfoldable pub unmet_line : List ℕ → Option Unbound
 unmet_line text =
-    if bytes_eq (front text) (codes "missing") then option_map (λ w. Missing w.0 w.1) (two_words (rest text))
-    else if bytes_eq (front text) (codes "gpl") then option_map (λ w. Gpl w.0 w.1 w.2) (three_words (rest text))
-    else if bytes_eq (front text) (codes "version") then option_map (λ w. Version w.0 w.1 w.2) (three_words (rest text))
-    else if bytes_eq (front text) (codes "namespace") then option_map (λ w. Namespace w.0 w.1 w.2) (three_words (rest text))
-    else if bytes_eq (front text) (codes "double") then option_map (λ w. Double w.0 w.1 w.2) (three_words (rest text))
+    if bytes_eq (front text) (first_word kinds.Missing) then option_map (λ w. Missing w.0 w.1) (two_words (rest text))
+    else if bytes_eq (front text) (first_word kinds.Gpl) then option_map (λ w. Gpl w.0 w.1 w.2) (three_words (rest text))
+    else if bytes_eq (front text) (first_word kinds.Version) then option_map (λ w. Version w.0 w.1 w.2) (three_words (rest text))
+    else if bytes_eq (front text) (first_word kinds.Namespace) then option_map (λ w. Namespace w.0 w.1 w.2) (three_words (rest text))
+    else if bytes_eq (front text) (first_word kinds.Double) then option_map (λ w. Double w.0 w.1 w.2) (three_words (rest text))
     else None

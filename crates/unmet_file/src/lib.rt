@@ -5,9 +5,11 @@
 //! on `symbol_binding`, which says what the lines are, and on `km_names` for lines and words.
 #![tactic(auto)]
 
+mod kind;
 mod laws;
 mod line;
 mod unmet;
 
+pub use kind::LineKind;
 pub use laws::{lines_are_read_back, texts_of_lines};
 pub use unmet::Unmet;

@@ -3,6 +3,7 @@ ghost use Rattle.std.specs.Prelude.{◌≡◌, IfOk, option_map};
 ghost use Rattle.unmet_file.specs.Line.{unmet_line, two_words as two_words_of, three_words as three_words_of};
 ghost use Rattle.unmet_file.specs.Forms.{form_named as form_of, missing_of, double_of, provided_of, stated as stated_by};
 
+use crate::LineKind;
 use km_names::{Name, PathText, is_graphic, split_at_byte};
 use std::alloc::{AllocError, Global};
 use symbol_binding::Unbound;
@@ -42,15 +43,15 @@ pub(crate) fn read_line(alloc: Global, line: &[u8]) -> Result<Option<Unbound>, A
 fn form_named(word: &[u8]) -> Option<Form>
     ensures { result ≡ form_of word.now }
 {
-    if word == b"missing".as_slice() {
+    if word == LineKind::Missing.word() {
         Some(Form::Missing)
-    } else if word == b"gpl".as_slice() {
+    } else if word == LineKind::Gpl.word() {
         Some(Form::Provided(Kind::Gpl))
-    } else if word == b"version".as_slice() {
+    } else if word == LineKind::Version.word() {
         Some(Form::Provided(Kind::Version))
-    } else if word == b"namespace".as_slice() {
+    } else if word == LineKind::Namespace.word() {
         Some(Form::Provided(Kind::Namespace))
-    } else if word == b"double".as_slice() {
+    } else if word == LineKind::Double.word() {
         Some(Form::Double)
     } else {
         None
