@@ -9,7 +9,8 @@ use Rattle.std.specs.List.{filter, flat_map, list_any}
 use Rattle.std.specs.Str.{bytes_eq}
 use Rattle.symbol_binding.specs.Symbols.{Export, Module, Kernel}
 use Rattle.symbol_binding.specs.Provider.{ByKernel, ByModule, Provided, of_kernel, of_one, module_exports}
-use Rattle.symbol_binding.specs.Unmet.{vmlinux, exporters, doubles_of, doubles_after, doubles}
+use Rattle.symbol_binding.specs.Unmet.{vmlinux, exporters, doubles_of, doubles}
+use Rattle.symbol_binding.proofs.Doubles.{doubles_after, doubles-are}
 use Rattle.symbol_binding.specs.declared.unbound.Unbound.{Unbound}
 use Rattle.symbol_binding.specs.declared.unbound.Unbound.TheVariants.{Double}
 use Rattle.module_facts.specs.declared.facts.Facts.{Facts}
@@ -246,6 +247,7 @@ module _ (tree : List Module) (kernel : Kernel) (kernel_apart : Apart kernel.exp
       ∙ ap (λ l. l ++ item_doubles (map (item_of tree) (map by_kernel kernel.exports)) (map (item_of tree) (flat_map by_module tree))) kernel-none
       ∙ ap (λ b. item_doubles b (map (item_of tree) (flat_map by_module tree))) (sym (append-nil (map (item_of tree) (map by_kernel kernel.exports))))
       ∙ after [] tree tt apart
+      ∙ sym (doubles-are kernel tree)
 
 -- exports whose names differ by their places
 any-map : {X : Type 0} (p : Export → Bool) (q : X → Export) (xs : List X) → list_any p (map q xs) ≡ list_any (λ x. p (q x)) xs

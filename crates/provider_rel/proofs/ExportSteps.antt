@@ -9,7 +9,7 @@ use Rattle.std.specs.Str.{bytes_eq}
 use Rattle.name_table.specs.NameTable.{Table, IsTableOf, place_of}
 use Rattle.provider_rel.specs.declared.kernel.KernelExport.{KernelExport}
 use Rattle.provider_rel.specs.MapLines.{MapSymbol}
-use Rattle.provider_rel.specs.KernelTable.{IsTable, AreFirst, first_of_each, with_export, with_addresses, export_name}
+use Rattle.provider_rel.specs.KernelTable.{IsTable, AreFirst, first_of_each, with_export, with_its_address, with_addresses, export_name}
 use Rattle.provider_rel.proofs.NameSteps.{table-any, bytes-refl, bytes-same, bytes-turn}
 
 -- an export of this name is among these
@@ -133,6 +133,20 @@ addresses-apart symbols es table = record {
       let inside : j < length es = omega (arith, length-addresses symbols es) in
       table.distinct i j d before inside (sym (addresses-names symbols es i d (omega arith)) ∙ same ∙ addresses-names symbols es j d inside);
 }
+
+-- an export more, at its address
+addresses-named : (symbols : List MapSymbol) (es : List KernelExport) (name : List ℕ) → has_name (with_addresses symbols es) name ≡ has_name es name
+addresses-named symbols [] name = refl
+addresses-named symbols (e ∷ es) name = ap (λ b. bytes_eq e.name name || b) (addresses-named symbols es name)
+
+pub with-addressed : (symbols : List MapSymbol) (es : List KernelExport) (e : KernelExport) → with_addresses symbols (with_export es e) ≡ with_export (with_addresses symbols es) (with_its_address symbols e)
+with-addressed symbols es e =
+    go (has_name es e.name)
+    ∙ ap (λ b. cond b (with_addresses symbols es) (with_addresses symbols es ++ with_its_address symbols e ∷ [])) (sym (addresses-named symbols es e.name))
+  where
+    go : (b : Bool) → with_addresses symbols (cond b es (es ++ e ∷ [])) ≡ cond b (with_addresses symbols es) (with_addresses symbols es ++ with_its_address symbols e ∷ [])
+    go true = refl
+    go false = map-append (with_its_address symbols) es (e ∷ [])
 
 -- where a table has no place for a name, it is added
 pub added : (names : Table) (es : List KernelExport) (e : KernelExport) (name : List ℕ) (place : Option ℕ) → AreFirst names es → place ≡ place_of names name → name ≡ e.name → is_some place ≡ false → has_name es e.name ≡ false

@@ -5,7 +5,7 @@ pub mod ExportSteps
 pub mod SymbolSteps
 pub mod ItemSteps
 pub mod BindingSteps
-pub mod RowSteps
+pub mod LinkSteps
 pub mod ProviderLaw
 pub mod UseLaw
 pub mod DoubleLaw

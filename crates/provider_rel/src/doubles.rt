@@ -1,9 +1,11 @@
 // The lines of modules.unmet on names that more than one exports.
-ghost use Rattle.std.specs.Prelude.{◌≡◌, ◌≢◌, ◌<◌, ◌^◌, ◌++◌, ◌∷◌, [], ℕ, length, map, All, Some, OnOk, IfOk, slice_index_or};
+ghost use Rattle.std.specs.Prelude.{◌≡◌, ◌<◌, ◌^◌, ◌+◌, ◌++◌, ◌∷◌, [], ℕ, List, length, map, take, All, Some, OnOk, IfOk, slice_index_or};
+ghost use Rattle.std.proofs.Common.{replicate};
 ghost use Rattle.name_table.specs.NameTable.{IsTableOf, place_of};
+ghost use Rattle.symbol_binding.specs.declared.unbound.Unbound.{Unbound as Line};
 ghost use Rattle.symbol_binding.specs.declared.unbound.Unbound.TheVariants.{Double};
 ghost use Rattle.provider_rel.specs.Items.{item_name, item_doubles};
-ghost use Rattle.provider_rel.specs.Sharing.{row_at};
+ghost use Rattle.provider_rel.specs.Sharing.{AreLinked, IsChain, last_of};
 
 use crate::items::ExportItem;
 use km_names::{Name, PathText};
@@ -25,27 +27,11 @@ fn first_at(names: &OwnedNameTable, items: &[ExportItem], k: usize, item: &Expor
     }
 }
 
-/// A number of empty lists.
-fn empty_rows(alloc: Global, count: usize) -> Result<Vec<Vec<u32>>, AllocError>
-    ensures long { IfOk result (λ rows. length rows.items ≡ count) }
-    ensures empty { IfOk result (λ rows. (p : ℕ) → row_at rows.items p ≡ []) }
+/// A number of zeros.
+fn zeros(alloc: Global, count: usize) -> Result<Vec<u32>, AllocError>
+    ensures { IfOk result (λ list. list.items ≡ replicate count 0) }
 {
-    let mut rows = Vec::new(alloc);
-    for _ in 0..count {
-        rows.push(Vec::new(alloc))?;
-    }
-    Ok(rows)
-}
-
-/// Adds a place to the list at another.
-fn add_at(rows: &mut Vec<Vec<u32>>, place: usize, k: u32) -> Result<(), AllocError>
-    requires { place < length rows.old.items }
-    ensures long { OnOk result (length rows.new.items ≡ length rows.old.items) }
-    ensures here { OnOk result (row_at rows.new.items place ≡ row_at rows.old.items place ++ k ∷ []) }
-    ensures others { OnOk result ((p : ℕ) → p ≢ place → row_at rows.new.items p ≡ row_at rows.old.items p) }
-{
-    rows[place].push(k)?;
-    Ok(())
+    vec![in alloc; 0; count]
 }
 
 /// How many double lines there are: of each export as many as there are exports of its name before it.
@@ -58,12 +44,12 @@ pub(crate) fn count_doubles(
     requires few { length items.now < 2 ^ 32 }
     ensures count { IfOk result (λ count. count ≡ length (item_doubles [] items.now)) }
 {
-    let mut rows = empty_rows(alloc, items.len())?;
+    let mut counts = zeros(alloc, items.len())?;
     let mut count = 0;
     for k in 0..items.len() {
         let place = first_at(names, items, k, &items[k]);
-        count += rows[place].len() as u64;
-        add_at(&mut rows, place, k as u32)?;
+        count += u64::from(counts[place]);
+        counts[place] += 1;
     }
     Ok(count)
 }
@@ -79,19 +65,56 @@ fn double(alloc: Global, before: &ExportItem, item: &ExportItem) -> Result<Unbou
     })
 }
 
-/// Adds the double lines of an export with those at some places.
-fn push_row(
+/// Adds the double lines of an export with the one at a place, and with those after that. What comes last.
+fn push_chain(
     alloc: Global,
     lines: &mut Obstacles,
     items: &[ExportItem],
-    row: &[u32],
+    next: &[u32],
+    from: usize,
     item: &ExportItem,
-) -> Result<(), AllocError>
-    requires { All (λ j. j < length items.now) row.now }
-    ensures { OnOk result (lines.new ≡ lines.old ++ map (λ j. Double item.now.export.name (slice_index_or items.now j item.now).path item.now.path) row.now) }
+) -> Result<usize, AllocError>
+    requires long { length next.now ≡ length items.now }
+    requires inside { All (λ j. j < length items.now) next.now }
+    requires from { from < length items.now }
+    ensures within { IfOk result (λ last. last < length items.now) }
+    ensures last { IfOk result (λ last. (js : List ℕ) → IsChain next.now from js → last ≡ last_of from js) }
+    ensures lines { OnOk result ((js : List ℕ) → IsChain next.now from js → lines.new
+        ≡ lines.old ++ map (λ j. Double item.now.export.name (slice_index_or items.now j item.now).path item.now.path) (from ∷ js)) }
 {
-    for j in row {
-        lines.push(double(alloc, &items[*j as usize], item)?)?;
+    let mut at = from;
+    'chain: loop {
+        lines.push(double(alloc, &items[at], item)?)?;
+        let after = next[at] as usize;
+        if after <= at {
+            return Ok(at);
+        }
+        at = after;
+    }
+}
+
+/// Adds the double lines of the export at a place, and links it behind those of its name.
+fn push_item(
+    alloc: Global,
+    lines: &mut Obstacles,
+    next: &mut Vec<u32>,
+    names: &OwnedNameTable,
+    items: &[ExportItem],
+    k: usize,
+) -> Result<(), AllocError>
+    requires names { IsTableOf names.now (map item_name items.now) }
+    requires few { length items.now < 2 ^ 32 }
+    requires place { k < length items.now }
+    requires linked { AreLinked items.now names.now k next.old.items }
+    ensures linked { OnOk result (AreLinked items.now names.now (k + 1) next.new.items) }
+    ensures lines { OnOk result ((before : List Line) → lines.old ≡ before ++ item_doubles [] (take k items.now)
+        → lines.new ≡ before ++ item_doubles [] (take (k + 1) items.now)) }
+{
+    let item = &items[k];
+    let first = first_at(names, items, k, item);
+    if first < k {
+        let last = push_chain(alloc, lines, items, next.as_slice(), first, item)?;
+        next[last] = k as u32;
     }
     Ok(())
 }
@@ -107,12 +130,9 @@ pub(crate) fn push_doubles(
     requires few { length items.now < 2 ^ 32 }
     ensures { OnOk result (lines.new ≡ lines.old ++ item_doubles [] items.now) }
 {
-    let mut rows = empty_rows(alloc, items.len())?;
+    let mut next = zeros(alloc, items.len())?;
     for k in 0..items.len() {
-        let item = &items[k];
-        let place = first_at(names, items, k, item);
-        push_row(alloc, lines, items, &rows[place], item)?;
-        add_at(&mut rows, place, k as u32)?;
+        push_item(alloc, lines, &mut next, names, items, k)?;
     }
     Ok(())
 }

@@ -4,7 +4,7 @@ ghost use Rattle.std.specs.List.{filter_map};
 ghost use Rattle.km_names.specs.Limit.{file_limit};
 ghost use Rattle.provider_rel.specs.KernelTable.{IsTable, AreFirst, first_of_each, with_export, with_its_address, with_addresses, exported_name as name_of_entry, export_of_entry, stated_export, export_of_symbol, export_of_line};
 
-use crate::map::{MapLine, Symbols};
+use crate::map::Symbols;
 use crate::symvers::SymversLine;
 use crate::{KernelExport, KernelExports};
 use km_names::Name;
@@ -42,33 +42,39 @@ fn exported_name(name: &[u8]) -> Option<&[u8]>
     }
 }
 
-/// The export of an entry of this name.
-fn entry_export(alloc: Global, name: &[u8]) -> Result<KernelExport, AllocError>
-    ensures { IfOk result (λ export. export ≡ export_of_entry name.now) }
+/// The export of an entry of this name, at the address that symbols state for it.
+fn entry_export(alloc: Global, name: &[u8], symbols: &Symbols) -> Result<KernelExport, AllocError>
+    ensures { IfOk result (λ export. export ≡ with_its_address symbols.now (export_of_entry name.now)) }
 {
     Ok(KernelExport {
         name: Name::from_slice(alloc, name)?,
         crc: None,
-        address: None,
+        address: symbols.address(name),
         gpl: false,
         space: Name::new(alloc),
     })
 }
 
-/// The exports that symbols of a map state, of each name the first.
+/// The exports that symbols of a map state, of each name the first, at their addresses.
 pub(crate) fn exports_of_symbols(
     alloc: Global,
-    symbols: &[MapLine],
+    symbols: &Symbols,
 ) -> Result<KernelExports, AllocError>
     requires { length symbols.now ≤ file_limit }
-    ensures list { IfOk result (λ list. list ≡ first_of_each (filter_map export_of_symbol symbols.now)) }
+    ensures list { IfOk result (λ list. list ≡ with_addresses symbols.now (first_of_each (filter_map export_of_symbol symbols.now))) }
     ensures table { IfOk result (λ list. IsTable list) }
 {
     let mut names = NameTable::new(alloc);
     let mut list = KernelExports::new(alloc);
-    for symbol in symbols {
+    let lines = symbols.lines();
+    for symbol in lines {
         if let Some(name) = exported_name(symbol.name()) {
-            add_first(&mut names, &mut list, name, entry_export(alloc, name)?)?;
+            add_first(
+                &mut names,
+                &mut list,
+                name,
+                entry_export(alloc, name, symbols)?,
+            )?;
         }
     }
     Ok(list)

@@ -67,8 +67,7 @@ impl Kernel {
         ensures err { IfErr result (λ fault. (fault ≡ KernelFault.Memory) ⊎ (exports_of_map bytes.now ≡ Err fault)) }
     {
         let symbols = Symbols::read(alloc, bytes)?;
-        let plain = exports_of_symbols(alloc, symbols.lines())?;
-        let exports = with_all_addresses(alloc, &plain, &symbols)?;
+        let exports = exports_of_symbols(alloc, &symbols)?;
         Ok(Kernel {
             known: true,
             exports,

@@ -1,4 +1,4 @@
-use Rattle.provider_rel.proofs.RowSteps.{first-there}
+use Rattle.provider_rel.proofs.LinkSteps.{first-there}
 use Rattle.provider_rel.proofs.doubles.first_at.Goals as goal
 
 pub returns-in-None-clause-first : goal.returns-in-None-clause-first
