@@ -1,11 +1,13 @@
 -- Dependency lines, and the lines of what modules state.
-use Rattle.std.proofs.Common.{◌≡◌, refl, sym, ap, ◌∙◌, subst, ℕ, zero, suc, ◌+◌, ◌<◌, Bool, true, false, cond, List, [], ◌∷◌, ◌++◌, length, map, drop, get_or, flat_map, reverse, filter, codes, All, Option, Some, None, is_some, append_assoc, arith}
-use Rattle.std.specs.List.{filter_map, enumerate_from}
+use Rattle.std.proofs.Common.{◌≡◌, refl, sym, ap, ◌∙◌, subst, ℕ, zero, suc, ◌+◌, ◌<◌, Bool, true, false, cond, List, [], ◌∷◌, ◌++◌, length, map, drop, get_or, flat_map, reverse, filter, codes, All, Option, Some, None, is_some, option_map, append_assoc, arith}
+use Rattle.std.specs.List.{cons_option, filter_map, enumerate_from}
 use Rattle.std.specs.Option.{IfSome}
+use Rattle.std.specs.Global.{Vec}
 use Rattle.std.proofs.lemmas.List.{reverse-append, drop_more, map-append, get_or-map, length-map}
 use Rattle.std.proofs.lemmas.List.Elements.{All-nil, All-cons, All-append, All-head, All-tail, All-map}
 use Rattle.std.proofs.lemmas.List.Folds.{flat_map-map}
 use Rattle.std.proofs.lemmas.Grind.{flat_map-append}
+use Rattle.std.proofs.lemmas.Simd.{map-map}
 use Rattle.std.proofs.lemmas.List.{append-nil}
 use Rattle.km_names.specs.declared.conf.TreeIndex.{TreeIndex}
 use Rattle.km_names.specs.Ascii.{is_graphic}
@@ -21,9 +23,10 @@ use Rattle.depmod_core.specs.Lines.{ended, lines_text}
 use Rattle.depmod_core.specs.Text.{with_piece}
 use Rattle.depmod_core.specs.Dependencies.{path_at, line_of}
 use Rattle.depmod_core.specs.Maps.{map_of}
-use Rattle.depmod_core.specs.Stated.{is_usable_alias, symbols_of, alias_text, softdep_text, symbols_text, alias_map, symbols_map, symbol_values}
-use Rattle.depmod_core.specs.Kinds.{heading, key_of, texts_of, text_of, map_by, map_for, values_by}
+use Rattle.depmod_core.specs.Stated.{is_usable_alias, aliases_of, symbols_of, alias_values, alias_text, softdep_text, symbols_text, alias_map, symbols_map, symbol_values}
+use Rattle.depmod_core.specs.Kinds.{heading, key_of, statement, statements, texts_of, text_of, map_by, map_for, values_with, values_by}
 use Rattle.depmod_core.specs.Kinds.{line_of as stated_line}
+use Rattle.depmod_core.specs.AllStated.{AreStated}
 use Rattle.depmod_core.proofs.TextSteps.{with_piece-append}
 use Rattle.depmod_core.proofs.KeySteps.{both, graphic-text, key-of, characters}
 use Rattle.depmod_core.proofs.AliasSteps.{normal-key}
@@ -118,16 +121,27 @@ stated-keys Symbol f good =
     All-map (λ (symbol : List ℕ). IsKey (codes "symbol:" ++ symbol)) (λ (e : Export). e.name) f.exports
     (λ k d inside. key-of (codes "symbol:" ++ (get_or f.exports k d).name) (characters (get_or f.exports k d).name (good.exports k d inside)))
 
--- the same of the list as it is kept
-pub seen-keys : {X : Type 0} (see : X → List ℕ) (kind : Kind) (f : Facts) (xs : List X) → map see xs ≡ texts_of kind f → IsTreeModule f → All (λ (x : X). IfSome (key_of kind (see x)) IsKey) xs
-seen-keys see kind f xs is good k d inside =
-    let P = λ (text : List ℕ). IfSome (key_of kind text) IsKey in
-    subst P (get_or-map see xs k d (see d) inside)
-    (subst (All P) (sym is) (stated-keys kind f good) k (see d) (omega (arith, ap length is, length-map xs see)))
+-- the same of texts with their keys
+pub keys-good : (kind : Kind) (f : Facts) → IsTreeModule f → All (λ (s : List ℕ × Option (List ℕ)). IfSome s.1 IsKey) (statements kind f)
+keys-good kind f good = All-map (λ (s : List ℕ × Option (List ℕ)). IfSome s.1 IsKey) (statement kind) (texts_of kind f) (stated-keys kind f good)
 
--- a key that was made of what is stated
-pub made-key : (o : Option (List ℕ)) (key : List ℕ) → o ≡ Some key → IfSome o IsKey → IsKey key
-made-key o key is good = subst (λ p. IfSome p IsKey) is good
+-- lists that are seen as lists of what is at their places
+seen-at : {X Y Z : Type 0} (see : X → Z) (f : Y → Z) (xs : List X) (ys : List Y) (i : ℕ) (x : X) (y : Y) → map see xs ≡ map f ys → i < length xs → i < length ys → x ≡ get_or xs i x → y ≡ get_or ys i y → see x ≡ f y
+seen-at see f xs ys i x y same within inside is other =
+    ap see is ∙ sym (get_or-map see xs i x (see x) within) ∙ ap (λ l. get_or l i (see x)) same ∙ get_or-map f ys i y (see x) inside ∙ ap f (sym other)
+
+-- there is a list for each module
+pub stated-long : (kind : Kind) (tree : List Facts) (all : List (Vec (List ℕ × Option (List ℕ)))) → AreStated kind tree all → length all ≡ length tree
+stated-long kind tree all are =
+    let see = λ (v : Vec (List ℕ × Option (List ℕ))). v.items in
+    omega (arith, ap length are, length-map all see, length-map tree (statements kind))
+
+-- what the module at a place states
+pub stated-at : (kind : Kind) (tree : List Facts) (all : List (Vec (List ℕ × Option (List ℕ)))) (i : ℕ) (v : Vec (List ℕ × Option (List ℕ))) (f : Facts) → AreStated kind tree all → i < length tree → v ≡ get_or all i v → f ≡ get_or tree i f → v.items ≡ statements kind f
+stated-at kind tree all i v f are within is at =
+    let see = λ (v : Vec (List ℕ × Option (List ℕ))). v.items in
+    let inside : i < length all = omega (arith, within, stated-long kind tree all are) in
+    seen-at see (statements kind) all tree i v f are inside within is at
 
 -- the texts of lists of lines, one after the other
 pub text-of-lists : {X : Type 0} (f : X → List (List ℕ)) (xs : List X) → flat_map (λ x. lines_text (f x)) xs ≡ lines_text (flat_map f xs)
@@ -143,6 +157,13 @@ tree-module tree items i f same inside is good =
 -- The lines of a module.
 abbrev pub lines_by : Kind → Facts → List (List ℕ)
 lines_by kind f = map (stated_line kind f.name) (texts_of kind f)
+
+-- the same of texts with their keys
+pub lines-seen : (kind : Kind) (f : Facts) (name : List ℕ) (all : List (List ℕ × Option (List ℕ))) → name ≡ f.name → all ≡ statements kind f → map (λ (s : List ℕ × Option (List ℕ)). stated_line kind name s.0) all ≡ lines_by kind f
+lines-seen kind f name all named are =
+    ap (λ n. map (λ (s : List ℕ × Option (List ℕ)). stated_line kind n s.0) all) named
+    ∙ ap (map (λ (s : List ℕ × Option (List ℕ)). stated_line kind f.name s.0)) are
+    ∙ map-map (λ (s : List ℕ × Option (List ℕ)). stated_line kind f.name s.0) (statement kind) (texts_of kind f)
 
 -- The lines of the file, put one after the other.
 abbrev pub text_by : Kind → List Facts → List ℕ
@@ -163,9 +184,15 @@ same-each : {X Y : Type 0} (f g : X → List Y) → ((x : X) → f x ≡ g x) �
 same-each f g same [] = refl
 same-each f g same (x ∷ xs) = λ i. same x i ++ same-each f g same xs i
 
+-- values by texts with their keys
+with-keys : (kind : Kind) (place : ℕ) (name : List ℕ) (texts : List (List ℕ)) → values_with place name (map (statement kind) texts) ≡ filter_map (λ text. option_map (λ key. (key, (place, name))) (key_of kind text)) texts
+with-keys kind place name [] = refl
+with-keys kind place name (t ∷ ts) = ap (λ l. cons_option (option_map (λ key. (key, (place, name))) (key_of kind t)) l) (with-keys kind place name ts)
+
 pub kind-map : (kind : Kind) (tree : List Facts) → map_by kind tree ≡ map_for kind tree
 unfolding alias_map symbols_map
-kind-map Alias tree = refl
+kind-map Alias tree =
+    ap map_of (same-each (values_by Alias) alias_values (λ m. with-keys Alias m.0 m.1.name (aliases_of m.1)) (enumerate_from 0 tree))
 kind-map Softdep tree = refl
 kind-map Symbol tree =
-    ap map_of (same-each (values_by Symbol) symbol_values (λ m. all-kept (λ symbol. (codes "symbol:" ++ symbol, (m.0, m.1.name))) (symbols_of m.1)) (enumerate_from 0 tree))
+    ap map_of (same-each (values_by Symbol) symbol_values (λ m. with-keys Symbol m.0 m.1.name (symbols_of m.1) ∙ all-kept (λ symbol. (codes "symbol:" ++ symbol, (m.0, m.1.name))) (symbols_of m.1)) (enumerate_from 0 tree))

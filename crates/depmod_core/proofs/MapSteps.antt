@@ -1,6 +1,6 @@
 -- Values that are put into maps.
 use Rattle.std.proofs.Common.{◌≡◌, sym, ap, ◌∙◌, ℕ, zero, suc, ◌+◌, ◌<◌, List, [], ◌∷◌, ◌++◌, length, map, take, get_or, Option, Some, flat_map, zero-add, arith}
-use Rattle.std.specs.List.{filter_map, slice_get, zip, enumerate_from}
+use Rattle.std.specs.List.{cons_option, filter_map, slice_get, zip, enumerate_from}
 use Rattle.std.proofs.lemmas.List.{take_more, map-append}
 use Rattle.std.proofs.lemmas.List.Sums.{fold-append}
 use Rattle.std.proofs.lemmas.List.Elements.{filter_map-append}
@@ -37,12 +37,11 @@ values-found f start m next xs i x found before after =
     more-values start m next (flat_map f (take i xs)) (f x) (flat_map f (take (i + 1) xs)) before after
     (ap (λ values. flat_map f (take i xs) ++ values) (sym (append-nil (f x))) ∙ sym (flat_map-append f (take i xs) (x ∷ [])) ∙ ap (flat_map f) (sym (taken xs i x found)))
 
--- one for each item that has one, by what is seen of the item
-pub value-kept : {X : Type 0} (f : X → List ℕ) (h : List ℕ → Option KeyValue) (start m next : KeyValues) (xs : List X) (i : ℕ) (d : X) → i < length xs → m ≡ with_values start (filter_map h (map f (take i xs))) → next ≡ with_values m (filter_map h (f (get_or xs i d) ∷ [])) → next ≡ with_values start (filter_map h (map f (take (i + 1) xs)))
-value-kept f h start m next xs i d inside before after =
-    let x = get_or xs i d in
-    more-values start m next (filter_map h (map f (take i xs))) (filter_map h (f x ∷ [])) (filter_map h (map f (take (i + 1) xs))) before after
-    (sym (filter_map-append h (map f (take i xs)) (f x ∷ [])) ∙ ap (filter_map h) (sym (map-append f (take i xs) (x ∷ [])) ∙ ap (map f) (sym (take_more xs i d inside))))
+-- one for each item that has one
+pub value-kept : {X : Type 0} (h : X → Option KeyValue) (start m next : KeyValues) (xs : List X) (i : ℕ) (x : X) → i < length xs → x ≡ get_or xs i x → m ≡ with_values start (filter_map h (take i xs)) → next ≡ with_values m (cons_option (h x) []) → next ≡ with_values start (filter_map h (take (i + 1) xs))
+value-kept h start m next xs i x inside is before after =
+    more-values start m next (filter_map h (take i xs)) (cons_option (h x) []) (filter_map h (take (i + 1) xs)) before after
+    (ap (λ y. filter_map h (take i xs) ++ cons_option (h y) []) is ∙ sym (filter_map-append h (take i xs) (get_or xs i x ∷ [])) ∙ ap (filter_map h) (sym (take_more xs i x inside)))
 
 -- the item at a place of two lists side by side, and with its place
 pub zipped : {X Y : Type 0} (xs : List X) (ys : List Y) (i : ℕ) (x : X) (y : Y) → slice_get xs i ≡ Some x → slice_get ys i ≡ Some y → slice_get (zip xs ys) i ≡ Some (x, y)

@@ -1,5 +1,5 @@
 -- The lines of modules.unmet of a tree have visible words, so that they are read back.
-use Rattle.std.proofs.Common.{◌≡◌, refl, ap, ◌∙◌, ℕ, Bool, true, false, ◌&&◌, not, cond, List, [], ◌∷◌, ◌++◌, map, flat_map, filter, find, All, Option, Some, None, option_map, is_some, Ok}
+use Rattle.std.proofs.Common.{◌≡◌, refl, sym, ap, subst, ◌∙◌, ℕ, Bool, true, false, ◌&&◌, not, cond, List, [], ◌∷◌, ◌++◌, map, flat_map, filter, find, All, Option, Some, None, option_map, is_some, Ok}
 use Rattle.std.specs.Option.{IfSome}
 use Rattle.std.specs.Str.{bytes_eq}
 use Rattle.std.proofs.lemmas.List.Elements.{All-nil, All-cons, All-append, All-head, All-tail, All-map, All-push}
@@ -9,7 +9,8 @@ use Rattle.module_facts.specs.declared.facts.Facts.{Facts}
 use Rattle.symbol_binding.specs.Symbols.{Export, Need, Face, Module, Kernel}
 use Rattle.symbol_binding.specs.Provider.{ByKernel, ByModule, Provided, export_under, of_kernel, of_first, of_one, of_unknown, module_exports, provider}
 use Rattle.symbol_binding.specs.Needs.{NeedTest, is_missing, is_hidden, is_other_version, is_barred}
-use Rattle.symbol_binding.specs.Unmet.{vmlinux, owner_path, provider_path, lines_of, lines, exporters, doubles_of, doubles_after, doubles, unmet}
+use Rattle.symbol_binding.specs.Unmet.{vmlinux, owner_path, provider_path, lines_of, lines, exporters, doubles_of, doubles, unmet}
+use Rattle.symbol_binding.proofs.Doubles.{doubles_after, doubles-are}
 use Rattle.symbol_binding.specs.declared.unbound.Unbound.{Unbound}
 use Rattle.symbol_binding.specs.declared.unbound.Unbound.TheVariants.{Missing, Gpl, Version, Namespace, Double}
 use Rattle.provider_rel.specs.Faces.{module_of, modules_of, export_of_facts, need_of_facts}
@@ -196,7 +197,7 @@ unmet-lines tree kernel all =
     (provided is_hidden Gpl hidden-never gpl-line))
     (provided is_other_version Version version-never version-line))
     (provided is_barred Namespace barred-never namespace-line))
-    (doubles-after kernel [] tree (All-nil IsWorded) all)
+    (subst (All IsLine) (sym (doubles-are kernel tree)) (doubles-after kernel [] tree (All-nil IsWorded) all))
 
 -- what is written of a tree is read back
 pub unmet-back : (tree : List Facts) (kernel : Kernel) → IsTree tree → (path : List ℕ) → unmet_of path (file_text (unmet (modules_of tree) kernel)) ≡ Ok (unmet (modules_of tree) kernel)

@@ -6,4 +6,5 @@ pub mod BuiltIn
 pub mod Files
 pub mod Text
 pub mod Kinds
+pub mod AllStated
 pub mod Worked

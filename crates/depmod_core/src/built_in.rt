@@ -13,7 +13,7 @@ use km_names::{Names, PathText, first_line, is_graphic, module_name};
 use name_table::NameSet;
 use std::alloc::{AllocError, Global};
 
-/// The names of the modules whose paths are listed that are words of visible characters.
+/// Returns the names of the listed modules whose names are words of visible characters.
 fn listed_names(alloc: Global, builtin: &[u8]) -> Result<Names, AllocError>
     ensures { IfOk result (λ names. names ≡ filter is_word (map name_of (lines_of builtin.now))) }
 {
@@ -30,7 +30,7 @@ fn listed_names(alloc: Global, builtin: &[u8]) -> Result<Names, AllocError>
     Ok(names)
 }
 
-/// Names without repeats.
+/// Returns names without repeats.
 fn distinct<'a>(alloc: Global, names: &'a Names) -> Result<NameSet<'a>, AllocError>
     ensures { IfOk result (λ set. set ≡ first_seen names.now) }
 {
@@ -41,7 +41,7 @@ fn distinct<'a>(alloc: Global, names: &'a Names) -> Result<NameSet<'a>, AllocErr
     Ok(set)
 }
 
-/// The map of some names, each with an empty text.
+/// Returns the map of some names, each with an empty text.
 fn map_of_names(alloc: Global, names: &NameSet) -> Result<KeyMap, AllocError>
     requires { IsTrue (list_all is_word names.now) }
     ensures { IfOk result (λ m. m ≡ map_of (map (λ name. (name, (0, []))) names.now)) }
@@ -55,7 +55,8 @@ fn map_of_names(alloc: Global, names: &NameSet) -> Result<KeyMap, AllocError>
     Ok(map)
 }
 
-/// The map of modules.builtin.bin: the name of each module whose path a modules.builtin lists, with an empty text.
+/// Returns the map of modules.builtin.bin: the name of each module whose path a modules.builtin
+/// lists, with an empty text.
 #[tactic(auto, unfolding(crate::specs::BuiltIn::built_in_map, crate::specs::BuiltIn::built_in_names))]
 pub(crate) fn built_in_map(alloc: Global, builtin: &[u8]) -> Result<KeyMap, AllocError>
     ensures { IfOk result (λ map. map ≡ map_of_built_in builtin.now) }

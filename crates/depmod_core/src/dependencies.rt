@@ -1,4 +1,4 @@
-// On what the modules of a tree depend.
+// What the modules of a tree depend on.
 ghost use Rattle.std.specs.Prelude.{◌≡◌, ◌≤◌, ◌⊎◌, Some, None, OnOk, IfOk, IfErr, length};
 ghost use Rattle.provider_rel.specs.Tree.{IsTree};
 ghost use Rattle.provider_rel.specs.Seen.{closures_by, places_of};
@@ -14,7 +14,7 @@ use module_facts::Facts;
 use provider_rel::{Order, Relation, TreeFacts};
 use std::alloc::{AllocError, Global};
 
-/// The path of the module at a place of a tree.
+/// Returns the path of the module at a place of a tree.
 fn path_at<'a>(tree: &'a TreeFacts, place: &TreeIndex) -> &'a [u8]
     ensures { result.now ≡ path_of tree.now place.now.0 }
 {
@@ -56,8 +56,8 @@ fn put_lines(text: &mut Text, relation: &Relation, tree: &TreeFacts) -> Result<(
     Ok(())
 }
 
-/// The text of modules.dep: for each module its path, and the paths of the modules on which it depends, from the last to
-/// the first. modules.dep(5).
+/// Returns the text of modules.dep. For each module it has its path, and the paths of the modules
+/// on which it depends, from the last to the first. modules.dep(5).
 pub(crate) fn dep_text(
     alloc: Global,
     relation: &Relation,
@@ -77,7 +77,7 @@ pub(crate) fn dep_text(
     Ok(text.into_bytes(alloc))
 }
 
-/// The dependency line of a module.
+/// Returns the dependency line of a module.
 fn line(alloc: Global, tree: &TreeFacts, facts: &Facts, order: &Order) -> Result<Blob, AllocError>
     ensures { IfOk result (λ bytes. bytes ≡ line_of tree.now (facts.now, places_of order.now)) }
 {
@@ -86,7 +86,8 @@ fn line(alloc: Global, tree: &TreeFacts, facts: &Facts, order: &Order) -> Result
     Ok(text.into_bytes(alloc))
 }
 
-/// The map of modules.dep.bin: from the name of each module to its dependency line, the priority its place in the tree.
+/// Returns the map of modules.dep.bin, from the name of each module to its dependency line. The
+/// priority is the module's place in the tree.
 pub(crate) fn dep_map(
     alloc: Global,
     relation: &Relation,

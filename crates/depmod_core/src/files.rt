@@ -4,12 +4,13 @@ ghost use Rattle.provider_rel.specs.Faces.{modules_of};
 ghost use Rattle.provider_rel.specs.Seen.{IsRelation, closures_by, obstacles_by};
 ghost use Rattle.provider_rel.specs.Tree.{IsTree};
 ghost use Rattle.depmod_core.specs.Files.{content, files_by, size_fault, outputs_of, IsRelationOf, StandFor};
+ghost use Rattle.depmod_core.specs.AllStated.{AreAllStated};
 ghost use Rattle.depmod_core.specs.Kinds.{Stands};
 
 use crate::built_in::built_in_map;
 use crate::dependencies::{dep_map, dep_text};
 use crate::index::index;
-use crate::stated::{Kind, stated_map, stated_text};
+use crate::stated::{AllStated, Kind, stated_map, stated_text};
 use crate::unmet::unmet_text;
 use crate::{OutputFault, OutputFile};
 use km_names::Blob;
@@ -35,12 +36,12 @@ pub struct OutputFiles {
     pub symbols_bin: Blob,
     /// modules.builtin.bin: the names of the modules that are built into the kernel.
     pub builtin_bin: Blob,
-    /// modules.unmet: what stands in the way of loading modules.
+    /// modules.unmet: the obstacles to loading modules.
     pub unmet: Blob,
 }
 
 impl OutputFiles {
-    /// The bytes of one of the files.
+    /// Returns the bytes of one of the files.
     pub fn content(&self, file: OutputFile) -> &[u8]
         ensures { result.now ≡ content self.now file }
     {
@@ -58,16 +59,18 @@ impl OutputFiles {
     }
 }
 
-/// The bytes of one of the files, which are made only where they aren't too many.
+/// Makes the bytes of one of the files, unless they are too many.
 #[tactic(auto, unfolding(crate::specs::Files::files_by))]
 fn make(
     alloc: Global,
     relation: &Relation,
     tree: &TreeFacts,
+    all: &AllStated<'_>,
     builtin: &[u8],
     file: OutputFile,
 ) -> Result<Blob, OutputFault>
     requires tree { IsTree tree.now }
+    requires all { AreAllStated tree.now all.now }
     requires long { length (closures_by relation.now) ≡ length tree.now }
     ensures ok { IfOk result (λ bytes. bytes ≡ content (files_by tree.now (closures_by relation.now) (obstacles_by relation.now) builtin.now) file) }
     ensures passed { OnOk result (size_fault file (content (files_by tree.now (closures_by relation.now) (obstacles_by relation.now) builtin.now) file) ≡ None) }
@@ -78,25 +81,25 @@ fn make(
     match file {
         OutputFile::Dep => dep_text(alloc, relation, tree),
         OutputFile::DepBin => index(alloc, file, &dep_map(alloc, relation, tree)?),
-        OutputFile::Alias => stated_text(alloc, file, Kind::Alias, tree),
-        OutputFile::AliasBin => index(alloc, file, &stated_map(alloc, Kind::Alias, tree)?),
-        OutputFile::Softdep => stated_text(alloc, file, Kind::Softdep, tree),
-        OutputFile::Symbols => stated_text(alloc, file, Kind::Symbol, tree),
-        OutputFile::SymbolsBin => index(alloc, file, &stated_map(alloc, Kind::Symbol, tree)?),
+        OutputFile::Alias => stated_text(alloc, file, Kind::Alias, tree, all),
+        OutputFile::AliasBin => index(alloc, file, &stated_map(alloc, Kind::Alias, tree, all)?),
+        OutputFile::Softdep => stated_text(alloc, file, Kind::Softdep, tree, all),
+        OutputFile::Symbols => stated_text(alloc, file, Kind::Symbol, tree, all),
+        OutputFile::SymbolsBin => index(alloc, file, &stated_map(alloc, Kind::Symbol, tree, all)?),
         OutputFile::BuiltinBin => index(alloc, file, &built_in_map(alloc, builtin)?),
         OutputFile::Unmet => unmet_text(alloc, relation.obstacles()),
     }
 }
 
-/// Makes the files of depmod from a tree, with the tree's relation over a kernel, and from the bytes of modules.builtin.
-/// The files stand for what they are made of: each index for its map, and modules.unmet for its lines. modules.dep(5),
-/// depmod(8).
+/// Makes the files of depmod from a tree, with the tree's relation over a kernel, and from the
+/// bytes of modules.builtin. The files represent what they are made of: each index its map, and
+/// modules.unmet its lines. modules.dep(5), depmod(8).
 ///
 /// # Errors
 ///
-/// `OutputTooLarge` exactly where a file would have more than 67,108,864 bytes, with the name of the first such, in the
-/// order of [`OutputFiles`], and how many it would have; that is known before the bytes of the file are written. Or
-/// `Memory`.
+/// `OutputTooLarge` if a file would have more than 67,108,864 bytes, with the name of the first
+/// such file in the order of [`OutputFiles`], and how many bytes it would have. That is known
+/// before the bytes of the file are written. Or `Memory`.
 #[tactic(auto, using(crate::proofs::FileSteps::closures_long))]
 pub fn outputs(
     alloc: Global,
@@ -114,15 +117,16 @@ pub fn outputs(
     ensures decode { IfOk result (λ files. (kernel : Kernel) → IsRelation (modules_of tree.now) kernel relation.now →
         StandFor tree.now kernel builtin.now files) }
 {
-    let dep = make(alloc, relation, tree, builtin, OutputFile::Dep)?;
-    let dep_bin = make(alloc, relation, tree, builtin, OutputFile::DepBin)?;
-    let alias = make(alloc, relation, tree, builtin, OutputFile::Alias)?;
-    let alias_bin = make(alloc, relation, tree, builtin, OutputFile::AliasBin)?;
-    let softdep = make(alloc, relation, tree, builtin, OutputFile::Softdep)?;
-    let symbols = make(alloc, relation, tree, builtin, OutputFile::Symbols)?;
-    let symbols_bin = make(alloc, relation, tree, builtin, OutputFile::SymbolsBin)?;
-    let builtin_bin = make(alloc, relation, tree, builtin, OutputFile::BuiltinBin)?;
-    let unmet = make(alloc, relation, tree, builtin, OutputFile::Unmet)?;
+    let all = AllStated::new(alloc, tree)?;
+    let dep = make(alloc, relation, tree, &all, builtin, OutputFile::Dep)?;
+    let dep_bin = make(alloc, relation, tree, &all, builtin, OutputFile::DepBin)?;
+    let alias = make(alloc, relation, tree, &all, builtin, OutputFile::Alias)?;
+    let alias_bin = make(alloc, relation, tree, &all, builtin, OutputFile::AliasBin)?;
+    let softdep = make(alloc, relation, tree, &all, builtin, OutputFile::Softdep)?;
+    let symbols = make(alloc, relation, tree, &all, builtin, OutputFile::Symbols)?;
+    let symbols_bin = make(alloc, relation, tree, &all, builtin, OutputFile::SymbolsBin)?;
+    let builtin_bin = make(alloc, relation, tree, &all, builtin, OutputFile::BuiltinBin)?;
+    let unmet = make(alloc, relation, tree, &all, builtin, OutputFile::Unmet)?;
     Ok(OutputFiles {
         dep,
         dep_bin,

@@ -9,7 +9,7 @@ use index_write::{KeyMap, WriteFault, encode};
 use km_names::Blob;
 use std::alloc::Global;
 
-/// The index of a map, which is to be this file.
+/// Returns the index of a map, which is to be this file.
 pub(crate) fn index(alloc: Global, file: OutputFile, map: &KeyMap) -> Result<Blob, OutputFault>
     ensures ok { IfOk result (λ bytes. bytes ≡ file_of map.now) }
     ensures holds { IfOk result (λ bytes. Holds bytes map.now) }

@@ -1,9 +1,12 @@
-//! The files that depmod makes of a tree of modules: nine, of which five are texts and four are indexes.
+//! The files that depmod makes of a tree of modules: nine, five texts and four indexes.
 //!
-//! A text is the lines that the modules have, in the order of the tree; an index is the file of a map in kmod's index
-//! format, and stands for that map. Before a byte of a file is written it is known how long it will be. The crate stands
-//! on `module_facts` for what modules state, on `provider_rel` for what they depend on and what they lack, on
-//! `unmet_file` for the lines of modules.unmet, and on `index_write`, which makes the indexes.
+//! A text is the lines that the modules have, in the order of the tree. An index is the file of a
+//! map in kmod's index format, and represents that map. The length of a file is known before a byte
+//! of it is written.
+//!
+//! The crate builds on `module_facts` for what modules state, and on `provider_rel` for what they
+//! depend on and what they lack. It builds on `unmet_file` for the lines of modules.unmet, and on
+//! `index_write`, which makes the indexes.
 #![tactic(auto)]
 
 mod built_in;

@@ -1,14 +1,16 @@
 // What modules state for others to find them by.
-ghost use Rattle.std.specs.Prelude.{◌≡◌, ◌==◌, ◌⊎◌, Some, None, OnOk, IfOk, IfErr, IfSome, IsTrue, All, map};
+ghost use Rattle.std.specs.Prelude.{◌≡◌, ◌==◌, ◌++◌, ◌⊎◌, List, Some, None, OnOk, IfOk, IfErr, IfSome, IsTrue, All, map, codes, if◌then◌else◌};
 ghost use Rattle.std.specs.List.{list_all};
 ghost use Rattle.km_names.specs.Ascii.{is_graphic as is_word};
 ghost use Rattle.index_format.specs.Map.{IsKey};
+ghost use Rattle.module_facts.specs.declared.facts.Facts.{Facts as TreeModule};
 ghost use Rattle.provider_rel.specs.Tree.{IsTree};
 ghost use Rattle.depmod_core.specs.Files.{size_fault};
 ghost use Rattle.depmod_core.specs.Lines.{ended, lines_text};
 ghost use Rattle.depmod_core.specs.Maps.{with_values};
 ghost use Rattle.depmod_core.specs.Stated.{is_usable_alias as is_usable, is_usable_softdep as is_usable_text, is_printable as is_printable_byte, aliases_of, softdeps_of, symbols_of};
-ghost use Rattle.depmod_core.specs.Kinds.{heading as heading_of, texts_of, line_of, text_of, key_of, values_with, map_for};
+ghost use Rattle.depmod_core.specs.Kinds.{heading as heading_of, statement, statements, line_of, text_of, values_with, map_for};
+ghost use Rattle.depmod_core.specs.AllStated.{AreStated, AreAllStated};
 ghost use Rattle.depmod_core.specs.Text.{with_piece};
 
 use crate::text::Text;
@@ -18,6 +20,7 @@ use km_names::{Blob, is_graphic, normal_alias};
 use module_facts::Facts;
 use provider_rel::TreeFacts;
 use std::alloc::{AllocError, Global};
+use std::marker::Model;
 
 /// What is stated.
 #[derive(Clone, Copy)]
@@ -27,15 +30,36 @@ pub(crate) enum Kind {
     Symbol,
 }
 
-/// Whether an alias can be used: it is a word of visible characters, and has a normal form.
+/// What a module states once: the text, and the key by which its kind's index has it, if it has it. Contracts see the two.
+#[derive(Drop)]
+pub(crate) struct Statement<'a> {
+    text: &'a [u8],
+    key: Option<Blob>,
+}
+
+impl<'a> Model for Statement<'a> {
+    ghost use Rattle.std.specs.Prelude.{ℕ, List, Option};
+
+    ghost Value = { List ℕ × Option (List ℕ) };
+
+    ghost view = { λ s. (s.text.now, s.key) };
+}
+
+/// An alias with its normal form, where it can be used: it is a word of visible characters, and has a normal form.
 #[tactic(auto, unfolding(crate::specs::Stated::is_usable_alias))]
-fn is_usable_alias(alloc: Global, alias: &[u8]) -> Result<bool, AllocError>
-    ensures { IfOk result (λ usable. usable ≡ is_usable alias.now) }
+fn usable_alias(alloc: Global, alias: &[u8]) -> Result<Option<Statement<'_>>, AllocError>
+    ensures { IfOk result (λ found. found ≡ (if is_usable alias.now then Some (statement Kind.Alias alias.now) else None)) }
 {
     if !is_graphic(alias) {
-        return Ok(false);
+        return Ok(None);
     }
-    Ok(normal_alias(alloc, alias)?.is_some())
+    match normal_alias(alloc, alias)? {
+        Some(form) => Ok(Some(Statement {
+            text: alias,
+            key: Some(Blob::from_vec(form.into_vec())),
+        })),
+        None => Ok(None),
+    }
 }
 
 fn is_printable(text: &[u8]) -> bool
@@ -50,8 +74,8 @@ fn is_spaces(text: &[u8]) -> bool
     text.iter().all(|b| *b == b' ')
 }
 
-/// Whether the text of a softdep can be used: it has only visible characters and spaces, not spaces alone, and doesn't
-/// end in the mark of a line that goes on.
+/// Whether the text of a softdep can be used. It has only visible characters and spaces, at least
+/// one character that isn't a space, and no mark of continuation at its end.
 #[tactic(auto, unfolding(crate::specs::Stated::is_usable_softdep))]
 fn is_usable_softdep(text: &[u8]) -> bool
     ensures { result ≡ is_usable_text text.now }
@@ -59,51 +83,112 @@ fn is_usable_softdep(text: &[u8]) -> bool
     is_printable(text) && !is_spaces(text) && !text.ends_with(b"\\")
 }
 
-/// The aliases of a module that can be used.
-fn aliases(alloc: Global, facts: &Facts) -> Result<Vec<&[u8]>, AllocError>
-    ensures { IfOk result (λ texts. map (λ text. text.now) texts.items ≡ aliases_of facts.now) }
+/// Returns the aliases of a module that can be used.
+fn aliases(alloc: Global, facts: &Facts) -> Result<Vec<Statement<'_>>, AllocError>
+    ensures { IfOk result (λ stated. stated.items ≡ map (statement Kind.Alias) (aliases_of facts.now)) }
 {
     let mut usable = Vec::new(alloc);
     for alias in facts.aliases.as_slice() {
-        if is_usable_alias(alloc, alias.as_bytes())? {
-            usable.push(alias.as_bytes())?;
+        if let Some(stated) = usable_alias(alloc, alias.as_bytes())? {
+            usable.push(stated)?;
         }
     }
     Ok(usable)
 }
 
-/// The texts of a module's softdeps that can be used.
-fn softdeps(alloc: Global, facts: &Facts) -> Result<Vec<&[u8]>, AllocError>
-    ensures { IfOk result (λ texts. map (λ text. text.now) texts.items ≡ softdeps_of facts.now) }
+/// Returns the texts of a module's softdeps that can be used. They have no keys.
+fn softdeps(alloc: Global, facts: &Facts) -> Result<Vec<Statement<'_>>, AllocError>
+    ensures { IfOk result (λ stated. stated.items ≡ map (statement Kind.Softdep) (softdeps_of facts.now)) }
 {
     let mut usable = Vec::new(alloc);
     for text in facts.softdeps.as_slice() {
-        if is_usable_softdep(text.as_bytes()) {
-            usable.push(text.as_bytes())?;
+        let text = text.as_bytes();
+        if is_usable_softdep(text) {
+            usable.push(Statement { text, key: None })?;
         }
     }
     Ok(usable)
 }
 
-/// The names of the symbols that a module exports.
-fn symbols(alloc: Global, facts: &Facts) -> Result<Vec<&[u8]>, AllocError>
-    ensures { IfOk result (λ texts. map (λ text. text.now) texts.items ≡ symbols_of facts.now) }
+/// Returns the key of a symbol.
+fn symbol_key(alloc: Global, symbol: &[u8]) -> Result<Blob, AllocError>
+    ensures { IfOk result (λ key. key ≡ codes "symbol:" ++ symbol.now) }
+{
+    let mut key = Blob::from_slice(alloc, b"symbol:")?;
+    key.extend(symbol)?;
+    Ok(key)
+}
+
+/// Returns the names of the symbols that a module exports.
+fn symbols(alloc: Global, facts: &Facts) -> Result<Vec<Statement<'_>>, AllocError>
+    ensures { IfOk result (λ stated. stated.items ≡ map (statement Kind.Symbol) (symbols_of facts.now)) }
 {
     let mut names = Vec::new(alloc);
     for export in facts.exports.as_slice() {
-        names.push(export.name.as_bytes())?;
+        let text = export.name.as_bytes();
+        names.push(Statement {
+            text,
+            key: Some(symbol_key(alloc, text)?),
+        })?;
     }
     Ok(names)
 }
 
-/// What a module states of a kind.
-fn texts(alloc: Global, kind: Kind, facts: &Facts) -> Result<Vec<&[u8]>, AllocError>
-    ensures { IfOk result (λ texts. map (λ text. text.now) texts.items ≡ texts_of kind facts.now) }
+/// Returns what a module states of a kind.
+fn stated_by(alloc: Global, kind: Kind, facts: &Facts) -> Result<Vec<Statement<'_>>, AllocError>
+    ensures { IfOk result (λ stated. stated.items ≡ statements kind facts.now) }
 {
     match kind {
         Kind::Alias => aliases(alloc, facts),
         Kind::Softdep => softdeps(alloc, facts),
         Kind::Symbol => symbols(alloc, facts),
+    }
+}
+
+/// What the modules of a tree state of a kind.
+fn all_stated(
+    alloc: Global,
+    kind: Kind,
+    tree: &TreeFacts,
+) -> Result<Vec<Vec<Statement<'_>>>, AllocError>
+    ensures { IfOk result (λ all. AreStated kind tree.now all.items) }
+{
+    let mut all = Vec::new(alloc);
+    for facts in tree.as_slice() {
+        all.push(stated_by(alloc, kind, facts)?)?;
+    }
+    Ok(all)
+}
+
+/// What the modules of a tree state, of each kind.
+#[derive(Drop)]
+pub(crate) struct AllStated<'a> {
+    aliases: Vec<Vec<Statement<'a>>>,
+    softdeps: Vec<Vec<Statement<'a>>>,
+    symbols: Vec<Vec<Statement<'a>>>,
+}
+
+impl<'a> AllStated<'a> {
+    /// Looks at each thing that is stated once.
+    pub(crate) fn new(alloc: Global, tree: &'a TreeFacts) -> Result<AllStated<'a>, AllocError>
+        ensures { IfOk result (λ all. AreAllStated tree.now all) }
+    {
+        Ok(AllStated {
+            aliases: all_stated(alloc, Kind::Alias, tree)?,
+            softdeps: all_stated(alloc, Kind::Softdep, tree)?,
+            symbols: all_stated(alloc, Kind::Symbol, tree)?,
+        })
+    }
+
+    /// What the modules state of a kind.
+    fn of(&self, kind: Kind) -> &[Vec<Statement<'a>>]
+        ensures { (tree : List TreeModule) → AreAllStated tree self.now → AreStated kind tree result.now }
+    {
+        match kind {
+            Kind::Alias => &self.aliases,
+            Kind::Softdep => &self.softdeps,
+            Kind::Symbol => &self.symbols,
+        }
     }
 }
 
@@ -119,16 +204,21 @@ fn put_line(text: &mut Text, kind: Kind, name: &[u8], stated: &[u8]) -> Result<(
 }
 
 /// Puts the lines of the module of this name.
-fn put_lines(text: &mut Text, kind: Kind, name: &[u8], texts: &[&[u8]]) -> Result<(), AllocError>
-    ensures { OnOk result (text.new ≡ with_piece text.old (lines_text (map (λ stated. line_of kind name.now stated.now) texts.now))) }
+fn put_lines(
+    text: &mut Text,
+    kind: Kind,
+    name: &[u8],
+    all: &[Statement<'_>],
+) -> Result<(), AllocError>
+    ensures { OnOk result (text.new ≡ with_piece text.old (lines_text (map (λ stated. line_of kind name.now stated.0) all.now))) }
 {
-    for stated in texts {
-        put_line(text, kind, name, stated)?;
+    for stated in all {
+        put_line(text, kind, name, stated.text)?;
     }
     Ok(())
 }
 
-/// The heading of a kind's file.
+/// Returns the heading of a kind's file.
 fn heading(kind: Kind) -> &'static [u8]
     ensures { result.now ≡ heading_of kind }
 {
@@ -140,68 +230,58 @@ fn heading(kind: Kind) -> &'static [u8]
 }
 
 /// Puts the text of a kind's file.
-fn put_text(alloc: Global, text: &mut Text, kind: Kind, tree: &TreeFacts) -> Result<(), AllocError>
+fn put_text(
+    text: &mut Text,
+    kind: Kind,
+    tree: &TreeFacts,
+    lists: &[Vec<Statement<'_>>],
+) -> Result<(), AllocError>
+    requires { AreStated kind tree.now lists.now }
     ensures { OnOk result (text.new ≡ with_piece text.old (text_of kind tree.now)) }
 {
     text.put_all(&[heading(kind), b"\n"])?;
-    for facts in tree.as_slice() {
-        let texts = texts(alloc, kind, facts)?;
-        put_lines(text, kind, facts.name.as_bytes(), &texts)?;
+    let modules = tree.as_slice();
+    for place in 0..modules.len() {
+        let name = modules[place].name.as_bytes();
+        put_lines(text, kind, name, &lists[place])?;
     }
     Ok(())
 }
 
-/// The text of a kind's file: a heading, and the lines of each module. depmod(8).
+/// Returns the text of a kind's file: a heading, and the lines of each module. depmod(8).
 pub(crate) fn stated_text(
     alloc: Global,
     file: OutputFile,
     kind: Kind,
     tree: &TreeFacts,
+    stated: &AllStated<'_>,
 ) -> Result<Blob, OutputFault>
+    requires { AreAllStated tree.now stated.now }
     ensures ok { IfOk result (λ bytes. bytes ≡ text_of kind tree.now) }
     ensures passed { OnOk result (size_fault file (text_of kind tree.now) ≡ None) }
     ensures err { IfErr result (λ fault. (fault ≡ OutputFault.Memory) ⊎ (size_fault file (text_of kind tree.now) ≡ Some fault)) }
 {
+    let lists = stated.of(kind);
     let mut measured = Text::measured();
-    put_text(alloc, &mut measured, kind, tree)?;
+    put_text(&mut measured, kind, tree, lists)?;
     let mut text = Text::with_capacity(alloc, measured.checked_length(alloc, file)?)?;
-    put_text(alloc, &mut text, kind, tree)?;
+    put_text(&mut text, kind, tree, lists)?;
     Ok(text.into_bytes(alloc))
-}
-
-/// The key by which a kind's index has what is stated, if it has it.
-fn key(alloc: Global, kind: Kind, stated: &[u8]) -> Result<Option<Blob>, AllocError>
-    ensures { IfOk result (λ key. key ≡ key_of kind stated.now) }
-{
-    match kind {
-        Kind::Alias => match normal_alias(alloc, stated)? {
-            Some(alias) => Ok(Some(Blob::from_vec(alias.into_vec()))),
-            None => Ok(None),
-        },
-        Kind::Softdep => Ok(None),
-        Kind::Symbol => {
-            let mut key = Blob::from_slice(alloc, b"symbol:")?;
-            key.extend(stated)?;
-            Ok(Some(key))
-        }
-    }
 }
 
 /// Puts the values of the module at a place into a kind's map.
 fn add_values(
-    alloc: Global,
     key_map: &mut KeyMap,
-    kind: Kind,
     place: u32,
     name: &[u8],
-    texts: &[&[u8]],
+    all: &[Statement<'_>],
 ) -> Result<(), AllocError>
     requires name { IsTrue (is_word name.now) }
-    requires texts { All (λ text. IfSome (key_of kind text.now) IsKey) texts.now }
-    ensures { OnOk result (key_map.new ≡ with_values key_map.old (values_with kind place name.now (map (λ text. text.now) texts.now))) }
+    requires keys { All (λ stated. IfSome stated.1 IsKey) all.now }
+    ensures { OnOk result (key_map.new ≡ with_values key_map.old (values_with place name.now all.now)) }
 {
-    for stated in texts {
-        if let Some(key) = key(alloc, kind, stated)? {
+    for stated in all {
+        if let Some(key) = &stated.key {
             key_map.add(key.as_bytes(), place, name)?;
         }
     }
@@ -210,23 +290,22 @@ fn add_values(
 
 /// The map of a kind's index: from the key of what is stated to the name of the module that does, the priority its place
 /// in the tree. depmod(8).
-pub(crate) fn stated_map(alloc: Global, kind: Kind, tree: &TreeFacts) -> Result<KeyMap, AllocError>
-    requires { IsTree tree.now }
+pub(crate) fn stated_map(
+    alloc: Global,
+    kind: Kind,
+    tree: &TreeFacts,
+    stated: &AllStated<'_>,
+) -> Result<KeyMap, AllocError>
+    requires tree { IsTree tree.now }
+    requires stated { AreAllStated tree.now stated.now }
     ensures { IfOk result (λ map. map ≡ map_for kind tree.now) }
 {
     let mut map = KeyMap::new(alloc);
+    let lists = stated.of(kind);
     let modules = tree.as_slice();
     for place in 0..modules.len() {
-        let facts = &modules[place];
-        let texts = texts(alloc, kind, facts)?;
-        add_values(
-            alloc,
-            &mut map,
-            kind,
-            place as u32,
-            facts.name.as_bytes(),
-            &texts,
-        )?;
+        let name = modules[place].name.as_bytes();
+        add_values(&mut map, place as u32, name, &lists[place])?;
     }
     Ok(map)
 }

@@ -7,7 +7,7 @@ use crate::{OutputFault, OutputFile};
 use km_names::{Blob, FILE_LIMIT};
 use std::alloc::{AllocError, Global};
 
-/// A text in the making: how long it is so far, and its bytes where they are kept.
+/// A text in the making: how long it is so far, and its bytes if they are kept.
 #[derive(Drop)]
 pub(crate) struct Text {
     length: u64,
@@ -15,7 +15,7 @@ pub(crate) struct Text {
 }
 
 impl Text {
-    /// The empty text, of which nothing will be kept.
+    /// Returns the empty text, whose bytes won't be kept.
     pub(crate) fn measured() -> Text
         ensures { result ≡ measured_text }
     {
@@ -25,7 +25,7 @@ impl Text {
         }
     }
 
-    /// The empty text, whose bytes will be kept, with room for so many.
+    /// Returns the empty text, whose bytes will be kept, with room for so many.
     pub(crate) fn with_capacity(alloc: Global, capacity: usize) -> Result<Text, AllocError>
         ensures { IfOk result (λ text. text ≡ kept) }
     {
@@ -57,7 +57,7 @@ impl Text {
         Ok(())
     }
 
-    /// How long the text of a file is, which was measured, unless that is too much.
+    /// Returns how long the measured text of a file is, unless it is too long.
     pub(crate) fn checked_length(
         &self,
         alloc: Global,
@@ -73,7 +73,7 @@ impl Text {
         Ok(self.length as usize)
     }
 
-    /// The bytes that were kept.
+    /// Returns the bytes that were kept.
     pub(crate) fn into_bytes(self, alloc: Global) -> Blob
         ensures { (bytes : List ℕ) → self ≡ with_piece kept bytes → result ≡ bytes }
     {

@@ -1,6 +1,6 @@
-// What stands in the way of loading modules.
+// The obstacles to loading modules.
 ghost use Rattle.std.specs.Prelude.{◌≡◌, ◌⊎◌, ◌++◌, Some, None, OnOk, IfOk, IfErr};
-ghost use Rattle.unmet_file.specs.Line.{line_text, three_text};
+ghost use Rattle.unmet_file.specs.Line.{line_text, first_word, two_text, three_text};
 ghost use Rattle.unmet_file.specs.Unmet.{file_text};
 ghost use Rattle.depmod_core.specs.Files.{size_fault};
 ghost use Rattle.depmod_core.specs.Lines.{ended};
@@ -11,6 +11,14 @@ use crate::{OutputFault, OutputFile};
 use km_names::{Blob, Name, PathText};
 use provider_rel::{Obstacles, Unbound};
 use std::alloc::{AllocError, Global};
+use unmet_file::LineKind;
+
+/// Puts a line of a word and two names, with its line end.
+fn put_two(text: &mut Text, word: &[u8], first: &[u8], second: &[u8]) -> Result<(), AllocError>
+    ensures { OnOk result (text.new ≡ with_piece text.old (ended (two_text word.now (two_text first.now second.now)))) }
+{
+    text.put_all(&[word, b" ", first, b" ", second, b"\n"])
+}
 
 /// Puts a line of a word and three names, with its line end.
 fn put_three(
@@ -20,24 +28,24 @@ fn put_three(
     second: &[u8],
     third: &[u8],
 ) -> Result<(), AllocError>
-    ensures { OnOk result (text.new ≡ with_piece text.old (ended (word.now ++ three_text first.now second.now third.now))) }
+    ensures { OnOk result (text.new ≡ with_piece text.old (ended (two_text word.now (three_text first.now second.now third.now)))) }
 {
-    text.put_all(&[word, first, b" ", second, b" ", third, b"\n"])
+    text.put_all(&[word, b" ", first, b" ", second, b" ", third, b"\n"])
 }
 
 /// Puts a line that names a module, a symbol and the module that provides it.
 fn put_use(
     text: &mut Text,
-    word: &[u8],
+    kind: LineKind,
     path: &PathText,
     symbol: &Name,
     provider: &PathText,
 ) -> Result<(), AllocError>
-    ensures { OnOk result (text.new ≡ with_piece text.old (ended (word.now ++ three_text path.now symbol.now provider.now))) }
+    ensures { OnOk result (text.new ≡ with_piece text.old (ended (two_text (first_word kind) (three_text path.now symbol.now provider.now)))) }
 {
     put_three(
         text,
-        word,
+        kind.word(),
         path.as_bytes(),
         symbol.as_bytes(),
         provider.as_bytes(),
@@ -50,31 +58,34 @@ fn put_line(text: &mut Text, line: &Unbound) -> Result<(), AllocError>
     ensures { OnOk result (text.new ≡ with_piece text.old (ended (line_text line.now))) }
 {
     match line {
-        Unbound::Missing { path, symbol } => {
-            text.put_all(&[b"missing ", path.as_bytes(), b" ", symbol.as_bytes(), b"\n"])
-        }
+        Unbound::Missing { path, symbol } => put_two(
+            text,
+            LineKind::Missing.word(),
+            path.as_bytes(),
+            symbol.as_bytes(),
+        ),
         Unbound::Gpl {
             path,
             symbol,
             provider,
-        } => put_use(text, b"gpl ", path, symbol, provider),
+        } => put_use(text, LineKind::Gpl, path, symbol, provider),
         Unbound::Version {
             path,
             symbol,
             provider,
-        } => put_use(text, b"version ", path, symbol, provider),
+        } => put_use(text, LineKind::Version, path, symbol, provider),
         Unbound::Namespace {
             path,
             symbol,
             provider,
-        } => put_use(text, b"namespace ", path, symbol, provider),
+        } => put_use(text, LineKind::Namespace, path, symbol, provider),
         Unbound::Double {
             symbol,
             first,
             second,
         } => put_three(
             text,
-            b"double ",
+            LineKind::Double.word(),
             symbol.as_bytes(),
             first.as_bytes(),
             second.as_bytes(),
@@ -93,7 +104,7 @@ fn put_lines(text: &mut Text, lines: &Obstacles) -> Result<(), AllocError>
     Ok(())
 }
 
-/// The text of modules.unmet.
+/// Returns the text of modules.unmet.
 pub(crate) fn unmet_text(alloc: Global, lines: &Obstacles) -> Result<Blob, OutputFault>
     ensures ok { IfOk result (λ bytes. bytes ≡ file_text lines.now) }
     ensures passed { OnOk result (size_fault OutputFile.Unmet (file_text lines.now) ≡ None) }

@@ -11,7 +11,7 @@ use Rattle.depmod_core.proofs.files.outputs.Goals as goal
 pub returns-in_err-dep-clause-err : goal.returns-in_err-dep-clause-err
 unfolding output_fault
 returns-in_err-dep-clause-err c =
-    let p = err_from_is_err_and c.from_residual.result c.from_residual.ensures.1 in
+    let p = err_from_is_err_and c.from_residual-in_err-dep.result c.from_residual-in_err-dep.ensures.1 in
     rw (p.1, p.2) (refused c.args.tree.now c.args.relation.now c.args.builtin.now c.in_err-dep.field-0.0 _
     (λ is. failed _ _ is) c.in_err-dep.ensures.err)
 

@@ -1,6 +1,8 @@
 use Rattle.std.proofs.Common.{◌≡◌, filter, map, take}
+use Rattle.depmod_core.specs.declared.stated.Kind.TheVariants.{Softdep}
 use Rattle.depmod_core.specs.Stated.{is_usable_softdep}
+use Rattle.depmod_core.specs.Kinds.{statement}
 use Rattle.depmod_core.proofs.stated.softdeps.Given as goal
 
 abbrev pub invariant-loop-text : goal.invariant-loop-text
-invariant-loop-text l = map (λ text. text.now) l.usable.items ≡ filter is_usable_softdep (take l.text-index l.facts.softdeps)
+invariant-loop-text l = l.usable.items ≡ map (statement Softdep) (filter is_usable_softdep (take l.text-index l.facts.softdeps))

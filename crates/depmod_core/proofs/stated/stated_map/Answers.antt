@@ -1,23 +1,31 @@
-use Rattle.std.proofs.Common.{◌≡◌, List, ℕ, Bor, Some, ap, ◌∙◌, get_or, length, map, flat_map, arith}
+use Rattle.std.proofs.Common.{◌≡◌, ◌<◌, List, ℕ, All, Option, Some, sym, ap, subst, ◌∙◌, get_or, length, flat_map, arith}
 use Rattle.std.specs.List.{slice_get, enumerate_from}
 use Rattle.std.specs.FinMap.{empty}
+use Rattle.std.specs.Option.{IfSome}
 use Rattle.std.proofs.lemmas.List.{take_all}
 use Rattle.std.proofs.lemmas.List.FromFn.{length-enumerate_from}
 use Rattle.std.proofs.lemmas.Option.{slice_get_read}
+use Rattle.index_format.specs.Map.{IsKey}
 use Rattle.module_facts.specs.declared.facts.Facts.{Facts}
 use Rattle.provider_rel.specs.Tree.{IsTreeModule}
 use Rattle.depmod_core.specs.Maps.{with_values, map_of}
 use Rattle.depmod_core.specs.Kinds.{values_by, values_with}
 use Rattle.depmod_core.proofs.MapSteps.{values-found, placed}
-use Rattle.depmod_core.proofs.LineSteps.{seen-keys, tree-module, kind-map}
+use Rattle.depmod_core.proofs.LineSteps.{keys-good, stated-at, tree-module, kind-map}
 use Rattle.depmod_core.proofs.stated.stated_map.Goals as goal
 
-pub add_values-requires-clause-texts : goal.add_values-requires-clause-texts
-add_values-requires-clause-texts c =
+pub add_values-requires-clause-keys : goal.add_values-requires-clause-keys
+add_values-requires-clause-keys c =
+    let kind = c.args.kind in
+    let tree = c.args.tree.now in
+    let i = c.loop-place.place in
     let f : Facts = c.index-modules-place.result in
-    let see = λ (text : Bor (List ℕ)). text.now in
-    let good : IsTreeModule f = tree-module c.args.tree.now c.as_slice-modules.result.now c.loop-place.place f c.as_slice-modules.ensures c.loop-place-test.true c.index-modules-place.is c.requires.modules in
-    seen-keys see c.args.kind f c.deref.result.now (ap (map see) c.deref.ensures.value ∙ c.in_ok-texts.ensures) good
+    let good : IsTreeModule f = tree-module tree c.as_slice-modules.result.now i f c.as_slice-modules.ensures c.loop-place-test.true c.index-modules-place.is c.requires.tree.modules in
+    let within : i < length tree = omega (arith, c.loop-place-test.true, ap length c.as_slice-modules.ensures) in
+    let at = c.index-modules-place.is ∙ ap (λ l. get_or l i f) c.as_slice-modules.ensures in
+    subst (All (λ (s : List ℕ × Option (List ℕ)). IfSome s.1 IsKey))
+    (sym (c.deref.ensures.value ∙ stated-at kind tree c.of-lists.result.now i c.index-lists-place.result f (c.of-lists.ensures tree c.requires.stated) within c.index-lists-place.is at))
+    (keys-good kind f good)
 
 pub loop-place-preserved : goal.loop-place-preserved
 loop-place-preserved c =
@@ -25,12 +33,13 @@ loop-place-preserved c =
     let tree = c.args.tree.now in
     let i = c.loop-place.place in
     let f : Facts = c.index-modules-place.result in
-    let see = λ (text : Bor (List ℕ)). text.now in
-    let at : slice_get tree i ≡ Some f = slice_get_read tree (length c.as_slice-modules.result.now) i f (ap length c.as_slice-modules.ensures) c.loop-place-test.true (c.index-modules-place.is ∙ ap (λ l. get_or l i f) c.as_slice-modules.ensures) in
+    let within : i < length tree = omega (arith, c.loop-place-test.true, ap length c.as_slice-modules.ensures) in
+    let here = c.index-modules-place.is ∙ ap (λ l. get_or l i f) c.as_slice-modules.ensures in
+    let at : slice_get tree i ≡ Some f = slice_get_read tree (length c.as_slice-modules.result.now) i f (ap length c.as_slice-modules.ensures) c.loop-place-test.true here in
     values-found (values_by kind) empty c.loop-place.map c.add_values.new.key_map (enumerate_from 0 tree) i (i, f) (placed tree i f at) c.loop-place.invariant
     (c.in_ok-add_values.ensures
-    ∙ ap (λ name. with_values c.loop-place.map (values_with kind i name (map see c.deref.result.now))) c.as_bytes.ensures
-    ∙ ap (λ texts. with_values c.loop-place.map (values_with kind i f.name texts)) (ap (map see) c.deref.ensures.value ∙ c.in_ok-texts.ensures))
+    ∙ ap (λ name. with_values c.loop-place.map (values_with i name c.deref.result.now)) (c.as_bytes-name.ensures ∙ ap (λ (m : Facts). m.name) (sym c.index-modules-place.is))
+    ∙ ap (λ all. with_values c.loop-place.map (values_with i f.name all)) (c.deref.ensures.value ∙ stated-at kind tree c.of-lists.result.now i c.index-lists-place.result f (c.of-lists.ensures tree c.requires.stated) within c.index-lists-place.is here))
 
 pub returns : goal.returns
 returns c =
