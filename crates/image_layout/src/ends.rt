@@ -1,6 +1,6 @@
 // Where sections end that are placed one after the other.
 
-ghost use Rattle.std.specs.Prelude.{◌≡◌, ◌+◌, ◌%◌, ◌<◌, ◌≤◌, ◌^◌, true, if◌then◌else◌};
+ghost use Rattle.std.specs.Prelude.{◌≡◌, ◌+◌, ◌%◌, ◌<◌, ◌≤◌, ◌^◌, true, if◌then◌else◌, length, take};
 ghost use Rattle.elf_object.specs.Places.{is_alignment};
 ghost use Rattle.image_layout.specs.Offsets.{aligned as the_aligned, end_of, is_in as stands_in, of_class};
 
@@ -34,15 +34,27 @@ fn end_with(class: Class, section: &Section, end: u128) -> u128
     aligned(end, section.align) + u128::from(section.size)
 }
 
+/// Where the first sections, so many of them, end that are of a class which begins at a place.
+pub(crate) fn end_of_first(object: &Object, class: Class, start: u128, count: u32) -> u128
+    requires start { start < 2 ^ 100 }
+    requires count { count ≤ length object.now.sections }
+    ensures end { result ≡ end_of start (of_class class (take count object.now.sections)) }
+    ensures near { result ≤ start + 2 ^ 90 }
+{
+    let all = object.section_count();
+    prove!(count <= all);
+    let mut end = start;
+    for i in 0..count {
+        end = end_with(class, object.section(i), end);
+    }
+    end
+}
+
 /// Where the sections of a class end that begins at a place.
 pub(crate) fn end_of_class(object: &Object, class: Class, start: u128) -> u128
     requires { start < 2 ^ 100 }
     ensures end { result ≡ end_of start (of_class class object.now.sections) }
     ensures near { result ≤ start + 2 ^ 90 }
 {
-    let mut end = start;
-    for i in 0..object.section_count() {
-        end = end_with(class, object.section(i), end);
-    }
-    end
+    end_of_first(object, class, start, object.section_count())
 }

@@ -1,14 +1,14 @@
 // Where each section lies, and the size of the image.
 
-ghost use Rattle.std.specs.Prelude.{ℕ, List, Some, take, slice_get, [], ◌≡◌, ◌+◌, ◌*◌, ◌%◌, ◌<◌, ◌≤◌, ◌^◌, true, length, IfOk, if◌then◌else◌, slice_index};
+ghost use Rattle.std.specs.Prelude.{ℕ, List, Some, take, slice_get, [], ◌≡◌, ◌+◌, ◌*◌, ◌%◌, ◌<◌, ◌≤◌, ◌^◌, true, length, IfOk, IfSome, if◌then◌else◌, slice_index};
 ghost use Rattle.elf_object.specs.Places.{is_alignment};
-ghost use Rattle.image_layout.specs.Offsets.{aligned as the_aligned, class_of as the_class, end_of, fixed_start, image_size as size_of_image, is_class, offset, offsets, variable_start};
+ghost use Rattle.image_layout.specs.Offsets.{aligned as the_aligned, class_of as the_class, class_start, end_of, fixed_start, image_size as size_of_image, is_class, offset, offsets, variable_start};
 ghost use Rattle.image_layout.specs.Ends.{AreEnds, AreNear, end_in};
 ghost use Rattle.elf_object.specs.declared.section.Section.{Section};
 ghost use Rattle.image_layout.specs.declared.class.Class.{Class};
 
 use crate::class::{Class, class_of};
-use crate::ends::{aligned, end_of_class};
+use crate::ends::{aligned, end_of_class, end_of_first};
 use elf_format::PAGE;
 use elf_object::{Object, Section};
 use std::alloc::{AllocError, Global};
@@ -36,6 +36,35 @@ fn class_starts(object: &Object) -> Ends
         fixed,
         variable: aligned(fixed_end, PAGE),
     }
+}
+
+/// Where a class begins.
+fn start_of(object: &Object, class: Class) -> u128
+    ensures start { result ≡ class_start object.now.sections class }
+    ensures near { result < 2 ^ 95 }
+{
+    let starts = class_starts(object);
+    match class {
+        Class::Code => starts.code,
+        Class::Fixed => starts.fixed,
+        Class::Variable => starts.variable,
+    }
+}
+
+/// Where the section `i`, which is in memory, begins in the image of its object. It takes no memory. gABI 4,
+/// "Sections", sh_addralign.
+pub fn section_at(object: &Object, i: u32) -> u64
+    requires section { i < length object.now.sections }
+    requires kept { IfSome (slice_get object.now.sections i) (λ s. s.kept ≡ true) }
+    requires fits { size_of_image object.now.sections < 2 ^ 64 }
+    ensures at { result ≡ offset object.now.sections i }
+    ensures within { IfSome (slice_get object.now.sections i)
+        (λ s. result + s.size ≤ size_of_image object.now.sections) }
+{
+    let section = object.section(i);
+    let class = class_of(section);
+    let end = end_of_first(object, class, start_of(object, class), i);
+    aligned(end, section.align) as u64
 }
 
 /// How many bytes the image of an object has: whole pages, and at least one.

@@ -19,5 +19,5 @@ mod symbols;
 
 pub use fault::LayFault;
 pub use laid::image_at;
-pub use layout::{Layout, image_size};
+pub use layout::{Layout, image_size, section_at};
 pub use symbols::addresses;

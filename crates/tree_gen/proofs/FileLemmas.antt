@@ -12,9 +12,9 @@ pub length-zeros : (n : ℕ) → length (zeros n) ≡ n
 unfolding zeros
 length-zeros n = length-replicate n 0
 
-length-header : (table count : ℕ) → length (header table count) ≡ 64
+length-header : (table count named : ℕ) → length (header table count named) ≡ 64
 unfolding header zeros half word xword
-length-header table count = refl
+length-header table count named = refl
 
 -- a list with the bytes b in it from place a on, by what is written to the rest from there
 pub put-at : (a k : ℕ) (file rest b : List ℕ) → rest ≡ b ++ drop k (take (length file - a) (drop a file))
@@ -28,46 +28,46 @@ put-at a k file rest b e =
     ∙ sym (append_assoc (take a file) b (drop (a + k) file))
 
 -- the place of the section header table put into a file
-patched : (table count : ℕ) (rest : List ℕ) → take 40 (header 0 count ++ rest) ++ xword table ++ drop 48 (header 0 count ++ rest) ≡ header table count ++ rest
+patched : (table count named : ℕ) (rest : List ℕ) → take 40 (header 0 count named ++ rest) ++ xword table ++ drop 48 (header 0 count named ++ rest) ≡ header table count named ++ rest
 unfolding header zeros half word xword
-patched table count rest = refl
+patched table count named rest = refl
 
 -- what was lent whole and comes back
 pub take_whole : (n : ℕ) (xs ys : List ℕ) → n ≡ length xs → take n (xs ++ ys) ≡ xs
 take_whole n xs ys e = take_at xs ys n (sym e)
 
 -- where a file with sections in it ends
-end-of : (l : Laid) (count : ℕ) (f : List ℕ) → f ≡ header 0 count ++ l.contents → length f ≡ 64 + length l.contents
-end-of l count f is =
-    ap length is ∙ length-append (header 0 count) l.contents ∙ ap (λ n. n + length l.contents) (length-header 0 count)
+end-of : (l : Laid) (count named : ℕ) (f : List ℕ) → f ≡ header 0 count named ++ l.contents → length f ≡ 64 + length l.contents
+end-of l count named f is =
+    ap length is ∙ length-append (header 0 count named) l.contents ∙ ap (λ n. n + length l.contents) (length-header 0 count named)
 
 -- a file with a header is long enough for the place in it
-pub long-enough : (f : ObjectFile) (l : Laid) (count : ℕ) → IsFileOf f l count → 48 ≤ length f.bytes.items
-long-enough f l count is = omega (arith, end-of l count f.bytes.items is.bytes)
+pub long-enough : (f : ObjectFile) (l : Laid) (count named : ℕ) → IsFileOf f l count named → 48 ≤ length f.bytes.items
+long-enough f l count named is = omega (arith, end-of l count named f.bytes.items is.bytes)
 
 -- and with zeros up to a multiple of 8
-filled : (l : Laid) (count : ℕ) (f g : List ℕ) → f ≡ header 0 count ++ l.contents → g ≡ f ++ zeros (gap (length f))
-    → g ≡ header 0 count ++ (l.contents ++ zeros (gap (64 + length l.contents)))
-filled l count f g is fill =
+filled : (l : Laid) (count named : ℕ) (f g : List ℕ) → f ≡ header 0 count named ++ l.contents → g ≡ f ++ zeros (gap (length f))
+    → g ≡ header 0 count named ++ (l.contents ++ zeros (gap (64 + length l.contents)))
+filled l count named f g is fill =
     fill
-    ∙ ap (λ n. f ++ zeros (gap n)) (end-of l count f is)
+    ∙ ap (λ n. f ++ zeros (gap n)) (end-of l count named f is)
     ∙ ap (λ r. r ++ zeros (gap (64 + length l.contents))) is
-    ∙ append_assoc (header 0 count) l.contents (zeros (gap (64 + length l.contents)))
+    ∙ append_assoc (header 0 count named) l.contents (zeros (gap (64 + length l.contents)))
 
 -- its length then
-filled-length : (l : Laid) (count : ℕ) (f g : List ℕ) → f ≡ header 0 count ++ l.contents → g ≡ f ++ zeros (gap (length f))
+filled-length : (l : Laid) (count named : ℕ) (f g : List ℕ) → f ≡ header 0 count named ++ l.contents → g ≡ f ++ zeros (gap (length f))
     → length g ≡ 64 + length l.contents + gap (64 + length l.contents)
-filled-length l count f g is fill =
+filled-length l count named f g is fill =
     ap length fill ∙ length-append f (zeros (gap (length f))) ∙ ap (λ n. length f + n) (length-zeros (gap (length f)))
-    ∙ ap (λ n. n + gap n) (end-of l count f is)
+    ∙ ap (λ n. n + gap n) (end-of l count named f is)
 
-module _ (l : Laid) (p : Part) (count : ℕ) (f g h : List ℕ) (is : f ≡ header 0 count ++ l.contents) (fill : g ≡ f ++ zeros (gap (length f))) where
+module _ (l : Laid) (p : Part) (count named : ℕ) (f g h : List ℕ) (is : f ≡ header 0 count named ++ l.contents) (fill : g ≡ f ++ zeros (gap (length f))) where
   -- the content of a section put into a file
-  pub put-content : h ≡ g ++ p.content → h ≡ header 0 count ++ (with_part l p).contents
+  pub put-content : h ≡ g ++ p.content → h ≡ header 0 count named ++ (with_part l p).contents
   unfolding with_part
   put-content put =
-      put ∙ ap (λ r. r ++ p.content) (filled l count f g is fill)
-      ∙ append_assoc (header 0 count) (l.contents ++ zeros (gap (64 + length l.contents))) p.content
+      put ∙ ap (λ r. r ++ p.content) (filled l count named f g is fill)
+      ∙ append_assoc (header 0 count named) (l.contents ++ zeros (gap (64 + length l.contents))) p.content
 
   -- its header put among the headers
   pub put-header : (t u : List ℕ) (place names size : ℕ) → t ≡ l.headers → names ≡ length l.names → place ≡ length g → size ≡ length p.content
@@ -77,7 +77,7 @@ module _ (l : Laid) (p : Part) (count : ℕ) (f g h : List ℕ) (is : f ≡ head
       row
       ∙ ap (λ r. r ++ section_header names p.attributes place size) headers
       ∙ ap (λ n. l.headers ++ section_header n p.attributes place size) name
-      ∙ ap (λ n. l.headers ++ section_header (length l.names) p.attributes n size) (at ∙ filled-length l count f g is fill)
+      ∙ ap (λ n. l.headers ++ section_header (length l.names) p.attributes n size) (at ∙ filled-length l count named f g is fill)
       ∙ ap (λ n. l.headers ++ section_header (length l.names) p.attributes (64 + length l.contents + gap (64 + length l.contents)) n) long
 
 -- and its name among the names
@@ -87,29 +87,29 @@ put-name l p names size is long =
     omega (arith, is, long, length-append l.names (with_nul p.name), length-append p.name (0 ∷ []))
 
 -- the table is put after the contents, and its place into the header
-pub finished : (l : Laid) (count : ℕ) (f g d out headers : List ℕ) (place : ℕ) → f ≡ header 0 count ++ l.contents → headers ≡ l.headers
+pub finished : (l : Laid) (count named : ℕ) (f g d out headers : List ℕ) (place : ℕ) → f ≡ header 0 count named ++ l.contents → headers ≡ l.headers
     → g ≡ f ++ zeros (gap (length f)) → d ≡ g ++ headers → place ≡ length g → out ≡ take 40 d ++ xword place ++ drop 48 d
-    → out ≡ header (64 + length l.contents + gap (64 + length l.contents)) count ++ l.contents ++ zeros (gap (64 + length l.contents)) ++ l.headers
-finished l count f g d out headers place is rows fill put at e =
+    → out ≡ header (64 + length l.contents + gap (64 + length l.contents)) count named ++ l.contents ++ zeros (gap (64 + length l.contents)) ++ l.headers
+finished l count named f g d out headers place is rows fill put at e =
     let end : ℕ = 64 + length l.contents in
     let rest : List ℕ = l.contents ++ zeros (gap end) ++ l.headers in
-    let file : d ≡ header 0 count ++ rest =
-    put ∙ ap (λ r. r ++ headers) (filled l count f g is fill) ∙ ap (λ r. header 0 count ++ (l.contents ++ zeros (gap end)) ++ r) rows
-    ∙ append_assoc (header 0 count) (l.contents ++ zeros (gap end)) l.headers in
+    let file : d ≡ header 0 count named ++ rest =
+    put ∙ ap (λ r. r ++ headers) (filled l count named f g is fill) ∙ ap (λ r. header 0 count named ++ (l.contents ++ zeros (gap end)) ++ r) rows
+    ∙ append_assoc (header 0 count named) (l.contents ++ zeros (gap end)) l.headers in
     e
     ∙ ap (λ r. take 40 r ++ xword place ++ drop 48 r) file
-    ∙ patched place count rest
-    ∙ ap (λ n. header n count ++ rest) (at ∙ filled-length l count f g is fill)
-    ∙ sym (append_assoc (header (end + gap end) count) (l.contents ++ zeros (gap end)) l.headers)
-    ∙ ap (λ r. r ++ l.headers) (sym (append_assoc (header (end + gap end) count) l.contents (zeros (gap end))))
+    ∙ patched place count named rest
+    ∙ ap (λ n. header n count named ++ rest) (at ∙ filled-length l count named f g is fill)
+    ∙ sym (append_assoc (header (end + gap end) count named) (l.contents ++ zeros (gap end)) l.headers)
+    ∙ ap (λ r. r ++ l.headers) (sym (append_assoc (header (end + gap end) count named) l.contents (zeros (gap end))))
 
 -- what is finished is the file of the sections
-pub file-is : (parts : List Part) (out : List ℕ) (count : ℕ) → count ≡ length parts + 1
-    → (let l = fold with_part start parts in let end = 64 + length l.contents in out ≡ header (end + gap end) count ++ l.contents ++ zeros (gap end) ++ l.headers)
-    → out ≡ file_of parts
+pub file-is : (parts : List Part) (out : List ℕ) (count named : ℕ) → count ≡ length parts + 1
+    → (let l = fold with_part start parts in let end = 64 + length l.contents in out ≡ header (end + gap end) count named ++ l.contents ++ zeros (gap end) ++ l.headers)
+    → out ≡ file_of named parts
 unfolding file_of
-file-is parts out count is e =
+file-is parts out count named is e =
     let l : Laid = fold with_part start parts in
     let end : ℕ = 64 + length l.contents in
     let same : count ≡ 1 + length parts = omega arith in
-    e ∙ ap (λ n. header (end + gap end) n ++ l.contents ++ zeros (gap end) ++ l.headers) same
+    e ∙ ap (λ n. header (end + gap end) n named ++ l.contents ++ zeros (gap end) ++ l.headers) same

@@ -6,3 +6,4 @@ pub mod DistinctLemmas
 pub mod SheetLemmas
 pub mod SymbolLemmas
 pub mod TrialLemmas
+pub mod ParamLemmas

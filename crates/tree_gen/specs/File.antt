@@ -3,20 +3,20 @@ use Rattle.std.specs.Prelude.{ℕ, ◌+◌, ◌-◌, ◌%◌, List, [], ◌∷�
 use Rattle.elf_format.specs.declared.file_header.TheConstants.{ELFCLASS64, ELFDATA2LSB, EV_CURRENT, ET_REL, EM_X86_64, EHDR_SIZE, SHDR_SIZE}
 use Rattle.tree_gen.specs.declared.part.Attributes.{Attributes}
 use Rattle.tree_gen.specs.declared.part.Part.{Part}
-use Rattle.tree_gen.specs.declared.part.TheConstants.{SECTION_NAMES}
 use Rattle.tree_gen.specs.Number.{half, word, xword, zeros, with_nul}
 
 -- How many zeros stand before what begins at the next multiple of 8.
 abbrev pub gap : ℕ → ℕ
 gap at = (8 - at % 8) % 8
 
--- The file header, by the place of the section header table and the count of sections. Elf64_Ehdr.
-unfoldable pub header : ℕ → ℕ → List ℕ
-header table count =
+-- The file header, by the place of the section header table, the count of sections and the number of the one that has
+-- their names. Elf64_Ehdr.
+unfoldable pub header : ℕ → ℕ → ℕ → List ℕ
+header table count named =
     0x7f ∷ 0x45 ∷ 0x4c ∷ 0x46 ∷ ELFCLASS64 ∷ ELFDATA2LSB ∷ EV_CURRENT ∷ zeros 9
     ++ half ET_REL ++ half EM_X86_64 ++ word EV_CURRENT
     ++ zeros 16 ++ xword table
-    ++ zeros 4 ++ half EHDR_SIZE ++ zeros 4 ++ half SHDR_SIZE ++ half count ++ half SECTION_NAMES
+    ++ zeros 4 ++ half EHDR_SIZE ++ zeros 4 ++ half SHDR_SIZE ++ half count ++ half named
 
 -- A section header: where the section's name stands among the names of sections, its attributes, where its content
 -- stands in the file, and how long that is. Elf64_Shdr.
@@ -51,9 +51,10 @@ with_part l p =
 abbrev pub laid : List Part → Laid
 laid parts = fold with_part start parts
 
--- The file of these sections: the header, the contents, and the section header table at the next multiple of 8.
-unfoldable pub file_of : List Part → List ℕ
-file_of parts =
+-- The file of these sections, of which the one of this number has their names: the header, the contents, and the section
+-- header table at the next multiple of 8.
+unfoldable pub file_of : ℕ → List Part → List ℕ
+file_of named parts =
     let l = laid parts in
     let end = EHDR_SIZE + length l.contents in
-    header (end + gap end) (1 + length parts) ++ l.contents ++ zeros (gap end) ++ l.headers
+    header (end + gap end) (1 + length parts) named ++ l.contents ++ zeros (gap end) ++ l.headers

@@ -5,5 +5,6 @@ pub mod Further
 pub mod Symbols
 pub mod Contents
 pub mod Object
+pub mod Params
 pub mod Writing
 pub mod Trial

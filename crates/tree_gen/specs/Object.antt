@@ -4,7 +4,7 @@ use Rattle.std.specs.List.{flat_map}
 use Rattle.elf_format.specs.declared.section.TheConstants.{SHT_PROGBITS, SHT_RELA, SHT_SYMTAB, SHT_STRTAB, SHF_WRITE, SHF_ALLOC, SHF_EXECINSTR, SHF_INFO_LINK}
 use Rattle.tree_gen.specs.declared.part.Attributes.{Attributes}
 use Rattle.tree_gen.specs.declared.part.Part.{Part}
-use Rattle.tree_gen.specs.declared.part.TheConstants.{DATA, SYMTAB, STRTAB}
+use Rattle.tree_gen.specs.declared.part.TheConstants.{DATA, SECTION_NAMES, SYMTAB, STRTAB}
 use Rattle.tree_gen.specs.declared.sheet.Sheet.{Sheet}
 use Rattle.tree_gen.specs.declared.sheet.SheetMore.{SheetMore}
 use Rattle.tree_gen.specs.Sheet.{no_more}
@@ -55,7 +55,7 @@ parts_of s m = with_names (loaded_parts s ++ linked_parts s m) (further_parts m)
 
 -- The object file of a sheet with more.
 unfoldable pub object_more_of : Sheet → SheetMore → List ℕ
-object_more_of s m = file_of (parts_of s m)
+object_more_of s m = file_of SECTION_NAMES (parts_of s m)
 
 -- The object file of a sheet alone.
 abbrev pub object_of : Sheet → List ℕ

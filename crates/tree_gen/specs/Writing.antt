@@ -7,9 +7,10 @@ use Rattle.tree_gen.specs.declared.file.ObjectFile.{ObjectFile}
 use Rattle.tree_gen.specs.File.{Laid, header}
 use Rattle.tree_gen.specs.Symbols.{SymbolEntry, names_bytes, entries_bytes}
 
--- The file of so many sections has these in it, with 0 for the place of the section header table.
-pub record IsFileOf (f : ObjectFile) (l : Laid) (count : ℕ) : Type 0 where
-  pub bytes : f.bytes.items ≡ header 0 count ++ l.contents
+-- The file of so many sections, with the number of the one that has their names, has these in it, with 0 for the place of
+-- the section header table.
+pub record IsFileOf (f : ObjectFile) (l : Laid) (count named : ℕ) : Type 0 where
+  pub bytes : f.bytes.items ≡ header 0 count named ++ l.contents
   pub headers : f.headers.items ≡ l.headers
   pub names : f.names ≡ length l.names
 

@@ -4,7 +4,7 @@ ghost use Rattle.tree_gen.specs.Number.{half, word, xword, zeros};
 
 use std::alloc::{AllocError, Global};
 
-/// Puts a number of 2 bytes at the end, the lowest first.
+/// Puts a number of 2 bytes at the end, the lowest byte first.
 #[tactic(auto, unfolding(crate::specs::Number::half))]
 pub(crate) fn push_half(out: &mut Vec<u8>, n: u16) -> Result<(), AllocError>
     ensures { OnOk result (out.new.items ≡ out.old.items ++ half n) }
@@ -12,7 +12,7 @@ pub(crate) fn push_half(out: &mut Vec<u8>, n: u16) -> Result<(), AllocError>
     out.extend_from_slice(&n.to_le_bytes())
 }
 
-/// Puts a number of 4 bytes at the end, the lowest first.
+/// Puts a number of 4 bytes at the end, the lowest byte first.
 #[tactic(auto, unfolding(crate::specs::Number::word))]
 pub(crate) fn push_word(out: &mut Vec<u8>, n: u32) -> Result<(), AllocError>
     ensures { OnOk result (out.new.items ≡ out.old.items ++ word n) }
@@ -20,7 +20,7 @@ pub(crate) fn push_word(out: &mut Vec<u8>, n: u32) -> Result<(), AllocError>
     out.extend_from_slice(&n.to_le_bytes())
 }
 
-/// Puts a number of 8 bytes at the end, the lowest first.
+/// Puts a number of 8 bytes at the end, the lowest byte first.
 #[tactic(auto, unfolding(crate::specs::Number::xword))]
 pub(crate) fn push_xword(out: &mut Vec<u8>, n: u64) -> Result<(), AllocError>
     ensures { OnOk result (out.new.items ≡ out.old.items ++ xword n) }
@@ -39,7 +39,7 @@ pub(crate) fn push_zeros(out: &mut Vec<u8>, count: usize) -> Result<(), AllocErr
     Ok(())
 }
 
-/// So many zeros.
+/// Returns so many zeros.
 pub(crate) fn zeros(alloc: Global, count: usize) -> Result<Vec<u8>, AllocError>
     ensures { IfOk result (λ v. v.items ≡ zeros count) }
 {

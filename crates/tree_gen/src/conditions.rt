@@ -19,7 +19,7 @@ const LONGEST_TEXT: usize = 4096;
 /// The most bytes of the name of a version.
 const LONGEST_VERSION_NAME: usize = 55;
 
-/// The most that an extended version is.
+/// The greatest extended version.
 const GREATEST_EXTENDED: u64 = 0xffff_ffff;
 
 /// Whether a list isn't too long.
@@ -112,7 +112,8 @@ fn spaces_are(spaces: &[SheetSpace]) -> bool
     spaces.iter().all(is_space)
 }
 
-/// Whether texts and names are texts, and numbers and namespaces can be written, by the names of symbols.
+/// Whether texts and names are texts, and numbers and namespaces can be written, for these names of
+/// symbols.
 #[tactic(auto, using(crate::proofs::NameLemmas::names_are_texts), unfolding(crate::specs::Sheet::are_texts))]
 fn are_texts(sheet: &Sheet, more: &SheetMore, symbols: &[&[u8]]) -> bool
     requires { names_of symbols.now ≡ symbol_names sheet.now }
@@ -125,7 +126,7 @@ fn are_texts(sheet: &Sheet, more: &SheetMore, symbols: &[&[u8]]) -> bool
         && spaces_are(more.spaces.as_slice())
 }
 
-/// Whether no name stands twice.
+/// Whether no name occurs twice.
 fn are_distinct(alloc: Global, names: &[&[u8]]) -> Result<bool, AllocError>
     requires { length names.now ≤ 131070 }
     ensures { IfOk result (λ b. b ≡ are_distinct (names_of names.now)) }
@@ -154,7 +155,7 @@ fn are_among(alloc: Global, others: &[&[u8]], names: &[&[u8]]) -> Result<bool, A
     Ok(true)
 }
 
-/// Whether names are distinct, and each is one of the others, of which there are then as many at least.
+/// Whether names are distinct, and each is one of the others.
 fn are_chosen(alloc: Global, others: &[&[u8]], names: &[&[u8]]) -> Result<bool, AllocError>
     requires { length others.now ≤ 131070 }
     ensures { IfOk result (λ b. b ≡ are_chosen (names_of others.now) (names_of names.now)) }
@@ -174,7 +175,8 @@ fn all_of(first: bool, second: bool, third: bool, fourth: bool) -> bool
     first && second && third && fourth
 }
 
-/// Whether the names of symbols are distinct, places are by them, and GPL-only names and those in namespaces by exports.
+/// Whether the names of symbols are distinct, places name symbols, and GPL-only names and those in
+/// namespaces are exports.
 #[tactic(auto, unfolding(crate::specs::Sheet::are_known))]
 fn are_known(
     alloc: Global,
@@ -197,11 +199,15 @@ fn are_known(
     Ok(all_of(distinct, placed, gpl, spaced))
 }
 
-/// Tests whether an object can be made of a sheet, and of what is more. No list of the sheet is longer than 65,535 items,
-/// its texts and names have no NUL and at most 4096 bytes (of a version 55), names of symbols are distinct, and places
-/// are by them. The names of extended versions and the namespaces have no NUL, the namespaces aren't empty, extended
-/// versions have 32 bits, and GPL-only names and the names of those in namespaces are exports, each at most once. Only
-/// memory can be wanting.
+/// Tests whether an object can be made of a sheet and of what is more.
+///
+/// No list of the sheet has more than 65,535 items. Its texts and names have no NUL and at most
+/// 4096 bytes, the names of versions at most 55. The names of symbols are distinct, and places name
+/// them.
+///
+/// The names of extended versions and the namespaces have no NUL, no namespace is empty, and
+/// extended versions have 32 bits. GPL-only names and the names of those in namespaces are exports,
+/// each at most once. The only error is out of memory.
 #[tactic(auto, unfolding(crate::specs::Sheet::is_sheet))]
 pub fn is_sheet(alloc: Global, sheet: &Sheet, more: &SheetMore) -> Result<bool, AllocError>
     ensures { IfOk result (λ b. b ≡ is_the_sheet sheet.now more.now) }

@@ -9,10 +9,10 @@ use crate::sheet::SheetVersion;
 use km_names::Blob;
 use std::alloc::{AllocError, Global};
 
-/// The bytes of the name of a version, the last of which is NUL.
+/// The bytes of the name of a version, whose last byte is NUL.
 const VERSION_NAME: usize = 56;
 
-/// The texts of `.modinfo`, each with its NUL.
+/// Returns the texts of `.modinfo`, each with its NUL.
 pub(crate) fn modinfo(alloc: Global, texts: &[Blob]) -> Result<Vec<u8>, AllocError>
     ensures { IfOk result (λ v. v.items ≡ flat_map with_nul texts.now) }
 {
@@ -34,7 +34,7 @@ fn push_version(out: &mut Vec<u8>, version: &SheetVersion) -> Result<(), AllocEr
     push_zeros(out, VERSION_NAME - version.name.len())
 }
 
-/// The entries of `__versions`.
+/// Returns the entries of `__versions`.
 pub(crate) fn versions(alloc: Global, versions: &[SheetVersion]) -> Result<Vec<u8>, AllocError>
     requires { All (λ v. length v.name ≤ 55) versions.now }
     ensures { IfOk result (λ v. v.items ≡ flat_map version_bytes versions.now) }

@@ -20,7 +20,7 @@ pub(crate) struct Draws {
 }
 
 impl Draws {
-    /// The numbers after a seed.
+    /// Returns the numbers after a seed.
     pub(crate) fn new(seed: u64) -> Draws
         ensures { result.last ≡ seed }
     {
@@ -38,8 +38,8 @@ impl Draws {
         ((self.last >> LOW_BITS) % u64::from(end)) as u32
     }
 
-    /// The modules that the module of this number draws: none for the first, and else the two numbers below its own
-    /// that follow, or one where they are equal.
+    /// Draws the modules that the module of this number needs: none for the first, else the two
+    /// numbers below its own that follow, or one if they are equal.
     #[tactic(auto, unfolding(crate::specs::Trial::drawn))]
     pub(crate) fn modules(&mut self, alloc: Global, number: u32) -> Result<Vec<u32>, AllocError>
         ensures modules { IfOk result (λ v. v.items ≡ drawn number self.old.last) }

@@ -5,7 +5,7 @@ ghost use Rattle.tree_gen.specs.File.{Laid, start, with_part, gap, header, secti
 ghost use Rattle.tree_gen.specs.Writing.{IsFileOf};
 
 use crate::bytes::{push_half, push_word, push_xword, push_zeros};
-use crate::part::{Attributes, Part, SECTION_NAMES};
+use crate::part::{Attributes, Part};
 use byteorder::{ByteOrder, LittleEndian};
 use elf_format::{
     EHDR_SIZE, ELFCLASS64, ELFDATA2LSB, ELFMAG, EM_X86_64, ET_REL, EV_CURRENT, SHDR_SIZE,
@@ -15,8 +15,8 @@ use std::alloc::{AllocError, Global};
 /// Where the file header has the place of the section header table.
 const TABLE_FIELD: usize = 40;
 
-/// A file while sections are put into it: its bytes, with 0 for the place of the section header table, that table,
-/// and how long the names of sections are together.
+/// A file while sections are put into it. It has the bytes, with 0 for the place of the section
+/// header table, that table, and the total length of the names of sections.
 #[derive(Drop)]
 pub(crate) struct ObjectFile {
     bytes: Vec<u8>,
@@ -24,10 +24,11 @@ pub(crate) struct ObjectFile {
     names: u32,
 }
 
-/// Puts the file header of so many sections at the end, with 0 for the place of the section header table.
+/// Puts the file header of so many sections at the end, with the number of the section of names,
+/// and with 0 for the place of the section header table.
 #[tactic(auto, unfolding(crate::specs::File::header))]
-fn push_header(out: &mut Vec<u8>, count: u16) -> Result<(), AllocError>
-    ensures { OnOk result (out.new.items ≡ out.old.items ++ header 0 count) }
+fn push_header(out: &mut Vec<u8>, count: u16, named: u16) -> Result<(), AllocError>
+    ensures { OnOk result (out.new.items ≡ out.old.items ++ header 0 count named) }
 {
     out.extend_from_slice(&ELFMAG)?;
     out.extend_from_slice(&[ELFCLASS64, ELFDATA2LSB, EV_CURRENT])?;
@@ -42,7 +43,7 @@ fn push_header(out: &mut Vec<u8>, count: u16) -> Result<(), AllocError>
     push_zeros(out, 4)?;
     push_half(out, SHDR_SIZE as u16)?;
     push_half(out, count)?;
-    push_half(out, SECTION_NAMES)
+    push_half(out, named)
 }
 
 /// Puts a section header at the end.
@@ -86,12 +87,13 @@ fn put_table_place(file: &mut [u8], place: u64)
 }
 
 impl ObjectFile {
-    /// The file of so many sections, before any of them is put in.
-    pub(crate) fn new(alloc: Global, count: u16) -> Result<Self, AllocError>
-        ensures { IfOk result (λ f. IsFileOf f start count) }
+    /// Returns the file of so many sections before any is put in. The section of the number `named`
+    /// has their names.
+    pub(crate) fn new(alloc: Global, count: u16, named: u16) -> Result<Self, AllocError>
+        ensures { IfOk result (λ f. IsFileOf f start count named) }
     {
         let mut bytes = Vec::new(alloc);
-        push_header(&mut bytes, count)?;
+        push_header(&mut bytes, count, named)?;
         let mut headers = Vec::new(alloc);
         push_zeros(&mut headers, SHDR_SIZE)?;
         Ok(ObjectFile {
@@ -104,7 +106,7 @@ impl ObjectFile {
     /// Puts a section in.
     pub(crate) fn push(&mut self, part: &Part) -> Result<(), AllocError>
         requires { self.old.names + length part.now.name + 1 < 2 ^ 32 }
-        ensures file { OnOk result ((l : Laid) (count : ℕ) → IsFileOf self.old l count → IsFileOf self.new (with_part l part.now) count) }
+        ensures file { OnOk result ((l : Laid) (count named : ℕ) → IsFileOf self.old l count named → IsFileOf self.new (with_part l part.now) count named) }
         ensures names { OnOk result (self.new.names ≡ self.old.names + length part.now.name + 1) }
     {
         fill_up(&mut self.bytes)?;
@@ -122,7 +124,7 @@ impl ObjectFile {
         requires few { length parts.now ≤ 16 }
         requires short { All (λ p. length p.name ≤ 32) parts.now }
         requires names { self.old.names ≤ 1 }
-        ensures { OnOk result ((l : Laid) (count : ℕ) → IsFileOf self.old l count → IsFileOf self.new (fold with_part l parts.now) count) }
+        ensures { OnOk result ((l : Laid) (count named : ℕ) → IsFileOf self.old l count named → IsFileOf self.new (fold with_part l parts.now) count named) }
     {
         for part in parts {
             self.push(part)?;
@@ -130,11 +132,11 @@ impl ObjectFile {
         Ok(())
     }
 
-    /// The file, with the section header table at the next multiple of 8.
+    /// Returns the file, with the section header table at the next multiple of 8.
     pub(crate) fn finish(self) -> Result<Vec<u8>, AllocError>
         requires { 48 ≤ length self.bytes.items }
-        ensures { IfOk result (λ v. (l : Laid) (count : ℕ) → IsFileOf self l count →
-            (let end = 64 + length l.contents in v.items ≡ header (end + gap end) count ++ l.contents ++ zeros (gap end) ++ l.headers)) }
+        ensures { IfOk result (λ v. (l : Laid) (count named : ℕ) → IsFileOf self l count named →
+            (let end = 64 + length l.contents in v.items ≡ header (end + gap end) count named ++ l.contents ++ zeros (gap end) ++ l.headers)) }
     {
         let ObjectFile {
             mut bytes,
@@ -149,13 +151,13 @@ impl ObjectFile {
     }
 }
 
-/// The file of sections.
-pub(crate) fn file_of(alloc: Global, parts: &[Part]) -> Result<Vec<u8>, AllocError>
+/// Returns the file of sections. The section of the number `named` has their names.
+pub(crate) fn file_of(alloc: Global, named: u16, parts: &[Part]) -> Result<Vec<u8>, AllocError>
     requires few { length parts.now ≤ 16 }
     requires short { All (λ p. length p.name ≤ 32) parts.now }
-    ensures { IfOk result (λ v. v.items ≡ the_file_of parts.now) }
+    ensures { IfOk result (λ v. v.items ≡ the_file_of named parts.now) }
 {
-    let mut file = ObjectFile::new(alloc, parts.len() as u16 + 1)?;
+    let mut file = ObjectFile::new(alloc, parts.len() as u16 + 1, named)?;
     file.push_all(parts)?;
     let bytes = file.finish()?;
     Ok(bytes)

@@ -18,7 +18,7 @@ use std::alloc::{AllocError, Global};
 /// The bytes of a table entry of a GPL-only export.
 const TABLE_ENTRY: usize = 8;
 
-/// The numbers of extended versions.
+/// Returns the numbers of extended versions.
 fn crcs(alloc: Global, ext: &[SheetVersion]) -> Result<Vec<u8>, AllocError>
     requires { All (λ v. v.crc < 2 ^ 32) ext.now }
     ensures { IfOk result (λ v. v.items ≡ crc_bytes ext.now) }
@@ -30,7 +30,7 @@ fn crcs(alloc: Global, ext: &[SheetVersion]) -> Result<Vec<u8>, AllocError>
     Ok(content)
 }
 
-/// The names of extended versions, each with its NUL.
+/// Returns the names of extended versions, each with its NUL.
 fn version_names(alloc: Global, ext: &[SheetVersion]) -> Result<Vec<u8>, AllocError>
     ensures { IfOk result (λ v. v.items ≡ name_bytes ext.now) }
 {
@@ -42,7 +42,7 @@ fn version_names(alloc: Global, ext: &[SheetVersion]) -> Result<Vec<u8>, AllocEr
     Ok(content)
 }
 
-/// The texts of namespaces, each with its NUL.
+/// Returns the texts of namespaces, each with its NUL.
 fn texts(alloc: Global, spaces: &[SheetSpace]) -> Result<Vec<u8>, AllocError>
     ensures { IfOk result (λ v. v.items ≡ space_bytes spaces.now) }
 {
@@ -54,7 +54,7 @@ fn texts(alloc: Global, spaces: &[SheetSpace]) -> Result<Vec<u8>, AllocError>
     Ok(content)
 }
 
-/// One of the further sections.
+/// Makes one of the further sections.
 fn further_part(alloc: Global, name: &[u8], content: Vec<u8>) -> Result<Part, AllocError>
     ensures { IfOk result (λ p. p ≡ the_further_part name.now content.items) }
 {
@@ -106,7 +106,7 @@ fn push_spaces(alloc: Global, parts: &mut Vec<Part>, more: &SheetMore) -> Result
     Ok(())
 }
 
-/// The further sections.
+/// Returns the further sections.
 #[tactic(auto, unfolding(crate::specs::Further::further_parts))]
 pub(crate) fn further_parts(alloc: Global, more: &SheetMore) -> Result<Vec<Part>, AllocError>
     requires versions { All (λ v. v.crc < 2 ^ 32) more.now.ext }
@@ -120,7 +120,7 @@ pub(crate) fn further_parts(alloc: Global, more: &SheetMore) -> Result<Vec<Part>
     Ok(parts)
 }
 
-/// The number of the section `__ksymtab_gpl`, which stands after those of extended versions.
+/// Returns the number of the section `__ksymtab_gpl`, which follows those of extended versions.
 #[tactic(auto, unfolding(crate::specs::Further::gpl_section))]
 fn gpl_section(more: &SheetMore) -> u16
     ensures section { result ≡ gpl_section more.now }
@@ -133,7 +133,7 @@ fn gpl_section(more: &SheetMore) -> u16
     }
 }
 
-/// The number of the section `__ksymtab_strings`, which stands after these.
+/// Returns the number of the section `__ksymtab_strings`, which follows these.
 #[tactic(auto, unfolding(crate::specs::Further::gpl_section, crate::specs::Further::strings_section))]
 pub(crate) fn strings_section(more: &SheetMore) -> u16
     ensures { result ≡ strings_section more.now }
@@ -158,7 +158,7 @@ pub(crate) struct Further<'a> {
     ghost text_places: { places ≡ map (text_place more.now.spaces) (range_with_len 0 (length more.now.spaces)) },
 }
 
-/// Where each of the texts of namespaces begins.
+/// Returns where each of the texts of namespaces begins.
 fn text_places(alloc: Global, spaces: &[SheetSpace]) -> Result<List<u64>, AllocError>
     ensures { IfOk result (λ l. l ≡ map (text_place spaces.now) (range_with_len 0 (length spaces.now))) }
 {
@@ -177,7 +177,7 @@ fn text_places(alloc: Global, spaces: &[SheetSpace]) -> Result<List<u64>, AllocE
 }
 
 impl<'a> Further<'a> {
-    /// The tables of what is more.
+    /// Returns the tables of what is more.
     pub(crate) fn new(alloc: Global, more: &'a SheetMore) -> Result<Further<'a>, AllocError>
         requires gpl { length more.now.gpl ≤ 65535 }
         requires spaces { length more.now.spaces ≤ 65535 }
@@ -196,7 +196,7 @@ impl<'a> Further<'a> {
         })
     }
 
-    /// The section of the `__ksymtab_N` of an export.
+    /// Returns the section of the `__ksymtab_N` of an export.
     #[tactic(auto, unfolding(crate::specs::Symbols::table_section))]
     pub(crate) fn table_section(&self, name: &[u8]) -> u16
         ensures { result ≡ table_section self.now.more.now name.now }
@@ -208,7 +208,7 @@ impl<'a> Further<'a> {
         }
     }
 
-    /// Where the namespace of an export begins, if it has one.
+    /// Returns where the namespace of an export begins, if it has one.
     #[tactic(auto, unfolding(crate::specs::Further::space_place))]
     pub(crate) fn space_place(&self, name: &[u8]) -> Option<u64>
         ensures { result ≡ space_place self.now.more.now name.now }

@@ -1,11 +1,15 @@
-//! Object files made from sheets: a sheet says which texts, versions, exports, needs and relocated words a
-//! module has, and `object` writes the relocatable object that has just these; `object_more` writes besides these
-//! extended versions, GPL-only exports and namespaces. `generate` makes a tree of such objects in memory, the modules of
-//! which need each other as numbers are drawn from a seed. Tests and trials read them back.
+//! Object files made from sheets. A sheet says which texts, versions, exports, needs and relocated
+//! words a module has, and `object` writes the relocatable object that has just these.
+//! `object_more` also writes extended versions, GPL-only exports and namespaces; `param_object`
+//! writes the object of a module that has only parameters. `generate` makes a tree of such objects
+//! in memory, whose modules need each other as numbers are drawn from a seed. Tests and trials read
+//! them back.
 //!
-//! It stands on `km_names` for lists and names, on `km_outside` for files in memory, on `elf_format` for the numbers of the
-//! format, on `name_table` for the places of names, and on `byteorder` for the place that is put in last. An object is the
-//! file of a list of sections, each by its name, what its header says of it, and its content. Only memory can be wanting.
+//! It builds on `km_names` for lists and names, on `km_outside` for files in memory, and on
+//! `elf_format` for the numbers of the format. It builds on `name_table` for the places of names,
+//! and on `byteorder` for the place that is put in last. An object is the file of a list of
+//! sections. A section is its name, what its header says of it, and its content. The only error is
+//! out of memory.
 #![tactic(auto)]
 
 mod bytes;
@@ -16,6 +20,7 @@ mod file;
 mod further;
 mod names;
 mod object_file;
+mod params;
 mod part;
 mod parts;
 mod relocations;
@@ -27,6 +32,7 @@ mod worked;
 
 pub use conditions::is_sheet;
 pub use object_file::{object, object_more};
+pub use params::{SheetParam, SheetParams, param_object};
 pub use sheet::{
     Sheet, SheetExport, SheetExports, SheetMore, SheetNeed, SheetNeeds, SheetPlace, SheetPlaces,
     SheetSpace, SheetSpaces, SheetVersion, SheetVersions,

@@ -9,7 +9,7 @@ use km_names::Name;
 use name_table::NameTable;
 use std::alloc::{AllocError, Global};
 
-/// An item of a sheet that is by the name of a symbol.
+/// An item of a sheet that has the name of a symbol.
 pub(crate) trait Named {
     ghost name: { Self → List ℕ };
 
@@ -57,7 +57,7 @@ impl Named for Name {
     }
 }
 
-/// The names of items, in their order.
+/// Returns the names of items, in their order.
 pub(crate) fn names<T: Named>(alloc: Global, items: &[T]) -> Result<Vec<&[u8]>, AllocError>
     ensures { IfOk result (λ v. names_of v.items ≡ map T.name items.now) }
 {
@@ -68,7 +68,7 @@ pub(crate) fn names<T: Named>(alloc: Global, items: &[T]) -> Result<Vec<&[u8]>, 
     Ok(names)
 }
 
-/// The names of the exported and then of the undefined symbols.
+/// Returns the names of the exported symbols, then those of the undefined symbols.
 pub(crate) fn symbol_names(alloc: Global, sheet: &Sheet) -> Result<Vec<&[u8]>, AllocError>
     ensures { IfOk result (λ v. names_of v.items ≡ symbol_names sheet.now) }
 {
@@ -78,7 +78,7 @@ pub(crate) fn symbol_names(alloc: Global, sheet: &Sheet) -> Result<Vec<&[u8]>, A
     Ok(symbols)
 }
 
-/// A table of names.
+/// Returns a table of names.
 pub(crate) fn table_of<'a>(alloc: Global, names: &[&'a [u8]]) -> Result<NameTable<'a>, AllocError>
     requires { length names.now ≤ 131070 }
     ensures { IfOk result (λ t. IsTableOf t (map (λ n. Some n) (names_of names.now))) }

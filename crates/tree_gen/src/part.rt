@@ -6,7 +6,7 @@ use elf_format::SYM_SIZE;
 use km_names::{Blob, Name};
 use std::alloc::{AllocError, Global};
 
-/// The number of the section of code, by the order in which sections stand in an object.
+/// The number of the section of code, by the order of sections in an object.
 pub(crate) const TEXT: u16 = 1;
 
 /// The number of the section of words.
@@ -37,7 +37,7 @@ pub(crate) struct Attributes {
 }
 
 impl Attributes {
-    /// Of a section of bytes.
+    /// Returns the attributes of a section of bytes.
     pub(crate) fn plain(kind: u32, flags: u64, align: u64) -> Attributes
         ensures { result ≡ plain kind flags align }
     {
@@ -51,7 +51,7 @@ impl Attributes {
         }
     }
 
-    /// Of a section of entries, which are as long as those of symbols.
+    /// Returns the attributes of a section of entries, which are as long as those of symbols.
     pub(crate) fn table(kind: u32, flags: u64, link: u32, info: u32) -> Attributes
         ensures { result ≡ table kind flags link info }
     {
@@ -75,7 +75,7 @@ pub(crate) struct Part {
 }
 
 impl Part {
-    /// The section of this name, with a copy of the name.
+    /// Makes the section of this name, with a copy of the name.
     pub(crate) fn new(
         alloc: Global,
         name: &[u8],

@@ -22,7 +22,7 @@ use std::alloc::{AllocError, Global};
 const SECTION_NAMES_NAME: &[u8] = b".shstrtab";
 
 /// Puts a section at the end.
-fn push_part(
+pub(crate) fn push_part(
     alloc: Global,
     parts: &mut Vec<Part>,
     name: &[u8],
@@ -35,7 +35,7 @@ fn push_part(
     Ok(())
 }
 
-/// Puts the sections at the end that are loaded.
+/// Puts the loaded sections at the end.
 fn push_loaded(alloc: Global, parts: &mut Vec<Part>, sheet: &Sheet) -> Result<(), AllocError>
     requires exports { length sheet.now.exports ≤ 65535 }
     requires places { length sheet.now.places ≤ 65535 }
@@ -57,7 +57,7 @@ fn push_loaded(alloc: Global, parts: &mut Vec<Part>, sheet: &Sheet) -> Result<()
     Ok(())
 }
 
-/// Puts the sections at the end that serve to link.
+/// Puts the sections that serve to link at the end.
 fn push_linked(
     alloc: Global,
     parts: &mut Vec<Part>,
@@ -90,8 +90,8 @@ fn push_names(out: &mut Vec<u8>, parts: &[Part]) -> Result<(), AllocError>
     Ok(())
 }
 
-/// Puts the section with the names of all sections at the end, and the further sections.
-fn push_further(
+/// Puts the section with the names of all sections at the end, and then the further sections.
+pub(crate) fn push_further(
     alloc: Global,
     parts: &mut Vec<Part>,
     mut further: Vec<Part>,
@@ -110,7 +110,7 @@ fn push_further(
     Ok(())
 }
 
-/// The sections of a sheet, and of what is more.
+/// Returns the sections of a sheet, and of what is more.
 #[tactic(auto, unfolding(crate::specs::Object::parts_of))]
 pub(crate) fn parts_of(
     alloc: Global,

@@ -18,7 +18,7 @@ use std::alloc::{AllocError, Global};
 /// The bytes of a word of `.data`.
 pub(crate) const WORD_SIZE: usize = 8;
 
-/// How many local symbols an export has.
+/// Returns how many local symbols an export has.
 #[tactic(auto, unfolding(crate::specs::Symbols::local_symbols))]
 fn locals_of(export: &SheetExport, further: &Further) -> u32
     ensures count { result ≡ length (local_symbols further.now.more.now export.now) }
@@ -30,7 +30,7 @@ fn locals_of(export: &SheetExport, further: &Further) -> u32
     1 + version + space
 }
 
-/// How many symbols are local, with the first one.
+/// Returns how many symbols are local, with the first symbol.
 pub(crate) fn local_count(exports: &[SheetExport], further: &Further) -> u32
     requires { length exports.now ≤ 65535 }
     ensures count { result ≡ 1 + length (flat_map (local_symbols further.now.more.now) exports.now) }
@@ -43,7 +43,8 @@ pub(crate) fn local_count(exports: &[SheetExport], further: &Further) -> u32
     count
 }
 
-/// The number of a symbol by its name. The names of a sheet have that of each relocation.
+/// Returns the number of a symbol by its name. The names of a sheet have the symbol of each
+/// relocation.
 fn symbol_number(locals: u32, names: &NameTable, name: &[u8]) -> u32
     requires { (k : ℕ) → place_of names.now name.now ≡ Some k → locals + k < 2 ^ 32 }
     ensures { result ≡ locals + unwrap_or (place_of names.now name.now) 0 }
@@ -69,7 +70,7 @@ fn push_relocation(
     push_xword(out, place.addend.cast_unsigned())
 }
 
-/// The relocations of a sheet.
+/// Returns the relocations of a sheet.
 pub(crate) fn relocations(
     alloc: Global,
     sheet: &Sheet,

@@ -74,7 +74,7 @@ pub type SheetPlaces = List<SheetPlace>;
 pub struct SheetMore {
     /// The versions of needed symbols in the extended form, with names of any length and versions below 2^32.
     pub ext: SheetVersions,
-    /// The exports for modules with a free license alone.
+    /// The exports for modules with a free license only.
     pub gpl: Names,
     /// The namespaces of exports.
     pub spaces: SheetSpaces,
@@ -93,7 +93,7 @@ pub struct SheetSpace {
 pub type SheetSpaces = List<SheetSpace>;
 
 impl SheetMore {
-    /// Nothing more. It takes no memory.
+    /// Returns nothing more. It takes no memory.
     pub fn none(alloc: Global) -> SheetMore
         ensures { result ≡ no_more }
     {

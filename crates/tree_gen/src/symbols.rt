@@ -35,7 +35,7 @@ pub(crate) struct SymbolTable {
     pub(crate) names: Vec<u8>,
 }
 
-/// What a symbol says but for its name.
+/// What a symbol says, except for its name.
 #[derive(Clone, Copy)]
 struct Symbol {
     info: u8,
@@ -44,14 +44,14 @@ struct Symbol {
     size: u64,
 }
 
-/// The info of an undefined symbol.
+/// Returns the info of an undefined symbol.
 fn need_info(weak: bool) -> u8
     ensures { result ≡ need_info weak }
 {
     if weak { WEAK } else { GLOBAL }
 }
 
-/// A local symbol.
+/// Returns a local symbol.
 fn local(section: u16, value: u64) -> Symbol
     ensures { result ≡ record { info = 0; section = section; value = value; size = 0 } }
 {
@@ -64,7 +64,7 @@ fn local(section: u16, value: u64) -> Symbol
 }
 
 impl SymbolTable {
-    /// The table of the first symbol, which is zeros and has no name.
+    /// Returns the table of the first symbol, which is zeros and has no name.
     fn new(alloc: Global) -> Result<Self, AllocError>
         ensures entries { IfOk result (λ t. t.entries.items ≡ zeros 24) }
         ensures names { IfOk result (λ t. t.names.items ≡ 0 ∷ []) }
@@ -76,7 +76,7 @@ impl SymbolTable {
         Ok(SymbolTable { entries, names })
     }
 
-    /// Puts a symbol at the end, whose name is that of the export or need after a prefix.
+    /// Puts a symbol at the end, whose name is the given one after a prefix.
     fn push(&mut self, prefix: &[u8], name: &[u8], symbol: Symbol) -> Result<(), AllocError>
         requires { length self.old.names.items < 2 ^ 32 }
         ensures { OnOk result (Adds self.old self.new (named (prefix.now ++ name.now) symbol ∷ [])) }
@@ -93,7 +93,7 @@ impl SymbolTable {
         Ok(())
     }
 
-    /// Puts the local symbol at the end that states the version of an export.
+    /// Puts the local symbol that states the version of an export at the end.
     fn push_version(&mut self, name: &[u8], crc: Option<u64>) -> Result<(), AllocError>
         requires { length self.old.names.items < 2 ^ 32 }
         ensures { OnOk result (Adds self.old self.new (version_symbols name.now crc)) }
@@ -104,7 +104,7 @@ impl SymbolTable {
         }
     }
 
-    /// Puts the local symbol at the end that states the namespace of an export.
+    /// Puts the local symbol that states the namespace of an export at the end.
     fn push_space(
         &mut self,
         name: &[u8],
@@ -186,7 +186,7 @@ impl SymbolTable {
     }
 }
 
-/// The symbols of a sheet: those of exports that are local, then the exports, then the needs.
+/// Returns the symbols of a sheet: the local symbols of exports, then the exports, then the needs.
 pub(crate) fn symbol_table(
     alloc: Global,
     sheet: &Sheet,

@@ -14,7 +14,7 @@ const SYMVERS: &[u8] = b"0x11111111\tprintk\tvmlinux\tEXPORT_SYMBOL\n";
 /// The kernel's addresses, as `System.map` lists them.
 const SYSTEM_MAP: &[u8] = b"ffffffff81000000 T printk\n";
 
-/// The path of the module of this number.
+/// Returns the path of the module of this number.
 #[tactic(auto, unfolding(crate::specs::Trial::module_path))]
 fn module_path(alloc: Global, number: u32) -> Result<PathText, AllocError>
     ensures { IfOk result (λ path. path ≡ path_of number) }
@@ -25,7 +25,7 @@ fn module_path(alloc: Global, number: u32) -> Result<PathText, AllocError>
     Ok(path)
 }
 
-/// The object file of the module of this number, which draws the modules that it needs.
+/// Returns the object file of the module of this number, which draws the modules that it needs.
 #[tactic(auto, using(crate::proofs::TrialLemmas::is_sheet_made), unfolding(crate::specs::Trial::module_file))]
 fn module_file(alloc: Global, number: u32, draws: &mut Draws) -> Result<Blob, AllocError>
     requires { number < 10000 }
@@ -37,7 +37,7 @@ fn module_file(alloc: Global, number: u32, draws: &mut Draws) -> Result<Blob, Al
     object(alloc, &sheet)
 }
 
-/// The two files of the kernel.
+/// Returns the two files of the kernel.
 #[tactic(auto, unfolding(crate::specs::Trial::kernel_contents))]
 fn kernel_files(alloc: Global) -> Result<MemFiles, AllocError>
     ensures { IfOk result (λ files. files ≡ unused kernel_contents) }
@@ -50,9 +50,10 @@ fn kernel_files(alloc: Global) -> Result<MemFiles, AllocError>
     Ok(files)
 }
 
-/// The made tree of a trial, below `/t`: the kernel's `Module.symvers` and `System.map`, and `count` modules of the kernel
-/// `trial`, 1 to 2000. Each needs the kernel's `printk`, and each but the first the symbols of one or two modules before it
-/// that are drawn from the seed. No call of the files fails. Only memory can be wanting.
+/// Makes the tree of a trial, below `/t`: the kernel's `Module.symvers` and `System.map`, and
+/// `count` modules of the kernel `trial`, 1 to 2000. Each module needs the kernel's `printk`. Each
+/// but the first also needs the symbols of one or two modules before it, which are drawn from the
+/// seed. No call of the files fails. The only error is out of memory.
 #[tactic(auto, unfolding(crate::specs::Trial::trial_contents))]
 pub fn generate(alloc: Global, seed: u64, count: u32) -> Result<MemFiles, AllocError>
     requires { (1 ≤ count) × (count ≤ 2000) }

@@ -16,14 +16,14 @@ const PRINTK_VERSION: u64 = 0x1111_1111;
 /// The version of the symbol of module 0.
 const FIRST_VERSION: u64 = 0x2000_0000;
 
-/// The last decimal digit of a number.
+/// Returns the last decimal digit of a number.
 fn digit(number: u32) -> u8
     ensures { result ≡ last_digit number }
 {
     b'0' + (number % 10) as u8
 }
 
-/// The last four decimal digits of a number.
+/// Returns the last four decimal digits of a number.
 pub(crate) fn four_digits(number: u32) -> [u8; 4]
     ensures { result ≡ digits_of number }
 {
@@ -35,7 +35,7 @@ pub(crate) fn four_digits(number: u32) -> [u8; 4]
     ]
 }
 
-/// The name of the symbol that the module of this number exports.
+/// Returns the name of the symbol that the module of this number exports.
 #[tactic(auto, unfolding(crate::specs::Trial::symbol_name))]
 fn symbol_name(alloc: Global, number: u32) -> Result<Name, AllocError>
     ensures { IfOk result (λ name. name ≡ name_of_symbol number) }
@@ -45,7 +45,7 @@ fn symbol_name(alloc: Global, number: u32) -> Result<Name, AllocError>
     Ok(name)
 }
 
-/// The symbol that the module of this number exports, with its version.
+/// Returns the symbol that the module of this number exports, with its version.
 fn exported(alloc: Global, number: u32) -> Result<SheetVersion, AllocError>
     ensures { IfOk result (λ version. version ≡ exported_by number) }
 {
@@ -54,7 +54,7 @@ fn exported(alloc: Global, number: u32) -> Result<SheetVersion, AllocError>
     Ok(SheetVersion { name, crc })
 }
 
-/// The symbol of the kernel that each module needs, with its version.
+/// Returns the symbol of the kernel that each module needs, with its version.
 fn printk(alloc: Global) -> Result<SheetVersion, AllocError>
     ensures { IfOk result (λ version. version ≡ printk_of_kernel) }
 {
@@ -65,7 +65,7 @@ fn printk(alloc: Global) -> Result<SheetVersion, AllocError>
     })
 }
 
-/// The symbols that a module needs which draws these modules, with their versions.
+/// Returns the symbols that a module needs which draws these modules, with their versions.
 fn needed(alloc: Global, modules: &[u32]) -> Result<SheetVersions, AllocError>
     ensures { IfOk result (λ versions. versions ≡ needed_of modules.now) }
 {
@@ -77,7 +77,7 @@ fn needed(alloc: Global, modules: &[u32]) -> Result<SheetVersions, AllocError>
     Ok(versions)
 }
 
-/// The symbol of the module of this number as its one export.
+/// Returns the only export of the module of this number, its symbol.
 fn exports(alloc: Global, number: u32) -> Result<SheetExports, AllocError>
     ensures { IfOk result (λ exports. exports ≡ stated (exported_by number) ∷ []) }
 {
@@ -90,7 +90,7 @@ fn exports(alloc: Global, number: u32) -> Result<SheetExports, AllocError>
     Ok(exports)
 }
 
-/// Needs of these symbols, none of them weak.
+/// Returns needs of these symbols, none of them weak.
 fn needs(alloc: Global, needed: &[SheetVersion]) -> Result<SheetNeeds, AllocError>
     ensures { IfOk result (λ needs. needs ≡ map strong needed.now) }
 {
@@ -102,7 +102,7 @@ fn needs(alloc: Global, needed: &[SheetVersion]) -> Result<SheetNeeds, AllocErro
     Ok(needs)
 }
 
-/// A word for the address of each of these symbols.
+/// Returns a word for the address of each of these symbols.
 fn places(alloc: Global, needed: &[SheetVersion]) -> Result<SheetPlaces, AllocError>
     ensures { IfOk result (λ places. places ≡ map address needed.now) }
 {
@@ -118,7 +118,7 @@ fn places(alloc: Global, needed: &[SheetVersion]) -> Result<SheetPlaces, AllocEr
     Ok(places)
 }
 
-/// The texts of the module of this number.
+/// Returns the texts of the module of this number.
 fn texts(alloc: Global, number: u32) -> Result<Texts, AllocError>
     ensures { IfOk result (λ texts. texts ≡ texts_of number) }
 {
@@ -131,7 +131,7 @@ fn texts(alloc: Global, number: u32) -> Result<Texts, AllocError>
     Ok(texts)
 }
 
-/// The sheet of the module of this number, which draws these modules.
+/// Returns the sheet of the module of this number, which draws these modules.
 #[tactic(auto, unfolding(crate::specs::Trial::module_sheet))]
 pub(crate) fn module_sheet(alloc: Global, number: u32, modules: &[u32]) -> Result<Sheet, AllocError>
     ensures { IfOk result (λ sheet. sheet ≡ sheet_of number modules.now) }

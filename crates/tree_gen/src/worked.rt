@@ -1,16 +1,16 @@
-// A law of the draws, and those of small seeds as laws that the check computes.
+// A law of the draws, and the draws of small seeds as laws that the check computes.
 ghost use Rattle.std.specs.Prelude.{◌≡◌, ◌<◌, ◌-◌, ◌^◌, ℕ, [], ◌∷◌, codes, All};
 ghost use Rattle.tree_gen.specs.Trial.{drawn, drawn_from, module_path};
 
-/// A module of a trial draws modules before it alone, so that none of them needs itself, and they can be loaded in the
-/// order of their numbers.
+/// States that a module of a trial draws only modules before it. So no module needs itself, and
+/// they can be loaded in the order of their numbers.
 #[tactic(auto, using(crate::proofs::TrialLemmas::drawn_before))]
 pub fn draws_stand_before()
     ensures { (i x : ℕ) → All (λ k. k < i) (drawn i x) }
 {}
 
-/// The modules that each module of a trial draws, for the seeds 0, 1, 7 and the greatest, worked out by a program of
-/// its own; and the path of a module.
+/// States which modules each module of a trial draws, for the seeds 0, 1, 7 and the greatest. A
+/// separate program worked them out. It also states the path of a module.
 #[tactic(auto, unfolding(crate::specs::Trial::drawn, crate::specs::Trial::next, crate::specs::Trial::module_path))]
 pub fn draws_of_small_seeds()
     ensures zero { drawn_from 0 5 ≡ [] ∷ (0 ∷ []) ∷ (1 ∷ 0 ∷ []) ∷ (2 ∷ []) ∷ (0 ∷ 3 ∷ []) ∷ [] }

@@ -1,19 +1,8 @@
-use Rattle.std.proofs.Common.{◌≡◌, ◌∙◌, ◌+◌, ap, sym, cond, arith, refl, take, take_all}
-use Rattle.image_layout.specs.Offsets.{aligned, is_in, end_of, of_class}
-use Rattle.image_layout.proofs.EndLemmas.{end-with}
+use Rattle.std.proofs.Common.{◌∙◌, ap, arith, take_all}
+use Rattle.image_layout.specs.Offsets.{end_of, of_class}
 use Rattle.image_layout.proofs.ends.end_of_class.Goals as goal
-
-pub loop-i-init : goal.loop-i-init
-unfolding end_of
-loop-i-init c = (refl, omega arith)
-
-pub loop-i-preserved : goal.loop-i-preserved
-loop-i-preserved c =
-    let s = c.section.result.now in
-    (c.end_with-end.ensures.end ∙ ap (λ e. cond (is_in c.args.class s) (aligned e s.align + s.size) e) c.loop-i.invariant.0 ∙ sym (end-with c.args.start c.args.class c.args.object.now.sections c.loop-i.i s c.section.ensures.section), omega arith)
 
 pub returns-clause-end : goal.returns-clause-end
 returns-clause-end c =
     let xs = c.args.object.now.sections in
-    let all : take c.loop-i.i xs ≡ xs = take_all c.loop-i.i xs (omega arith) in
-    c.loop-i.invariant.0 ∙ ap (λ ys. end_of c.args.start (of_class c.args.class ys)) all
+    c.end_of_first.ensures.end ∙ ap (λ ys. end_of c.args.start (of_class c.args.class ys)) (take_all _ xs (omega arith))

@@ -1,6 +1,6 @@
 use Rattle.std.proofs.Common.{◌≡◌, ◌+◌, ◌*◌, ◌^◌, ◌≤◌, take}
 use Rattle.image_layout.specs.Offsets.{end_of, of_class}
-use Rattle.image_layout.proofs.ends.end_of_class.Given as goal
+use Rattle.image_layout.proofs.ends.end_of_first.Given as goal
 
 abbrev pub invariant-loop-i : goal.invariant-loop-i
 invariant-loop-i l =
