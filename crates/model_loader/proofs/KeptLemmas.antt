@@ -2,7 +2,7 @@
 use Rattle.std.proofs.Common.{◌≡◌, ◌≤◌, ◌<◌, ◌+◌, ◌*◌, ◌/◌, ◌%◌, ◌∙◌, ◌⊎◌, inl, inr, ℕ, zero, suc, Bool, true, false, List, [], ◌∷◌, ◌++◌, Option, Some, None, refl, sym, ap, subst, arith, length, map, get_or}
 use Rattle.std.specs.Prelude.{find, option_map, All, unwrap_or, is_none, option_and_then}
 use Rattle.model_loader.specs.declared.fault.LoadFault.TheVariants.{RegionFull}
-use Rattle.std.specs.List.{list_any}
+use Rattle.std.specs.List.{IsDistinct, list_any}
 use Rattle.std.specs.Option.{option_or}
 use Rattle.std.specs.Str.{bytes_eq}
 use Rattle.std.proofs.lemmas.Bool.{cases_Bool}
@@ -11,7 +11,6 @@ use Rattle.std.proofs.lemmas.List.{map-append}
 use Rattle.std.proofs.lemmas.List.FromFn.{get_or-map-range_with_len, length-map-range_with_len}
 use Rattle.km_names.specs.First.{first}
 use Rattle.module_facts.specs.declared.module.Module.{Module}
-use Rattle.symbol_binding.specs.Unmet.{vmlinux}
 use Rattle.elf_object.specs.Object.{FileObject}
 use Rattle.x86_relocate.specs.Patched.{patched, byte_at}
 use Rattle.image_layout.specs.Offsets.{aligned, greater, image_size}
@@ -26,7 +25,7 @@ use Rattle.model_loader.specs.declared.standing.ExportTable.{ExportTable}
 use Rattle.model_loader.specs.Machine.{Machine, export_named, kernel_placed}
 use Rattle.model_loader.specs.Gap.{gap, gap_among, is_gap, meets_entry, pages}
 use Rattle.model_loader.specs.Kept.{IsKept}
-use Rattle.model_loader.specs.Sound.{IsPlaced}
+use Rattle.model_loader.specs.Sound.{IsPlaced, entry_names, exported_names}
 use Rattle.model_loader.specs.Standing.{export_pair, named_pair, standing, standing_in, standing_of, standing_under}
 use Rattle.model_loader.specs.Step.{fault_if, named_pages, overflow_fault, entry_at, module_base, module_size, place_tests, symbol_addresses, with_entry}
 use Rattle.model_loader.proofs.StandingLemmas.{find-map}
@@ -37,7 +36,7 @@ second-fused : {X Y : Type 0} (f : X → List ℕ × Y) (o : Option X) → optio
 second-fused f None = refl
 second-fused f (Some x) = refl
 
-pub standing_in-is : (x owner : List ℕ) (named : List Named) (exports : List PlacedExport) → map named_pair named ≡ map (export_pair owner) exports → standing_in x named ≡ option_map (standing owner) (export_named x exports)
+pub standing_in-is : (x : List ℕ) (owner : Option (List ℕ)) (named : List Named) (exports : List PlacedExport) → map named_pair named ≡ map (export_pair owner) exports → standing_in x named ≡ option_map (standing owner) (export_named x exports)
 standing_in-is x owner named exports same =
     let test : List ℕ × Standing → Bool = λ p. bytes_eq p.0 x in
     sym (second-fused named_pair (find (λ (n : Named). bytes_eq n.name.items x) named))
@@ -47,7 +46,7 @@ standing_in-is x owner named exports same =
 -- What stands under a name with an entry more.
 module _ (machine : Machine) (e : Entry) (x : List ℕ) where
   abbrev of_entry : Entry → Option Standing
-  of_entry n = option_map (standing n.loaded.name) (export_named x n.exports)
+  of_entry n = option_map (standing (Some n.loaded.name)) (export_named x n.exports)
 
   or-first : (a b : Option Standing) → first (a ∷ b ∷ []) ≡ option_or a b
   or-first None None = refl
@@ -65,7 +64,7 @@ module _ (machine : Machine) (e : Entry) (x : List ℕ) where
   pub under-next : standing_under (with_entry machine e) x ≡ option_or (standing_under machine x) (of_entry e)
   unfolding standing_under
   under-next =
-      let kernel = option_map (standing vmlinux) (export_named x (map kernel_placed machine.kernel.exports)) in
+      let kernel = option_map (standing None) (export_named x (map kernel_placed machine.kernel.exports)) in
       let old = first (map of_entry machine.entries) in
       let more : first (map of_entry (machine.entries ++ e ∷ [])) ≡ option_or old (of_entry e) =
       ap first (map-append of_entry machine.entries (e ∷ [])) ∙ first-append (map of_entry machine.entries) (of_entry e ∷ []) ∙ ap (option_or old) (one-first (of_entry e)) in
@@ -165,13 +164,15 @@ placed-next machine e all here =
     let again : (n : Entry) → IsPlaced machine n → IsPlaced (with_entry machine e) n = λ n is. record { size = is.size; begins = is.begins; whole = is.whole; low = is.low; high = is.high } in
     all-append (IsPlaced (with_entry machine e)) machine.entries e (λ k d less. again (get_or machine.entries k d) (all k d less)) (again e here)
 
-pub kept-next : (machine : Machine) (t next : ExportTable) (m : Module) (e : Entry) (named : List Named) → IsKept machine t → first (place_tests machine m) ≡ None → e ≡ entry_at machine m (module_base machine m) → map named_pair named ≡ map (export_pair e.loaded.name) e.exports → ((x : List ℕ) → standing_of next x ≡ option_or (standing_of t x) (standing_in x named)) → IsKept (with_entry machine e) next
-kept-next machine t next m e named kept passed is same entered = record {
+pub kept-next : (machine : Machine) (t next : ExportTable) (m : Module) (e : Entry) (named : List Named) → IsKept machine t → first (place_tests machine m) ≡ None → e ≡ entry_at machine m (module_base machine m) → map named_pair named ≡ map (export_pair (Some e.loaded.name)) e.exports → ((x : List ℕ) → standing_of next x ≡ option_or (standing_of t x) (standing_in x named)) → IsDistinct bytes_eq (entry_names (with_entry machine e)) → IsDistinct bytes_eq (exported_names (with_entry machine e)) → IsKept (with_entry machine e) next
+kept-next machine t next m e named kept passed is same entered names distinct = record {
+  names = names;
+  exports = distinct;
   keeps = record {
     at = λ x.
         entered x
         ∙ ap (λ o. option_or o (standing_in x named)) (kept.keeps.at x)
-        ∙ ap (option_or (standing_under machine x)) (standing_in-is x e.loaded.name named e.exports same)
+        ∙ ap (option_or (standing_under machine x)) (standing_in-is x (Some e.loaded.name) named e.exports same)
         ∙ sym (under-next machine e x);
   };
   placed = placed-next machine e kept.placed (subst (IsPlaced machine) (sym is) (placed-new machine m (module_base machine m) (module-gap machine m passed)));

@@ -8,7 +8,6 @@ use Rattle.std.proofs.lemmas.List.Folds.{find-append}
 use Rattle.std.proofs.Math.Seq.{drop-cons}
 use Rattle.km_names.specs.First.{first}
 use Rattle.provider_rel.specs.declared.kernel.KernelExport.{KernelExport}
-use Rattle.symbol_binding.specs.Unmet.{vmlinux}
 use Rattle.model_loader.specs.declared.fault.MachineFault.TheVariants.{KernelWithoutAddress}
 use Rattle.model_loader.specs.declared.standing.Standing.{Standing}
 use Rattle.model_loader.specs.declared.standing.Named.{Named}
@@ -19,13 +18,13 @@ use Rattle.model_loader.specs.Standing.{export_pair, named_pair, standing, stand
 
 -- What exports of the kernel keep of a name.
 abbrev pub kernel_standing : List KernelExport → List ℕ → Option Standing
-kernel_standing es x = option_map (standing vmlinux) (export_named x (map kernel_placed es))
+kernel_standing es x = option_map (standing None) (export_named x (map kernel_placed es))
 
-standing-more : (es : List KernelExport) (e : KernelExport) (x : List ℕ) → kernel_standing (es ++ e ∷ []) x ≡ option_or (kernel_standing es x) (cond (bytes_eq e.name x) (Some (standing vmlinux (kernel_placed e))) None)
+standing-more : (es : List KernelExport) (e : KernelExport) (x : List ℕ) → kernel_standing (es ++ e ∷ []) x ≡ option_or (kernel_standing es x) (cond (bytes_eq e.name x) (Some (standing None (kernel_placed e))) None)
 standing-more [] e x =
-    elim (bytes_eq e.name x) as (λ b. option_map (standing vmlinux) (cond b (Some (kernel_placed e)) None) ≡ cond b (Some (standing vmlinux (kernel_placed e))) None) [ true ↦ refl | false ↦ refl ]
+    elim (bytes_eq e.name x) as (λ b. option_map (standing None) (cond b (Some (kernel_placed e)) None) ≡ cond b (Some (standing None (kernel_placed e))) None) [ true ↦ refl | false ↦ refl ]
 standing-more (y ∷ ys) e x =
-    elim (bytes_eq y.name x) as (λ b. option_map (standing vmlinux) (cond b (Some (kernel_placed y)) (export_named x (map kernel_placed (ys ++ e ∷ [])))) ≡ option_or (option_map (standing vmlinux) (cond b (Some (kernel_placed y)) (export_named x (map kernel_placed ys)))) (cond (bytes_eq e.name x) (Some (standing vmlinux (kernel_placed e))) None)) [
+    elim (bytes_eq y.name x) as (λ b. option_map (standing None) (cond b (Some (kernel_placed y)) (export_named x (map kernel_placed (ys ++ e ∷ [])))) ≡ option_or (option_map (standing None) (cond b (Some (kernel_placed y)) (export_named x (map kernel_placed ys)))) (cond (bytes_eq e.name x) (Some (standing None (kernel_placed e))) None)) [
       | true ↦ refl
       | false ↦ standing-more ys e x
     ]
@@ -33,7 +32,7 @@ standing-more (y ∷ ys) e x =
 one_more : (es : List KernelExport) (i : ℕ) (e : KernelExport) → i < length es → e ≡ get_or es i e → take (i + 1) es ≡ take i es ++ e ∷ []
 one_more es i e inside is = take_more es i e inside ∙ ap (λ y. take i es ++ y ∷ []) (sym is)
 
-pub kernel-more : (old next : ExportTable) (es : List KernelExport) (i : ℕ) (e : KernelExport) (n : Named) → i < length es → e ≡ get_or es i e → ((x : List ℕ) → standing_of old x ≡ kernel_standing (take i es) x) → named_pair n ≡ export_pair vmlinux (kernel_placed e) → ((x : List ℕ) → standing_of next x ≡ option_or (standing_of old x) (cond (bytes_eq n.name.items x) (Some n.standing) None)) → (x : List ℕ) → standing_of next x ≡ kernel_standing (take (i + 1) es) x
+pub kernel-more : (old next : ExportTable) (es : List KernelExport) (i : ℕ) (e : KernelExport) (n : Named) → i < length es → e ≡ get_or es i e → ((x : List ℕ) → standing_of old x ≡ kernel_standing (take i es) x) → named_pair n ≡ export_pair None (kernel_placed e) → ((x : List ℕ) → standing_of next x ≡ option_or (standing_of old x) (cond (bytes_eq n.name.items x) (Some n.standing) None)) → (x : List ℕ) → standing_of next x ≡ kernel_standing (take (i + 1) es) x
 kernel-more old next es i e n inside is kept named entered x =
     entered x
     ∙ ap (λ o. option_or o (cond (bytes_eq n.name.items x) (Some n.standing) None)) (kept x)

@@ -9,3 +9,8 @@ pub mod StepLemmas
 pub mod KeptLemmas
 pub mod KernelLemmas
 pub mod SoundLemmas
+pub mod PlaceLemmas
+pub mod ListedLemmas
+pub mod WithoutLemmas
+pub mod UseLemmas
+pub mod MetLemmas

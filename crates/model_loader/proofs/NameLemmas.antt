@@ -1,6 +1,6 @@
 -- The tests of the names of a module, by a table.
 use Rattle.std.proofs.Common.{◌≡◌, ◌∙◌, ◌⊎◌, inl, inr, ℕ, true, false, List, [], ◌∷◌, Option, Some, None, refl, sym, ap, map}
-use Rattle.std.specs.Prelude.{option_map}
+use Rattle.std.specs.Prelude.{option_map, unwrap_or}
 use Rattle.std.specs.List.{list_any}
 use Rattle.std.specs.Str.{bytes_eq}
 use Rattle.km_names.specs.First.{first}
@@ -9,6 +9,7 @@ use Rattle.module_facts.specs.declared.facts.Export.{Export}
 use Rattle.symbol_binding.specs.Symbols.{Face}
 use Rattle.symbol_binding.specs.Provider.{Provided}
 use Rattle.symbol_binding.specs.Table.{table, is_named}
+use Rattle.symbol_binding.specs.Unmet.{vmlinux}
 use Rattle.model_loader.specs.declared.entry.Entry.{Entry}
 use Rattle.model_loader.specs.declared.standing.Standing.{Standing}
 use Rattle.model_loader.specs.declared.standing.ExportTable.{ExportTable}
@@ -29,7 +30,7 @@ with-name : {X : Type 0} (f : X → List ℕ) (name : List ℕ) (owner : X → L
 with-name f name owner None = refl
 with-name f name owner (Some x) = refl
 
-by-owner : (name : List ℕ) (o : Option Standing) → option_map (ExportTaken name) (option_map (λ (s : Standing). s.owner) o) ≡ option_map (λ (s : Standing). ExportTaken name s.owner) o
+by-owner : (name : List ℕ) (o : Option Standing) → option_map (ExportTaken name) (option_map (λ (s : Standing). unwrap_or s.owner vmlinux) o) ≡ option_map (λ (s : Standing). ExportTaken name (unwrap_or s.owner vmlinux)) o
 by-owner name None = refl
 by-owner name (Some s) = refl
 
@@ -38,7 +39,7 @@ taken-is machine t keeps e =
     with-name (λ (p : Provided Face). owner_name p.owner) e.name (λ (p : Provided Face). owner_name p.owner) (table (machine_kernel machine) (faces machine) e.name)
     ∙ ap (option_map (ExportTaken e.name)) (under-owner machine e.name)
     ∙ by-owner e.name (standing_under machine e.name)
-    ∙ ap (option_map (λ (s : Standing). ExportTaken e.name s.owner)) (sym (keeps.at e.name))
+    ∙ ap (option_map (λ (s : Standing). ExportTaken e.name (unwrap_or s.owner vmlinux))) (sym (keeps.at e.name))
 
 pub exports-taken : (machine : Machine) (t : ExportTable) → Keeps t machine → (es : List Export) → map (taken_test machine) (map facts_export es) ≡ map (taken_by t) es
 exports-taken machine t keeps [] = refl

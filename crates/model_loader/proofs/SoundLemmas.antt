@@ -16,16 +16,17 @@ use Rattle.module_facts.specs.declared.facts.Need.{Need as FactsNeed}
 use Rattle.module_facts.specs.declared.facts.Export.{Export as FactsExport}
 use Rattle.module_facts.specs.declared.module.Module.{Module}
 use Rattle.symbol_binding.specs.Symbols.{Export, Need, Face}
+use Rattle.provider_rel.specs.declared.kernel.Kernel.{Kernel as KernelTable}
 use Rattle.provider_rel.specs.declared.kernel.KernelExport.{KernelExport}
 use Rattle.symbol_binding.specs.Provider.{Provided, export_under}
 use Rattle.symbol_binding.specs.Needs.{NeedTest, sees, may_use, agree, is_missing, is_hidden, is_other_version, is_barred}
 use Rattle.symbol_binding.specs.Table.{table, first_need, is_named}
-use Rattle.symbol_binding.specs.Unmet.{vmlinux}
 use Rattle.model_loader.specs.declared.entry.PlacedExport.{PlacedExport}
 use Rattle.model_loader.specs.declared.entry.Entry.{Entry}
 use Rattle.model_loader.specs.declared.fault.LoadFault.{LoadFault}
 use Rattle.model_loader.specs.declared.fault.LoadFault.TheVariants.{AlreadyLoaded, MissingSymbol, GplOnly, VersionDiffers, NotImported, ExportTaken}
-use Rattle.model_loader.specs.Machine.{Machine, entry_face, export_named, facts_export, facts_face, facts_need, faces, kernel_placed, machine_kernel, need_face}
+use Rattle.model_loader.specs.declared.region.Region.{Region}
+use Rattle.model_loader.specs.Machine.{Machine, entry_face, export_named, facts_export, facts_face, facts_need, faces, kernel_placed, machine_kernel, need_face, new_machine}
 use Rattle.model_loader.specs.Gap.{meets_entry}
 use Rattle.model_loader.specs.Sound.{Agrees, AreApart, AreBoundAfter, IsBound, IsEntryOf, IsSound, entry_names, exported_names}
 use Rattle.model_loader.specs.Standing.{standing, standing_export, standing_under}
@@ -230,21 +231,21 @@ unexported-by x (e ∷ es) none =
 abbrev names_of : Entry → List (List ℕ)
 names_of e = map (λ (x : PlacedExport). x.name) e.exports
 
-unexported-entries : (x : List ℕ) (es : List Entry) → first (map (λ (e : Entry). option_map (standing e.loaded.name) (export_named x e.exports)) es) ≡ None → unlisted x (flat_map names_of es)
+unexported-entries : (x : List ℕ) (es : List Entry) → first (map (λ (e : Entry). option_map (standing (Some e.loaded.name)) (export_named x e.exports)) es) ≡ None → unlisted x (flat_map names_of es)
 unexported-entries x [] none = refl
 unexported-entries x (e ∷ es) none =
-    let h = first-none (option_map (standing e.loaded.name) (export_named x e.exports)) _ none in
-    join x (names_of e) (flat_map names_of es) (unexported-by x e.exports (mapped-none (standing e.loaded.name) (export_named x e.exports) h.0)) (unexported-entries x es h.1)
+    let h = first-none (option_map (standing (Some e.loaded.name)) (export_named x e.exports)) _ none in
+    join x (names_of e) (flat_map names_of es) (unexported-by x e.exports (mapped-none (standing (Some e.loaded.name)) (export_named x e.exports) h.0)) (unexported-entries x es h.1)
 
 unexported : (machine : Machine) (x : List ℕ) → standing_under machine x ≡ None → unlisted x (exported_names machine)
 unfolding standing_under
 unexported machine x none =
-    let kernel = option_map (standing vmlinux) (export_named x (map kernel_placed machine.kernel.exports)) in
-    let entries = first (map (λ (e : Entry). option_map (standing e.loaded.name) (export_named x e.exports)) machine.entries) in
+    let kernel = option_map (standing None) (export_named x (map kernel_placed machine.kernel.exports)) in
+    let entries = first (map (λ (e : Entry). option_map (standing (Some e.loaded.name)) (export_named x e.exports)) machine.entries) in
     let h = first-none kernel (entries ∷ []) none in
     let k = first-none entries [] h.1 in
     join x (map (λ (e : KernelExport). e.name) machine.kernel.exports) (flat_map names_of machine.entries)
-    (unexported-kernel x machine.kernel.exports (mapped-none (standing vmlinux) (export_named x (map kernel_placed machine.kernel.exports)) h.0))
+    (unexported-kernel x machine.kernel.exports (mapped-none (standing None) (export_named x (map kernel_placed machine.kernel.exports)) h.0))
     (unexported-entries x machine.entries k.0)
 
 untaken : (machine : Machine) (es : List FactsExport) → first (map (taken_test machine) (map facts_export es)) ≡ None → Each (λ x. unlisted x (exported_names machine)) (map (λ (e : FactsExport). e.name) es)
@@ -263,6 +264,16 @@ own-distinct (e ∷ es) apart =
     (head es (λ k d less. apart 0 (suc k) d (omega arith) (omega arith)), own-distinct es (λ i j d less inside. apart (suc i) (suc j) d (omega arith) (omega arith)))
   where
     head : (fs : List FactsExport) → ((k : ℕ) (d : FactsExport) → k < length fs → e.name ≡ (get_or fs k d).name → ⊥) → AllByRecursion (λ z. bytes_eq e.name z ≡ false) (map (λ (f : FactsExport). f.name) fs)
+    head [] all = tt
+    head (f ∷ fs) all = (other_names e.name f.name (all 0 f (omega arith)), head fs (λ k d less. all (suc k) d (omega arith)))
+
+kernel-distinct : (es : List KernelExport) → AllPairs (λ (a b : KernelExport). a.name ≡ b.name → ⊥) es → IsDistinct bytes_eq (map (λ (e : KernelExport). e.name) es)
+unfolding IsDistinct
+kernel-distinct [] apart = tt
+kernel-distinct (e ∷ es) apart =
+    (head es (λ k d less. apart 0 (suc k) d (omega arith) (omega arith)), kernel-distinct es (λ i j d less inside. apart (suc i) (suc j) d (omega arith) (omega arith)))
+  where
+    head : (fs : List KernelExport) → ((k : ℕ) (d : KernelExport) → k < length fs → e.name ≡ (get_or fs k d).name → ⊥) → AllByRecursion (λ z. bytes_eq e.name z ≡ false) (map (λ (f : KernelExport). f.name) fs)
     head [] all = tt
     head (f ∷ fs) all = (other_names e.name f.name (all 0 f (omega arith)), head fs (λ k d less. all (suc k) d (omega arith)))
 
@@ -294,6 +305,33 @@ names-same : (machine : Machine) (m : Module) (base : ℕ) (es : List FactsExpor
 names-same machine m base [] = refl
 names-same machine m base (e ∷ es) = ap (λ rest. e.name ∷ rest) (names-same machine m base es)
 
+-- No two modules have one name with the entry of a module that isn't refused.
+pub names-next : (machine : Machine) (m : Module) (base : ℕ) → first (name_tests machine m.facts) ≡ None → IsDistinct bytes_eq (entry_names machine) → IsDistinct bytes_eq (entry_names (with_entry machine (entry_at machine m base)))
+unfolding entry_at
+names-next machine m base passed distinct =
+    subst (IsDistinct bytes_eq) (sym (map-append (λ (x : Entry). x.loaded.name) machine.entries (entry_at machine m base ∷ [])))
+    (IsDistinct-push nat_list_eq_equiv (entry_names machine) m.facts.name distinct (unnamed machine.entries m.facts.name (named_none machine m passed)))
+
+-- No name is exported twice with the entry of a module that isn't refused.
+pub exports-next : (machine : Machine) (m : Module) (base : ℕ) → first (name_tests machine m.facts) ≡ None → IsDistinct bytes_eq (exported_names machine) → IsDistinct bytes_eq (exported_names (with_entry machine (entry_at machine m base)))
+unfolding entry_at
+exports-next machine m base passed distinct =
+    let e = entry_at machine m base in
+    let own = map (λ (x : FactsExport). x.name) m.facts.exports in
+    let exports : exported_names (with_entry machine e) ≡ exported_names machine ++ own =
+    ap (λ l. map (λ (x : KernelExport). x.name) machine.kernel.exports ++ l) (flat_map-append names_of machine.entries (e ∷ []) ∙ ap (λ l. flat_map names_of machine.entries ++ l) (append-nil (names_of e) ∙ names-same machine m base m.facts.exports))
+    ∙ sym (append_assoc (map (λ (x : KernelExport). x.name) machine.kernel.exports) (flat_map names_of machine.entries) own) in
+    subst (IsDistinct bytes_eq) (sym exports) (distinct-append (exported_names machine) own distinct (own-distinct m.facts.exports m.sound.distinct) (untaken machine m.facts.exports (exports-pass machine m passed)))
+
+pub names-new : (kernel : KernelTable) (region : Region) → IsDistinct bytes_eq (entry_names (new_machine kernel region))
+unfolding IsDistinct
+names-new kernel region = tt
+
+-- No name is exported twice in a machine without modules.
+pub exports-new : (kernel : KernelTable) (region : Region) → IsDistinct bytes_eq (exported_names (new_machine kernel region))
+exports-new kernel region =
+    subst (IsDistinct bytes_eq) (sym (append-nil (map (λ (x : KernelExport). x.name) kernel.exports))) (kernel-distinct kernel.exports kernel.table.distinct)
+
 pub sound-next : (machine : Machine) (ms : List Module) (m : Module) → refusal machine m ≡ None → IsSound machine ms → IsSound (with_entry machine (entry_at machine m (module_base machine m))) (ms ++ m ∷ [])
 unfolding entry_at
 sound-next machine ms m none sound =
@@ -303,14 +341,10 @@ sound-next machine ms m none sound =
     let hole = module-gap machine m tests.1 in
     let at = gap-at machine.region machine.entries (module_size m) base hole in
     let long = length-laid m.object base (symbol_addresses machine m base) in
-    let own = map (λ (x : FactsExport). x.name) m.facts.exports in
-    let exports : exported_names (with_entry machine e) ≡ exported_names machine ++ own =
-    ap (λ l. map (λ (x : KernelExport). x.name) machine.kernel.exports ++ l) (flat_map-append names_of machine.entries (e ∷ []) ∙ ap (λ l. flat_map names_of machine.entries ++ l) (append-nil (names_of e) ∙ names-same machine m base m.facts.exports))
-    ∙ sym (append_assoc (map (λ (x : KernelExport). x.name) machine.kernel.exports) (flat_map names_of machine.entries) own) in
     record {
       bound = bound-more (with_entry machine e) [] ms machine.entries m e (bound-same machine e [] ms machine.entries sound.bound) (entry-of machine m tests.0 base);
-      names = subst (IsDistinct bytes_eq) (sym (map-append (λ (x : Entry). x.loaded.name) machine.entries (e ∷ []))) (IsDistinct-push nat_list_eq_equiv (entry_names machine) m.facts.name sound.names (unnamed machine.entries m.facts.name (named_none machine m tests.0)));
-      exports = subst (IsDistinct bytes_eq) (sym exports) (distinct-append (exported_names machine) own sound.exports (own-distinct m.facts.exports m.sound.distinct) (untaken machine m.facts.exports (exports-pass machine m tests.0)));
+      names = names-next machine m base tests.0 sound.names;
+      exports = exports-next machine m base tests.0 sound.exports;
       placed = placed-next machine e sound.placed (placed-new machine m base hole);
       apart = apart-more machine.entries e sound.apart (ap (λ n. list_any (meets_entry base n) machine.entries) long ∙ at.free);
     }

@@ -1,6 +1,6 @@
 -- What a table keeps is what stands under a name.
 use Rattle.std.proofs.Common.{◌≡◌, ◌∙◌, inl, inr, ℕ, Bool, true, false, List, [], ◌∷◌, Option, Some, None, refl, sym, ap, cond, map}
-use Rattle.std.specs.Prelude.{find, option_map}
+use Rattle.std.specs.Prelude.{find, option_map, unwrap_or}
 use Rattle.std.specs.Str.{bytes_eq}
 use Rattle.std.proofs.lemmas.Slice.Eq.{bytes_eq-Decides}
 use Rattle.std.proofs.lemmas.Bool.{cases_Bool}
@@ -66,7 +66,7 @@ same_name : (y x : List ℕ) → bytes_eq y x ≡ true → y ≡ x
 same_name y x is = (bytes_eq-Decides y x).0 is
 
 -- The export of a name, as it is kept.
-named-export : (x owner : List ℕ) (xs : List PlacedExport) → option_map export_face (export_named x xs) ≡ option_map (standing_export x) (option_map (standing owner) (export_named x xs))
+named-export : (x : List ℕ) (owner : Option (List ℕ)) (xs : List PlacedExport) → option_map export_face (export_named x xs) ≡ option_map (standing_export x) (option_map (standing owner) (export_named x xs))
 named-export x owner [] = refl
 named-export x owner (y ∷ ys) =
     elim (cases_Bool (bytes_eq y.name x)) [
@@ -85,19 +85,25 @@ module _ (x : List ℕ) (owner : Owner Face) (exports : List PlacedExport) where
   given-is : given owner (map export_face exports) x ≡ option_map (λ (e : Export). record { owner = owner; export = e }) (option_map export_face (export_named x exports))
   given-is = ap (option_map (λ (e : Export). record { owner = owner; export = e })) (find-map (λ (e : Export). bytes_eq e.name x) export_face exports)
 
-  given-export : (name : List ℕ) → option_map (λ (p : Provided Face). p.export) (given owner (map export_face exports) x) ≡ option_map (standing_export x) (option_map (standing name) (export_named x exports))
+  given-face : option_map (λ (p : Provided Face). p.export) (given owner (map export_face exports) x) ≡ option_map export_face (export_named x exports)
+  given-face =
+      ap (option_map (λ (p : Provided Face). p.export)) given-is
+      ∙ fused (λ (p : Provided Face). p.export) (λ (e : Export). record { owner = owner; export = e }) (option_map export_face (export_named x exports))
+      ∙ fused (λ (e : Export). e) export_face (export_named x exports)
+
+  given-export : (name : Option (List ℕ)) → option_map (λ (p : Provided Face). p.export) (given owner (map export_face exports) x) ≡ option_map (standing_export x) (option_map (standing name) (export_named x exports))
   given-export name =
       ap (option_map (λ (p : Provided Face). p.export)) given-is
       ∙ fused (λ (p : Provided Face). p.export) (λ (e : Export). record { owner = owner; export = e }) (option_map export_face (export_named x exports))
       ∙ fused (λ (e : Export). e) export_face (export_named x exports)
       ∙ named-export x name exports
 
-  given-owner : option_map (λ (p : Provided Face). owner_name p.owner) (given owner (map export_face exports) x) ≡ option_map (λ (s : Standing). s.owner) (option_map (standing (owner_name owner)) (export_named x exports))
-  given-owner = ap (option_map (λ (p : Provided Face). owner_name p.owner)) given-is ∙ owners (export_named x exports)
+  given-owner : (name : Option (List ℕ)) → owner_name owner ≡ unwrap_or name vmlinux → option_map (λ (p : Provided Face). owner_name p.owner) (given owner (map export_face exports) x) ≡ option_map (λ (s : Standing). unwrap_or s.owner vmlinux) (option_map (standing name) (export_named x exports))
+  given-owner name is = ap (option_map (λ (p : Provided Face). owner_name p.owner)) given-is ∙ owners (export_named x exports)
     where
-      owners : (o : Option PlacedExport) → option_map (λ (p : Provided Face). owner_name p.owner) (option_map (λ (e : Export). record { owner = owner; export = e }) (option_map export_face o)) ≡ option_map (λ (s : Standing). s.owner) (option_map (standing (owner_name owner)) o)
+      owners : (o : Option PlacedExport) → option_map (λ (p : Provided Face). owner_name p.owner) (option_map (λ (e : Export). record { owner = owner; export = e }) (option_map export_face o)) ≡ option_map (λ (s : Standing). unwrap_or s.owner vmlinux) (option_map (standing name) o)
       owners None = refl
-      owners (Some e) = refl
+      owners (Some e) = ap Some is
 
 kernel-faces : (es : List KernelExport) → map seen_export es ≡ map export_face (map kernel_placed es)
 kernel-faces [] = refl
@@ -117,28 +123,37 @@ module _ (machine : Machine) (x : List ℕ) where
   pub under-export : export_under here ≡ option_map (standing_export x) (standing_under machine x)
   unfolding standing_under
   under-export =
-      let kernel : option_map (λ (p : Provided Face). p.export) (given {M = Face} ByKernel (map seen_export machine.kernel.exports) x) ≡ option_map (standing_export x) (option_map (standing vmlinux) (export_named x (map kernel_placed machine.kernel.exports))) =
-      ap (λ es. option_map (λ (p : Provided Face). p.export) (given ByKernel es x)) (kernel-faces machine.kernel.exports) ∙ given-export x ByKernel (map kernel_placed machine.kernel.exports) vmlinux in
+      let kernel : option_map (λ (p : Provided Face). p.export) (given {M = Face} ByKernel (map seen_export machine.kernel.exports) x) ≡ option_map (standing_export x) (option_map (standing None) (export_named x (map kernel_placed machine.kernel.exports))) =
+      ap (λ es. option_map (λ (p : Provided Face). p.export) (given ByKernel es x)) (kernel-faces machine.kernel.exports) ∙ given-export x ByKernel (map kernel_placed machine.kernel.exports) None in
       first-two (λ (p : Provided Face). p.export) (standing_export x) _ _ _ _ kernel
-      (first-same (λ (p : Provided Face). p.export) (standing_export x) entry_face (of_one face_exports x) (λ (e : Entry). option_map (standing e.loaded.name) (export_named x e.exports))
-      (λ e. given-export x (ByModule (entry_face e)) e.exports e.loaded.name) machine.entries)
+      (first-same (λ (p : Provided Face). p.export) (standing_export x) entry_face (of_one face_exports x) (λ (e : Entry). option_map (standing (Some e.loaded.name)) (export_named x e.exports))
+      (λ e. given-export x (ByModule (entry_face e)) e.exports (Some e.loaded.name)) machine.entries)
 
-  pub under-owner : option_map (λ (p : Provided Face). owner_name p.owner) here ≡ option_map (λ (s : Standing). s.owner) (standing_under machine x)
+  pub under-face : export_under here ≡ option_map export_face (placed_under machine x)
+  unfolding placed_under
+  under-face =
+      let kernel : option_map (λ (p : Provided Face). p.export) (given {M = Face} ByKernel (map seen_export machine.kernel.exports) x) ≡ option_map export_face (export_named x (map kernel_placed machine.kernel.exports)) =
+      ap (λ es. option_map (λ (p : Provided Face). p.export) (given ByKernel es x)) (kernel-faces machine.kernel.exports) ∙ given-face x ByKernel (map kernel_placed machine.kernel.exports) in
+      first-two (λ (p : Provided Face). p.export) export_face _ _ _ _ kernel
+      (first-same (λ (p : Provided Face). p.export) export_face entry_face (of_one face_exports x) (λ (e : Entry). export_named x e.exports)
+      (λ e. given-face x (ByModule (entry_face e)) e.exports) machine.entries)
+
+  pub under-owner : option_map (λ (p : Provided Face). owner_name p.owner) here ≡ option_map (λ (s : Standing). unwrap_or s.owner vmlinux) (standing_under machine x)
   unfolding standing_under
   under-owner =
-      let kernel : option_map (λ (p : Provided Face). owner_name p.owner) (given {M = Face} ByKernel (map seen_export machine.kernel.exports) x) ≡ option_map (λ (s : Standing). s.owner) (option_map (standing vmlinux) (export_named x (map kernel_placed machine.kernel.exports))) =
-      ap (λ es. option_map (λ (p : Provided Face). owner_name p.owner) (given ByKernel es x)) (kernel-faces machine.kernel.exports) ∙ given-owner x ByKernel (map kernel_placed machine.kernel.exports) in
-      first-two (λ (p : Provided Face). owner_name p.owner) (λ (s : Standing). s.owner) _ _ _ _ kernel
-      (first-same (λ (p : Provided Face). owner_name p.owner) (λ (s : Standing). s.owner) entry_face (of_one face_exports x) (λ (e : Entry). option_map (standing e.loaded.name) (export_named x e.exports))
-      (λ e. given-owner x (ByModule (entry_face e)) e.exports) machine.entries)
+      let kernel : option_map (λ (p : Provided Face). owner_name p.owner) (given {M = Face} ByKernel (map seen_export machine.kernel.exports) x) ≡ option_map (λ (s : Standing). unwrap_or s.owner vmlinux) (option_map (standing None) (export_named x (map kernel_placed machine.kernel.exports))) =
+      ap (λ es. option_map (λ (p : Provided Face). owner_name p.owner) (given ByKernel es x)) (kernel-faces machine.kernel.exports) ∙ given-owner x ByKernel (map kernel_placed machine.kernel.exports) None refl in
+      first-two (λ (p : Provided Face). owner_name p.owner) (λ (s : Standing). unwrap_or s.owner vmlinux) _ _ _ _ kernel
+      (first-same (λ (p : Provided Face). owner_name p.owner) (λ (s : Standing). unwrap_or s.owner vmlinux) entry_face (of_one face_exports x) (λ (e : Entry). option_map (standing (Some e.loaded.name)) (export_named x e.exports))
+      (λ e. given-owner x (ByModule (entry_face e)) e.exports (Some e.loaded.name) refl) machine.entries)
 
   pub under-placed : option_map of_placed (placed_under machine x) ≡ option_map of_standing (standing_under machine x)
   unfolding standing_under placed_under
   under-placed =
       first-two of_placed of_standing _ _ _ _
-      (sym (fused of_standing (standing vmlinux) (export_named x (map kernel_placed machine.kernel.exports))))
-      (first-same-plain of_placed of_standing (λ (e : Entry). export_named x e.exports) (λ (e : Entry). option_map (standing e.loaded.name) (export_named x e.exports))
-      (λ e. sym (fused of_standing (standing e.loaded.name) (export_named x e.exports))) machine.entries)
+      (sym (fused of_standing (standing None) (export_named x (map kernel_placed machine.kernel.exports))))
+      (first-same-plain of_placed of_standing (λ (e : Entry). export_named x e.exports) (λ (e : Entry). option_map (standing (Some e.loaded.name)) (export_named x e.exports))
+      (λ e. sym (fused of_standing (standing (Some e.loaded.name)) (export_named x e.exports))) machine.entries)
 
 -- The test of a need over a machine whose names a table keeps.
 pub need_test-is : (machine : Machine) (t : ExportTable) (f : Facts) (check : Check) → Keeps t machine → need_test machine f (test_of check) (fault_of check) ≡ option_map (λ (n : FactsNeed). fault_of check n.name) (find (need_fails check t f) f.needs)

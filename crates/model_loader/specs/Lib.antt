@@ -10,3 +10,5 @@ pub mod Runs
 pub mod NeedTests
 pub mod Parts
 pub mod Kept
+pub mod Use
+pub mod Uses

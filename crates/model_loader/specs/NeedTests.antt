@@ -1,5 +1,5 @@
 -- The tests of needs, as the code names them. No public contract cites it.
-use Rattle.std.specs.Prelude.{ℕ, ◌==◌, Bool, List, find, Option, option_map, if◌then◌else◌}
+use Rattle.std.specs.Prelude.{ℕ, ◌==◌, Bool, List, find, Option, option_map, unwrap_or, if◌then◌else◌}
 use Rattle.std.specs.Option.{option_map_or}
 use Rattle.module_facts.specs.declared.facts.Export.{Export as FactsExport}
 use Rattle.module_facts.specs.declared.facts.Need.{Need as FactsNeed}
@@ -7,6 +7,7 @@ use Rattle.module_facts.specs.declared.facts.Facts.{Facts}
 use Rattle.model_loader.specs.declared.standing.ExportTable.{ExportTable}
 use Rattle.model_loader.specs.Machine.{facts_face, facts_need}
 use Rattle.model_loader.specs.Standing.{standing_export, standing_of}
+use Rattle.symbol_binding.specs.Unmet.{vmlinux}
 use Rattle.symbol_binding.specs.Needs.{NeedTest, is_seen, is_missing, is_hidden, is_other_version, is_barred}
 use Rattle.model_loader.specs.declared.needs.Check.{Check}
 use Rattle.model_loader.specs.declared.needs.Check.TheVariants.{Missing, Hidden, OtherVersion, Barred}
@@ -34,7 +35,7 @@ need_fails check table f n =
 
 -- The refusal for an export whose name a table has.
 abbrev pub taken_by : ExportTable → FactsExport → Option LoadFault
-taken_by table e = option_map (λ s. ExportTaken e.name s.owner) (standing_of table e.name)
+taken_by table e = option_map (λ s. ExportTaken e.name (unwrap_or s.owner vmlinux)) (standing_of table e.name)
 
 -- The address that a need of a module stands for, by a table.
 abbrev pub kept_address : ExportTable → Facts → FactsNeed → ℕ

@@ -1,26 +1,25 @@
 -- What a machine keeps of each exported name, so that a name is looked up in one step. No public contract cites it.
-use Rattle.std.specs.Prelude.{◌≡◌, ℕ, List, [], ◌∷◌, map, find, Option, option_map}
+use Rattle.std.specs.Prelude.{◌≡◌, ℕ, List, [], ◌∷◌, map, find, Option, None, Some, option_map}
 use Rattle.std.specs.HashMap.{get_by}
 use Rattle.std.specs.Str.{bytes_eq}
 use Rattle.km_names.specs.First.{first}
 use Rattle.symbol_binding.specs.Symbols.{Export}
-use Rattle.symbol_binding.specs.Unmet.{vmlinux}
 use Rattle.model_loader.specs.declared.entry.PlacedExport.{PlacedExport}
 use Rattle.model_loader.specs.declared.standing.Standing.{Standing}
 use Rattle.model_loader.specs.declared.standing.Named.{Named}
 use Rattle.model_loader.specs.declared.standing.ExportTable.{ExportTable}
 use Rattle.model_loader.specs.Machine.{Machine, export_named, kernel_placed}
 
--- What is kept of an export of an owner.
-abbrev pub standing : List ℕ → PlacedExport → Standing
+-- What is kept of an export of an owner: a module by its name, or the kernel.
+abbrev pub standing : Option (List ℕ) → PlacedExport → Standing
 standing owner e = record { crc = e.crc; gpl = e.gpl; space = e.space; address = e.address; owner = owner }
 
 -- What is kept of a name: of the kernel's export, else of that of the module that was loaded first.
 unfoldable pub standing_under : Machine → List ℕ → Option Standing
 standing_under machine x =
     first (
-    option_map (standing vmlinux) (export_named x (map kernel_placed machine.kernel.exports))
-    ∷ first (map (λ e. option_map (standing e.loaded.name) (export_named x e.exports)) machine.entries)
+    option_map (standing None) (export_named x (map kernel_placed machine.kernel.exports))
+    ∷ first (map (λ e. option_map (standing (Some e.loaded.name)) (export_named x e.exports)) machine.entries)
     ∷ [])
 
 -- The export of this name of which that is kept.
@@ -43,5 +42,5 @@ pub record Keeps (t : ExportTable) (machine : Machine) : Type 0 where
 abbrev pub named_pair : Named → List ℕ × Standing
 named_pair n = (n.name.items, n.standing)
 
-abbrev pub export_pair : List ℕ → PlacedExport → List ℕ × Standing
+abbrev pub export_pair : Option (List ℕ) → PlacedExport → List ℕ × Standing
 export_pair owner e = (e.name, standing owner e)

@@ -3,7 +3,7 @@
 use km_names::{List, Name, Names};
 use raw_image::Image;
 
-/// A module that was loaded: its name, where its image begins, and how many bytes that has.
+/// A loaded module: its name, where its image begins, and how many bytes the image has.
 #[derive(Debug, Drop)]
 pub struct LoadedModule {
     /// The name of the module.
@@ -32,7 +32,7 @@ pub(crate) struct BoundNeed {
     pub(crate) crc: Option<u64>,
 }
 
-/// What stands in a machine for a module.
+/// What a machine keeps of a module.
 #[derive(Drop)]
 pub(crate) struct Entry {
     pub(crate) loaded: LoadedModule,

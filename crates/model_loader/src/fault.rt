@@ -29,7 +29,8 @@ pub enum LoadFault {
     /// Nobody exports the strong need `name`.
     #[error("missing symbol {}", BStr::new(.name.as_bytes()))]
     MissingSymbol { name: Name },
-    /// The strong need `name` is exported for GPL-compatible modules alone, and the module isn't one.
+    /// The strong need `name` is exported only for GPL-compatible modules, and the module isn't
+    /// one.
     #[error("{} is GPL-only", BStr::new(.name.as_bytes()))]
     GplOnly { name: Name },
     /// The need `name` is exported in another version.
@@ -41,7 +42,7 @@ pub enum LoadFault {
     /// The module exports `name`, as the kernel (`vmlinux`) or a loaded module, the `owner`, does.
     #[error("{} is taken by {}", BStr::new(.name.as_bytes()), BStr::new(.owner.as_bytes()))]
     ExportTaken { name: Name, owner: Name },
-    /// No gap of the region has so many pages; 2^64 - 1 stands for any greater number.
+    /// No gap of the region has so many pages. A number above 2^64 - 1 is given as 2^64 - 1.
     #[error("region full, {pages} pages")]
     RegionFull { pages: u64 },
     /// The word of the relocation `entry` of the section `section` doesn't fit.
@@ -108,7 +109,7 @@ impl From<LayFault> for LoadFault {
     }
 }
 
-/// Three pieces of text, one after the other.
+/// Joins three pieces of text.
 fn joined(alloc: Global, before: &[u8], middle: &[u8], after: &[u8]) -> Result<Blob, AllocError>
     ensures { IfOk result (λ text. text ≡ before.now ++ middle.now ++ after.now) }
 {
@@ -118,7 +119,7 @@ fn joined(alloc: Global, before: &[u8], middle: &[u8], after: &[u8]) -> Result<B
     Ok(text)
 }
 
-/// The text of a load that found no room.
+/// Returns the text for a load that found no room.
 fn full_text(alloc: Global, pages: u64) -> Result<Blob, AllocError>
     ensures { IfOk result (λ text. text ≡ codes "region full, " ++ (decimal pages ++ codes " pages")) }
 {
@@ -126,7 +127,7 @@ fn full_text(alloc: Global, pages: u64) -> Result<Blob, AllocError>
     Ok(Blob::from_vec(text.into_bytes()))
 }
 
-/// The text of a word that doesn't fit.
+/// Returns the text for a word that doesn't fit.
 fn overflow_text(alloc: Global, section: u32, entry: u32) -> Result<Blob, AllocError>
     ensures { IfOk result (λ text. text ≡ codes "overflow at section " ++ (decimal section ++ (codes " entry " ++ decimal entry))) }
 {
@@ -137,7 +138,8 @@ fn overflow_text(alloc: Global, section: u32, entry: u32) -> Result<Blob, AllocE
 impl LoadFault {
     ghost use Rattle.model_loader.specs.FaultText.{load_fault_text};
 
-    /// The text of the fault, as it stands in a line on standard error behind the name of the module.
+    /// Returns the text of the fault, as it follows the name of the module in a line on standard
+    /// error.
     pub fn text(&self, alloc: Global) -> Result<Blob, AllocError>
         ensures { IfOk result (λ text. text ≡ load_fault_text self.now) }
     {

@@ -18,7 +18,7 @@ pub(crate) struct Run {
     size: u64,
 }
 
-/// The addresses of the images of some entries.
+/// Returns the addresses of the images of some entries.
 fn runs_of(alloc: Global, entries: &[Entry]) -> Result<Vec<Run>, AllocError>
     ensures { IfOk result (λ v. v.items ≡ map run_of entries.now) }
 {
@@ -32,7 +32,7 @@ fn runs_of(alloc: Global, entries: &[Entry]) -> Result<Vec<Run>, AllocError>
     Ok(runs)
 }
 
-/// Whether runs stand by rising address.
+/// Returns true only if the runs are in order of rising address.
 fn are_sorted(runs: &[Run]) -> bool
     ensures { result ≡ true → IsNonDecreasingBy (λ (r : Run). r.base) runs.now }
 {
@@ -46,7 +46,7 @@ fn are_sorted(runs: &[Run]) -> bool
     true
 }
 
-/// The addresses of the images of some entries, by rising address.
+/// Returns the addresses of the images of some entries, by rising address.
 fn sorted_runs(alloc: Global, entries: &[Entry]) -> Result<Vec<Run>, AllocError>
     ensures runs { IfOk result (λ v. IsPermutation (map run_of entries.now) v.items) }
     ensures sorted { IfOk result (λ v. IsNonDecreasingBy (λ (r : Run). r.base) v.items) }
@@ -59,7 +59,7 @@ fn sorted_runs(alloc: Global, entries: &[Entry]) -> Result<Vec<Run>, AllocError>
     Ok(runs)
 }
 
-/// The lowest page from a base on from which `size` bytes meet no run.
+/// Returns the lowest page from `base` on where `size` bytes meet no run.
 fn lowest_free(base: u64, runs: &[Run], size: u128) -> u128
     requires base { base % 4096 ≡ 0 }
     requires size { size < 2 ^ 100 }
@@ -78,7 +78,7 @@ fn lowest_free(base: u64, runs: &[Run], size: u128) -> u128
     at
 }
 
-/// The lowest page of a region from which `size` bytes are free, among these entries.
+/// Returns the lowest page of a region from which `size` bytes are free, among these entries.
 pub(crate) fn lowest_gap(
     alloc: Global,
     region: &Region,

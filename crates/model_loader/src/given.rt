@@ -1,4 +1,4 @@
-// What the undefined symbols of a module stand for.
+// The addresses of the undefined symbols of a module.
 
 ghost use Rattle.std.specs.Prelude.{◌≡◌, ◌<◌, All, IfOk, map, replicate};
 ghost use Rattle.std.specs.List.{range_with_len};
@@ -10,7 +10,7 @@ use module_facts::{Facts, Need};
 use std::alloc::{AllocError, Global};
 use symbol_binding::sees;
 
-/// The address that a need of a module stands for.
+/// Returns the address of a need of a module.
 fn address_of(table: &ExportTable, facts: &Facts, need: &Need) -> u64
     ensures { result ≡ kept_address table.now facts.now need.now }
 {
@@ -26,15 +26,15 @@ fn address_of(table: &ExportTable, facts: &Facts, need: &Need) -> u64
     }
 }
 
-/// So many zeros.
+/// Returns so many zeros.
 fn zeros(alloc: Global, count: usize) -> Result<Vec<u64>, AllocError>
     ensures { IfOk result (λ v. v.items ≡ replicate count 0) }
 {
     vec![in alloc; 0; count]
 }
 
-/// For each of `count` symbols of a module what it stands for where it is defined elsewhere: the address of the first
-/// need that it states, or 0.
+/// Returns for each of `count` symbols of a module the address of the first need of that symbol, or
+/// 0 if there is none.
 pub(crate) fn given_addresses(
     alloc: Global,
     table: &ExportTable,

@@ -1,22 +1,23 @@
 // The machine, and loads into it.
 
-ghost use Rattle.std.specs.Prelude.{◌≡◌, ◌<◌, ◌≤◌, ◌⊎◌, ◌++◌, ◌∷◌, [], ℕ, List, None, Ok, Err, Some, OnOk, OnErr, IfErr, IfOk, find, length, map, option_map, vec_capacity, vec_len, slice_get, option_copied};
+ghost use Rattle.std.specs.Prelude.{◌≡◌, ◌<◌, ◌≤◌, ◌⊎◌, ◌++◌, ◌∷◌, [], ℕ, List, None, Ok, Err, Some, OnOk, OnErr, IfErr, IfOk, find, length, map, option_map, remove, vec_capacity, vec_len, slice_get, option_copied};
 ghost use Rattle.std.specs.HashMap.{spare};
 ghost use Rattle.std.specs.Option.{option_or};
 ghost use Rattle.std.specs.Str.{bytes_eq};
-ghost use Rattle.symbol_binding.specs.Unmet.{vmlinux};
 ghost use Rattle.provider_rel.specs.declared.kernel.Kernel.{Kernel};
 ghost use Rattle.module_facts.specs.declared.module.Module.{Module};
 ghost use Rattle.model_loader.specs.Machine.{export_named, kernel_fault, kernel_placed, new_machine};
 ghost use Rattle.model_loader.specs.declared.fault.MachineFault.TheVariants.{KernelWithoutAddress};
 ghost use Rattle.model_loader.specs.Standing.{export_pair, named_pair, standing, standing_in, standing_of};
 ghost use Rattle.model_loader.specs.Sound.{IsSound};
+ghost use Rattle.model_loader.specs.Use.{AreUses, IsUnused, binds as is_bound_to, without};
 ghost use Rattle.model_loader.specs.Step.{entry_at, module_base, module_size, refusal, step};
 
 use crate::entry::{Entry, LoadedModule};
 use crate::names::check_names;
 use crate::prepare::{Prepared, prepare};
 use crate::standing::{ExportTable, Named, Standing};
+use crate::uses::{all_bound_places, binds_to, places_of};
 use crate::{LoadFault, MachineFault, Region};
 use km_names::Name;
 use module_facts::Module;
@@ -24,8 +25,8 @@ use provider_rel::{Kernel, KernelExport};
 use std::alloc::{AllocError, Global};
 use std::marker::Model;
 
-/// A machine into which modules are loaded: a kernel's table with an address for each export, a region for modules, and
-/// the modules that were loaded, oldest first. Contracts see these three.
+/// A machine into which modules are loaded: a kernel's table with an address for each export, a
+/// region for modules, and the loaded modules, oldest first. Contracts see these three.
 #[derive(Drop)]
 pub struct Machine {
     kernel: Kernel,
@@ -55,27 +56,27 @@ pub struct LoadedAt {
     pub size: u64,
 }
 
-/// What is to be kept of an export of the kernel at an address.
+/// Returns what the table keeps of an export of the kernel at an address.
 fn named_kernel_export(
     alloc: Global,
     export: &KernelExport,
     address: u64,
 ) -> Result<Named, AllocError>
     requires { export.now.address ≡ Some address }
-    ensures { IfOk result (λ n. named_pair n ≡ export_pair vmlinux (kernel_placed export.now)) }
+    ensures { IfOk result (λ n. named_pair n ≡ export_pair None (kernel_placed export.now)) }
 {
     let standing = Standing {
         crc: export.crc,
         gpl: export.gpl,
         space: Name::from_slice(alloc, export.space.as_bytes())?,
         address,
-        owner: Name::from_slice(alloc, b"vmlinux")?,
+        owner: None,
     };
     let name = Vec::from_slice(alloc, export.name.as_bytes())?;
     Ok(Named { name, standing })
 }
 
-/// The refusal of a kernel for an export without an address.
+/// Returns the refusal of a kernel for an export without an address.
 fn without_address(alloc: Global, export: &KernelExport) -> Result<MachineFault, AllocError>
     ensures { IfOk result (λ e. e ≡ KernelWithoutAddress export.now.name) }
 {
@@ -84,9 +85,9 @@ fn without_address(alloc: Global, export: &KernelExport) -> Result<MachineFault,
     })
 }
 
-/// The table of the exports of a kernel.
+/// Returns the table of the exports of a kernel.
 fn kernel_table(alloc: Global, kernel: &Kernel) -> Result<ExportTable, MachineFault>
-    ensures table { IfOk result (λ t. (x : List ℕ) → standing_of t x ≡ option_map (standing vmlinux) (export_named x (map kernel_placed kernel.now.exports))) }
+    ensures table { IfOk result (λ t. (x : List ℕ) → standing_of t x ≡ option_map (standing None) (export_named x (map kernel_placed kernel.now.exports))) }
     ensures passed { OnOk result (kernel_fault kernel.now.exports ≡ None) }
     ensures fault { IfErr result (λ e. (e ≡ MachineFault.Memory) ⊎ (kernel_fault kernel.now.exports ≡ Some e)) }
 {
@@ -102,7 +103,7 @@ fn kernel_table(alloc: Global, kernel: &Kernel) -> Result<ExportTable, MachineFa
     Ok(table)
 }
 
-/// Enters what was prepared for a module, for which there is room. It takes no memory.
+/// Enters what was prepared for a module. There is room for it, so this takes no memory.
 fn enter(entries: &mut Vec<Entry>, table: &mut ExportTable, prepared: Prepared)
     requires entries { vec_len entries.old < vec_capacity entries.old }
     requires names { length prepared.named.items ≤ spare table.old.standings }
@@ -115,11 +116,12 @@ fn enter(entries: &mut Vec<Entry>, table: &mut ExportTable, prepared: Prepared)
 }
 
 impl Machine {
-    /// The machine of a kernel, with no module.
+    /// Returns the machine of a kernel, with no module.
     ///
     /// # Errors
     ///
-    /// `KernelWithoutAddress` exactly at the first export without an address, or `Memory`.
+    /// `KernelWithoutAddress` for the first export without an address, if there is one, or
+    /// `Memory`.
     pub fn new(alloc: Global, kernel: Kernel, region: Region) -> Result<Machine, MachineFault>
         ensures machine { IfOk result (λ m. m ≡ new_machine kernel region) }
         ensures passed { OnOk result (kernel_fault kernel.exports ≡ None) }
@@ -135,10 +137,10 @@ impl Machine {
         })
     }
 
-    /// What is to be entered for a module, after all tests that it must pass.
+    /// Returns what is to be entered for a module, after all tests that it must pass.
     fn ready(&self, module: &Module) -> Result<Prepared, LoadFault>
         ensures entry { IfOk result (λ p. p.entry ≡ entry_at self.now «module».now (module_base self.now «module».now)) }
-        ensures named { IfOk result (λ p. map named_pair p.named.items ≡ map (export_pair p.entry.loaded.name) p.entry.exports) }
+        ensures named { IfOk result (λ p. map named_pair p.named.items ≡ map (export_pair (Some p.entry.loaded.name)) p.entry.exports) }
         ensures passed { OnOk result (refusal self.now «module».now ≡ None) }
         ensures fault { IfErr result (λ e. (e ≡ LoadFault.Memory) ⊎ (refusal self.now «module».now ≡ Some e)) }
     {
@@ -147,12 +149,13 @@ impl Machine {
         Ok(prepared)
     }
 
-    /// Loads a module: at the lowest gap of the region, with its needs bound and its words relocated. All that takes
-    /// memory is done before the first change; after a refusal the machine is as before.
+    /// Loads a module at the lowest gap of the region, with its needs bound and its words
+    /// relocated. Whatever takes memory is done before the first change. After a refusal the
+    /// machine is as before.
     ///
     /// # Errors
     ///
-    /// The first of the eight tests that fails, or `Memory`.
+    /// The fault of the first of the eight tests that fails, or `Memory`.
     pub fn load(&mut self, module: &Module) -> Result<LoadedAt, LoadFault>
         ensures step { OnOk result (step self.old «module».now ≡ Ok self.new) }
         ensures at { IfOk result (λ at. at ≡ record { base = module_base self.old «module».now; size = module_size «module».now }) }
@@ -171,7 +174,39 @@ impl Machine {
         Ok(at)
     }
 
-    /// The image of the loaded module of this name.
+    /// Whether the `k`-th loaded module binds to the `j`-th: it was loaded later, and the other
+    /// exports one of its needs with an export that it sees. Each need is looked up at most once.
+    pub fn binds(&self, k: usize, j: usize) -> bool
+        requires user { k < length self.now.entries }
+        requires other { j < length self.now.entries }
+        ensures { result ≡ is_bound_to self.now k j }
+    {
+        binds_to(&self.table, &self.entries[k], k, &self.entries[j], j)
+    }
+
+    /// Returns for each module, oldest first, the places of the modules that it binds to. Each need
+    /// is looked up once.
+    pub fn uses(&self, alloc: Global) -> Result<Vec<Vec<usize>>, AllocError>
+        ensures { IfOk result (λ v. AreUses self.now (map (λ u. u.items) v.items)) }
+    {
+        let places = places_of(alloc, &self.entries)?;
+        let all = all_bound_places(alloc, &self.table, &places, &self.entries)?;
+        Ok(all)
+    }
+
+    /// Takes out the `j`-th loaded module, to which no other binds. All others stay as they are,
+    /// and a sound machine stays sound. It takes no memory.
+    pub fn drop_entry(&mut self, j: usize)
+        requires inside { j < length self.old.entries }
+        requires unused { IsUnused self.old j }
+        ensures machine { self.new ≡ without self.old j }
+        ensures sound { (modules : List Module) → IsSound self.old modules → IsSound self.new (remove modules j) }
+    {
+        let dropped = self.entries.remove(j);
+        self.table.forget_all(dropped.exports.as_slice());
+    }
+
+    /// Returns the image of the loaded module of this name.
     pub fn image(&self, name: &[u8]) -> Option<&[u8]>
         ensures { option_copied result ≡ option_map (λ e. e.image) (find (λ e. bytes_eq e.loaded.name name.now) self.now.entries) }
     {
@@ -183,14 +218,14 @@ impl Machine {
         None
     }
 
-    /// How many modules are loaded.
+    /// Returns how many modules are loaded.
     pub fn module_count(&self) -> usize
         ensures { result ≡ length self.now.entries }
     {
         self.entries.len()
     }
 
-    /// The module that was loaded `i`-th, from 0, the oldest first.
+    /// Returns the `i`-th loaded module, counted from 0, the oldest first.
     pub fn module_at(&self, i: usize) -> &LoadedModule
         requires { i < length self.now.entries }
         ensures { option_map (λ e. e.loaded) (slice_get self.now.entries i) ≡ Some result.now }

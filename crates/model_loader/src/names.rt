@@ -1,9 +1,10 @@
 // The tests of a module's own names.
 
-ghost use Rattle.std.specs.Prelude.{◌≡◌, ◌⊎◌, None, Some, OnOk, IfErr, IfOk, map};
+ghost use Rattle.std.specs.Prelude.{◌≡◌, ◌⊎◌, None, Some, OnOk, IfErr, IfOk, map, unwrap_or};
 ghost use Rattle.std.specs.List.{list_any};
 ghost use Rattle.std.specs.Str.{bytes_eq};
 ghost use Rattle.km_names.specs.First.{first};
+ghost use Rattle.symbol_binding.specs.Unmet.{vmlinux};
 ghost use Rattle.model_loader.specs.Machine.{Machine};
 ghost use Rattle.model_loader.specs.NeedTests.{taken_by};
 ghost use Rattle.model_loader.specs.Standing.{Keeps};
@@ -27,17 +28,21 @@ pub(crate) fn is_loaded(entries: &[Entry], name: &[u8]) -> bool
         .any(|entry| entry.loaded.name.as_bytes() == name)
 }
 
-/// The refusal for an export under whose name something stands.
+/// Returns the refusal of an export whose name is taken.
 fn taken(alloc: Global, export: &Export, standing: &Standing) -> Result<LoadFault, AllocError>
-    ensures { IfOk result (λ e. e ≡ ExportTaken export.now.name standing.now.owner) }
+    ensures { IfOk result (λ e. e ≡ ExportTaken export.now.name (unwrap_or standing.now.owner vmlinux)) }
 {
+    let owner = match &standing.owner {
+        Some(owner) => owner.as_bytes(),
+        None => b"vmlinux",
+    };
     Ok(LoadFault::ExportTaken {
         name: Name::from_slice(alloc, export.name.as_bytes())?,
-        owner: Name::from_slice(alloc, standing.owner.as_bytes())?,
+        owner: Name::from_slice(alloc, owner)?,
     })
 }
 
-/// Tests that nothing stands under the names of a module's exports.
+/// Tests that no name of a module's exports is taken.
 pub(crate) fn check_exports(
     alloc: Global,
     table: &ExportTable,

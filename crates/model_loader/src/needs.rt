@@ -26,7 +26,7 @@ pub(crate) enum Check {
     Barred,
 }
 
-/// Whether a need of a module that is exported fails a test.
+/// Whether an exported need of a module fails a test.
 fn fails_found(check: Check, found: &Standing, facts: &Facts, need: &Need) -> bool
     ensures { result ≡ test_of check (Some (standing_export need.now.name found.now)) (facts_face facts.now) (facts_need need.now) }
 {
@@ -50,7 +50,7 @@ fn fails(check: Check, found: Option<&Standing>, facts: &Facts, need: &Need) -> 
     }
 }
 
-/// The first need of a module that fails a test.
+/// Returns the first need of a module that fails a test.
 fn first_failing<'a>(check: Check, table: &ExportTable, facts: &'a Facts) -> Option<&'a Need>
     ensures { option_copied result ≡ find (need_fails check table.now facts.now) facts.now.needs }
 {
@@ -64,7 +64,7 @@ fn first_failing<'a>(check: Check, table: &ExportTable, facts: &'a Facts) -> Opt
 }
 
 impl Check {
-    /// What a load is refused for where this need fails the test.
+    /// Returns the refusal of a load whose need of this name fails the test.
     fn fault(self, name: Name) -> LoadFault
         ensures { result ≡ fault_of self name }
     {

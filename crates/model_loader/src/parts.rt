@@ -1,6 +1,6 @@
 // The parts of the entry of a module.
 
-ghost use Rattle.std.specs.Prelude.{◌≡◌, ◌<◌, All, IfOk, length, map};
+ghost use Rattle.std.specs.Prelude.{◌≡◌, ◌<◌, All, IfOk, Some, length, map};
 ghost use Rattle.module_facts.specs.declared.facts.Export.{Export};
 ghost use Rattle.model_loader.specs.Parts.{placed_by};
 ghost use Rattle.model_loader.specs.Standing.{export_pair, named_pair};
@@ -13,14 +13,14 @@ use module_facts::{Export, Exports, Need, Needs};
 use std::alloc::{AllocError, Global};
 use std::collections::VecDeque;
 
-/// A copy of a name.
+/// Copies a name.
 fn copied(alloc: Global, name: &Name) -> Result<Name, AllocError>
     ensures { IfOk result (λ copy. copy ≡ name.now) }
 {
     Name::from_slice(alloc, name.as_bytes())
 }
 
-/// A copy of names.
+/// Copies names.
 pub(crate) fn copied_names(alloc: Global, names: &Names) -> Result<Names, AllocError>
     ensures { IfOk result (λ copy. copy ≡ names.now) }
 {
@@ -31,7 +31,7 @@ pub(crate) fn copied_names(alloc: Global, names: &Names) -> Result<Names, AllocE
     Ok(copy)
 }
 
-/// An export of a module, by the addresses of the module's symbols.
+/// Returns an export of a module, by the addresses of the module's symbols.
 fn placed_export(
     alloc: Global,
     export: &Export,
@@ -49,7 +49,7 @@ fn placed_export(
     })
 }
 
-/// The exports of a module, by the addresses of its symbols.
+/// Returns the exports of a module, by the addresses of its symbols.
 pub(crate) fn placed_exports(
     alloc: Global,
     exports: &Exports,
@@ -65,7 +65,7 @@ pub(crate) fn placed_exports(
     Ok(placed)
 }
 
-/// A need of a module.
+/// Returns what an entry keeps of a need.
 fn bound_need(alloc: Global, need: &Need) -> Result<BoundNeed, AllocError>
     ensures { IfOk result (λ n. n ≡ bound need.now) }
 {
@@ -76,7 +76,7 @@ fn bound_need(alloc: Global, need: &Need) -> Result<BoundNeed, AllocError>
     })
 }
 
-/// The needs of a module.
+/// Returns what an entry keeps of the needs of a module.
 pub(crate) fn bound_needs(alloc: Global, needs: &Needs) -> Result<List<BoundNeed>, AllocError>
     ensures { IfOk result (λ l. l ≡ map bound needs.now) }
 {
@@ -87,28 +87,28 @@ pub(crate) fn bound_needs(alloc: Global, needs: &Needs) -> Result<List<BoundNeed
     Ok(copy)
 }
 
-/// What is to be kept of an export of an owner.
+/// Returns what is to be kept of an export of an owner.
 fn named_export(alloc: Global, owner: &[u8], export: &PlacedExport) -> Result<Named, AllocError>
-    ensures { IfOk result (λ n. named_pair n ≡ export_pair owner.now export.now) }
+    ensures { IfOk result (λ n. named_pair n ≡ export_pair (Some owner.now) export.now) }
 {
     let standing = Standing {
         crc: export.crc,
         gpl: export.gpl,
         space: copied(alloc, &export.space)?,
         address: export.address,
-        owner: Name::from_slice(alloc, owner)?,
+        owner: Some(Name::from_slice(alloc, owner)?),
     };
     let name = Vec::from_slice(alloc, export.name.as_bytes())?;
     Ok(Named { name, standing })
 }
 
-/// What is to be kept of the exports of an owner.
+/// Returns what is to be kept of the exports of an owner.
 pub(crate) fn named_exports(
     alloc: Global,
     owner: &[u8],
     exports: &List<PlacedExport>,
 ) -> Result<VecDeque<Named>, AllocError>
-    ensures { IfOk result (λ named. map named_pair named.items ≡ map (export_pair owner.now) exports.now) }
+    ensures { IfOk result (λ named. map named_pair named.items ≡ map (export_pair (Some owner.now)) exports.now) }
 {
     let mut named = VecDeque::new(alloc);
     for export in exports.as_slice() {

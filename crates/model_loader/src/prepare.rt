@@ -32,7 +32,7 @@ pub(crate) struct Prepared {
     pub(crate) named: VecDeque<Named>,
 }
 
-/// The entry of a module at a base, by its image and the addresses of its symbols.
+/// Returns the entry of a module at a base, by its image and the addresses of its symbols.
 fn entry_with(
     alloc: Global,
     module: &Module,
@@ -59,7 +59,7 @@ fn entry_with(
     })
 }
 
-/// The entry of a module at a base, over the machine whose exported names are in a table.
+/// Returns the entry of a module at a base, over the machine whose exported names are in a table.
 fn entry_of(
     alloc: Global,
     table: &ExportTable,
@@ -83,7 +83,7 @@ fn entry_of(
     Ok(entry_with(alloc, module, base, image, &addresses)?)
 }
 
-/// How many pages so many bytes have, as a refusal names it.
+/// Returns how many pages so many bytes have, as a refusal names it.
 fn named_pages(size: u128) -> u64
     ensures { result ≡ pages_in_a_refusal (size / 4096) }
 {
@@ -95,8 +95,8 @@ fn named_pages(size: u128) -> u64
     }
 }
 
-/// The entry of a module in the lowest gap of a region, over the machine that has these entries and whose exported names
-/// are in a table.
+/// Returns the entry of a module in the lowest gap of a region, over the machine that has these
+/// entries and whose exported names are in a table.
 pub(crate) fn prepare(
     alloc: Global,
     region: &Region,
@@ -107,7 +107,7 @@ pub(crate) fn prepare(
     requires { All (λ (e : Entry). IsPaged (run_of e)) entries.now }
     ensures entry { IfOk result (λ p. (machine : Machine) → HasParts machine region.now entries.now table.now
         → p.entry ≡ entry_at machine «module».now (module_base machine «module».now)) }
-    ensures named { IfOk result (λ p. map named_pair p.named.items ≡ map (export_pair p.entry.loaded.name) p.entry.exports) }
+    ensures named { IfOk result (λ p. map named_pair p.named.items ≡ map (export_pair (Some p.entry.loaded.name)) p.entry.exports) }
     ensures passed { OnOk result ((machine : Machine) → HasParts machine region.now entries.now table.now
         → first (place_tests machine «module».now) ≡ None) }
     ensures fault { IfErr result (λ e. (machine : Machine) → HasParts machine region.now entries.now table.now

@@ -18,8 +18,8 @@ impl Region {
     ghost use Rattle.std.specs.Option.{option_map};
     ghost use Rattle.model_loader.specs.Spans.{span_of};
 
-    /// The region of `size` bytes from `base` on; `None` exactly where one of them isn't a number of whole pages of 4096
-    /// bytes, where there are no bytes, or where the bytes pass the last address of 64 bits.
+    /// Returns the region of `size` bytes from `base` on. It is `None` exactly if one of them isn't
+    /// a multiple of 4096, `size` is 0, or the bytes pass the last address of 64 bits.
     #[tactic(auto, using(crate::proofs::RegionLemmas::region_by))]
     pub fn new(base: u64, size: u64) -> Option<Region>
         ensures { option_map span_of result ≡ (if is_region base size then Some (record { base = base; size = size }) else None) }

@@ -1,11 +1,13 @@
 // The table of exported names.
 
-ghost use Rattle.std.specs.Prelude.{◌≡◌, ◌≤◌, ◌<◌, ◌+◌, ℕ, List, None, Some, OnOk, option_copied, length, if◌then◌else◌};
+ghost use Rattle.std.specs.Prelude.{◌≡◌, ◌≤◌, ◌<◌, ◌+◌, ℕ, List, None, Some, OnOk, is_some, option_copied, length, if◌then◌else◌};
 ghost use Rattle.std.specs.HashMap.{spare};
 ghost use Rattle.std.specs.Option.{option_or};
 ghost use Rattle.std.specs.Str.{bytes_eq};
+ghost use Rattle.model_loader.specs.Machine.{export_named};
 ghost use Rattle.model_loader.specs.Standing.{standing_in, standing_of};
 
+use crate::entry::PlacedExport;
 use indexmap::IndexMap;
 use km_names::Name;
 use name_table::NameHash;
@@ -13,14 +15,15 @@ use std::alloc::{AllocError, Global};
 use std::collections::VecDeque;
 use std::hash::BuildHasherDefault;
 
-/// What is kept of an exported name: what those ask for who need it, and who exports it.
+/// What the table keeps of an exported name: what its users ask for, and who exports it, a module
+/// by its name or the kernel.
 #[derive(Debug, Drop)]
 pub(crate) struct Standing {
     pub(crate) crc: Option<u64>,
     pub(crate) gpl: bool,
     pub(crate) space: Name,
     pub(crate) address: u64,
-    pub(crate) owner: Name,
+    pub(crate) owner: Option<Name>,
 }
 
 /// A name with what is kept of it.
@@ -30,14 +33,14 @@ pub(crate) struct Named {
     pub(crate) standing: Standing,
 }
 
-/// For each exported name what is kept of it.
+/// The table of what is kept of each exported name.
 #[derive(Drop)]
 pub(crate) struct ExportTable {
     standings: IndexMap<Vec<u8>, Standing, NameHash>,
 }
 
 impl ExportTable {
-    /// The table of no name.
+    /// Returns an empty table.
     pub(crate) fn new(alloc: Global) -> Self
         ensures { (x : List ℕ) → standing_of result x ≡ None }
     {
@@ -46,7 +49,7 @@ impl ExportTable {
         }
     }
 
-    /// What is kept of a name.
+    /// Returns what is kept of a name.
     pub(crate) fn get(&self, name: &[u8]) -> Option<&Standing>
         ensures { option_copied result ≡ standing_of self.now name.now }
     {
@@ -61,7 +64,7 @@ impl ExportTable {
         self.standings.reserve(count)
     }
 
-    /// Puts a name in, for which there is room, unless it is there. It takes no memory.
+    /// Puts a name in, unless it is present. There is room for it, so this takes no memory.
     pub(crate) fn enter(&mut self, named: Named)
         requires { 0 < spare self.old.standings }
         ensures at { (x : List ℕ) → standing_of self.new x
@@ -74,7 +77,7 @@ impl ExportTable {
         }
     }
 
-    /// Puts names in, for which there is room, each unless it is there. It takes no memory.
+    /// Puts names in, each unless it is present. There is room for them, so this takes no memory.
     pub(crate) fn enter_all(&mut self, named: VecDeque<Named>)
         requires { length named.items ≤ spare self.old.standings }
         ensures { (x : List ℕ) → standing_of self.new x ≡ option_or (standing_of self.old x) (standing_in x named.items) }
@@ -82,6 +85,23 @@ impl ExportTable {
         let mut rest = named;
         while let Some(next) = rest.pop_front() {
             self.enter(next);
+        }
+    }
+
+    /// Takes a name out, if present. It takes no memory.
+    pub(crate) fn forget(&mut self, name: &[u8])
+        ensures { (x : List ℕ) → standing_of self.new x ≡ (if bytes_eq name.now x then None else standing_of self.old x) }
+    {
+        let _ = self.standings.swap_remove(name);
+    }
+
+    /// Takes the names of exports out, each if present. It takes no memory.
+    pub(crate) fn forget_all(&mut self, exports: &[PlacedExport])
+        ensures { (x : List ℕ) → standing_of self.new x
+            ≡ (if is_some (export_named x exports.now) then None else standing_of self.old x) }
+    {
+        for export in exports {
+            self.forget(export.name.as_bytes());
         }
     }
 }

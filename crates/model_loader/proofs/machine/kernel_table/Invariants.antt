@@ -1,12 +1,11 @@
 use Rattle.std.proofs.Common.{◌≡◌, ℕ, List, None, take, map}
 use Rattle.std.specs.Prelude.{find, is_none, option_map}
-use Rattle.symbol_binding.specs.Unmet.{vmlinux}
 use Rattle.model_loader.specs.Machine.{export_named, kernel_placed}
 use Rattle.model_loader.specs.Standing.{standing, standing_of}
 use Rattle.model_loader.proofs.machine.kernel_table.Given as goal
 
 abbrev pub invariant-loop-export : goal.invariant-loop-export
 invariant-loop-export l = record {
-  kept : (x : List ℕ) → standing_of l.table x ≡ option_map (standing vmlinux) (export_named x (map kernel_placed (take l.export-index l.kernel.exports)));
+  kept : (x : List ℕ) → standing_of l.table x ≡ option_map (standing None) (export_named x (map kernel_placed (take l.export-index l.kernel.exports)));
   addressed : find (λ e. is_none e.address) (take l.export-index l.kernel.exports) ≡ None;
 }
