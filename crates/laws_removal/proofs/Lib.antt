@@ -1,0 +1,4 @@
+pub mod LoadLemmas
+pub mod PassLemmas
+pub mod UnloadedLemmas
+pub mod BackLemmas

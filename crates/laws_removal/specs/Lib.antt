@@ -1,0 +1,4 @@
+pub mod Loads
+pub mod Removals
+pub mod Back
+pub mod Rows

@@ -1,0 +1,79 @@
+// The laws.
+ghost use Rattle.std.specs.Prelude.{◌≡◌, ◌∷◌, [], true, false, Some, codes};
+ghost use Rattle.provider_rel.specs.declared.kernel.Kernel.{Kernel};
+ghost use Rattle.modprobe_conf.specs.declared.rule.Rule.TheVariants.{Remove};
+ghost use Rattle.model_loader.specs.declared.region.Region.{Region};
+ghost use Rattle.remove_plan.specs.Removal.{left_after};
+ghost use Rattle.remove_plan.specs.Steps.{removal_fault, removal_steps};
+ghost use Rattle.remove_plan.specs.declared.step.RemoveStep.TheVariants.{Rmmod, Command};
+ghost use Rattle.remove_plan.specs.declared.step.RemoveFault.TheVariants.{InUse};
+ghost use Rattle.laws_removal.specs.Rows.{a, b, c, d, e, machine_of};
+ghost use Rattle.laws_removal.specs.Back.{OlderAreLeft, RemovalsTakeBack};
+ghost use Rattle.laws_removal.specs.Loads.{LoadsAreUndone, LoadsAreUnloaded};
+ghost use Rattle.laws_removal.specs.Removals.{RemovalsAreUnloaded, RemovalsPass, RemovalsStaySound};
+
+/// Loads are undone by taking out the modules that were loaded, youngest first: by their places, and by their names.
+pub fn loads_are_undone()
+    ensures places { LoadsAreUndone }
+    ensures names { LoadsAreUnloaded }
+{}
+
+/// Unless a module that is asked for is in use, the removed modules are taken out one after the other, and the others are
+/// left: by their places, and by their names. What was sound stays sound.
+pub fn removals_pass()
+    ensures places { RemovalsPass }
+    ensures names { RemovalsAreUnloaded }
+    ensures sound { RemovalsStaySound }
+{}
+
+/// For every split of modules that were loaded into older and newer ones: where the removed ones are the newer ones, the
+/// machine of the older ones alone is left.
+pub fn removals_take_back()
+    ensures older { OlderAreLeft }
+    ensures back { RemovalsTakeBack }
+{}
+
+/// Where `b` uses `a`, both are removed for `b`, and `e` is left; `a` alone is in use. A name that stands twice asks once, and
+/// one that isn't loaded asks for nothing.
+#[tactic(auto, unfolding(remove_plan::specs::Removal::removed))]
+pub fn unused_modules_go_too()
+    ensures both { (kernel : Kernel) (region : Region)
+        → removal_steps (machine_of kernel region (e ∷ a ∷ b ∷ [])) [] false (codes "b" ∷ []) ≡ Rmmod (codes "b") ∷ Rmmod (codes "a") ∷ [] }
+    ensures left { (kernel : Kernel) (region : Region)
+        → left_after (machine_of kernel region (e ∷ a ∷ b ∷ [])) (codes "b" ∷ []) ≡ machine_of kernel region (e ∷ []) }
+    ensures in_use { (kernel : Kernel) (region : Region)
+        → removal_fault (machine_of kernel region (e ∷ a ∷ b ∷ [])) (codes "a" ∷ []) ≡ Some (InUse (codes "a") (codes "b")) }
+    ensures twice { (kernel : Kernel) (region : Region)
+        → removal_steps (machine_of kernel region (e ∷ a ∷ b ∷ [])) [] false (codes "b" ∷ codes "b" ∷ codes "x" ∷ []) ≡ Rmmod (codes "b") ∷ Rmmod (codes "a") ∷ [] }
+    ensures older { (kernel : Kernel) (region : Region)
+        → removal_steps (machine_of kernel region (e ∷ a ∷ b ∷ [])) [] false (codes "a" ∷ codes "b" ∷ []) ≡ Rmmod (codes "b") ∷ Rmmod (codes "a") ∷ [] }
+{}
+
+/// A module that two use is removed only with both.
+#[tactic(auto, unfolding(remove_plan::specs::Removal::removed))]
+pub fn used_modules_stay()
+    ensures one { (kernel : Kernel) (region : Region)
+        → removal_steps (machine_of kernel region (a ∷ b ∷ d ∷ [])) [] false (codes "b" ∷ []) ≡ Rmmod (codes "b") ∷ [] }
+    ensures two { (kernel : Kernel) (region : Region)
+        → removal_steps (machine_of kernel region (a ∷ b ∷ d ∷ [])) [] false (codes "b" ∷ codes "d" ∷ []) ≡ Rmmod (codes "d") ∷ Rmmod (codes "b") ∷ Rmmod (codes "a") ∷ [] }
+    ensures in_use { (kernel : Kernel) (region : Region)
+        → removal_fault (machine_of kernel region (a ∷ b ∷ d ∷ [])) (codes "a" ∷ codes "b" ∷ []) ≡ Some (InUse (codes "a") (codes "d")) }
+{}
+
+/// A chain is removed from its youngest module down.
+#[tactic(auto, unfolding(remove_plan::specs::Removal::removed))]
+pub fn chains_go()
+    ensures all { (kernel : Kernel) (region : Region)
+        → removal_steps (machine_of kernel region (a ∷ b ∷ c ∷ [])) [] false (codes "c" ∷ []) ≡ Rmmod (codes "c") ∷ Rmmod (codes "b") ∷ Rmmod (codes "a") ∷ [] }
+    ensures in_use { (kernel : Kernel) (region : Region)
+        → removal_fault (machine_of kernel region (a ∷ b ∷ c ∷ [])) (codes "b" ∷ []) ≡ Some (InUse (codes "b") (codes "c")) }
+{}
+
+/// A command is run in place of removing a module, unless the module is asked for and commands are ignored.
+#[tactic(auto, unfolding(remove_plan::specs::Removal::removed))]
+pub fn commands_are_chosen()
+    ensures chosen { (kernel : Kernel) (region : Region)
+        → removal_steps (machine_of kernel region (a ∷ b ∷ [])) (Remove (codes "a") (codes "x") ∷ []) true (codes "b" ∷ []) ≡ Rmmod (codes "b") ∷ Command (codes "a") (codes "x") ∷ [] }
+    ensures ignored { (kernel : Kernel) (region : Region)
+        → removal_steps (machine_of kernel region (a ∷ b ∷ [])) (Remove (codes "b") (codes "x") ∷ []) true (codes "b" ∷ []) ≡ Rmmod (codes "b") ∷ Rmmod (codes "a") ∷ [] }
+{}

@@ -1,0 +1,4 @@
+pub mod RemovalLemmas
+pub mod MarkLemmas
+pub mod UserLemmas
+pub mod CommandLemmas
