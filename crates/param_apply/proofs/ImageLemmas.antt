@@ -1,0 +1,79 @@
+-- Pieces put into an image, one after the other.
+use Rattle.std.proofs.Common.{◌≡◌, ◌≤◌, ◌<◌, ◌+◌, ◌-◌, ◌∙◌, inl, inr, ℕ, true, false, List, [], ◌∷◌, ◌++◌, refl, sym, arith, length, slice_index}
+use Rattle.std.specs.Prelude.{reverse}
+use Rattle.std.proofs.lemmas.List.{reverse-append}
+use Rattle.std.proofs.lemmas.Bool.{cases_lt}
+use Rattle.std.proofs.lemmas.Bool.Decides.{nat_tests}
+use Rattle.std.proofs.lemmas.Grind.{common_steps}
+use Rattle.std.proofs.lemmas.List.FromFn.{length-map-range_with_len, get_or-map-range_with_len, fill_by_all}
+use Rattle.raw_image.specs.Bytes.{with_bytes}
+use Rattle.image_layout.specs.Plain.{Piece, has_place}
+use Rattle.param_apply.specs.Applied.{byte_of, with_pieces}
+
+-- An image without pieces.
+pub with-none : (image : List ℕ) → image ≡ with_pieces image []
+unfolding with_pieces
+with-none image = fill_by_all (byte_of image []) image (length image) 0 refl (λ k less. refl)
+
+pub length-with_pieces : (image : List ℕ) (ps : List Piece) → length (with_pieces image ps) ≡ length image
+unfolding with_pieces
+length-with_pieces image ps = length-map-range_with_len (byte_of image ps) 0 (length image)
+
+byte-with : (image : List ℕ) (ps : List Piece) (x : ℕ) → x < length image → slice_index (with_pieces image ps) x ≡ byte_of image ps x
+unfolding with_pieces
+byte-with image ps x inside = get_or-map-range_with_len (byte_of image ps) 0 (length image) x x 0 inside (omega arith)
+
+-- Bytes that were put at a place, and the bytes elsewhere.
+length-bytes : (image : List ℕ) (at : ℕ) (bytes : List ℕ) → at + length bytes ≤ length image → length (with_bytes image at bytes) ≡ length image
+length-bytes image at bytes fits = grind (arith, common_steps)
+
+byte_within : (image : List ℕ) (at : ℕ) (bytes : List ℕ) (x : ℕ) → at + length bytes ≤ length image → at ≤ x → x < at + length bytes → slice_index (with_bytes image at bytes) x ≡ slice_index bytes (x - at)
+byte_within image at bytes x fits low high = grind (arith, common_steps)
+
+byte_below : (image : List ℕ) (at : ℕ) (bytes : List ℕ) (x : ℕ) → x < length image → x < at → slice_index (with_bytes image at bytes) x ≡ slice_index image x
+byte_below image at bytes x inside out = grind (arith, common_steps)
+
+byte_above : (image : List ℕ) (at : ℕ) (bytes : List ℕ) (x : ℕ) → at + length bytes ≤ length image → x < length image → at + length bytes ≤ x → slice_index (with_bytes image at bytes) x ≡ slice_index image x
+byte_above image at bytes x fits inside out = grind (arith, common_steps)
+
+has_place-true : (x : ℕ) (p : Piece) → p.at ≤ x → x < p.at + length p.bytes → has_place x p ≡ true
+has_place-true x p low high = grind (arith, nat_tests)
+
+has_place-low : (x : ℕ) (p : Piece) → x < p.at → has_place x p ≡ false
+has_place-low x p out = grind (arith, nat_tests)
+
+has_place-high : (x : ℕ) (p : Piece) → p.at + length p.bytes ≤ x → has_place x p ≡ false
+has_place-high x p out = grind (arith, nat_tests)
+
+-- A piece more is looked at first.
+last-first : (ps : List Piece) (p : Piece) → reverse (ps ++ p ∷ []) ≡ p ∷ reverse ps
+last-first ps p = reverse-append ps (p ∷ [])
+
+here : (image : List ℕ) (ps : List Piece) (p : Piece) (x : ℕ) → has_place x p ≡ true → byte_of image (ps ++ p ∷ []) x ≡ slice_index p.bytes (x - p.at)
+here image ps p x is = rw (last-first ps p, is) refl
+
+elsewhere : (image : List ℕ) (ps : List Piece) (p : Piece) (x : ℕ) → has_place x p ≡ false → byte_of image (ps ++ p ∷ []) x ≡ byte_of image ps x
+elsewhere image ps p x out = rw (last-first ps p, out) refl
+
+byte-more : (image : List ℕ) (ps : List Piece) (p : Piece) (x : ℕ) → p.at + length p.bytes ≤ length image → x < length image → slice_index (with_bytes (with_pieces image ps) p.at p.bytes) x ≡ byte_of image (ps ++ p ∷ []) x
+byte-more image ps p x fits inside =
+    let long : length (with_pieces image ps) ≡ length image = length-with_pieces image ps in
+    let before = byte-with image ps x inside in
+    elim (cases_lt x p.at) [
+      | inl low ↦
+          byte_below (with_pieces image ps) p.at p.bytes x (omega arith) low ∙ before ∙ sym (elsewhere image ps p x (has_place-low x p low))
+      | inr above ↦
+          elim (cases_lt x (p.at + length p.bytes)) [
+            | inl under ↦
+                byte_within (with_pieces image ps) p.at p.bytes x (omega arith) above under ∙ sym (here image ps p x (has_place-true x p above under))
+            | inr high ↦
+                byte_above (with_pieces image ps) p.at p.bytes x (omega arith) (omega arith) high ∙ before ∙ sym (elsewhere image ps p x (has_place-high x p high))
+          ]
+    ]
+
+-- An image with a piece more.
+pub with-more : (image : List ℕ) (ps : List Piece) (p : Piece) → p.at + length p.bytes ≤ length image → with_bytes (with_pieces image ps) p.at p.bytes ≡ with_pieces image (ps ++ p ∷ [])
+unfolding with_pieces
+with-more image ps p fits =
+    let long : length (with_bytes (with_pieces image ps) p.at p.bytes) ≡ length image = length-bytes (with_pieces image ps) p.at p.bytes (rw (length-with_pieces image ps) fits) ∙ length-with_pieces image ps in
+    fill_by_all (byte_of image (ps ++ p ∷ [])) (with_bytes (with_pieces image ps) p.at p.bytes) (length image) 0 long (λ x inside. byte-more image ps p x fits inside)

@@ -1,0 +1,11 @@
+pub mod NumberLemmas
+pub mod ImageLemmas
+pub mod NameLemmas
+pub mod WordLemmas
+pub mod ClaimLemmas
+pub mod SettingLemmas
+pub mod TableLemmas
+pub mod MarkLemmas
+pub mod WrittenLemmas
+pub mod ParameterLemmas
+pub mod ApplyLemmas

@@ -1,0 +1,12 @@
+use Rattle.std.proofs.Common.{◌≡◌, ◌<◌, ◌≤◌, ℕ, None, map}
+use Rattle.std.specs.List.{range_with_len}
+use Rattle.elf_object.specs.declared.strings.TheConstants.{NAME_LIMIT}
+use Rattle.param_apply.specs.Table.{entry, entry_fault}
+use Rattle.param_apply.proofs.table.entries.Given as goal
+
+abbrev pub invariant-loop-k : goal.invariant-loop-k
+invariant-loop-k l = record {
+  entries : l.entries.items ≡ map (entry l.image l.base l.table) (range_with_len 0 l.k);
+  passed : (j : ℕ) → j < l.k → entry_fault l.image l.base l.table j ≡ None;
+  left : l.left ≤ NAME_LIMIT;
+}

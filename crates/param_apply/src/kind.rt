@@ -1,0 +1,125 @@
+// The types of parameters. The kernel's include/linux/moduleparam.h, module_param.
+
+ghost use Rattle.std.specs.Prelude.{◌≡◌, ◌<◌, ◌≤◌, ◌^◌, option_copied, IfSome};
+ghost use Rattle.param_apply.specs.Numbers.{bytes_in, numbers_in};
+ghost use Rattle.param_apply.specs.Kinds.{kind_of as the_kind_of, number_of as the_number_of, stated, width_of};
+
+use crate::number::{signed, truth, unsigned};
+
+/// How many bytes a number has.
+#[derive(Clone, Copy, Debug)]
+pub(crate) enum Width {
+    /// 1.
+    One,
+    /// 2.
+    Two,
+    /// 4.
+    Four,
+    /// 8.
+    Eight,
+}
+
+impl Width {
+    /// Returns how many bytes the number has.
+    pub(crate) fn bytes(self) -> usize
+        ensures { result ≡ bytes_in self }
+    {
+        match self {
+            Width::One => 1,
+            Width::Two => 2,
+            Width::Four => 4,
+            Width::Eight => 8,
+        }
+    }
+
+    /// Returns how many numbers those bytes have.
+    pub(crate) fn numbers(self) -> u128
+        ensures numbers { result ≡ numbers_in self }
+        ensures few { result ≤ 2 ^ 64 }
+        ensures many { 256 ≤ result }
+    {
+        match self {
+            Width::One => 0x100,
+            Width::Two => 0x1_0000,
+            Width::Four => 0x1_0000_0000,
+            Width::Eight => 0x1_0000_0000_0000_0000,
+        }
+    }
+}
+
+/// The type of a parameter.
+#[derive(Clone, Copy, Debug)]
+pub(crate) enum Kind {
+    /// A number without a sign.
+    Unsigned(Width),
+    /// A number with a sign.
+    Signed(Width),
+    /// True or false.
+    Truth,
+}
+
+/// Returns the type that a text names.
+#[tactic(auto, unfolding(crate::specs::Kinds::kind_of))]
+pub(crate) fn kind_of(text: &[u8]) -> Option<Kind>
+    ensures { result ≡ the_kind_of text.now }
+{
+    if text == b"byte".as_slice() {
+        Some(Kind::Unsigned(Width::One))
+    } else if text == b"ushort".as_slice() {
+        Some(Kind::Unsigned(Width::Two))
+    } else if text == b"uint".as_slice() {
+        Some(Kind::Unsigned(Width::Four))
+    } else if text == b"ulong".as_slice() {
+        Some(Kind::Unsigned(Width::Eight))
+    } else if text == b"ullong".as_slice() {
+        Some(Kind::Unsigned(Width::Eight))
+    } else if text == b"short".as_slice() {
+        Some(Kind::Signed(Width::Two))
+    } else if text == b"int".as_slice() {
+        Some(Kind::Signed(Width::Four))
+    } else if text == b"long".as_slice() {
+        Some(Kind::Signed(Width::Eight))
+    } else if text == b"bool".as_slice() {
+        Some(Kind::Truth)
+    } else {
+        None
+    }
+}
+
+impl Kind {
+    /// Returns how many bytes its values have.
+    pub(crate) fn width(self) -> usize
+        ensures width { result ≡ width_of self }
+        ensures small { result ≤ 8 }
+    {
+        match self {
+            Kind::Unsigned(width) => width.bytes(),
+            Kind::Signed(width) => width.bytes(),
+            Kind::Truth => 1,
+        }
+    }
+
+    /// Returns the number that a text states as a value of the type.
+    fn stated(self, text: &[u8]) -> Option<u64>
+        ensures { result ≡ stated self text.now }
+    {
+        match self {
+            Kind::Unsigned(width) => unsigned(width, text),
+            Kind::Signed(width) => signed(width, text),
+            Kind::Truth => truth(text),
+        }
+    }
+
+    /// Returns the number of a value of the type, by the text that a word states for it, or by no
+    /// text.
+    #[tactic(auto, unfolding(crate::specs::Kinds::number_of))]
+    pub(crate) fn number_of(self, text: Option<&[u8]>) -> Option<u64>
+        ensures { result ≡ the_number_of self (option_copied text.entry) }
+    {
+        match (text, self) {
+            (Some(text), kind) => kind.stated(text),
+            (None, Kind::Truth) => Some(1),
+            (None, _) => None,
+        }
+    }
+}

@@ -1,0 +1,100 @@
+// The words of options, written into a copy of an image.
+
+ghost use Rattle.std.specs.Prelude.{◌≡◌, ℕ, ◌+◌, ◌<◌, ◌≤◌, ◌^◌, ◌⊎◌, List, ◌∷◌, [], ◌++◌, All, length, map, None, Some, IfErr, IfOk, OnOk};
+ghost use Rattle.elf_object.specs.Object.{FileObject};
+ghost use Rattle.image_layout.specs.Offsets.{offsets};
+ghost use Rattle.raw_image.specs.Bytes.{with_bytes};
+ghost use Rattle.param_apply.specs.declared.fault.ParamFault.TheVariants.{Memory};
+ghost use Rattle.param_apply.specs.Applied.{named_count, piece, setting_fault, with_pieces, words_fault};
+ghost use Rattle.param_apply.specs.Table.{table_of};
+ghost use Rattle.param_apply.specs.Words.{Setting};
+ghost use Rattle.param_apply.specs.Writing.{AreClaims};
+
+use crate::claims::{Claims, value_of};
+use crate::parameter::ParamRef;
+use crate::setting::SettingRef;
+use crate::table::ParamTable;
+use crate::taken::reserved;
+use crate::{ParamFault, Params};
+use elf_object::Object;
+use image_layout::Layout;
+use raw_image::Image;
+use std::alloc::{AllocError, Global};
+
+/// Copies an image.
+fn copied(alloc: Global, bytes: &[u8]) -> Result<Image, AllocError>
+    ensures { IfOk result (λ image. image ≡ bytes.now) }
+{
+    let mut image = Image::zeroed(alloc, bytes.len())?;
+    image.copy_in(0, bytes);
+    Ok(image)
+}
+
+/// Writes the value that a word states at the place of its parameter.
+///
+/// # Errors
+///
+/// The fault of the word, or `Memory`.
+fn write(
+    alloc: Global,
+    image: &mut Image,
+    claims: &mut Claims,
+    params: &[ParamRef],
+    setting: &SettingRef,
+) -> Result<(), ParamFault>
+    requires number { setting.now.number < length params.now }
+    requires named { length claims.old.named.items ≡ length params.now }
+    requires taken { length claims.old.taken.items ≡ length image.old }
+    ensures same { OnOk result (length claims.new.taken.items ≡ length claims.old.taken.items) }
+    ensures count { OnOk result (length claims.new.named.items ≡ length claims.old.named.items) }
+    ensures bytes { OnOk result (image.new ≡ with_bytes image.old (piece params.now setting.now).at (piece params.now setting.now).bytes) }
+    ensures inside { OnOk result ((piece params.now setting.now).at + length (piece params.now setting.now).bytes ≤ length image.old) }
+    ensures claims { OnOk result ((o : FileObject) (done : List Setting) → AreClaims claims.old o params.now done
+        → AreClaims claims.new o params.now (done ++ setting.now ∷ [])) }
+    ensures passed { OnOk result ((o : FileObject) (done : List Setting) → AreClaims claims.old o params.now done
+        → setting_fault o params.now (length image.old) done setting.now ≡ None) }
+    ensures fault { IfErr result (λ e. (e ≡ Memory) ⊎ ((o : FileObject) (done : List Setting) → AreClaims claims.old o params.now done
+        → setting_fault o params.now (length image.old) done setting.now ≡ Some e)) }
+{
+    let param = &params[setting.number as usize];
+    let value = value_of(alloc, param, setting)?;
+    claims.claim(alloc, param, setting.number, value.width)?;
+    let bytes = value.number.to_le_bytes();
+    image.copy_in(param.at as usize, &bytes[..value.width]);
+    Ok(())
+}
+
+/// Returns a copy of an image with the values that words state.
+///
+/// # Errors
+///
+/// The fault of the first bad word, or `Memory`.
+pub(crate) fn written(
+    alloc: Global,
+    object: &Object,
+    layout: &Layout,
+    table: ParamTable,
+    image: &[u8],
+    params: &[ParamRef],
+    settings: &[SettingRef],
+) -> Result<Params, ParamFault>
+    requires layout { layout.now ≡ offsets object.now.sections }
+    requires table { table ≡ table_of object.now }
+    requires few { length params.now < 2 ^ 32 }
+    requires numbers { All (λ s. s.number < length params.now) settings.now }
+    ensures image { IfOk result (λ p. p.image ≡ with_pieces image.now (map (piece params.now) settings.now)) }
+    ensures count { IfOk result (λ p. p.count ≡ named_count params.now settings.now) }
+    ensures passed { OnOk result (words_fault object.now params.now (length image.now) settings.now ≡ None) }
+    ensures fault { IfErr result (λ e. (e ≡ Memory) ⊎ (words_fault object.now params.now (length image.now) settings.now ≡ Some e)) }
+{
+    let mut copy = copied(alloc, image)?;
+    let taken = reserved(alloc, object, layout, table, image.len())?;
+    let mut claims = Claims::new(alloc, taken, params.len())?;
+    for setting in settings {
+        write(alloc, &mut copy, &mut claims, params, setting)?;
+    }
+    Ok(Params {
+        image: copy,
+        count: claims.count() as u32,
+    })
+}
