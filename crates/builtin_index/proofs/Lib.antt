@@ -1,0 +1,6 @@
+pub mod Visible
+pub mod Pieces
+pub mod Places
+pub mod MapOrder
+pub mod ByPlace
+pub mod Held

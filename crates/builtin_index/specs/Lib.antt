@@ -1,0 +1,4 @@
+pub mod Fields
+pub mod Aliases
+pub mod Laws
+pub mod Parts

@@ -1,0 +1,5 @@
+pub mod Digits
+pub mod FirstSteps
+pub mod TextLines
+pub mod LineSteps
+pub mod WrittenSteps

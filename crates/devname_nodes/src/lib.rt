@@ -1,0 +1,23 @@
+//! The device nodes that modules of a tree ask for, so that the device's first user loads its
+//! module. They are what the modules state in their aliases, and the file modules.devname, as
+//! `depmod` writes it and as it is read.
+//!
+//! A module that makes a device node has an alias `devname:DEVICE` and one of its device number,
+//! `char-major-M-N` or `block-major-M-N`. The text of a node's line is defined once, for the writer
+//! and the reader, and what is written of a tree is read back. The crate builds on `km_names` for
+//! lines and words, on `unmet_file` for the words of a line, and on `provider_rel` for the facts of
+//! a tree.
+#![tactic(auto)]
+
+mod alias;
+mod laws;
+mod line;
+mod node;
+mod number;
+mod read;
+mod text;
+
+pub use laws::nodes_are_read_back;
+pub use node::{Node, NodeList, nodes};
+pub use read::read_nodes;
+pub use text::{node_lines, nodes_text};

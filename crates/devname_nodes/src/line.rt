@@ -1,0 +1,73 @@
+// The lines of modules.devname.
+ghost use Rattle.std.specs.Prelude.{◌≡◌, IfOk, option_map};
+ghost use Rattle.unmet_file.specs.Line.{three_words as three_words_of};
+ghost use Rattle.devname_nodes.specs.Line.{kind_of as kind_of_letter, device_word as device_of_word, line_node, is_ignored as is_ignored_line};
+
+use crate::Node;
+use crate::node::is_comment;
+use crate::number::plain_numbers;
+use km_names::{Blob, Name, is_graphic, split_at_byte, trimmed};
+use std::alloc::{AllocError, Global};
+
+/// Returns the three words of a line with a space between them.
+fn three_words(line: &[u8]) -> Option<(&[u8], &[u8], &[u8])>
+    ensures { option_map (λ w. (w.0.now, w.1.now, w.2.now)) result ≡ three_words_of line.now }
+{
+    let (first, rest) = split_at_byte(line, b' ');
+    let (second, third) = split_at_byte(rest, b' ');
+    if is_graphic(first) && is_graphic(second) && is_graphic(third) {
+        Some((first, second, third))
+    } else {
+        None
+    }
+}
+
+/// Returns whether the letter means a block device, if it means a block or a character device.
+fn kind_of(letter: u8) -> Option<bool>
+    ensures { result ≡ kind_of_letter letter }
+{
+    match letter {
+        b'b' => Some(true),
+        b'c' => Some(false),
+        _ => None,
+    }
+}
+
+/// Returns the kind and the numbers of the last word of a line.
+fn device_word(text: &[u8]) -> Option<(bool, (u32, u32))>
+    ensures { result ≡ device_of_word text.now }
+{
+    let block = kind_of(*text.first()?)?;
+    let numbers = plain_numbers(&text[1..])?;
+    Some((block, numbers))
+}
+
+/// Returns the node that a line states, if it states one.
+#[tactic(auto, unfolding(crate::specs::Line::line_node))]
+pub(crate) fn read_line(alloc: Global, line: &[u8]) -> Result<Option<Node>, AllocError>
+    ensures { IfOk result (λ node. node ≡ line_node line.now) }
+{
+    let Some((module, device, last)) = three_words(line) else {
+        return Ok(None);
+    };
+    if is_comment(module) {
+        return Ok(None);
+    }
+    match device_word(last) {
+        Some((block, (major, minor))) => Ok(Some(Node {
+            module: Name::from_slice(alloc, module)?,
+            device: Blob::from_slice(alloc, device)?,
+            block,
+            major,
+            minor,
+        })),
+        None => Ok(None),
+    }
+}
+
+/// Whether a line states nothing on purpose: it is a comment, or blank.
+pub(crate) fn is_ignored(line: &[u8]) -> bool
+    ensures { result ≡ is_ignored_line line.now }
+{
+    is_comment(line) || trimmed(line).is_empty()
+}
