@@ -9,7 +9,7 @@ use Rattle.index_format.specs.Map.{KeyValues}
 use Rattle.symbol_binding.specs.declared.unbound.Unbound.{Unbound}
 use Rattle.symbol_binding.specs.declared.unbound.Unbound.TheVariants as lines
 use Rattle.symbol_binding.specs.Unmet.{vmlinux, belongs}
-use Rattle.plan_builder.specs.declared.check.LineKind.TheVariants as kinds
+use Rattle.unmet_file.specs.declared.kind.LineKind.TheVariants as kinds
 use Rattle.plan_builder.specs.Obstacles.{is_obstacle}
 use Rattle.plan_builder.specs.Closed.{is_at_one, collides}
 

@@ -11,6 +11,8 @@ use Rattle.relation_order.proofs.Saturation.{kept}
 use Rattle.relation_order.proofs.PlaceSteps.{all-within}
 use Rattle.index_format.specs.Listing.{KeyValue}
 use Rattle.plan_builder.specs.Modules.{place_of, places_of}
+use Rattle.relation_order.proofs.Finding.{has-items}
+use Rattle.plan_builder.specs.Softdeps.{once}
 use Rattle.plan_builder.specs.Needs.{Sources, modules, soft_places, found_names, is_available}
 
 pub has-append : (xs ys : List ℕ) (y : ℕ) → has (xs ++ ys) y ≡ (has xs y || has ys y)
@@ -56,20 +58,18 @@ found-low s (name ∷ names) y h = go (or_cases _ _ (sym (has-append (places_of 
     go (inl m) ih = places-low (modules s) (found_names s name) y m
     go (inr m) ih = ih m
 
-pub found-inside : (s : Sources) (names : List (List ℕ)) → All (λ y. y < length (modules s)) (flat_map (λ name. places_of (modules s) (found_names s name)) names)
-found-inside s names = all-within (length (modules s)) (flat_map (λ name. places_of (modules s) (found_names s name)) names) (found-low s names)
-
 pub soft-low : (s : Sources) (x : ℕ) (names : List (List ℕ)) (y : ℕ) → has (soft_places s x names) y ≡ true → y < length (modules s)
 soft-low s x names y h = found-low s names y (kept (λ y. not (y == x) && is_available (modules s) s.unmet y) (flat_map (λ name. places_of (modules s) (found_names s name)) names) y h).1
 
-pub soft-inside : (s : Sources) (x : ℕ) (names : List (List ℕ)) → All (λ y. y < length (modules s)) (soft_places s x names)
-soft-inside s x names = all-within (length (modules s)) (soft_places s x names) (soft-low s x names)
+pub soft-once : (s : Sources) (x : ℕ) (names : List (List ℕ)) → All (λ y. y < length (modules s)) (once (soft_places s x names))
+soft-once s x names =
+    all-within (length (modules s)) (once (soft_places s x names)) (λ y h. soft-low s x names y (sym (has-items [] (soft_places s x names) y) ∙ h))
 
-pub both-inside : (s : Sources) (x : ℕ) (line names : List (List ℕ)) → All (λ y. y < length (modules s)) (places_of (modules s) line ++ soft_places s x names)
-both-inside s x line names =
-    all-within (length (modules s)) (places_of (modules s) line ++ soft_places s x names)
-    (λ y h. go y (or_cases _ _ (sym (has-append (places_of (modules s) line) (soft_places s x names) y) ∙ h)))
+pub both-once : (s : Sources) (x : ℕ) (line names : List (List ℕ)) → All (λ y. y < length (modules s)) (places_of (modules s) line ++ once (soft_places s x names))
+both-once s x line names =
+    all-within (length (modules s)) (places_of (modules s) line ++ once (soft_places s x names))
+    (λ y h. go y (or_cases _ _ (sym (has-append (places_of (modules s) line) (once (soft_places s x names)) y) ∙ h)))
   where
-    go : (y : ℕ) → (has (places_of (modules s) line) y ≡ true) ⊎ (has (soft_places s x names) y ≡ true) → y < length (modules s)
+    go : (y : ℕ) → (has (places_of (modules s) line) y ≡ true) ⊎ (has (once (soft_places s x names)) y ≡ true) → y < length (modules s)
     go y (inl m) = places-low (modules s) line y m
-    go y (inr m) = soft-low s x names y m
+    go y (inr m) = soft-low s x names y (sym (has-items [] (soft_places s x names) y) ∙ m)

@@ -14,8 +14,11 @@ pub mod Obstacles
 pub mod RuleLaws
 pub mod PlaceNames
 pub mod PlanTests
+pub mod Repeats
+pub mod SoftSteps
 pub mod Sorting
 pub mod StepLaws
 pub mod StepModules
 pub mod Stems
+pub mod Texts
 pub mod Troubled

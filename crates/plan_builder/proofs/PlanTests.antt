@@ -5,8 +5,8 @@ use Rattle.std.specs.Option.{option_map}
 use Rattle.km_names.specs.First.{first}
 use Rattle.relation_order.specs.Cycle.{cycle}
 use Rattle.plan_order.specs.Lists.{among}
-use Rattle.plan_builder.specs.declared.check.LineKind.{LineKind}
-use Rattle.plan_builder.specs.declared.check.LineKind.TheVariants as kinds
+use Rattle.unmet_file.specs.declared.kind.LineKind.{LineKind}
+use Rattle.unmet_file.specs.declared.kind.LineKind.TheVariants as kinds
 use Rattle.plan_builder.specs.declared.request.Request.{Request}
 use Rattle.plan_builder.specs.declared.obstacle.Obstacle.TheVariants.{BadDepLine}
 use Rattle.plan_builder.specs.Modules.{bad_name, name_at}

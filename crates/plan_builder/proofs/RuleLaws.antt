@@ -1,22 +1,19 @@
 -- Rules in groups, a rule more at a time; and what the rules on a module give, all rules give.
-use Rattle.std.proofs.Common.{◌≡◌, ℕ, ◌+◌, ◌<◌, Bool, true, false, cond, Bor, List, [], ◌∷◌, ◌++◌, length, take, map, filter, get_or, Option, Some, None, Vec, refl, sym, ap, ◌∙◌, append-nil}
+use Rattle.std.proofs.Common.{◌≡◌, ℕ, ◌+◌, ◌<◌, Bool, true, false, cond, Bor, List, [], ◌∷◌, ◌++◌, length, take, map, filter, get_or, Option, Some, None, refl, sym, ap, ◌∙◌, append-nil}
 use Rattle.std.specs.List.{flat_map}
-use Rattle.std.specs.Map.{lookup, set_value}
-use Rattle.std.specs.Option.{option_map_or, unwrap_or}
+use Rattle.std.specs.Option.{option_map_or}
 use Rattle.std.specs.Str.{bytes_eq}
-use Rattle.std.specs.Cmp.Lexicographic.{bytes_decides}
-use Rattle.std.specs.declared.alloc.Global.{Global}
-use Rattle.std.proofs.lemmas.Cmp.{nat_list_eq_equiv}
-use Rattle.std.proofs.lemmas.List.{take_more}
+use Rattle.std.proofs.lemmas.List.{map-append, take_more}
 use Rattle.std.proofs.lemmas.List.Elements.{filter-append}
 use Rattle.km_names.specs.First.{first}
 use Rattle.modprobe_conf.specs.declared.rule.Rule.{Rule}
 use Rattle.modprobe_conf.specs.declared.rule.Rule.TheVariants.{Alias, Blacklist, Options, Install, Remove, Softdep}
+use Rattle.name_lookup.specs.Groups.{group_of}
 use Rattle.plan_builder.specs.declared.needs.Side.{Side}
 use Rattle.plan_builder.specs.declared.needs.Side.TheVariants.{Before, After}
 use Rattle.plan_builder.specs.Members.{command_of, install_command}
 use Rattle.plan_builder.specs.Planner.{names_on}
-use Rattle.plan_builder.specs.Rules.{Groups, IsGrouped, owner, is_on, rules_on, shown_rules, with_rule}
+use Rattle.plan_builder.specs.Rules.{IsGrouped, owner, is_on, shown_rules}
 use Rattle.plan_builder.specs.Steps.{rule_options}
 
 -- ---- what passes a test, an item more at a time
@@ -116,83 +113,27 @@ module _ (name : List ℕ) (rules : List Rule) (own : List (Bor Rule)) (is : sho
 
 -- ---- groups with a rule more
 
--- a name that isn't the key differs from one that is
-apart : (name other key : List ℕ) → bytes_eq name key ≡ false → bytes_eq other key ≡ true → bytes_eq name other ≡ false
-apart name other key differs same = ap (bytes_eq name) ((bytes_decides other key).0 same) ∙ differs
+shown-more : (own : List (Bor Rule)) (r : Bor Rule) (b : Bool) → shown_rules (own ++ cond b (r ∷ []) []) ≡ shown_rules own ++ cond b (r.now ∷ []) []
+shown-more own r true = map-append (λ (r : Bor Rule). r.now) own (r ∷ [])
+shown-more own r false = map-append (λ (r : Bor Rule). r.now) own []
 
-abbrev group_of : List ℕ → Groups → Option (Vec (Bor Rule) Global)
-group_of name groups = lookup (λ (k : Bor (List ℕ)). bytes_eq name k.now) groups
+module _ (old : List (List ℕ × List (Bor Rule))) (rules : List Rule) (i : ℕ) (rule : Rule) (is : IsGrouped old (take i rules)) (l : i < length rules) (at : rule ≡ get_or rules i rule) where
+  next : (name : List ℕ) → filter (is_on name) (take (i + 1) rules) ≡ filter (is_on name) (take i rules) ++ cond (is_on name rule) (rule ∷ []) []
+  next name = filter-more (is_on name) rules i rule l at
 
-abbrev shown_group : Option (Vec (Bor Rule) Global) → List Rule
-shown_group group = option_map_or (λ (g : Vec (Bor Rule) Global). shown_rules g.items) group []
+  -- a rule that is on a module
+  pub grouped-more : (new : List (List ℕ × List (Bor Rule))) (own : List ℕ) (r : Bor Rule) → r.now ≡ rule → Some own ≡ owner rule
+      → ((name : List ℕ) → group_of new name ≡ group_of old name ++ cond (bytes_eq own name) (r ∷ []) []) → IsGrouped new (take (i + 1) rules)
+  grouped-more new own r same owned now name =
+      ap shown_rules (now name)
+      ∙ shown-more (group_of old name) r (bytes_eq own name)
+      ∙ (λ j. is name j ++ cond (option_map_or (λ o. bytes_eq o name) (owned j) false) (same j ∷ []) [])
+      ∙ sym (next name)
 
-module _ (name other : List ℕ) (r : Rule) where
-  abbrev more : List Rule
-  more = cond (bytes_eq name other) (r ∷ []) []
-
-  -- a key that isn't the name keeps its group
-  kept : (k : Bor (List ℕ)) (group : Vec (Bor Rule) Global) (old new : Option (Vec (Bor Rule) Global)) → bytes_eq name k.now ≡ false
-      → shown_group new ≡ shown_group old ++ more → (b : Bool) → bytes_eq other k.now ≡ b
-      → shown_group (cond b (Some group) new) ≡ shown_group (cond b (Some group) old) ++ more
-  kept k group old new differs rest true same =
-      sym (ap (λ b. shown_rules group.items ++ cond b (r ∷ []) []) (apart name other k.now differs same) ∙ append-nil (shown_rules group.items))
-  kept k group old new differs rest false same = rest
-
-  -- the group of the name has the rule
-  written : (k : Bor (List ℕ)) (old new : Vec (Bor Rule) Global) (rest : Option (Vec (Bor Rule) Global)) → bytes_eq name k.now ≡ true
-      → shown_rules new.items ≡ shown_rules old.items ++ r ∷ [] → (b : Bool) → bytes_eq name other ≡ b
-      → shown_group (cond (bytes_eq other k.now) (Some new) rest) ≡ shown_group (cond (bytes_eq other k.now) (Some old) rest) ++ cond b (r ∷ []) []
-  written k old new rest same is b e =
-      let test : bytes_eq other k.now ≡ b = ap (bytes_eq other) (sym ((bytes_decides name k.now).0 same)) ∙ nat_list_eq_equiv.symm other name ∙ e in
-      ap (λ t. shown_group (cond t (Some new) rest)) test ∙ by b ∙ ap (λ t. shown_group (cond t (Some old) rest) ++ cond b (r ∷ []) []) (sym test)
-    where
-      by : (b : Bool) → shown_group (cond b (Some new) rest) ≡ shown_group (cond b (Some old) rest) ++ cond b (r ∷ []) []
-      by true = is
-      by false = sym (append-nil (shown_group rest))
-
-  -- a name that has a group
-  pub on-written : (old new : Vec (Bor Rule) Global) → shown_rules new.items ≡ shown_rules old.items ++ r ∷ [] → (es : Groups) → group_of name es ≡ Some old
-      → rules_on (set_value (λ (k : Bor (List ℕ)). bytes_eq name k.now) es new) other ≡ with_rule (rules_on es other) other name r
-  on-written old new is [] found = absurd (let bad = found in cc)
-  on-written old new is (e ∷ es) found = by (bytes_eq name e.0.now) refl found (on-written old new is es)
-    where
-      after : Groups
-      after = set_value (λ (k : Bor (List ℕ)). bytes_eq name k.now) es new
-
-      by : (b : Bool) → bytes_eq name e.0.now ≡ b → cond b (Some e.1) (group_of name es) ≡ Some old
-          → (group_of name es ≡ Some old → rules_on after other ≡ rules_on es other ++ more)
-          → rules_on (cond b ((e.0, new) ∷ es) (e ∷ after)) other ≡ rules_on (e ∷ es) other ++ more
-      by true same found rest =
-          let old_is : old ≡ e.1 = sym (ap (λ o. unwrap_or o old) found) in
-          written e.0 e.1 new (group_of other es) same (is ∙ ap (λ (v : Vec (Bor Rule) Global). shown_rules v.items ++ r ∷ []) old_is) (bytes_eq name other) refl
-      by false differs found rest = kept e.0 e.1 (group_of other es) (group_of other after) differs (rest found) (bytes_eq other e.0.now) refl
-
-  -- a name that has none
-  pub on-added : (k : Bor (List ℕ)) (group : Vec (Bor Rule) Global) → k.now ≡ name → shown_rules group.items ≡ r ∷ [] → (es : Groups) → group_of name es ≡ None
-      → rules_on (es ++ (k, group) ∷ []) other ≡ with_rule (rules_on es other) other name r
-  on-added k group key is [] none =
-      ap (λ t. shown_group (cond t (Some group) None)) (ap (bytes_eq other) key ∙ nat_list_eq_equiv.symm other name) ∙ by (bytes_eq name other)
-    where
-      by : (b : Bool) → shown_group (cond b (Some group) None) ≡ cond b (r ∷ []) []
-      by true = is
-      by false = refl
-  on-added k group key is (e ∷ es) none = by (bytes_eq name e.0.now) refl none (on-added k group key is es)
-    where
-      after : Groups
-      after = es ++ (k, group) ∷ []
-
-      by : (b : Bool) → bytes_eq name e.0.now ≡ b → cond b (Some e.1) (group_of name es) ≡ None
-          → (group_of name es ≡ None → rules_on after other ≡ rules_on es other ++ more)
-          → rules_on (e ∷ after) other ≡ rules_on (e ∷ es) other ++ more
-      by true same none rest = absurd (let bad = none in cc)
-      by false differs none rest = kept e.0 e.1 (group_of other es) (group_of other after) differs (rest none) (bytes_eq other e.0.now) refl
-
--- the groups of some rules, after a rule that is on a module, or on none
-pub grouped-more : (old new : Groups) (rules : List Rule) (i : ℕ) (rule : Rule) (own : Option (List ℕ)) → IsGrouped old (take i rules) → i < length rules → rule ≡ get_or rules i rule → owner rule ≡ own
-    → ((name : List ℕ) → rules_on new name ≡ rules_on old name ++ cond (option_map_or (λ o. bytes_eq o name) own false) (rule ∷ []) [])
-    → IsGrouped new (take (i + 1) rules)
-grouped-more old new rules i rule own is l at owned now name =
-    now name
-    ∙ ap (λ rs. rs ++ cond (option_map_or (λ o. bytes_eq o name) own false) (rule ∷ []) []) (is name)
-    ∙ ap (λ o. filter (is_on name) (take i rules) ++ cond (option_map_or (λ o. bytes_eq o name) o false) (rule ∷ []) []) (sym owned)
-    ∙ sym (filter-more (is_on name) rules i rule l at)
+  -- a rule that is on none
+  pub grouped-same : None ≡ owner rule → IsGrouped old (take (i + 1) rules)
+  grouped-same owned name =
+      is name
+      ∙ sym (append-nil (filter (is_on name) (take i rules)))
+      ∙ ap (λ o. filter (is_on name) (take i rules) ++ cond (option_map_or (λ o. bytes_eq o name) o false) (rule ∷ []) []) owned
+      ∙ sym (next name)

@@ -1,10 +1,10 @@
--- What `plan` learns on its way.
+-- What `plan` learns on its way. Only private contracts cite this file.
 use Rattle.std.specs.Prelude.{◌≡◌, ◌<◌, ℕ, Bool, List, [], ◌∷◌, map, All, Option}
 use Rattle.index_format.specs.Listing.{KeyValue}
 use Rattle.symbol_binding.specs.declared.unbound.Unbound.{Unbound}
 use Rattle.plan_order.specs.declared.plan.PlanOrCycle.{PlanOrCycle}
 use Rattle.plan_order.specs.declared.plan.PlanOrCycle.TheVariants as answers
-use Rattle.plan_builder.specs.declared.check.LineKind.TheVariants as kinds
+use Rattle.unmet_file.specs.declared.kind.LineKind.TheVariants as kinds
 use Rattle.plan_builder.specs.declared.obstacle.Obstacle.{Obstacle}
 use Rattle.plan_builder.specs.declared.obstacle.Obstacle.TheVariants.{Cycle}
 use Rattle.plan_builder.specs.Modules.{name_at}

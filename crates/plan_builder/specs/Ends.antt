@@ -1,4 +1,5 @@
--- The steps of a plan by the places in its order where the groups of the requested names end.
+-- The steps of a plan by the places in its order where the groups of the requested names end. Only
+-- private contracts cite this file.
 use Rattle.std.specs.Prelude.{ℕ, ◌<◌, ◌≤◌, ◌-◌, ◌+◌, List, [], ◌∷◌, ◌++◌, map, length, take, drop, slice_index}
 use Rattle.name_lookup.specs.declared.found.Found.{Found}
 use Rattle.plan_builder.specs.declared.request.Request.{Request}

@@ -6,6 +6,7 @@ pub mod Needs
 pub mod Sources
 pub mod Rules
 pub mod Planner
+pub mod Softdeps
 pub mod Members
 pub mod Steps
 pub mod Ends

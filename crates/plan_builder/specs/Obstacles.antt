@@ -13,8 +13,8 @@ use Rattle.name_lookup.specs.declared.found.Found.{Found}
 use Rattle.name_lookup.specs.Found.{found}
 use Rattle.relation_order.specs.Cycle.{cycle}
 use Rattle.plan_order.specs.Lists.{among}
-use Rattle.plan_builder.specs.declared.check.LineKind.{LineKind}
-use Rattle.plan_builder.specs.declared.check.LineKind.TheVariants as kinds
+use Rattle.unmet_file.specs.declared.kind.LineKind.{LineKind}
+use Rattle.unmet_file.specs.declared.kind.LineKind.TheVariants as kinds
 use Rattle.plan_builder.specs.declared.request.Request.{Request}
 use Rattle.plan_builder.specs.declared.obstacle.Obstacle.{Obstacle}
 use Rattle.plan_builder.specs.declared.obstacle.Obstacle.TheVariants.{BadDepLine, NotFound, Missing, Gpl, Version, Namespace, Cycle, Double}

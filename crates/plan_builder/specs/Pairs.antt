@@ -1,4 +1,5 @@
--- The first of the values of each key, among keys with their values.
+-- The first of the values of each key, among keys with their values. Only private contracts cite
+-- this file.
 use Rattle.std.specs.Prelude.{◌≡◌, ℕ, List, [], ◌∷◌, false, Option, Some, None, if◌then◌else◌}
 use Rattle.std.specs.Option.{option_map_or}
 use Rattle.std.specs.List.{list_any, after_first}
@@ -6,7 +7,8 @@ use Rattle.std.specs.Str.{bytes_eq}
 use Rattle.std.specs.Prelude.{◌==◌, true}
 use Rattle.index_format.specs.Listing.{KeyValue}
 
--- The pairs whose key isn't that of the pair before them; the first follows one with this key, or none.
+-- The pairs whose key isn't that of the pair before them; the first follows one with this key, or
+-- none.
 abbrev pub after_key : Option (List ℕ) → List KeyValue → List KeyValue
 after_key last [] = []
 after_key last (p ∷ ps) =

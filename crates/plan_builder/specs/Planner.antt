@@ -1,4 +1,4 @@
--- What the code keeps of the sources of plans.
+-- What the code keeps of the sources of plans. Only private contracts cite this file.
 use Rattle.std.specs.Prelude.{◌≡◌, ℕ, Bool, List, map}
 use Rattle.std.specs.Borrow.{Bor}
 use Rattle.index_format.specs.Listing.{KeyValue}
@@ -11,8 +11,8 @@ use Rattle.plan_builder.specs.declared.needs.Side.{Side}
 use Rattle.plan_builder.specs.declared.needs.Side.TheVariants.{Before, After}
 use Rattle.plan_builder.specs.Needs.{Sources, modules, is_troubled, names_before, names_after}
 
--- The rules, the index files, the lines of modules.unmet and the loaded names, and whether blacklisted names are dropped
--- everywhere.
+-- The rules, the index files, the lines of modules.unmet and the loaded names, and whether
+-- blacklisted names are dropped everywhere.
 pub record Held : Type 0 where
   pub rules : List Rule
   pub indexes : Indexes
@@ -30,9 +30,11 @@ sources_of h = record {
   use_blacklist = h.use_blacklist;
 }
 
--- The modules are those of the index, and exactly the paths of lines on needs are kept.
-pub record IsPlanner (own : List KeyValue) (paths : List (List ℕ)) (h : Held) : Type 0 where
+-- The modules are those of the index, exactly the paths of lines on needs are kept, and names are
+-- looked up by the rules.
+pub record IsPlanner (own : List KeyValue) (paths : List (List ℕ)) (rules : List Rule) (h : Held) : Type 0 where
   pub own_modules : own ≡ modules (sources_of h)
+  pub own_rules : rules ≡ h.rules
   pub troubled : (path : List ℕ) → is_among paths path ≡ is_troubled h.unmet path
 
 -- The names that a rule has on one side of a module.

@@ -1,14 +1,15 @@
--- The rules of a configuration by the modules that they are on. modprobe.d(5).
-use Rattle.std.specs.Prelude.{◌≡◌, ℕ, Bool, false, List, [], ◌∷◌, ◌++◌, map, filter, Option, Some, None, if◌then◌else◌, Vec}
+-- The rules of a configuration by the modules that they are on. Only private contracts cite this
+-- file. modprobe.d(5).
+use Rattle.std.specs.Prelude.{◌≡◌, ℕ, Bool, false, List, map, filter, Option, Some, None}
 use Rattle.std.specs.Borrow.{Bor}
-use Rattle.std.specs.Map.{lookup}
 use Rattle.std.specs.Option.{option_map_or}
 use Rattle.std.specs.Str.{bytes_eq}
-use Rattle.std.specs.declared.alloc.Global.{Global}
 use Rattle.modprobe_conf.specs.declared.rule.Rule.{Rule}
 use Rattle.modprobe_conf.specs.declared.rule.Rule.TheVariants.{Alias, Blacklist, Options, Install, Remove, Softdep}
+use Rattle.name_lookup.specs.Groups.{group_of}
 
--- The module that a rule is on, where plans ask for rules on it: parameters, a command for loading it, soft dependencies.
+-- The module that a rule is on, where plans ask for rules on it: parameters, a command for loading
+-- it, soft dependencies.
 abbrev pub owner : Rule → Option (List ℕ)
 owner (Alias pattern name) = None
 owner (Blacklist name) = None
@@ -25,23 +26,6 @@ is_on name rule = option_map_or (λ own. bytes_eq own name) (owner rule) false
 abbrev pub shown_rules : List (Bor Rule) → List Rule
 shown_rules rules = map (λ r. r.now) rules
 
--- Rules in groups, each under a name.
-abbrev pub Groups : Type 0
-Groups = List (Bor (List ℕ) × Vec (Bor Rule) Global)
-
--- The rules of the group of a name, none where there is no group.
-abbrev pub rules_on : Groups → List ℕ → List Rule
-rules_on groups name = option_map_or (λ group. shown_rules group.items) (lookup (λ k. bytes_eq name k.now) groups) []
-
--- Rules on the module of one name with a rule on that of another name, which is one more where the names are the same.
-abbrev pub with_rule : List Rule → List ℕ → List ℕ → Rule → List Rule
-with_rule rules name own rule = rules ++ (if bytes_eq own name then rule ∷ [] else [])
-
 -- The group of each name has the rules on the module of this name, in order.
-abbrev pub IsGrouped : Groups → List Rule → Type 0
-IsGrouped groups rules = (name : List ℕ) → rules_on groups name ≡ filter (is_on name) rules
-
--- The same with the rules that a name without a group has, which are none.
-pub record IsTable (groups : Groups) (none : List (Bor Rule)) (rules : List Rule) : Type 0 where
-  pub grouped : IsGrouped groups rules
-  pub empty : none ≡ []
+abbrev pub IsGrouped : List (List ℕ × List (Bor Rule)) → List Rule → Type 0
+IsGrouped groups rules = (name : List ℕ) → shown_rules (group_of groups name) ≡ filter (is_on name) rules

@@ -1,4 +1,4 @@
--- Modules as the code keeps them.
+-- Modules as the code keeps them. Only private contracts cite this file.
 use Rattle.std.specs.Prelude.{ℕ, List, map, Some}
 use Rattle.index_format.specs.Listing.{KeyValue}
 use Rattle.index_read.specs.declared.value.Pair.{Pair}

@@ -8,23 +8,14 @@ ghost use Rattle.plan_builder.specs.Tables.{shown};
 
 use crate::line::{Known, is_line};
 use crate::modules::Modules;
-use crate::needs::{Planner, push_place};
 use crate::obstacle::Obstacle;
+use crate::planner::{Planner, push_place};
 use index_read::Pair;
 use km_names::{Name, PathText};
 use name_table::NameSet;
 use std::alloc::{AllocError, Global};
 use symbol_binding::Unbound;
-
-/// The kinds of lines of modules.unmet.
-#[derive(Clone, Copy)]
-pub(crate) enum LineKind {
-    Missing,
-    Gpl,
-    Version,
-    Namespace,
-    Double,
-}
+use unmet_file::LineKind;
 
 /// Tests that each pair's value is the dependency line of its module.
 pub(crate) fn check_lines<K: Known>(
@@ -95,7 +86,8 @@ pub(crate) fn standing_paths<'a>(
     Ok(paths)
 }
 
-/// Tests that no line of a kind is an obstacle, over the paths of planned modules and of those that are there before.
+/// Tests that no line of a kind is an obstacle, over the paths of planned modules and of those that
+/// are there before.
 pub(crate) fn check_unmet(
     alloc: Global,
     kind: LineKind,

@@ -1,21 +1,18 @@
 // Dependency lines by what they name.
-ghost use Rattle.std.specs.Prelude.{◌≡◌, ◌<◌, ◌==◌, ℕ, List, Bool, IfOk, option_copied};
+ghost use Rattle.std.specs.Prelude.{◌≡◌, ◌==◌, ℕ, List, Bool, IfOk, option_copied};
 ghost use Rattle.std.specs.List.{before_first, list_all};
 ghost use Rattle.std.specs.Str.{bytes_eq};
 ghost use Rattle.km_names.specs.Path.{module_name as module_name_of};
 ghost use Rattle.index_read.specs.Contents.{contents};
-ghost use Rattle.name_lookup.specs.Maps.{has_value};
 ghost use Rattle.plan_builder.specs.Modules.{needed_names as needed_names_of, is_line_of, is_well_formed};
 ghost use Rattle.plan_builder.specs.Pairs.{IsAfterSpace};
 
-use crate::path_name::write_name;
-use index_read::{Index, Steps};
+use crate::path_name::{is_plain, stem, write_name};
+use index_read::{Index, plain};
 use km_names::{Name, Names, split_at_byte};
 use mod_tree::line_path;
 use name_lookup::Indexes;
 use std::alloc::{AllocError, Global};
-use std::marker::Brand;
-use std::sync::ledger::{Blank, Ledger};
 
 /// Who knows which names modules.dep.bin has a value of.
 pub(crate) trait Known {
@@ -33,51 +30,26 @@ impl Known for Index {
     ghost has = { λ index. has_value (contents index.nodes) };
 
     fn has(&self, name: &[u8]) -> bool {
-        has_value_over::<Brand>(self, name, Blank::new(1))
+        plain::has_value(self, name)
     }
 }
 
-fn has_value_over<L: Ledger>(index: &Index, key: &[u8], blank: Blank) -> bool
-    requires ledger { blank.name ≡ L.name }
-    requires parts { blank.parts ≡ L.parts }
-    requires some { 0 < blank.parts }
-    ensures { result ≡ has_value (contents index.now.nodes) key.now }
-{
-    let mut steps = Steps::<L>::new(blank);
-    index.find_one(key, &mut steps).is_some()
-}
-
-/// Whether modules.dep.bin has a value of the name, and its first value is the dependency line of the module of this
-/// name, in which each module that is needed has a value too. modules.dep(5).
+/// Whether modules.dep.bin has a value of the name, and its first value is the dependency line of
+/// the module of this name, in which each module that is needed has a value too. modules.dep(5).
 pub fn well_formed(alloc: Global, name: &Name, indexes: &Indexes) -> Result<bool, AllocError>
     ensures { IfOk result (λ good. good ≡ is_well_formed (contents indexes.now.dep.nodes) name.now) }
 {
-    well_formed_over::<Brand>(alloc, name.as_bytes(), &indexes.dep, Blank::new(1))
-}
-
-fn well_formed_over<L: Ledger>(
-    alloc: Global,
-    name: &[u8],
-    index: &Index,
-    blank: Blank,
-) -> Result<bool, AllocError>
-    requires ledger { blank.name ≡ L.name }
-    requires parts { blank.parts ≡ L.parts }
-    requires some { 0 < blank.parts }
-    ensures { IfOk result (λ good. good ≡ is_well_formed (contents index.now.nodes) name.now) }
-{
-    let mut steps = Steps::<L>::new(blank);
-    match index.find_one(name, &mut steps) {
-        Some(place) => {
+    match plain::first_text(&indexes.dep, name.as_bytes()) {
+        Some(line) => {
             let mut buffer = Vec::new(alloc);
-            is_line(&mut buffer, index, name, index.text(&place))
+            is_line(&mut buffer, &indexes.dep, name.as_bytes(), line)
         }
         None => Ok(false),
     }
 }
 
-/// Whether a text is the dependency line of the module of this name, and each module that it needs is known. The names of
-/// its modules are written to a buffer, one after the other.
+/// Whether a text is the dependency line of the module of this name, and each module that it needs
+/// is known. The names of its modules are written to a buffer, one after the other.
 pub(crate) fn is_line<K: Known>(
     buffer: &mut Vec<u8>,
     known: &K,
@@ -101,8 +73,25 @@ pub(crate) fn is_line<K: Known>(
 fn names_module(buffer: &mut Vec<u8>, path: &[u8], name: &[u8]) -> Result<bool, AllocError>
     ensures { IfOk result (λ same. same ≡ bytes_eq (module_name_of path.now) name.now) }
 {
+    let text = stem(path);
+    if is_plain(text) {
+        return Ok(text == name);
+    }
     write_name(buffer, path)?;
     Ok(buffer.as_slice() == name)
+}
+
+/// Whether the module at a path is known. Most names are those that their paths have, and aren't
+/// copied.
+fn is_known<K: Known>(buffer: &mut Vec<u8>, known: &K, path: &[u8]) -> Result<bool, AllocError>
+    ensures { IfOk result (λ there. there ≡ K.has known.now (module_name_of path.now)) }
+{
+    let text = stem(path);
+    if is_plain(text) {
+        return Ok(known.has(text));
+    }
+    write_name(buffer, path)?;
+    Ok(known.has(buffer.as_slice()))
 }
 
 /// Whether each module that a dependency line needs is known.
@@ -112,8 +101,7 @@ fn all_known<K: Known>(buffer: &mut Vec<u8>, known: &K, line: &[u8]) -> Result<b
     let mut next = after_space(split_at_byte(line, b':').1);
     while let Some(paths) = next {
         let (path, others) = split_at_space(paths);
-        write_name(buffer, path)?;
-        if !known.has(buffer.as_slice()) {
+        if !is_known(buffer, known, path)? {
             return Ok(false);
         }
         next = others;

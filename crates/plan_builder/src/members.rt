@@ -12,8 +12,9 @@ ghost use Rattle.plan_builder.specs.Members.{founds_of, is_member_of, chosen_com
 ghost use Rattle.plan_builder.specs.Obstacles.{is_unfound, is_unknown as is_unknown_of, all_names, not_found as not_found_of, shown_name as shown_name_of};
 
 use crate::modules::Modules;
-use crate::needs::{Planner, push_all, push_places};
+use crate::needs::push_all;
 use crate::obstacle::Obstacle;
+use crate::planner::{Planner, push_places};
 use crate::rule_table::RuleTable;
 use km_names::{Name, Names, normal_alias};
 use modprobe_conf::Rule;
@@ -205,7 +206,8 @@ fn command_in<'a>(rule: &'a Rule, wanted: &[u8]) -> Option<&'a [u8]>
     }
 }
 
-/// The command that is run in place of loading the module of this name, unless commands are ignored.
+/// The command that is run in place of loading the module of this name, unless commands are
+/// ignored.
 pub(crate) fn chosen_command<'a>(
     rules: &'a RuleTable<'_>,
     ignored: bool,

@@ -2,9 +2,6 @@
 ghost use Rattle.std.specs.Prelude.{◌≡◌, ◌<◌, false, length, None, IfOk, option_copied};
 ghost use Rattle.std.specs.Option.{option_map_or};
 ghost use Rattle.std.specs.Str.{bytes_eq};
-ghost use Rattle.index_format.specs.Map.{values_of};
-ghost use Rattle.index_format.specs.Listing.{IsListing};
-ghost use Rattle.index_read.specs.Contents.{contents};
 ghost use Rattle.index_read.specs.Values.{shown_pairs};
 ghost use Rattle.name_table.specs.NameTable.{place_of as place_in_table};
 ghost use Rattle.plan_builder.specs.Pairs.{after_key};
@@ -12,15 +9,14 @@ ghost use Rattle.plan_builder.specs.Modules.{by_number, name_at, line_at, path_a
 ghost use Rattle.plan_builder.specs.Tables.{shown, IsNamed};
 
 use crate::line::Known;
-use index_read::{Index, Pair, Pairs, Steps};
+use index_read::{Pair, Pairs};
 use km_names::split_at_byte;
 use name_table::NameTable;
 use std::alloc::{AllocError, Global};
-use std::marker::{Brand, Model};
-use std::sync::ledger::{Blank, Ledger};
+use std::marker::Model;
 
-/// The modules of modules.dep.bin, by their numbers in the tree, with their names. Contracts see each module's name with
-/// its number and its dependency line.
+/// The modules of modules.dep.bin, by their numbers in the tree, with their names. Contracts see
+/// each module's name with its number and its dependency line.
 #[derive(Drop)]
 pub(crate) struct Modules<'a> {
     pairs: Vec<&'a Pair>,
@@ -104,28 +100,6 @@ fn table_of<'a>(alloc: Global, pairs: &[&'a Pair]) -> Result<NameTable<'a>, Allo
         names.push(Some(pair.key.as_bytes()))?;
     }
     Ok(names)
-}
-
-/// The pairs of the index, by the bytes of their keys.
-pub(crate) fn all_pairs(alloc: Global, index: &Index) -> Result<Pairs, AllocError>
-    ensures { IfOk result (λ pairs. IsListing (values_of (contents index.now.nodes)) (shown_pairs pairs)) }
-{
-    all_pairs_over::<Brand>(alloc, index, Blank::new(1))
-}
-
-fn all_pairs_over<L: Ledger>(
-    alloc: Global,
-    index: &Index,
-    blank: Blank,
-) -> Result<Pairs, AllocError>
-    requires ledger { blank.name ≡ L.name }
-    requires parts { blank.parts ≡ L.parts }
-    requires some { 0 < blank.parts }
-    ensures { IfOk result (λ pairs. IsListing (values_of (contents index.now.nodes)) (shown_pairs pairs)) }
-{
-    let mut steps = Steps::<L>::new(blank);
-    let _ = index.find_one(b"", &mut steps);
-    index.all(alloc, &mut steps)
 }
 
 /// The first pair of each key.

@@ -3,14 +3,16 @@ ghost use Rattle.std.specs.Prelude.{◌≡◌};
 use km_names::{Name, Names, PathText};
 use std::alloc::{AllocError, AllocFailed};
 
-/// What keeps a request from having a plan. Paths are those of modules.dep; the kernel is written `vmlinux`.
+/// What keeps a request from having a plan. Paths are those of modules.dep; the kernel is written
+/// `vmlinux`.
 #[derive(Debug, Drop)]
 pub enum Obstacle {
     /// The first name in modules.dep.bin whose value isn't its dependency line.
     BadDepLine {
         name: Name,
     },
-    /// The first name that nothing is found for, or else the first that was found and is nothing that is known.
+    /// The first name that nothing is found for, or else the first that was found and is nothing
+    /// that is known.
     NotFound {
         name: Name,
     },
@@ -19,7 +21,8 @@ pub enum Obstacle {
         path: PathText,
         symbol: Name,
     },
-    /// A planned module needs a symbol that is exported for GPL-compatible modules alone, and it isn't one.
+    /// A planned module needs a symbol that is exported for GPL-compatible modules alone, and it
+    /// isn't one.
     Gpl {
         path: PathText,
         symbol: Name,
@@ -41,7 +44,8 @@ pub enum Obstacle {
     Cycle {
         names: Names,
     },
-    /// Two export a symbol, of which one at least is planned, and the other planned, loaded or the kernel.
+    /// Two export a symbol, of which one at least is planned, and the other planned, loaded or the
+    /// kernel.
     Double {
         symbol: Name,
         first: PathText,

@@ -1,19 +1,33 @@
 // The names of modules, from their paths.
-ghost use Rattle.std.specs.Prelude.{◌≡◌, ◌==◌, OnOk, if◌then◌else◌};
+ghost use Rattle.std.specs.Prelude.{◌≡◌, ◌==◌, true, OnOk, if◌then◌else◌};
 ghost use Rattle.std.specs.List.{after_last};
-ghost use Rattle.km_names.specs.Path.{module_name};
+ghost use Rattle.km_names.specs.Path.{module_name, underscored};
 
 use km_names::split_at_byte;
-use memchr::memrchr;
+use memchr::{memchr, memrchr};
 use std::alloc::AllocError;
+
+/// What a path has for the name of its module, which has a `_` for each `-` of it.
+pub(crate) fn stem(path: &[u8]) -> &[u8]
+    ensures { underscored result.now ≡ module_name path.now }
+{
+    split_at_byte(file_name(path), b'.').0
+}
+
+/// Whether a text has no `-`, so that it is the name that it stands for.
+pub(crate) fn is_plain(text: &[u8]) -> bool
+    ensures { result ≡ true → underscored text.now ≡ text.now }
+{
+    memchr(b'-', text).is_none()
+}
 
 /// Writes the name of the module at a path, in place of what the buffer has.
 pub(crate) fn write_name(buffer: &mut Vec<u8>, path: &[u8]) -> Result<(), AllocError>
     ensures { OnOk result (buffer.new.items ≡ module_name path.now) }
 {
-    let (stem, _) = split_at_byte(file_name(path), b'.');
+    let text = stem(path);
     buffer.clear();
-    for byte in stem {
+    for byte in text {
         buffer.push(with_underscore(*byte))?;
     }
     Ok(())

@@ -17,15 +17,16 @@ ghost use Rattle.plan_builder.specs.Answers.{need_tests, ShortCycle, IsCycleOf};
 ghost use Rattle.plan_builder.specs.Sources.{sources};
 ghost use Rattle.plan_builder.specs.Planner.{sources_of};
 
-use crate::check::{LineKind, check_lines, check_unmet, paths_of, standing_paths};
+use crate::check::{check_lines, check_unmet, paths_of, standing_paths};
 use crate::members::{check_known, find_each, free_marks, requests_of};
-use crate::modules::{Modules, all_pairs, first_pairs};
-use crate::needs::Planner;
+use crate::modules::{Modules, first_pairs};
+use crate::needs::ModuleNeeds;
 use crate::obstacle::Obstacle;
+use crate::planner::Planner;
 use crate::request::Request;
 use crate::step::PlanSteps;
 use crate::steps::all_steps;
-use index_read::Pairs;
+use index_read::{Pairs, plain};
 use km_names::{Name, Names};
 use loaded_list::Loaded;
 use modprobe_conf::Rules;
@@ -35,28 +36,31 @@ use plan_order::{GroupedOrder, PlanOrCycle, Planned, find_planned, plan_or_cycle
 use relation_order::marked;
 use std::alloc::{AllocError, Global};
 use symbol_binding::Unbound;
-use unmet_file::Unmet;
+use unmet_file::{LineKind, Unmet};
 
-/// The plan for a request: what is done for its names, in order, each module after those that it needs and that aren't
-/// loaded; or exactly the first obstacle. modprobe(8), modules.dep(5), modprobe.d(5).
+/// The plan for a request: what is done for its names, in order, each module after those that it
+/// needs and that aren't loaded; or exactly the first obstacle. modprobe(8), modules.dep(5),
+/// modprobe.d(5).
 ///
-/// A name stands for what `name_lookup::resolve` finds. A module is planned after the modules of its dependency line and
-/// after those that its soft dependencies name before it; those that they name after it are planned last. A module that a
-/// soft dependency names is left out where modules.unmet has a line on a need of it or of a module of its dependency line.
-/// What is loaded is left out everywhere. A member that is no module has a step of its own before the modules of its
-/// name: its command, or that it is built in.
+/// A name stands for what `name_lookup::resolve` finds. A module is planned after the modules of
+/// its dependency line and after those that its soft dependencies name before it; those that they
+/// name after it are planned last. A module that a soft dependency names is left out where
+/// modules.unmet has a line on a need of it or of a module of its dependency line. What is loaded
+/// is left out everywhere. A member that is no module has a step of its own before the modules of
+/// its name: its command, or that it is built in.
 ///
-/// Every plan is closed: its modules are distinct and none is loaded, each stands after those that its dependency line
-/// names and that aren't loaded, no line of modules.unmet is on a need of one, and none says that one exports what the
-/// kernel, a loaded module or another of them does.
+/// Every plan is closed: its modules are distinct and none is loaded, each stands after those that
+/// its dependency line names and that aren't loaded, no line of modules.unmet is on a need of one,
+/// and none says that one exports what the kernel, a loaded module or another of them does.
 ///
 /// # Errors
 ///
-/// In this order: `BadDepLine` exactly where a value of modules.dep.bin isn't the dependency line of its module over names
-/// that the file has; `NotFound` where a name is found nowhere, or where a member is neither a module, nor named by an
-/// install rule that isn't ignored, nor built in; `Missing`, `Gpl`, `Version`, `Namespace` where modules.unmet has such a
-/// line on a planned module; `Cycle` where a planned module comes before itself; `Double` where both sides of a double line
-/// are planned, loaded or the kernel, and one is planned. `Memory` for want of memory.
+/// In this order: `BadDepLine` exactly where a value of modules.dep.bin isn't the dependency line
+/// of its module over names that the file has; `NotFound` where a name is found nowhere, or where a
+/// member is neither a module, nor named by an install rule that isn't ignored, nor built in;
+/// `Missing`, `Gpl`, `Version`, `Namespace` where modules.unmet has such a line on a planned
+/// module; `Cycle` where a planned module comes before itself; `Double` where both sides of a
+/// double line are planned, loaded or the kernel, and one is planned. `Memory` where memory runs out.
 pub fn plan(
     alloc: Global,
     request: &Request,
@@ -70,7 +74,7 @@ pub fn plan(
     ensures closed { IfOk result (IsClosed (sources rules.now indexes.now unmet.now loaded.now request.now)) }
     ensures err { IfErr result (λ o. (o ≡ Obstacle.Memory) ⊎ (obstacle_of (sources rules.now indexes.now unmet.now loaded.now request.now) request.now ≡ Some o)) }
 {
-    let pairs = all_pairs(alloc, &indexes.dep)?;
+    let pairs = plain::all_pairs(alloc, &indexes.dep)?;
     let modules = sound_modules(alloc, &pairs)?;
     let planner = Planner::new(
         alloc,
@@ -81,14 +85,30 @@ pub fn plan(
         request.use_blacklist,
         modules,
     )?;
-    let founds = find_each(alloc, &planner, &request.names)?;
-    check_known(alloc, &planner, request.ignore_install, &founds)?;
-    let plan = checked_plan(alloc, &planner, &founds)?;
-    let steps = all_steps(alloc, &planner, request, &founds, &plan)?;
+    planned_steps(alloc, &planner, request)
+}
+
+/// The plan for a request over sound dependency lines, or the first obstacle.
+fn planned_steps(
+    alloc: Global,
+    planner: &Planner<'_>,
+    request: &Request,
+) -> Result<PlanSteps, Obstacle>
+    requires { bad_name (sources_of planner.now).maps.dep ≡ None }
+    ensures plan { IfOk result (λ steps. steps ≡ plan_steps (sources_of planner.now) request.now) }
+    ensures passed { OnOk result (obstacle_of (sources_of planner.now) request.now ≡ None) }
+    ensures closed { IfOk result (IsClosed (sources_of planner.now)) }
+    ensures err { IfErr result (λ o. (o ≡ Obstacle.Memory) ⊎ (obstacle_of (sources_of planner.now) request.now ≡ Some o)) }
+{
+    let founds = find_each(alloc, planner, &request.names)?;
+    check_known(alloc, planner, request.ignore_install, &founds)?;
+    let plan = checked_plan(alloc, planner, &founds)?;
+    let steps = all_steps(alloc, planner, request, &founds, &plan)?;
     Ok(steps)
 }
 
-/// The modules of an index by its pairs, or the first name whose value isn't the dependency line of its module.
+/// The modules of an index by its pairs, or the first name whose value isn't the dependency line of
+/// its module.
 fn sound_modules<'a>(alloc: Global, pairs: &'a Pairs) -> Result<Modules<'a>, Obstacle>
     ensures modules { IfOk result (λ modules. (dep : KeyValues) → IsListing (values_of dep) (shown_pairs pairs.now) → modules ≡ modules_of dep) }
     ensures passed { OnOk result ((dep : KeyValues) → IsListing (values_of dep) (shown_pairs pairs.now) → bad_name dep ≡ None) }
@@ -119,7 +139,8 @@ fn planned_answer(
 {
     let requests = requests_of(alloc, planner, founds)?;
     let free = free_marks(alloc, planner)?;
-    let planned = find_planned(alloc, planner, &free, &requests)?;
+    let needs = ModuleNeeds::new(alloc, planner)?;
+    let planned = find_planned(alloc, &needs, &free, &requests)?;
     let answer = plan_or_cycle(alloc, &planned, &free, &requests)?;
     let Planned { marks, .. } = planned;
     Ok(Planning { marks, answer })

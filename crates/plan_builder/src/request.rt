@@ -7,7 +7,8 @@ pub struct Request {
     pub names: Names,
     /// Parameters for the modules that the names stand for, none where it is empty.
     pub options: Blob,
-    /// Blacklisted names are dropped from whatever is found, and not from modules' own aliases alone.
+    /// Blacklisted names are dropped from whatever is found, and not from modules' own aliases
+    /// alone.
     pub use_blacklist: bool,
     /// Commands of install rules aren't run for the modules that the names stand for.
     pub ignore_install: bool,

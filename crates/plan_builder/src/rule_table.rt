@@ -1,31 +1,30 @@
 // The rules of a configuration, by the modules that they are on.
-ghost use Rattle.std.specs.Prelude.{◌≡◌, ℕ, List, filter, IfOk, OnOk, option_map};
-ghost use Rattle.plan_builder.specs.Rules.{owner as owner_of, is_on, rules_on, with_rule, shown_rules};
+ghost use Rattle.std.specs.Prelude.{◌≡◌, filter, IfOk, option_map};
+ghost use Rattle.plan_builder.specs.Rules.{owner as owner_of, is_on, shown_rules};
 
-use indexmap::IndexMap;
 use modprobe_conf::{Rule, Rules};
+use name_lookup::NameGroups;
 use std::alloc::{AllocError, Global};
 use std::marker::Model;
 
-/// Rules, and for the name of each module those on it, so that they are found without looking through all. Contracts see
-/// the list of rules.
+/// Rules, and for the name of each module those on it, so that they are found without looking
+/// through all. Contracts see the list of rules.
 #[derive(Drop)]
 pub(crate) struct RuleTable<'a> {
     rules: &'a Rules,
-    groups: IndexMap<&'a [u8], Vec<&'a Rule>>,
-    none: Vec<&'a Rule>,
+    groups: NameGroups<'a, &'a Rule>,
 }
 
 impl<'a> Model for RuleTable<'a> {
     ghost use Rattle.std.specs.Prelude.{List};
     ghost use Rattle.modprobe_conf.specs.declared.rule.Rule.{Rule};
-    ghost use Rattle.plan_builder.specs.Rules.{IsTable};
+    ghost use Rattle.plan_builder.specs.Rules.{IsGrouped};
 
     ghost Value = { List Rule };
 
     ghost view = { λ t. t.rules.now };
 
-    ghost invariant = { λ t. IsTable t.groups.entries t.none.items t.rules.now };
+    ghost invariant = { λ t. IsGrouped t.groups t.rules.now };
 }
 
 impl<'a> RuleTable<'a> {
@@ -33,17 +32,13 @@ impl<'a> RuleTable<'a> {
     pub(crate) fn new(alloc: Global, rules: &'a Rules) -> Result<RuleTable<'a>, AllocError>
         ensures { IfOk result (λ table. table ≡ rules.now) }
     {
-        let mut groups = IndexMap::new(alloc);
+        let mut groups = NameGroups::new(alloc);
         for rule in rules.as_slice() {
             if let Some(name) = owner(rule) {
-                add_rule(alloc, &mut groups, name, rule)?;
+                groups.push(alloc, name, rule)?;
             }
         }
-        Ok(RuleTable {
-            rules,
-            groups,
-            none: Vec::new(alloc),
-        })
+        Ok(RuleTable { rules, groups })
     }
 
     /// All rules, in order.
@@ -57,10 +52,7 @@ impl<'a> RuleTable<'a> {
     pub(crate) fn on(&self, name: &[u8]) -> &[&'a Rule]
         ensures { shown_rules result.now ≡ filter (is_on name.now) self.now }
     {
-        if let Some(rules) = self.groups.get(name) {
-            return rules.as_slice();
-        }
-        self.none.as_slice()
+        self.groups.of(name)
     }
 }
 
@@ -74,24 +66,4 @@ fn owner(rule: &Rule) -> Option<&[u8]>
         }
         Rule::Alias { .. } | Rule::Blacklist { .. } | Rule::Remove { .. } => None,
     }
-}
-
-/// Adds a rule to the group of a name.
-fn add_rule<'a>(
-    alloc: Global,
-    groups: &mut IndexMap<&'a [u8], Vec<&'a Rule>>,
-    name: &'a [u8],
-    rule: &'a Rule,
-) -> Result<(), AllocError>
-    ensures { OnOk result ((other : List ℕ) → rules_on groups.new.entries other ≡ with_rule (rules_on groups.old.entries other) other name.now rule.now) }
-{
-    match groups.get_mut(name) {
-        Some(group) => group.push(rule)?,
-        None => {
-            let mut group = Vec::new(alloc);
-            group.push(rule)?;
-            groups.insert(name, group)?;
-        }
-    }
-    Ok(())
 }

@@ -3,7 +3,8 @@ use km_names::{Blob, List, Name, PathText};
 /// A step of a plan.
 #[derive(Debug, Drop)]
 pub enum PlanStep {
-    /// The module at the path below the folder of the kernel's modules is loaded, with these parameters.
+    /// The module at the path below the folder of the kernel's modules is loaded, with these
+    /// parameters.
     Insert {
         name: Name,
         path: PathText,

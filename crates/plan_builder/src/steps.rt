@@ -11,7 +11,7 @@ ghost use Rattle.plan_builder.specs.Steps.{spaced as spaced_of, rule_options, op
 ghost use Rattle.plan_builder.specs.Ends.{RisingEnds, steps_by};
 
 use crate::members::{chosen_command, insert_all, member_names};
-use crate::needs::Planner;
+use crate::planner::Planner;
 use crate::request::Request;
 use crate::rule_table::RuleTable;
 use crate::step::{PlanStep, PlanSteps};
@@ -218,7 +218,8 @@ fn push_unless(
     push_own_step(alloc, steps, planner, request, name)
 }
 
-/// The steps of requested names, whose groups end at some places of an order, and then those of the rest of the order.
+/// The steps of requested names, whose groups end at some places of an order, and then those of the
+/// rest of the order.
 pub(crate) fn all_steps(
     alloc: Global,
     planner: &Planner<'_>,

@@ -4,52 +4,48 @@ ghost use Rattle.std.specs.List.{flat_map};
 ghost use Rattle.plan_builder.specs.Steps.{spaced as spaced_of};
 ghost use Rattle.plan_builder.specs.Tables.{byte_texts};
 ghost use Rattle.plan_builder.specs.Text.{obstacle_text, round};
+ghost use Rattle.unmet_file.specs.Line.{first_word, two_text, three_text};
 
 use crate::obstacle::Obstacle;
 use crate::steps::spaced;
 use km_names::{Blob, Name, Names, PathText};
 use std::alloc::{AllocError, Global};
+use unmet_file::LineKind;
 
 impl Obstacle {
     ghost use Rattle.plan_builder.specs.Text.{obstacle_text};
 
-    /// The text of the obstacle, as it stands in a line on standard error. That of a line of modules.unmet is the line.
+    /// The text of the obstacle, as it stands in a line on standard error. That of a line of
+    /// modules.unmet is the line.
+    #[tactic(auto, unfolding(unmet_file::specs::Line::line_text))]
     pub fn text(&self, alloc: Global) -> Result<Blob, AllocError>
         ensures { IfOk result (λ text. text ≡ obstacle_text self.now) }
     {
         match self {
             Obstacle::BadDepLine { name } => two(alloc, b"bad dependency line", name.as_bytes()),
             Obstacle::NotFound { name } => two(alloc, b"not found", name.as_bytes()),
-            Obstacle::Missing { path, symbol } => {
-                three(alloc, b"missing", path.as_bytes(), symbol.as_bytes())
-            }
+            Obstacle::Missing { path, symbol } => missing(alloc, path, symbol),
             Obstacle::Gpl {
                 path,
                 symbol,
                 provider,
-            } => provided(alloc, b"gpl", path, symbol, provider),
+            } => provided(alloc, LineKind::Gpl, path, symbol, provider),
             Obstacle::Version {
                 path,
                 symbol,
                 provider,
-            } => provided(alloc, b"version", path, symbol, provider),
+            } => provided(alloc, LineKind::Version, path, symbol, provider),
             Obstacle::Namespace {
                 path,
                 symbol,
                 provider,
-            } => provided(alloc, b"namespace", path, symbol, provider),
+            } => provided(alloc, LineKind::Namespace, path, symbol, provider),
             Obstacle::Cycle { names } => cycle_text(alloc, names),
             Obstacle::Double {
                 symbol,
                 first,
                 second,
-            } => four(
-                alloc,
-                b"double",
-                symbol.as_bytes(),
-                first.as_bytes(),
-                second.as_bytes(),
-            ),
+            } => double(alloc, symbol, first, second),
             Obstacle::Memory => Blob::from_slice(alloc, b"out of memory"),
         }
     }
@@ -61,35 +57,65 @@ fn two(alloc: Global, word: &[u8], a: &[u8]) -> Result<Blob, AllocError>
     spaced(alloc, &[word, a])
 }
 
-fn three(alloc: Global, word: &[u8], a: &[u8], b: &[u8]) -> Result<Blob, AllocError>
-    ensures { IfOk result (λ text. text ≡ spaced_of (word.now ∷ a.now ∷ b.now ∷ [])) }
+/// The text of a line on a symbol that nobody exports.
+fn missing(alloc: Global, path: &PathText, symbol: &Name) -> Result<Blob, AllocError>
+    ensures { IfOk result (λ text. text ≡ two_text (first_word LineKind.Missing) (two_text path.now symbol.now)) }
 {
-    spaced(alloc, &[word, a, b])
-}
-
-fn four(alloc: Global, word: &[u8], a: &[u8], b: &[u8], c: &[u8]) -> Result<Blob, AllocError>
-    ensures { IfOk result (λ text. text ≡ spaced_of (word.now ∷ a.now ∷ b.now ∷ c.now ∷ [])) }
-{
-    spaced(alloc, &[word, a, b, c])
+    three(
+        alloc,
+        LineKind::Missing.word(),
+        path.as_bytes(),
+        symbol.as_bytes(),
+    )
 }
 
 /// The text of a line that names a provider.
 fn provided(
     alloc: Global,
-    word: &[u8],
+    kind: LineKind,
     path: &PathText,
     symbol: &Name,
     provider: &PathText,
 ) -> Result<Blob, AllocError>
-    ensures { IfOk result (λ text. text ≡ spaced_of (word.now ∷ path.now ∷ symbol.now ∷ provider.now ∷ [])) }
+    ensures { IfOk result (λ text. text ≡ two_text (first_word kind) (three_text path.now symbol.now provider.now)) }
 {
     four(
         alloc,
-        word,
+        kind.word(),
         path.as_bytes(),
         symbol.as_bytes(),
         provider.as_bytes(),
     )
+}
+
+/// The text of a line on a symbol that two export.
+fn double(
+    alloc: Global,
+    symbol: &Name,
+    first: &PathText,
+    second: &PathText,
+) -> Result<Blob, AllocError>
+    ensures { IfOk result (λ text. text ≡ two_text (first_word LineKind.Double) (three_text symbol.now first.now second.now)) }
+{
+    four(
+        alloc,
+        LineKind::Double.word(),
+        symbol.as_bytes(),
+        first.as_bytes(),
+        second.as_bytes(),
+    )
+}
+
+fn three(alloc: Global, word: &[u8], a: &[u8], b: &[u8]) -> Result<Blob, AllocError>
+    ensures { IfOk result (λ text. text ≡ two_text word.now (two_text a.now b.now)) }
+{
+    spaced(alloc, &[word, a, b])
+}
+
+fn four(alloc: Global, word: &[u8], a: &[u8], b: &[u8], c: &[u8]) -> Result<Blob, AllocError>
+    ensures { IfOk result (λ text. text ≡ two_text word.now (three_text a.now b.now c.now)) }
+{
+    spaced(alloc, &[word, a, b, c])
 }
 
 /// The text of a cycle: its names, and the first again.

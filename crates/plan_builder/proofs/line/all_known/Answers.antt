@@ -13,12 +13,11 @@ loop-next-init g c =
     ∙ ap (λ rest. list_all has (map module_name (needed_paths (slice_split (λ b. b == 32) rest)))) c.split_at_byte.ensures.after
     ∙ sym (ap (list_all has) (needed-is c.args.line.now))
 
-pub returns-then-not-has : goal.returns-then-not-has
-returns-then-not-has g c =
+pub returns-then-not-branch : goal.returns-then-not-branch
+returns-then-not-branch g c =
     let has = g.K.Known.has c.args.known.now in
     let others = option_copied c.split_at_space.result.1 in
-    let name = c.as_slice.ensures.value ∙ c.in_ok-write_name.ensures ∙ ap module_name c.split_at_space.ensures.before in
-    let other = sym (ap has name) ∙ sym c.has.ensures ∙ c.if-not-has.true in
+    let other = sym (c.in_ok-is_known.ensures ∙ ap (λ path. has (module_name path)) c.split_at_space.ensures.before) ∙ c.if-not-branch.true in
     sym (sym c.loop-next.invariant
     ∙ ap (λ o. list_all has (map module_name (pieces_of (option_copied o)))) c.in-Some.is
     ∙ ap (λ ps. list_all has (map module_name ps)) (pieces-next c.in-Some.paths.now others c.split_at_space.ensures.after)
@@ -28,8 +27,7 @@ pub loop-next-preserved : goal.loop-next-preserved
 loop-next-preserved g c =
     let has = g.K.Known.has c.args.known.now in
     let others = option_copied c.split_at_space.result.1 in
-    let name = c.as_slice.ensures.value ∙ c.in_ok-write_name.ensures ∙ ap module_name c.split_at_space.ensures.before in
-    let here = sym (ap has name) ∙ sym c.has.ensures ∙ c.if-not-has.false in
+    let here = sym (c.in_ok-is_known.ensures ∙ ap (λ path. has (module_name path)) c.split_at_space.ensures.before) ∙ c.if-not-branch.false in
     sym (ap (λ o. list_all has (map module_name (pieces_of (option_copied o)))) c.in-Some.is
     ∙ ap (λ ps. list_all has (map module_name ps)) (pieces-next c.in-Some.paths.now others c.split_at_space.ensures.after)
     ∙ ap (λ b. b && list_all has (map module_name (pieces_of others))) here)

@@ -6,7 +6,7 @@ use Rattle.name_table.specs.FirstSeen.{is_among}
 use Rattle.relation_order.specs.Sets.{marked}
 use Rattle.relation_order.specs.Cycle.{cycle}
 use Rattle.plan_order.specs.Lists.{among}
-use Rattle.plan_builder.specs.declared.check.LineKind.TheVariants as kinds
+use Rattle.unmet_file.specs.declared.kind.LineKind.TheVariants as kinds
 use Rattle.plan_builder.specs.Modules.{name_at}
 use Rattle.plan_builder.specs.Needs.{modules, before, after, unloaded}
 use Rattle.plan_builder.specs.Members.{asked, planned}

@@ -1,4 +1,0 @@
-use Rattle.plan_builder.proofs.line.IndexKnown.has.Given as goal
-
-abbrev pub ghosts-has_value_over : goal.ghosts-has_value_over
-ghosts-has_value_over a = record { name = a.blank.name; parts = a.blank.parts }

@@ -1,0 +1,210 @@
+// What plans are made from.
+ghost use Rattle.std.specs.Prelude.{◌≡◌, ◌<◌, ◌++◌, false, ℕ, List, length, All, IfOk, OnOk};
+ghost use Rattle.std.specs.List.{list_any};
+ghost use Rattle.std.specs.Option.{option_map_or, option_to_list};
+ghost use Rattle.std.specs.Str.{bytes_eq};
+ghost use Rattle.symbol_binding.specs.Unmet.{belongs};
+ghost use Rattle.name_lookup.specs.Found.{found};
+ghost use Rattle.name_table.specs.FirstSeen.{is_among};
+ghost use Rattle.name_lookup.specs.Maps.{maps_of, has_value};
+ghost use Rattle.plan_builder.specs.Modules.{modules_of, place_of, places_of, path_at};
+ghost use Rattle.plan_builder.specs.Needs.{modules as modules_in, is_troubled, is_available as can_load, line_places as places_in_line};
+ghost use Rattle.plan_builder.specs.Planner.{sources_of};
+
+use crate::line::{Known, needed_names};
+use crate::modules::Modules;
+use crate::rule_table::RuleTable;
+use km_names::{Name, Names};
+use modprobe_conf::Rules;
+use name_lookup::{Found, Indexes, Lookup};
+use name_table::NameSet;
+use std::alloc::{AllocError, Global};
+use std::marker::Model;
+use symbol_binding::Unbound;
+
+/// What plans are made from. Contracts see the sources.
+#[derive(Drop)]
+pub(crate) struct Planner<'a> {
+    rules: RuleTable<'a>,
+    lookup: Lookup<'a>,
+    unmet: &'a [Unbound],
+    loaded: &'a [Name],
+    use_blacklist: bool,
+    modules: Modules<'a>,
+    troubled: NameSet<'a>,
+}
+
+impl<'a> Model for Planner<'a> {
+    ghost use Rattle.plan_builder.specs.Planner.{Held, IsPlanner};
+
+    ghost Value = { Held };
+
+    ghost view = { λ p. record { rules = p.rules; indexes = p.lookup.indexes; unmet = p.unmet.now; loaded = p.loaded.now; use_blacklist = p.use_blacklist } };
+
+    ghost invariant = { λ p. IsPlanner p.modules p.troubled p.lookup.rules (record { rules = p.rules; indexes = p.lookup.indexes; unmet = p.unmet.now; loaded = p.loaded.now; use_blacklist = p.use_blacklist }) };
+}
+
+/// The paths of modules with a line on a need.
+pub(crate) fn troubled_paths(alloc: Global, unmet: &[Unbound]) -> Result<NameSet<'_>, AllocError>
+    ensures { IfOk result (λ paths. (path : List ℕ) → is_among paths path ≡ is_troubled unmet.now path) }
+{
+    let mut paths = NameSet::new(alloc);
+    for line in unmet {
+        if let Some(path) = path_of(line) {
+            paths.insert(path)?;
+        }
+    }
+    Ok(paths)
+}
+
+/// The path of the module that a line is on, where it is on a need.
+pub(crate) fn path_of(line: &Unbound) -> Option<&[u8]>
+    ensures { (path : List ℕ) → belongs path line.now ≡ option_map_or (λ own. bytes_eq own.now path) result false }
+{
+    match line {
+        Unbound::Missing { path, .. }
+        | Unbound::Gpl { path, .. }
+        | Unbound::Version { path, .. }
+        | Unbound::Namespace { path, .. } => Some(path.as_bytes()),
+        Unbound::Double { .. } => None,
+    }
+}
+
+/// Adds the places of those names that are modules.
+pub(crate) fn push_places(
+    places: &mut Vec<usize>,
+    modules: &Modules<'_>,
+    names: &Names,
+) -> Result<(), AllocError>
+    ensures { OnOk result (places.new.items ≡ places.old.items ++ places_of modules.now names.now) }
+{
+    for name in names.as_slice() {
+        push_place(places, modules, name.as_bytes())?;
+    }
+    Ok(())
+}
+
+/// Adds the place of a name that is a module.
+pub(crate) fn push_place(
+    places: &mut Vec<usize>,
+    modules: &Modules<'_>,
+    name: &[u8],
+) -> Result<(), AllocError>
+    ensures { OnOk result (places.new.items ≡ places.old.items ++ option_to_list (place_of modules.now name.now)) }
+{
+    if let Some(place) = modules.place(name) {
+        places.push(place)?;
+    }
+    Ok(())
+}
+
+impl<'a> Planner<'a> {
+    /// What plans are made from.
+    pub(crate) fn new(
+        alloc: Global,
+        rules: &'a Rules,
+        indexes: &'a Indexes,
+        unmet: &'a [Unbound],
+        loaded: &'a [Name],
+        use_blacklist: bool,
+        modules: Modules<'a>,
+    ) -> Result<Planner<'a>, AllocError>
+        requires { modules ≡ modules_of (maps_of indexes.now).dep }
+        ensures { IfOk result (λ planner. planner ≡ record { rules = rules.now; indexes = indexes.now; unmet = unmet.now; loaded = loaded.now; use_blacklist = use_blacklist }) }
+    {
+        let table = RuleTable::new(alloc, rules)?;
+        let lookup = Lookup::new(alloc, rules, indexes)?;
+        let troubled = troubled_paths(alloc, unmet)?;
+        Ok(Planner {
+            rules: table,
+            lookup,
+            unmet,
+            loaded,
+            use_blacklist,
+            modules,
+            troubled,
+        })
+    }
+
+    /// The modules, by their numbers in the tree.
+    pub(crate) fn modules(&self) -> &Modules<'a>
+        ensures { result.now ≡ modules_in (sources_of self.now) }
+    {
+        &self.modules
+    }
+
+    /// The names of loaded modules.
+    pub(crate) fn loaded(&self) -> &'a [Name]
+        ensures { result.now ≡ self.now.loaded }
+    {
+        self.loaded
+    }
+
+    /// The lines of modules.unmet.
+    pub(crate) fn unmet(&self) -> &'a [Unbound]
+        ensures { result.now ≡ self.now.unmet }
+    {
+        self.unmet
+    }
+
+    /// The rules of the configuration.
+    pub(crate) fn rules(&self) -> &RuleTable<'a>
+        ensures { result.now ≡ self.now.rules }
+    {
+        &self.rules
+    }
+
+    /// Whether a built-in module has this name.
+    pub(crate) fn is_builtin(&self, name: &[u8]) -> bool
+        ensures { result ≡ has_value (sources_of self.now).maps.builtin name.now }
+    {
+        self.lookup.indexes().builtin.has(name)
+    }
+
+    /// What a name stands for.
+    pub(crate) fn found(&self, alloc: Global, name: &Name) -> Result<Found, AllocError>
+        ensures { IfOk result (λ f. f ≡ found (sources_of self.now).rules (sources_of self.now).maps (sources_of self.now).use_blacklist name.now) }
+    {
+        self.lookup.find(alloc, name, self.use_blacklist)
+    }
+
+    /// The places of the modules that the dependency line of a module names.
+    pub(crate) fn line_places(&self, alloc: Global, place: usize) -> Result<Vec<usize>, AllocError>
+        requires { place < length (modules_in (sources_of self.now)) }
+        ensures { IfOk result (λ places. places.items ≡ places_in_line (modules_in (sources_of self.now)) place) }
+    {
+        let names = needed_names(alloc, self.modules.line(place))?;
+        let mut places = Vec::new(alloc);
+        push_places(&mut places, &self.modules, &names)?;
+        Ok(places)
+    }
+
+    /// Whether a line is on a need of a module.
+    fn is_troubled(&self, place: usize) -> bool
+        requires { place < length (modules_in (sources_of self.now)) }
+        ensures { result ≡ is_troubled (sources_of self.now).unmet (path_at (modules_in (sources_of self.now)) place) }
+    {
+        self.troubled.contains(self.modules.path(place))
+    }
+
+    /// Whether a line is on a need of one of some modules.
+    fn any_troubled(&self, places: &[usize]) -> bool
+        requires { All (λ y. y < length (modules_in (sources_of self.now))) places.now }
+        ensures { result ≡ list_any (λ y. is_troubled (sources_of self.now).unmet (path_at (modules_in (sources_of self.now)) y)) places.now }
+    {
+        places.iter().any(|y| self.is_troubled(*y))
+    }
+
+    /// Whether a module can be loaded: no line is on a need of it or of a module of its dependency
+    /// line.
+    pub(crate) fn is_available(&self, alloc: Global, place: usize) -> Result<bool, AllocError>
+        requires { place < length (modules_in (sources_of self.now)) }
+        ensures { IfOk result (λ available. available ≡ can_load (modules_in (sources_of self.now)) (sources_of self.now).unmet place) }
+    {
+        if self.is_troubled(place) {
+            return Ok(false);
+        }
+        let line = self.line_places(alloc, place)?;
+        Ok(!self.any_troubled(&line))
+    }
+}

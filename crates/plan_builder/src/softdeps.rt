@@ -1,0 +1,228 @@
+// What the names of soft dependencies stand for.
+ghost use Rattle.std.specs.Prelude.{◌≡◌, ◌<◌, ◌++◌, ◌∷◌, ◌==◌, [], not, ℕ, List, length, filter, replicate, None, All, IfOk, OnOk, unwrap_or};
+ghost use Rattle.std.specs.List.{flat_map};
+ghost use Rattle.relation_order.specs.Search.{with_items};
+ghost use Rattle.plan_builder.specs.Needs.{modules as modules_in, is_available as can_load};
+ghost use Rattle.plan_builder.specs.Planner.{sources_of, texts};
+ghost use Rattle.plan_builder.specs.Softdeps.{IsSoftTable, KnowsAvailable, all_soft_names, soft_names_in, kept_places, loadable_places as places_for, once};
+
+use crate::planner::{Planner, push_places};
+use indexmap::{IndexMap, IndexSet};
+use km_names::{Name, Names};
+use modprobe_conf::Rule;
+use name_table::NameSet;
+use std::alloc::{AllocError, Global};
+use std::hash::{BuildHasherDefault, DefaultHasher};
+
+/// For each of some names the modules that it stands for and that can be loaded. The names come
+/// from modules' files, so they are hashed by SipHash.
+pub(crate) type SoftTable<'a> = IndexMap<&'a [u8], Vec<usize>, BuildHasherDefault<DefaultHasher>>;
+
+/// Places of modules, each once, in the order in which they were found.
+type PlaceSet = IndexSet<usize, BuildHasherDefault<DefaultHasher>>;
+
+/// The table of all names that soft dependencies have. Each name is looked up once, and each module
+/// asked once whether it can be loaded.
+pub(crate) fn soft_table<'a>(
+    alloc: Global,
+    planner: &Planner<'a>,
+) -> Result<SoftTable<'a>, AllocError>
+    ensures { IfOk result (λ table. IsSoftTable (sources_of planner.now) (all_soft_names planner.now.rules) table.entries) }
+{
+    let mut known = nothing_known(alloc, planner.modules().len())?;
+    let mut table = SoftTable::with_hasher(alloc, BuildHasherDefault::new());
+    let rules = planner.rules().all();
+    for rule in rules.as_slice() {
+        add_rule(alloc, planner, &mut known, &mut table, rule)?;
+    }
+    Ok(table)
+}
+
+/// For each of some modules, that it isn't known yet whether it can be loaded.
+fn nothing_known(alloc: Global, count: usize) -> Result<Vec<Option<bool>>, AllocError>
+    ensures { IfOk result (λ known. known.items ≡ replicate count None) }
+{
+    let mut known = Vec::new(alloc);
+    for _ in 0..count {
+        known.push(None)?;
+    }
+    Ok(known)
+}
+
+/// Adds the names of a rule.
+fn add_rule<'a>(
+    alloc: Global,
+    planner: &Planner<'a>,
+    known: &mut Vec<Option<bool>>,
+    table: &mut SoftTable<'a>,
+    rule: &'a Rule,
+) -> Result<(), AllocError>
+    requires { KnowsAvailable (sources_of planner.now) known.old.items }
+    ensures known { OnOk result (KnowsAvailable (sources_of planner.now) known.new.items) }
+    ensures table { OnOk result ((names : List (List ℕ)) → IsSoftTable (sources_of planner.now) names table.old.entries
+        → IsSoftTable (sources_of planner.now) (names ++ soft_names_in rule.now) table.new.entries) }
+{
+    match rule {
+        Rule::Softdep { pre, post, .. } => {
+            add_names(alloc, planner, known, table, pre)?;
+            add_names(alloc, planner, known, table, post)
+        }
+        Rule::Alias { .. }
+        | Rule::Blacklist { .. }
+        | Rule::Options { .. }
+        | Rule::Install { .. }
+        | Rule::Remove { .. } => Ok(()),
+    }
+}
+
+/// Adds names.
+fn add_names<'a>(
+    alloc: Global,
+    planner: &Planner<'a>,
+    known: &mut Vec<Option<bool>>,
+    table: &mut SoftTable<'a>,
+    more: &'a Names,
+) -> Result<(), AllocError>
+    requires { KnowsAvailable (sources_of planner.now) known.old.items }
+    ensures known { OnOk result (KnowsAvailable (sources_of planner.now) known.new.items) }
+    ensures table { OnOk result ((names : List (List ℕ)) → IsSoftTable (sources_of planner.now) names table.old.entries
+        → IsSoftTable (sources_of planner.now) (names ++ more.now) table.new.entries) }
+{
+    for name in more.as_slice() {
+        add_name(alloc, planner, known, table, name)?;
+    }
+    Ok(())
+}
+
+/// Adds a name, unless it is there.
+fn add_name<'a>(
+    alloc: Global,
+    planner: &Planner<'a>,
+    known: &mut Vec<Option<bool>>,
+    table: &mut SoftTable<'a>,
+    name: &'a Name,
+) -> Result<(), AllocError>
+    requires { KnowsAvailable (sources_of planner.now) known.old.items }
+    ensures known { OnOk result (KnowsAvailable (sources_of planner.now) known.new.items) }
+    ensures table { OnOk result ((names : List (List ℕ)) → IsSoftTable (sources_of planner.now) names table.old.entries
+        → IsSoftTable (sources_of planner.now) (names ++ name.now ∷ []) table.new.entries) }
+{
+    match table.get(name.as_bytes()) {
+        Some(_) => Ok(()),
+        None => {
+            let places = loadable_places(alloc, planner, known, name)?;
+            table.insert(name.as_bytes(), places)?;
+            Ok(())
+        }
+    }
+}
+
+/// The modules that a name stands for and that can be loaded.
+fn loadable_places(
+    alloc: Global,
+    planner: &Planner<'_>,
+    known: &mut Vec<Option<bool>>,
+    name: &Name,
+) -> Result<Vec<usize>, AllocError>
+    requires { KnowsAvailable (sources_of planner.now) known.old.items }
+    ensures known { OnOk result (KnowsAvailable (sources_of planner.now) known.new.items) }
+    ensures places { IfOk result (λ places. places.items ≡ places_for (sources_of planner.now) name.now) }
+{
+    let found = planner.found(alloc, name)?;
+    let mut places = Vec::new(alloc);
+    push_places(&mut places, planner.modules(), &found.names)?;
+    only_loadable(alloc, planner, known, &places)
+}
+
+/// Those of some modules that can be loaded.
+fn only_loadable(
+    alloc: Global,
+    planner: &Planner<'_>,
+    known: &mut Vec<Option<bool>>,
+    places: &[usize],
+) -> Result<Vec<usize>, AllocError>
+    requires known { KnowsAvailable (sources_of planner.now) known.old.items }
+    requires places { All (λ y. y < length (modules_in (sources_of planner.now))) places.now }
+    ensures known { OnOk result (KnowsAvailable (sources_of planner.now) known.new.items) }
+    ensures places { IfOk result (λ kept. kept.items ≡ filter (can_load (modules_in (sources_of planner.now)) (sources_of planner.now).unmet) places.now) }
+{
+    let mut kept = Vec::new(alloc);
+    for y in places {
+        if is_loadable(alloc, planner, known, *y)? {
+            kept.push(*y)?;
+        }
+    }
+    Ok(kept)
+}
+
+/// Whether a module can be loaded, as it is known, or else as the planner says.
+fn is_loadable(
+    alloc: Global,
+    planner: &Planner<'_>,
+    known: &mut Vec<Option<bool>>,
+    place: usize,
+) -> Result<bool, AllocError>
+    requires known { KnowsAvailable (sources_of planner.now) known.old.items }
+    requires place { place < length (modules_in (sources_of planner.now)) }
+    ensures known { OnOk result (KnowsAvailable (sources_of planner.now) known.new.items) }
+    ensures answer { IfOk result (λ loadable. loadable ≡ can_load (modules_in (sources_of planner.now)) (sources_of planner.now).unmet place) }
+{
+    match known[place] {
+        Some(loadable) => Ok(loadable),
+        None => {
+            let loadable = planner.is_available(alloc, place)?;
+            known[place] = Some(loadable);
+            Ok(loadable)
+        }
+    }
+}
+
+/// Those of the modules that names stand for that aren't this one, each once. A name that stands
+/// again is passed over.
+pub(crate) fn find_named(
+    alloc: Global,
+    table: &SoftTable<'_>,
+    place: usize,
+    names: &[&Name],
+) -> Result<Vec<usize>, AllocError>
+    ensures { IfOk result (λ found. found.items ≡ once (filter (λ y. not (y == place)) (flat_map (λ name. unwrap_or (kept_places table.now.entries name) []) (texts names.now)))) }
+{
+    let mut found = PlaceSet::with_hasher(alloc, BuildHasherDefault::new());
+    let mut looked_up = NameSet::new(alloc);
+    for name in names {
+        let name = name.as_bytes();
+        if !looked_up.contains(name) {
+            looked_up.insert(name)?;
+            find_under(table, place, name, &mut found)?;
+        }
+    }
+    Vec::from_slice(alloc, found.as_slice())
+}
+
+/// Finds those of the modules that a name stands for that aren't this one, unless they were found
+/// before.
+fn find_under(
+    table: &SoftTable<'_>,
+    place: usize,
+    name: &[u8],
+    found: &mut PlaceSet,
+) -> Result<(), AllocError>
+    ensures { OnOk result (found.new.keys ≡ with_items found.old.keys (filter (λ y. not (y == place)) (unwrap_or (kept_places table.now.entries name.now) []))) }
+{
+    match table.get(name) {
+        Some(places) => find_others(found, place, places),
+        None => Ok(()),
+    }
+}
+
+/// Finds those of some modules that aren't this one, unless they were found before.
+fn find_others(found: &mut PlaceSet, place: usize, places: &[usize]) -> Result<(), AllocError>
+    ensures { OnOk result (found.new.keys ≡ with_items found.old.keys (filter (λ y. not (y == place)) places.now)) }
+{
+    for y in places {
+        if *y != place {
+            found.insert(*y)?;
+        }
+    }
+    Ok(())
+}
