@@ -6,4 +6,3 @@ pub mod RelationSteps
 pub mod OutputSteps
 pub mod WarningSteps
 pub mod IndexSteps
-pub mod ReplaceLaw

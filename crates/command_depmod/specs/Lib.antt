@@ -6,4 +6,3 @@ pub mod Related
 pub mod Outputs
 pub mod Warnings
 pub mod Depmod
-pub mod Replaced

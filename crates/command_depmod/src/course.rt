@@ -20,14 +20,14 @@ use kmod_words::{DepmodWords, read_depmod};
 use stages_files::{modules_folder, read_kernel};
 use std::alloc::Global;
 
-/// What is wanted besides the index itself.
+/// What is asked for besides the index itself.
 #[derive(Clone, Copy)]
 pub(crate) struct Wanted {
     /// Whether the text files are to be printed, and nothing to be replaced.
     dry_run: bool,
     /// Whether to warn of obstacles.
     errsyms: bool,
-    /// Whether the kernel's versions are known, so that those that differ are warned of.
+    /// Whether the kernel's versions are known, so that differing ones are warned of.
     versions: bool,
 }
 
@@ -49,7 +49,7 @@ pub fn depmod<F: Files, O: Out, E: Out>(
     }
 }
 
-/// Indexes the modules of a kernel as it is asked for.
+/// Indexes the modules of a kernel as asked.
 fn index<F: Files, O: Out, E: Out>(
     alloc: Global,
     asked: DepmodWords,
@@ -82,8 +82,8 @@ fn index<F: Files, O: Out, E: Out>(
     index_tree(alloc, wanted, &folder, &target, &tree, files, out, err)
 }
 
-/// Indexes a tree whose modules stand in the folder, into the target: its files are made, and only then is anything
-/// written, the warnings first.
+/// Indexes a tree whose modules are in the folder, into the target. Its files are made first, and
+/// only then is anything written, the warnings first.
 fn index_tree<F: Files, O: Out, E: Out>(
     alloc: Global,
     wanted: Wanted,
@@ -104,7 +104,7 @@ fn index_tree<F: Files, O: Out, E: Out>(
     hand_out(alloc, wanted.dry_run, target, &made, files, out)
 }
 
-/// The warnings of a tree, where they are wanted.
+/// Writes the warnings of a tree, if they are asked for.
 fn warn_of_tree<E: Out>(
     alloc: Global,
     wanted: Wanted,
@@ -119,7 +119,7 @@ fn warn_of_tree<E: Out>(
     warn_unmet(alloc, wanted.errsyms, wanted.versions, obstacles, err)
 }
 
-/// The tree in the folder, with its relation.
+/// Reads the tree in the folder, with its relation.
 fn read_related<F: Files>(
     alloc: Global,
     folder: &PathText,

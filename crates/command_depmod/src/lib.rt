@@ -1,9 +1,10 @@
 //! The command `depmod`: its course, and the function that follows it. depmod(8).
 //!
-//! It reads the configuration, chooses the tree in the folder of a kernel's modules, reads the kernel's table and each
-//! module in turn, relates them, and makes depmod's files. Nothing is written before the last check. It stands on
-//! `kmod_words` for what the words ask for, on `stages_files` for the files that commands share, on `mod_tree`,
-//! `module_facts` and `provider_rel` for the tree, and on `depmod_core` for the files.
+//! It reads the configuration, chooses the tree in the folder of a kernel's modules, reads the
+//! kernel's table and each module in turn, relates them, and makes depmod's files. Nothing is
+//! written before the last check. It builds on `kmod_words` for what the words ask for, and on
+//! `stages_files` for the files that commands share. It builds on `mod_tree`, `module_facts` and
+//! `provider_rel` for the tree, and on `depmod_core` for the files.
 #![tactic(auto)]
 
 mod course;

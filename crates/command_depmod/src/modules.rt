@@ -16,8 +16,8 @@ use module_facts::{Facts, ModuleFault};
 use provider_rel::TreeFacts;
 use std::alloc::Global;
 
-/// The facts of the modules at the paths of a tree in the folder. One module's file is held at a time, each in the memory of
-/// those before.
+/// Reads the facts of the modules at the paths of a tree in the folder. One module's file is held
+/// at a time, each in the memory of those before.
 pub(crate) fn read_modules_facts<F: Reads>(
     alloc: Global,
     folder: &PathText,
@@ -38,8 +38,8 @@ pub(crate) fn read_modules_facts<F: Reads>(
     Ok(tree)
 }
 
-/// The facts of the module at a path of the tree in the folder, whose file is read into the buffer. A compressed one is
-/// refused unread.
+/// Reads the facts of the module at a path of the tree in the folder, whose file is read into the
+/// buffer. A compressed one is refused unread.
 fn read_facts<F: Reads>(
     alloc: Global,
     folder: &PathText,
@@ -56,11 +56,11 @@ fn read_facts<F: Reads>(
         return Err(Stop::from(Refusal::Compressed { path }));
     }
     let file = join(alloc, folder, path.as_bytes())?;
-    read_needed_into(alloc, files, file, buffer)?;
+    read_needed_into(alloc, files, &file, buffer)?;
     check_facts(alloc, path, buffer.as_bytes())
 }
 
-/// The facts of the module of these bytes at a path of the tree, or its refusal.
+/// Returns the facts of the module of these bytes at a path of the tree, or its refusal.
 fn check_facts(alloc: Global, path: &PathText, bytes: &[u8]) -> Result<Facts, Stop>
     requires { length bytes.now ≤ file_limit }
     ensures answers { Answers (λ x. x) (facts_outcome path.now bytes.now (fact_fault path.now bytes.now)) result }

@@ -28,7 +28,7 @@ const ALL_FILES: [OutputFile; 9] = [
     OutputFile::Unmet,
 ];
 
-/// Those that are text.
+/// The text files among them.
 const TEXT_FILES: [OutputFile; 5] = [
     OutputFile::Dep,
     OutputFile::Alias,
@@ -37,7 +37,8 @@ const TEXT_FILES: [OutputFile; 5] = [
     OutputFile::Unmet,
 ];
 
-/// The files of a tree whose modules stand in the folder. Its modules.builtin counts as empty where it isn't there.
+/// Makes the files of a tree whose modules are in the folder. A missing modules.builtin counts as
+/// empty.
 pub(crate) fn make_outputs<F: Reads>(
     alloc: Global,
     folder: &PathText,
@@ -49,11 +50,12 @@ pub(crate) fn make_outputs<F: Reads>(
         (world (F.seen files.old) out err) (world (F.seen files.new) out err) result }
 {
     let file = join(alloc, folder, b"modules.builtin")?;
-    let builtin = read_optional(alloc, files, file)?;
+    let builtin = read_optional(alloc, files, &file)?;
     check_outputs(alloc, tree, &builtin)
 }
 
-/// The files of a tree for what modules.builtin has, or the refusal of the first that is too large.
+/// Returns the files of a tree for what modules.builtin has, or the refusal of the first that is
+/// too large.
 fn check_outputs(alloc: Global, tree: &RelatedTree, builtin: &Blob) -> Result<OutputFiles, Stop>
     requires { IsRelated tree.now }
     ensures { Answers (λ x. x) (outputs_outcome (outputs_of tree.now.facts (kernel_of tree.now.kernel) builtin.now)) result }
@@ -67,7 +69,7 @@ fn check_outputs(alloc: Global, tree: &RelatedTree, builtin: &Blob) -> Result<Ou
     }
 }
 
-/// Writes the text files to the output for a dry run; else puts all files into the folder.
+/// Writes the text files to the output for a dry run, or else puts all files into the folder.
 pub(crate) fn hand_out<F: Writes, O: Out>(
     alloc: Global,
     dry_run: bool,

@@ -34,7 +34,7 @@ pub(crate) fn relate(alloc: Global, facts: TreeFacts, kernel: Kernel) -> Result<
     }
 }
 
-/// How a fault of the relation stops the command.
+/// Returns how a fault of the relation stops the command.
 fn refused(fault: RelationFault) -> Stop
     ensures { result ≡ relation_stop fault }
 {

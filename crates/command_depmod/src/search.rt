@@ -15,7 +15,7 @@ use mod_tree::{Search, parse_search};
 use stages_files::{Tool, read_configuration, stop_of_fault};
 use std::alloc::Global;
 
-/// The search list of the configuration, at the path that is given or in the usual folders.
+/// Reads the search list of the configuration, at the given path or in the usual folders.
 pub(crate) fn read_search<F: Reads>(
     alloc: Global,
     config: Option<PathText>,
@@ -28,7 +28,7 @@ pub(crate) fn read_search<F: Reads>(
     parse(alloc, &read)
 }
 
-/// The search list of the files, or the refusal of the first line that isn't understood.
+/// Returns the search list of the files, or the refusal of the first line that isn't understood.
 fn parse(alloc: Global, files: &ConfFiles) -> Result<Search, Stop>
     requires { All (λ file. length file.bytes ≤ file_limit) files.now }
     ensures { Answers (λ x. x) (stated_outcome (search_of files.now)) result }

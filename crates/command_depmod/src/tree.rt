@@ -12,7 +12,7 @@ use km_outside::Files;
 use mod_tree::{Search, Tree, TreeFault, choose};
 use std::alloc::Global;
 
-/// The paths of the tree in the folder: it is listed, and its modules.order is read.
+/// Reads the paths of the tree in the folder: it is listed, and its modules.order is read.
 pub(crate) fn read_tree<F: Files>(
     alloc: Global,
     folder: &PathText,
@@ -23,14 +23,13 @@ pub(crate) fn read_tree<F: Files>(
         (world (F.seen files.old) out err) (world (F.seen files.new) out err) result }
     ensures paths { IfOk result (λ tree. AreTreePaths tree) }
 {
-    let listed_folder = PathText::from_slice(alloc, folder.as_bytes())?;
-    let listed = list_tree_needed(alloc, files, listed_folder)?;
+    let listed = list_tree_needed(alloc, files, folder)?;
     let order_file = join(alloc, folder, b"modules.order")?;
-    let order = read_optional(alloc, files, order_file)?;
+    let order = read_optional(alloc, files, &order_file)?;
     choose_tree(alloc, &listed, &order, search)
 }
 
-/// The tree of the listed paths, for what modules.order has.
+/// Returns the tree of the listed paths, for what modules.order has.
 fn choose_tree(alloc: Global, listed: &Paths, order: &Blob, search: &Search) -> Result<Tree, Stop>
     ensures answers { Answers (λ x. x) (tree_outcome (tree_of listed.now order.now search.now)) result }
     ensures paths { IfOk result (λ tree. AreTreePaths tree) }
@@ -41,7 +40,7 @@ fn choose_tree(alloc: Global, listed: &Paths, order: &Blob, search: &Search) -> 
     }
 }
 
-/// How a fault of the tree stops the command.
+/// Returns how a fault of the tree stops the command.
 fn refused(fault: TreeFault) -> Stop
     ensures { result ≡ tree_stop fault }
 {

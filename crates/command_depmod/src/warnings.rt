@@ -13,7 +13,8 @@ use km_outside::Out;
 use provider_rel::Unbound;
 use std::alloc::{AllocError, Global};
 
-/// Warns of obstacles, where that is asked for; of versions that differ only where versions are known. depmod(8), `-e`.
+/// Warns of obstacles, if asked; of versions that differ only if versions are known. depmod(8),
+/// `-e`.
 pub(crate) fn warn_unmet<E: Out>(
     alloc: Global,
     errsyms: bool,
@@ -62,7 +63,7 @@ fn warn_of<E: Out>(
     }
 }
 
-/// The line that warns of an obstacle, if it is one to warn of.
+/// Returns the line that warns of an obstacle, if it is one to warn of.
 fn warning(alloc: Global, versions: bool, obstacle: &Unbound) -> Result<Option<Blob>, AllocError>
     ensures { IfOk result (λ text. text ≡ warning_line versions obstacle.now) }
 {
@@ -85,7 +86,7 @@ fn warning(alloc: Global, versions: bool, obstacle: &Unbound) -> Result<Option<B
     }
 }
 
-/// The line of a warning.
+/// Returns the line of a warning.
 fn line(alloc: Global, path: &PathText, what: &[u8], symbol: &Name) -> Result<Blob, AllocError>
     ensures { IfOk result (λ text. text ≡ line_of (codes "warning: " ++ (path.now ++ (what.now ++ symbol.now)))) }
 {

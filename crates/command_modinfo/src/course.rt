@@ -13,7 +13,7 @@ use modinfo_tool::{ShowOptions, show};
 use stages_files::{KernelModules, modules_folder, path_of_name, read_modules, read_sections};
 use std::alloc::Global;
 
-/// What the words stand for that name the modules to show.
+/// What the words mean that name the modules to show.
 #[derive(Drop)]
 pub(crate) enum Source {
     /// Each is the path of a module.
@@ -60,7 +60,8 @@ fn show_asked<F: Reads, O: Out>(
     show_each(alloc, &source, &options, words.as_slice(), files, out)
 }
 
-/// What the words stand for: the names of a kernel's modules where there is a version, else paths.
+/// Reads what the words stand for: the names of a kernel's modules if there is a version, else
+/// paths.
 fn read_source<F: Reads>(
     alloc: Global,
     version: Option<Name>,
@@ -113,7 +114,7 @@ fn show_word<F: Reads, O: Out>(
     show_module(alloc, path, options, files, out)
 }
 
-/// The path of the module of a word.
+/// Returns the path of the module of a word.
 fn path_asked(alloc: Global, source: &Source, word: &Name) -> Result<PathText, Stop>
     ensures { Answers (λ x. x) (path_asked source.now word.now) result }
 {

@@ -10,8 +10,8 @@ use modinfo_fields::{Field, FieldList, field_values, fields};
 use modinfo_tool::ShowOptions;
 use std::alloc::{AllocError, Global};
 
-/// The fields of the module's first `.modinfo` section that decide what is shown of it: where the values of one
-/// key are asked for, those of that key alone, since a section may have very many others.
+/// Returns fields that decide what is shown of the module, from its first `.modinfo` section. For
+/// one key they needn't have those of others, since a section may have very many.
 pub(crate) fn fields_to_show(
     alloc: Global,
     sections: &Sections,
@@ -25,7 +25,7 @@ pub(crate) fn fields_to_show(
     }
 }
 
-/// The key, if there is one and its values stand in the fields as they are.
+/// Returns the key, if there is one and its values are in the fields as they are.
 fn plain_key(field: &Option<Name>) -> Option<&[u8]>
     ensures { option_copied result ≡ plain_key field.now }
 {
@@ -45,7 +45,7 @@ fn if_plain(key: &[u8]) -> Option<&[u8]>
     Some(key)
 }
 
-/// The fields of this key alone.
+/// Returns a list with the same values of this key as the bytes have.
 fn fields_of_key(alloc: Global, bytes: &[u8], key: &[u8]) -> Result<FieldList, AllocError>
     ensures { IfOk result (λ list. values_of_key key.now list ≡ values_of_key key.now (fields_of bytes.now)) }
 {
@@ -72,7 +72,7 @@ fn push_field(
     Ok(())
 }
 
-/// The bytes of the module's first `.modinfo` section; none where there is no such section.
+/// Returns the bytes of the module's first `.modinfo` section, or none if there is no such section.
 fn module_info(sections: &Sections) -> &[u8]
     ensures { result.now ≡ bytes_named (codes ".modinfo") sections.now }
 {

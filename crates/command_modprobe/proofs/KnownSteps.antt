@@ -80,15 +80,13 @@ softdep_stated configuration path bytes = given (stated_outcome (rules_of (confi
 abbrev pub unmet_stated : List ℕ → List ℕ → Stage (List Unbound)
 unmet_stated path bytes = given (stated_outcome (unmet_of path bytes))
 
-pub at-softdep : (configuration : List ConfFile) (folder path named : List ℕ) (old new : World) (r : Result (List Rule) Stop) → named ≡ path → path ≡ path_below folder (codes "modules.softdep") → Follows (λ x. x) (reads_any named >>= softdep_stated configuration path) old new r → Follows (λ x. x) (reads_rules configuration folder) old new r
-at-softdep configuration folder path named old new r same is f =
-    subst (λ p. Follows (λ (x : List Rule). x) (reads_any p >>= softdep_stated configuration p) old new r) is
-    (subst (λ p. Follows (λ (x : List Rule). x) (reads_any p >>= softdep_stated configuration path) old new r) same f)
+pub at-softdep : (configuration : List ConfFile) (folder path : List ℕ) (old new : World) (r : Result (List Rule) Stop) → path ≡ path_below folder (codes "modules.softdep") → Follows (λ x. x) (reads_any path >>= softdep_stated configuration path) old new r → Follows (λ x. x) (reads_rules configuration folder) old new r
+at-softdep configuration folder path old new r is f =
+    subst (λ p. Follows (λ (x : List Rule). x) (reads_any p >>= softdep_stated configuration p) old new r) is f
 
-pub at-unmet : (folder path named : List ℕ) (old new : World) (r : Result (List Unbound) Stop) → named ≡ path → path ≡ path_below folder (codes "modules.unmet") → Follows (λ x. x) (reads_any named >>= unmet_stated path) old new r → Follows (λ x. x) (reads_unmet folder) old new r
-at-unmet folder path named old new r same is f =
-    subst (λ p. Follows (λ (x : List Unbound). x) (reads_any p >>= unmet_stated p) old new r) is
-    (subst (λ p. Follows (λ (x : List Unbound). x) (reads_any p >>= unmet_stated path) old new r) same f)
+pub at-unmet : (folder path : List ℕ) (old new : World) (r : Result (List Unbound) Stop) → path ≡ path_below folder (codes "modules.unmet") → Follows (λ x. x) (reads_any path >>= unmet_stated path) old new r → Follows (λ x. x) (reads_unmet folder) old new r
+at-unmet folder path old new r is f =
+    subst (λ p. Follows (λ (x : List Unbound). x) (reads_any p >>= unmet_stated p) old new r) is f
 
 -- the stage after a list of loaded modules was read
 abbrev pub loaded_stated : List ℕ → Stage (List (List ℕ))

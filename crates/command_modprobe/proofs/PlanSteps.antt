@@ -10,17 +10,21 @@ use Rattle.plan_builder.specs.declared.request.Request.{Request}
 use Rattle.plan_builder.specs.declared.step.PlanStep.{PlanStep}
 use Rattle.plan_builder.specs.Obstacles.{obstacle_of}
 use Rattle.plan_builder.specs.Steps.{plan_steps, spaced}
+use Rattle.plan_builder.specs.Text.{obstacle_text}
 use Rattle.km_course.specs.Course.{Stage, ◌>>=◌, given, says_any}
 use Rattle.km_course.specs.Course.Outcome.{value}
 use Rattle.km_course.specs.World.{World}
 use Rattle.km_course.specs.Follows.{Answers, Follows}
+use Rattle.km_course.specs.declared.end.End.TheVariants.{Refused}
+use Rattle.km_course.specs.declared.refusal.Refusal.TheVariants.{Obstacle as Unplanned}
 use Rattle.km_course.specs.declared.stop.Stop.{Stop}
+use Rattle.km_course.specs.declared.stop.Stop.TheVariants.{Ended, Memory}
 use Rattle.km_course.proofs.Following.{along}
 use Rattle.stages_files.specs.KernelModules.{modules_folder}
 use Rattle.command_modprobe.specs.declared.known.Known.{Known}
 use Rattle.command_modprobe.specs.Known.{reads_known}
 use Rattle.command_modprobe.specs.Resolved.{names_asked}
-use Rattle.command_modprobe.specs.Planned.{loaded_in, obstacle_stop, plan_lines, plan_outcome, plan_unless, request_of, shows_plan, sources_with}
+use Rattle.command_modprobe.specs.Planned.{loaded_in, plan_lines, plan_outcome, plan_unless, request_of, shows_plan, sources_with}
 
 -- the stage after a plan was made
 abbrev pub after_plan : List ℕ → List PlanStep → Stage ⊤
@@ -53,26 +57,10 @@ met : (known : Known) (loaded : List (List ℕ)) (request : Request) (o : Obstac
 unfolding plan_outcome
 met known loaded request o found = ap (λ f. plan_unless f (plan_steps (sources_with known loaded request) request)) found
 
--- an obstacle that was met, unless memory was wanting
-by-kind : (known : Known) (loaded : List (List ℕ)) (request : Request) (o : Obstacle) → (o ≡ obstacles.Memory) ⊎ (obstacle_of (sources_with known loaded request) request ≡ Some o) → Answers (λ (x : List PlanStep). x) (plan_outcome known loaded request) (Err (obstacle_stop o))
-by-kind known loaded request (obstacles.BadDepLine name) (inl m) = absurd (cc)
-by-kind known loaded request (obstacles.BadDepLine name) (inr f) = met known loaded request _ f
-by-kind known loaded request (obstacles.NotFound name) (inl m) = absurd (cc)
-by-kind known loaded request (obstacles.NotFound name) (inr f) = met known loaded request _ f
-by-kind known loaded request (obstacles.Missing path symbol) (inl m) = absurd (cc)
-by-kind known loaded request (obstacles.Missing path symbol) (inr f) = met known loaded request _ f
-by-kind known loaded request (obstacles.Gpl path symbol by) (inl m) = absurd (cc)
-by-kind known loaded request (obstacles.Gpl path symbol by) (inr f) = met known loaded request _ f
-by-kind known loaded request (obstacles.Version path symbol by) (inl m) = absurd (cc)
-by-kind known loaded request (obstacles.Version path symbol by) (inr f) = met known loaded request _ f
-by-kind known loaded request (obstacles.Namespace path symbol by) (inl m) = absurd (cc)
-by-kind known loaded request (obstacles.Namespace path symbol by) (inr f) = met known loaded request _ f
-by-kind known loaded request (obstacles.Cycle names) (inl m) = absurd (cc)
-by-kind known loaded request (obstacles.Cycle names) (inr f) = met known loaded request _ f
-by-kind known loaded request (obstacles.Double symbol first second) (inl m) = absurd (cc)
-by-kind known loaded request (obstacles.Double symbol first second) (inr f) = met known loaded request _ f
-by-kind known loaded request obstacles.Memory w = tt
-
-pub not-planned : (known : Known) (loaded : List (List ℕ)) (request : Request) (obstacle : Obstacle) (stop : Stop) → stop ≡ obstacle_stop obstacle → (obstacle ≡ obstacles.Memory) ⊎ (obstacle_of (sources_with known loaded request) request ≡ Some obstacle) → Answers (λ (x : List PlanStep). x) (plan_outcome known loaded request) (Err stop)
-not-planned known loaded request obstacle stop is why =
-    subst (λ s. Answers (λ (x : List PlanStep). x) (plan_outcome known loaded request) (Err s)) (sym is) (by-kind known loaded request obstacle why)
+-- an obstacle that was met stops the command with its text, unless memory ran out
+pub not-planned : (known : Known) (loaded : List (List ℕ)) (request : Request) (o : Obstacle) (stop : Stop) → (stop ≡ Memory) ⊎ ((stop ≡ Ended (Refused (Unplanned (obstacle_text o)))) × ¬ (o ≡ obstacles.Memory)) → (o ≡ obstacles.Memory) ⊎ (obstacle_of (sources_with known loaded request) request ≡ Some o) → Answers (λ (x : List PlanStep). x) (plan_outcome known loaded request) (Err stop)
+not-planned known loaded request o stop (inl memory) why =
+    subst (λ s. Answers (λ (x : List PlanStep). x) (plan_outcome known loaded request) (Err s)) (sym memory) tt
+not-planned known loaded request o stop (inr (is, other)) (inl memory) = absurd (other memory)
+not-planned known loaded request o stop (inr (is, other)) (inr found) =
+    subst (λ s. Answers (λ (x : List PlanStep). x) (plan_outcome known loaded request) (Err s)) (sym is) (met known loaded request o found)

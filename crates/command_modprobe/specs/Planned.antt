@@ -6,7 +6,6 @@ use Rattle.kmod_words.specs.declared.modprobe.Mode.{Mode}
 use Rattle.kmod_words.specs.declared.modprobe.Mode.TheVariants.{Load, DryRun, ShowDepends, ResolveAlias}
 use Rattle.kmod_words.specs.declared.modprobe.ModprobeWords.{ModprobeWords}
 use Rattle.plan_builder.specs.declared.obstacle.Obstacle.{Obstacle}
-use Rattle.plan_builder.specs.declared.obstacle.Obstacle.TheVariants as obstacles
 use Rattle.plan_builder.specs.declared.request.Request.{Request}
 use Rattle.plan_builder.specs.declared.step.PlanStep.{PlanStep}
 use Rattle.plan_builder.specs.declared.step.PlanStep.TheVariants.{Insert, Install, Builtin}
@@ -14,13 +13,11 @@ use Rattle.plan_builder.specs.Needs.{Sources}
 use Rattle.plan_builder.specs.Obstacles.{obstacle_of}
 use Rattle.plan_builder.specs.Sources.{sources}
 use Rattle.plan_builder.specs.Steps.{plan_steps, spaced}
+use Rattle.plan_builder.specs.Text.{obstacle_text}
 use Rattle.km_course.specs.Course.{Outcome, Stage, ◌>>=◌, given, says_any}
 use Rattle.km_course.specs.Course.Outcome.{value, end}
 use Rattle.km_course.specs.declared.end.End.TheVariants.{Refused}
-use Rattle.km_course.specs.declared.stop.Stop.{Stop}
-use Rattle.km_course.specs.declared.stop.Stop.TheVariants.{Ended, Memory}
-use Rattle.km_course.specs.declared.refusal.Refusal.{Refusal}
-use Rattle.km_course.specs.declared.refusal.Refusal.TheVariants as refusals
+use Rattle.km_course.specs.declared.refusal.Refusal.TheVariants.{Obstacle as Unplanned}
 use Rattle.stages_files.specs.KernelModules.{modules_folder}
 use Rattle.command_modprobe.specs.declared.known.Known.{Known}
 use Rattle.command_modprobe.specs.Known.{reads_known}
@@ -44,27 +41,10 @@ request_of asked = record {
 abbrev pub sources_with : Known → List (List ℕ) → Request → Sources
 sources_with known loaded request = sources known.rules known.indexes known.unmet loaded request
 
--- The refusal of what keeps a request from having a plan; nothing comes to want of memory.
-abbrev pub obstacle_refusal : Obstacle → Refusal
-obstacle_refusal (obstacles.BadDepLine name) = refusals.BadDependencyLine name
-obstacle_refusal (obstacles.NotFound name) = refusals.NotFound name
-obstacle_refusal (obstacles.Missing path symbol) = refusals.Missing path symbol
-obstacle_refusal (obstacles.Gpl path symbol by) = refusals.Gpl path symbol by
-obstacle_refusal (obstacles.Version path symbol by) = refusals.Version path symbol by
-obstacle_refusal (obstacles.Namespace path symbol by) = refusals.Namespace path symbol by
-obstacle_refusal (obstacles.Cycle names) = refusals.Cycle names
-obstacle_refusal (obstacles.Double symbol first second) = refusals.Double symbol first second
-obstacle_refusal obstacles.Memory = refusals.InnerOutputFull
-
--- how the code stops for an obstacle
-abbrev pub obstacle_stop : Obstacle → Stop
-obstacle_stop obstacles.Memory = Memory
-obstacle_stop obstacle = Ended (Refused (obstacle_refusal obstacle))
-
 -- What a request with this first obstacle comes to.
 abbrev pub plan_unless : Option Obstacle → List PlanStep → Outcome (List PlanStep)
 plan_unless None steps = value steps
-plan_unless (Some obstacle) steps = end (Refused (obstacle_refusal obstacle))
+plan_unless (Some obstacle) steps = end (Refused (Unplanned (obstacle_text obstacle)))
 
 -- What a request comes to, where these modules are loaded: its plan, or the refusal of its first obstacle.
 unfoldable pub plan_outcome : Known → List (List ℕ) → Request → Outcome (List PlanStep)

@@ -25,16 +25,17 @@ use unmet_file::Unmet;
 pub struct Known {
     /// The rules of the configuration and of modules.softdep.
     pub rules: Rules,
-    /// What names are looked up in.
+    /// The indexes in which names are looked up.
     pub indexes: Indexes,
-    /// What stands in the way of loading modules.
+    /// The obstacles to loading modules.
     pub unmet: Unmet,
     /// The modules that are loaded, the newest first.
     pub loaded: Loaded,
 }
 
-/// Reads what modprobe has to know: the configuration, which is understood before another file is read, the index files
-/// of the folder, its modules.softdep and modules.unmet, and the list of loaded modules. modprobe(8), modules.dep(5).
+/// Reads what modprobe has to know. That is the configuration, which is understood before another
+/// file is read, the index files of the folder, its modules.softdep and modules.unmet, and the list
+/// of loaded modules. modprobe(8), modules.dep(5).
 pub(crate) fn read_known<F: Reads>(
     alloc: Global,
     config: Option<PathText>,
@@ -51,7 +52,7 @@ pub(crate) fn read_known<F: Reads>(
     read_lists(alloc, configuration, folder, indexes, loaded, files)
 }
 
-/// The rules that configuration files state.
+/// Returns the rules that configuration files state.
 fn rules_in(alloc: Global, files: &ConfFiles) -> Result<Rules, Stop>
     requires { All (λ file. length file.bytes ≤ file_limit) files.now }
     ensures { Answers (λ x. x) (stated_outcome (rules_of files.now)) result }
@@ -62,7 +63,7 @@ fn rules_in(alloc: Global, files: &ConfFiles) -> Result<Rules, Stop>
     }
 }
 
-/// The four index files of a folder, each checked before the next is read.
+/// Reads the four index files of a folder, each checked before the next is read.
 fn read_indexes<F: Reads>(alloc: Global, folder: &PathText, files: &mut F) -> Result<Indexes, Stop>
     ensures { (out err : OutSeen) → Follows (λ x. x) (reads_indexes folder.now)
         (world (F.seen files.old) out err) (world (F.seen files.new) out err) result }
@@ -79,7 +80,7 @@ fn read_indexes<F: Reads>(alloc: Global, folder: &PathText, files: &mut F) -> Re
     })
 }
 
-/// The index in the file of this name in a folder.
+/// Reads the index in the file of this name in a folder.
 fn read_index_in<F: Reads>(
     alloc: Global,
     folder: &PathText,
@@ -93,7 +94,7 @@ fn read_index_in<F: Reads>(
     read_index(alloc, path, files)
 }
 
-/// What modprobe knows, where the configuration and the indexes were read.
+/// Reads what modprobe knows, after the configuration and the indexes were read.
 fn read_lists<F: Reads>(
     alloc: Global,
     configuration: ConfFiles,
@@ -117,7 +118,7 @@ fn read_lists<F: Reads>(
     })
 }
 
-/// The rules of the configuration, and of modules.softdep as one file more.
+/// Reads the rules of the configuration, with modules.softdep as one more file.
 fn read_rules<F: Reads>(
     alloc: Global,
     configuration: ConfFiles,
@@ -129,13 +130,12 @@ fn read_rules<F: Reads>(
         (world (F.seen files.old) out err) (world (F.seen files.new) out err) result }
 {
     let path = join(alloc, folder, b"modules.softdep")?;
-    let named = PathText::from_slice(alloc, path.as_bytes())?;
-    let softdep = read_optional(alloc, files, named)?;
+    let softdep = read_optional(alloc, files, &path)?;
     let all = with_file(configuration, path, softdep)?;
     rules_in(alloc, &all)
 }
 
-/// The files, and one more.
+/// Adds one more file to the files.
 fn with_file(mut files: ConfFiles, path: PathText, bytes: Blob) -> Result<ConfFiles, AllocError>
     requires all { All (λ file. length file.bytes ≤ file_limit) files }
     requires one { length bytes ≤ file_limit }
@@ -146,18 +146,17 @@ fn with_file(mut files: ConfFiles, path: PathText, bytes: Blob) -> Result<ConfFi
     Ok(files)
 }
 
-/// The lines of the folder's modules.unmet.
+/// Reads the lines of the folder's modules.unmet.
 fn read_unmet<F: Reads>(alloc: Global, folder: &PathText, files: &mut F) -> Result<Unmet, Stop>
     ensures { (out err : OutSeen) → Follows (λ x. x) (reads_unmet folder.now)
         (world (F.seen files.old) out err) (world (F.seen files.new) out err) result }
 {
     let path = join(alloc, folder, b"modules.unmet")?;
-    let named = PathText::from_slice(alloc, path.as_bytes())?;
-    let bytes = read_optional(alloc, files, named)?;
+    let bytes = read_optional(alloc, files, &path)?;
     unmet_in(alloc, &path, bytes.as_bytes())
 }
 
-/// The lines that a modules.unmet states.
+/// Returns the lines that a modules.unmet states.
 fn unmet_in(alloc: Global, file: &PathText, bytes: &[u8]) -> Result<Unmet, Stop>
     requires { length bytes.now ≤ file_limit }
     ensures { Answers (λ x. x) (stated_outcome (unmet_of file.now bytes.now)) result }
@@ -168,7 +167,7 @@ fn unmet_in(alloc: Global, file: &PathText, bytes: &[u8]) -> Result<Unmet, Stop>
     }
 }
 
-/// The loaded modules that the file at the path lists, or none without one.
+/// Reads the loaded modules that the file at the path lists, or none without a path.
 fn read_loaded<F: Reads>(
     alloc: Global,
     path: Option<PathText>,
@@ -179,7 +178,7 @@ fn read_loaded<F: Reads>(
 {
     match path {
         Some(path) => {
-            let bytes = read_needed(alloc, files, path)?;
+            let bytes = read_needed(alloc, files, &path)?;
             let loaded = Loaded::read(alloc, bytes.as_bytes())?;
             Ok(loaded)
         }

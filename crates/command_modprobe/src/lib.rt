@@ -1,8 +1,9 @@
 //! The command `modprobe`: its course, and the function that follows it. modprobe(8).
 //!
-//! It stands on `kmod_words` for what the words ask for, on `stages_files` for the files that it reads, on
-//! `modprobe_conf`, `unmet_file` and `loaded_list` for what they state, on `name_lookup` for the modules that a name
-//! stands for, on `plan_builder` for plans, and on `stages_loads` for loads.
+//! It builds on `kmod_words` for what the words ask for, on `stages_files` for the files that it
+//! reads, and on `modprobe_conf`, `unmet_file` and `loaded_list` for what they state. It builds on
+//! `name_lookup` for the modules that a name stands for, on `plan_builder` for plans, and on
+//! `stages_loads` for loads.
 #![tactic(auto)]
 
 mod course;

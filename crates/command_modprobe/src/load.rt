@@ -17,8 +17,8 @@ use stages_files::modules_folder;
 use stages_loads::{load_all, load_listed, read_machine};
 use std::alloc::Global;
 
-/// Prints the plan for the requested names and loads its modules into the modelled machine, after those that are listed as
-/// loaded. A plan that runs a command is refused. modprobe(8).
+/// Prints the plan for the requested names. It loads the plan's modules into the modelled machine,
+/// after those that are listed as loaded. A plan that runs a command is refused. modprobe(8).
 pub(crate) fn load_plan<F: Writes, O: Out>(
     alloc: Global,
     asked: ModprobeWords,
@@ -34,7 +34,7 @@ pub(crate) fn load_plan<F: Writes, O: Out>(
     }
 }
 
-/// The region of a base and a size.
+/// Returns the region of a base and a size.
 fn region_at(base: u64, size: u64) -> Option<Region>
     ensures { result ≡ region_at base size }
 {
@@ -130,7 +130,8 @@ fn load_steps<F: Writes, O: Out>(
     Ok(())
 }
 
-/// The paths of the modules that a plan loads, or the refusal of its first step that runs a command.
+/// Returns the paths of the modules that a plan loads, or the refusal of its first step that runs a
+/// command.
 fn loaded_paths(alloc: Global, steps: &PlanSteps) -> Result<Paths, Stop>
     ensures { Answers (λ x. x) (paths_outcome steps.now) result }
 {
@@ -141,7 +142,8 @@ fn loaded_paths(alloc: Global, steps: &PlanSteps) -> Result<Paths, Stop>
     Ok(paths)
 }
 
-/// Adds the path of the module that a step loads, where it loads one. One that runs a command is refused.
+/// Adds the path of the module that a step loads, if it loads one. A step that runs a command is
+/// refused.
 fn push_path(alloc: Global, paths: &mut Paths, step: &PlanStep) -> Result<(), Stop>
     ensures passed { OnOk result (command_owner step.now ≡ None) }
     ensures paths { OnOk result (paths.new ≡ paths.old ++ loaded_path step.now) }

@@ -1,10 +1,15 @@
 // The plan of what is asked for, and its lines.
-ghost use Rattle.std.specs.Prelude.{◌≡◌, ◌∷◌, ◌++◌, [], IfOk, OnOk};
+ghost use Rattle.std.specs.Prelude.{◌≡◌, ◌∷◌, ◌++◌, ◌⊎◌, [], IfOk, OnOk};
 ghost use Rattle.km_outside.specs.OutSeen.{OutSeen};
 ghost use Rattle.km_course.specs.World.{world};
 ghost use Rattle.km_course.specs.Follows.{Answers, Follows};
+ghost use Rattle.km_course.specs.declared.end.End.TheVariants.{Refused};
+ghost use Rattle.km_course.specs.declared.refusal.Refusal.TheVariants.{Obstacle as Unplanned};
+ghost use Rattle.km_course.specs.declared.stop.Stop.TheVariants.{Ended, Memory};
+ghost use Rattle.plan_builder.specs.declared.obstacle.Obstacle.TheVariants as obstacles;
 ghost use Rattle.plan_builder.specs.Steps.{spaced};
-ghost use Rattle.command_modprobe.specs.Planned.{insert_line, loaded_in, obstacle_stop, plan_lines, plan_outcome, request_of, shows_plan, step_line};
+ghost use Rattle.plan_builder.specs.Text.{obstacle_text};
+ghost use Rattle.command_modprobe.specs.Planned.{insert_line, loaded_in, plan_lines, plan_outcome, request_of, shows_plan, step_line};
 
 use crate::known::{Known, read_known};
 use crate::resolve_alias::names_asked;
@@ -17,7 +22,8 @@ use plan_builder::{Obstacle, PlanStep, PlanSteps, Request, plan};
 use stages_files::modules_folder;
 use std::alloc::{AllocError, Global};
 
-/// Prints the plan for the requested names, a step a line. modprobe(8), `--dry-run` and `--show-depends`.
+/// Prints the plan for the requested names, one step a line. modprobe(8), `--dry-run` and
+/// `--show-depends`.
 pub(crate) fn show_plan<F: Reads, O: Out>(
     alloc: Global,
     asked: ModprobeWords,
@@ -41,7 +47,8 @@ pub(crate) fn show_plan<F: Reads, O: Out>(
     say_any(out, text.as_bytes())
 }
 
-/// What is to be planned: the names, and parameters for the module of the first word where the other words are those.
+/// Returns what is to be planned: the names, and the parameters for the module of the first word,
+/// if the other words are parameters.
 pub(crate) fn request_of(alloc: Global, asked: &ModprobeWords) -> Result<Request, AllocError>
     ensures { IfOk result (λ request. request ≡ request_of asked.now) }
 {
@@ -55,7 +62,7 @@ pub(crate) fn request_of(alloc: Global, asked: &ModprobeWords) -> Result<Request
     })
 }
 
-/// A copy of some names.
+/// Copies some names.
 fn copied_names(alloc: Global, names: &[Name]) -> Result<Names, AllocError>
     ensures { IfOk result (λ copies. copies ≡ names.now) }
 {
@@ -66,7 +73,7 @@ fn copied_names(alloc: Global, names: &[Name]) -> Result<Names, AllocError>
     Ok(copies)
 }
 
-/// Words with a space between each and the next.
+/// Joins words with a space between each and the next.
 fn spaced(alloc: Global, words: &[Name]) -> Result<Blob, AllocError>
     ensures { IfOk result (λ text. text ≡ spaced words.now) }
 {
@@ -80,7 +87,7 @@ fn spaced(alloc: Global, words: &[Name]) -> Result<Blob, AllocError>
     Ok(text)
 }
 
-/// The plan of a request in a mode, or the refusal of its first obstacle.
+/// Returns the plan of a request in a mode, or the refusal of its first obstacle.
 pub(crate) fn plan_in(
     alloc: Global,
     mode: Mode,
@@ -95,7 +102,7 @@ pub(crate) fn plan_in(
     }
 }
 
-/// The plan of a request where these modules are loaded, or the refusal of its first obstacle.
+/// Returns the plan of a request if these modules are loaded, or the refusal of its first obstacle.
 fn plan_with(
     alloc: Global,
     known: &Known,
@@ -113,60 +120,24 @@ fn plan_with(
         loaded,
     ) {
         Ok(steps) => Ok(steps),
-        Err(obstacle) => Err(refused(obstacle)),
+        Err(obstacle) => Err(refused(alloc, &obstacle)),
     }
 }
 
-/// How an obstacle stops the command.
-fn refused(obstacle: Obstacle) -> Stop
-    ensures { result ≡ obstacle_stop obstacle }
+/// Returns how an obstacle stops the command: by the refusal that carries its text.
+fn refused(alloc: Global, obstacle: &Obstacle) -> Stop
+    ensures { (result ≡ Memory) ⊎ ((result ≡ Ended (Refused (Unplanned (obstacle_text obstacle.now)))) × ¬ (obstacle.now ≡ obstacles.Memory)) }
 {
-    match obstacle {
-        Obstacle::BadDepLine { name } => Stop::from(Refusal::BadDependencyLine { name }),
-        Obstacle::NotFound { name } => Stop::from(Refusal::NotFound { name }),
-        Obstacle::Missing { path, symbol } => Stop::from(Refusal::Missing { path, symbol }),
-        Obstacle::Gpl {
-            path,
-            symbol,
-            provider,
-        } => Stop::from(Refusal::Gpl {
-            path,
-            symbol,
-            provider,
-        }),
-        Obstacle::Version {
-            path,
-            symbol,
-            provider,
-        } => Stop::from(Refusal::Version {
-            path,
-            symbol,
-            provider,
-        }),
-        Obstacle::Namespace {
-            path,
-            symbol,
-            provider,
-        } => Stop::from(Refusal::Namespace {
-            path,
-            symbol,
-            provider,
-        }),
-        Obstacle::Cycle { names } => Stop::from(Refusal::Cycle { names }),
-        Obstacle::Double {
-            symbol,
-            first,
-            second,
-        } => Stop::from(Refusal::Double {
-            symbol,
-            first,
-            second,
-        }),
-        Obstacle::Memory => Stop::Memory,
+    if matches!(obstacle, Obstacle::Memory) {
+        return Stop::Memory;
+    }
+    match obstacle.text(alloc) {
+        Ok(text) => Stop::from(Refusal::Obstacle { text }),
+        Err(_) => Stop::Memory,
     }
 }
 
-/// The lines of a plan for the modules in a folder, a line a step.
+/// Returns the lines of a plan for the modules in a folder, one line a step.
 pub(crate) fn plan_text(
     alloc: Global,
     folder: &PathText,
@@ -199,7 +170,7 @@ fn push_line(
     }
 }
 
-/// Adds the line of a module that is loaded, with its parameters where there are any.
+/// Adds the line of a module that is loaded, with its parameters if it has any.
 fn push_insert(
     alloc: Global,
     text: &mut Blob,

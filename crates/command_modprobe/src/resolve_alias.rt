@@ -17,8 +17,8 @@ use name_lookup::resolve;
 use stages_files::modules_folder;
 use std::alloc::{AllocError, Global};
 
-/// Prints the names of what each requested name stands for, one a line. Nothing is printed where a name stands for
-/// nothing. modprobe(8), `--resolve-alias`.
+/// Prints the names of what each requested name stands for, one a line. Nothing is printed if a
+/// name stands for nothing. modprobe(8), `--resolve-alias`.
 pub(crate) fn resolve_alias<F: Reads, O: Out>(
     alloc: Global,
     asked: ModprobeWords,
@@ -43,7 +43,7 @@ pub(crate) fn resolve_alias<F: Reads, O: Out>(
     say_any(out, text.as_bytes())
 }
 
-/// The words that are names: all, or the first.
+/// Returns the words that are names: all, or the first.
 pub(crate) fn names_asked(all: bool, words: &[Name]) -> &[Name]
     ensures { result.now ≡ names_asked all words.now }
 {
@@ -54,7 +54,7 @@ pub(crate) fn names_asked(all: bool, words: &[Name]) -> &[Name]
     }
 }
 
-/// The lines of what the names stand for, unless one stands for nothing.
+/// Returns the lines of what the names stand for, unless one stands for nothing.
 fn resolved_text(
     alloc: Global,
     known: &Known,
@@ -75,7 +75,7 @@ fn resolved_text(
     Ok(text)
 }
 
-/// The refusal of a name that stands for nothing, in its normal form where it has one.
+/// Returns the refusal of a name that stands for nothing, in its normal form if it has one.
 fn not_found(alloc: Global, name: &Name) -> Result<Stop, AllocError>
     ensures { IfOk result (λ stop. stop ≡ Ended (Refused (NotFound (normal_or_itself name.now)))) }
 {
@@ -83,7 +83,7 @@ fn not_found(alloc: Global, name: &Name) -> Result<Stop, AllocError>
     Ok(Stop::from(Refusal::NotFound { name }))
 }
 
-/// A name in its normal form, or as it is where it has none.
+/// Returns a name in its normal form, or as it is if it has none.
 fn normal_name(alloc: Global, name: &[u8]) -> Result<Name, AllocError>
     ensures { IfOk result (λ normal. normal ≡ normal_or_itself name.now) }
 {

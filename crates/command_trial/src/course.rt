@@ -15,8 +15,8 @@ use kmod_words::{TrialWords, read_trial};
 use std::alloc::Global;
 use tree_gen::generate;
 
-/// Does what the words after `trial` ask for: makes a tree in memory, indexes it and loads its modules there, and says what
-/// came of it. No file outside is read or written.
+/// Does what the words after `trial` ask for. It makes a tree in memory, indexes it and loads its
+/// modules there, and reports the outcome. No file outside is read or written.
 pub fn trial<O: Out>(alloc: Global, words: &[Word], out: &mut O) -> Result<(), Stop>
     ensures { (files : FilesSeen) (err : OutSeen) → Follows (λ x. x) (trial_course words.now)
         (world files (O.seen out.old) err) (world files (O.seen out.new) err) result }
@@ -27,7 +27,7 @@ pub fn trial<O: Out>(alloc: Global, words: &[Word], out: &mut O) -> Result<(), S
     }
 }
 
-/// Makes the tree that is asked for, tries it, and says what came of it.
+/// Makes the tree that is asked for, tries it, and reports the outcome.
 fn try_made<O: Out>(alloc: Global, asked: TrialWords, out: &mut O) -> Result<(), Stop>
     requires { (1 ≤ asked.count) × (asked.count ≤ 2000) }
     ensures { (files : FilesSeen) (err : OutSeen) → Follows (λ x. x) (tries asked)

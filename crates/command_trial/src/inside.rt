@@ -16,11 +16,11 @@ use km_course::{Stop, conclude};
 use km_outside::{MemFiles, MemOut};
 use std::alloc::Global;
 
-/// How many bytes each output of a command inside has room for.
+/// The capacity in bytes of each output of a command inside.
 const ROOM: usize = 4_194_304;
 
-/// Indexes the made tree in these files, of which no call fails, and gives what depmod wrote to its output. Where an output
-/// is full the trial is refused; any other end of depmod is the trial's.
+/// Indexes the made tree in these files, whose calls don't fail, and gives what depmod wrote to its
+/// output. If an output is full the trial is refused. Any other end of depmod is the trial's.
 pub(crate) fn index_made(alloc: Global, files: &mut MemFiles) -> Result<MemOut, Stop>
     requires { no_kind_listed files.old.kinds ≡ true }
     ensures left { Answers (λ out. record { files = files.new.contents; out = out.bytes })
@@ -37,8 +37,9 @@ pub(crate) fn index_made(alloc: Global, files: &mut MemFiles) -> Result<MemOut, 
     Ok(out)
 }
 
-/// Loads so many modules of the made tree in these files, of which no call fails, and gives what modprobe wrote to its
-/// output. Where an output is full the trial is refused; any other end of modprobe is the trial's.
+/// Loads so many modules of the made tree in these files, whose calls don't fail, and gives what
+/// modprobe wrote to its output. If an output is full the trial is refused. Any other end of
+/// modprobe is the trial's.
 pub(crate) fn load_made(alloc: Global, count: u32, files: &mut MemFiles) -> Result<MemOut, Stop>
     requires { no_kind_listed files.old.kinds ≡ true }
     ensures { Answers (λ out. record { files = files.new.contents; out = out.bytes })

@@ -1,9 +1,11 @@
-//! The command `trial`: its course, and the function that follows it. A tree is made in memory, a depmod inside indexes it,
-//! a modprobe inside loads its modules into the modelled machine, and five numbers say what came of it.
+//! The command `trial`: its course, and the function that follows it. A tree is made in memory, a
+//! depmod inside indexes it, and a modprobe inside loads its modules into the modelled machine.
+//! Five numbers report the outcome.
 //!
-//! It stands on `kmod_words` for what the words ask for, on `tree_gen` for the tree, on `command_depmod` and
-//! `command_modprobe` for the commands inside, which write to outputs in memory with a room of their own, on `km_course` for
-//! what their statuses say, and on `sha2` and `hex` for the digest of the images.
+//! It builds on `kmod_words` for what the words ask for, on `tree_gen` for the tree, and on
+//! `command_depmod` and `command_modprobe` for the commands inside. They write to outputs in memory
+//! with a known capacity. It builds on `km_course` for what their statuses say, and on `sha2` and
+//! `hex` for the digest of the images.
 #![tactic(auto)]
 
 mod course;

@@ -6,7 +6,7 @@ ghost use Rattle.command_trial.specs.Summary.{dependencies_in, paths_after_colon
 use km_names::{Blob, Texts, first_line, split_at_byte, words};
 use std::alloc::{AllocError, Global};
 
-/// What follows the start in each line of a text that begins so.
+/// Returns what follows `start` in each line of a text that begins with it.
 pub(crate) fn rests_of_lines(alloc: Global, text: &[u8], start: &[u8]) -> Result<Texts, AllocError>
     ensures { IfOk result (λ rests. rests ≡ rests_of start.now text.now) }
 {
@@ -20,7 +20,7 @@ pub(crate) fn rests_of_lines(alloc: Global, text: &[u8], start: &[u8]) -> Result
     Ok(rests)
 }
 
-/// Puts what follows the start in the line at the end, if the line begins so.
+/// Puts what follows `start` in a line at the end, if the line begins with it.
 fn push_rest(alloc: Global, rests: &mut Texts, line: &[u8], start: &[u8]) -> Result<(), AllocError>
     ensures { OnOk result (rests.new ≡ rests.old ++ rest_if_any (rest_after start.now line.now)) }
 {
@@ -30,7 +30,7 @@ fn push_rest(alloc: Global, rests: &mut Texts, line: &[u8], start: &[u8]) -> Res
     }
 }
 
-/// The paths after the colons of a modules.dep. modules.dep(5).
+/// Returns the paths after the colons of a modules.dep. modules.dep(5).
 pub(crate) fn dependencies(alloc: Global, text: &[u8]) -> Result<Texts, AllocError>
     ensures { IfOk result (λ paths. paths ≡ dependencies_in text.now) }
 {

@@ -1,4 +1,4 @@
-// What a command inside a trial came to.
+// The outcome of a command inside a trial.
 ghost use Rattle.std.specs.Prelude.{◌≡◌, drop};
 ghost use Rattle.km_course.specs.Course.{Outcome};
 ghost use Rattle.km_course.specs.Inner.{Left};
@@ -9,7 +9,8 @@ use km_course::{End, Refusal, Stop};
 use km_names::Blob;
 use std::alloc::Global;
 
-/// How a command inside stops the trial, by its status and the line that it wrote. It goes on where the status is 0.
+/// Returns how a command inside stops the trial, by its status and the line that it wrote. The
+/// trial goes on if the status is 0.
 pub(crate) fn hand_on(alloc: Global, status: u8, line: &[u8]) -> Result<(), Stop>
     ensures { (outcome : Outcome Left) (left : Left) → Came outcome left line.now status → Answers (λ _. left) outcome result }
 {
@@ -24,7 +25,7 @@ pub(crate) fn hand_on(alloc: Global, status: u8, line: &[u8]) -> Result<(), Stop
     }
 }
 
-/// The bytes from a place on.
+/// Returns the bytes from a place on.
 pub(crate) fn bytes_from(bytes: &[u8], place: usize) -> &[u8]
     ensures { result.now ≡ drop place bytes.now }
 {

@@ -1,4 +1,4 @@
-// What a trial says.
+// What a trial reports.
 ghost use Rattle.std.specs.Prelude.{◌≡◌, ◌++◌, IfOk, OnOk};
 ghost use Rattle.std.specs.Fmt.{decimal};
 ghost use Rattle.sha2.specs.Sha256.{sha256};
@@ -10,14 +10,14 @@ use km_outside::MemFiles;
 use sha2::{Digest, Sha256};
 use std::alloc::{AllocError, Global};
 
-/// The bytes of the file at the path, and none where nothing is there.
+/// Returns the bytes of the file at the path, or none if nothing is there.
 fn bytes_at<'a>(files: &'a MemFiles, path: &PathText) -> &'a [u8]
     ensures { result.now ≡ bytes_of_path path.now files.now.contents }
 {
     files.get(path).unwrap_or_default()
 }
 
-/// How many dependencies the modules.dep of the made tree lists.
+/// Returns how many dependencies the modules.dep of the made tree lists.
 #[tactic(auto, unfolding(crate::specs::Summary::dependencies_left))]
 pub(crate) fn count_dependencies(alloc: Global, files: &MemFiles) -> Result<usize, AllocError>
     ensures { IfOk result (λ count. count ≡ dependencies_left files.now.contents) }
@@ -27,7 +27,7 @@ pub(crate) fn count_dependencies(alloc: Global, files: &MemFiles) -> Result<usiz
     Ok(paths.len())
 }
 
-/// Where the image of a module stands, of which this follows `loaded ` in its line.
+/// Returns the path of the image of a module, by what follows `loaded ` in its line.
 fn image_path(alloc: Global, rest: &[u8]) -> Result<PathText, AllocError>
     ensures { IfOk result (λ path. path ≡ path_of_image rest.now) }
 {
@@ -38,7 +38,7 @@ fn image_path(alloc: Global, rest: &[u8]) -> Result<PathText, AllocError>
     join(alloc, &folder, file.as_bytes())
 }
 
-/// The digest of all images, one after the other.
+/// Returns the digest of all images, one after the other.
 fn digest_of_images(alloc: Global, files: &MemFiles, rests: &[Blob]) -> Result<[u8; 32], AllocError>
     ensures { IfOk result (λ digest. digest ≡ sha256 (images_of files.now.contents rests.now)) }
 {
@@ -50,7 +50,7 @@ fn digest_of_images(alloc: Global, files: &MemFiles, rests: &[Blob]) -> Result<[
     Ok(hasher.finalize())
 }
 
-/// Puts a line at the end that states a value.
+/// Puts a line that states a value at the end.
 fn push_stated(text: &mut Blob, what: &[u8], shown: &[u8]) -> Result<(), AllocError>
     ensures { OnOk result (text.new ≡ text.old ++ stated what.now shown.now) }
 {
@@ -60,7 +60,7 @@ fn push_stated(text: &mut Blob, what: &[u8], shown: &[u8]) -> Result<(), AllocEr
     text.push(b'\n')
 }
 
-/// Puts a line at the end that states a count.
+/// Puts a line that states a count at the end.
 fn push_count(alloc: Global, text: &mut Blob, what: &[u8], count: usize) -> Result<(), AllocError>
     ensures { OnOk result (text.new ≡ text.old ++ stated what.now (decimal count)) }
 {
@@ -68,8 +68,8 @@ fn push_count(alloc: Global, text: &mut Blob, what: &[u8], count: usize) -> Resu
     push_stated(text, what, shown.as_bytes())
 }
 
-/// The five lines of a trial of so many modules, with so many dependencies, that left these files and this output of
-/// modprobe.
+/// Returns the five lines of a trial of so many modules, with so many dependencies, that left these
+/// files and this output of modprobe.
 #[tactic(auto, unfolding(crate::specs::Summary::summary))]
 pub(crate) fn summary(
     alloc: Global,

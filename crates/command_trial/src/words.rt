@@ -6,10 +6,10 @@ ghost use Rattle.command_trial.specs.Words.{depmod_words as words_of_depmod, mod
 use km_names::{List, Word};
 use std::alloc::{AllocError, Global};
 
-/// The words after the depmod that indexes the made tree.
+/// The words for the depmod that indexes the made tree.
 const DEPMOD: [&str; 5] = ["-b", "/t", "-E", "/t/Module.symvers", "trial"];
 
-/// The options of the modprobe that loads its modules.
+/// The options for the modprobe that loads its modules.
 const MODPROBE: [&str; 11] = [
     "-a",
     "-d",
@@ -24,14 +24,14 @@ const MODPROBE: [&str; 11] = [
     "/t/img",
 ];
 
-/// The words after the depmod that indexes the made tree.
+/// Returns the words for the depmod that indexes the made tree.
 pub(crate) fn depmod_words(alloc: Global) -> Result<List<Word>, AllocError>
     ensures { IfOk result (λ words. words ≡ words_of_depmod) }
 {
     words_of(alloc, &DEPMOD)
 }
 
-/// The words after the modprobe that loads so many of its modules.
+/// Returns the words for the modprobe that loads so many of its modules.
 pub(crate) fn modprobe_words(alloc: Global, count: u32) -> Result<List<Word>, AllocError>
     ensures { IfOk result (λ words. words ≡ words_of_modprobe count) }
 {
@@ -42,7 +42,7 @@ pub(crate) fn modprobe_words(alloc: Global, count: u32) -> Result<List<Word>, Al
     Ok(words)
 }
 
-/// The words of these texts.
+/// Returns the words of these texts.
 fn words_of(alloc: Global, texts: &[&str]) -> Result<List<Word>, AllocError>
     ensures { IfOk result (λ words. words ≡ map (λ text. text.now) texts.now) }
 {
@@ -53,7 +53,7 @@ fn words_of(alloc: Global, texts: &[&str]) -> Result<List<Word>, AllocError>
     Ok(words)
 }
 
-/// The name of the module of this number, in four digits.
+/// Returns the name of the module of this number, in four digits.
 fn module_name(alloc: Global, number: u32) -> Result<Word, AllocError>
     ensures { IfOk result (λ word. word ≡ name_of number) }
 {

@@ -15,9 +15,9 @@ pub(crate) enum Argument {
     Flag(char, &'static str),
     /// An option with a value, with its letter.
     Valued(char, &'static str),
-    /// An option with a value that has no letter.
+    /// An option with a value, without a letter.
     ValuedByName(&'static str),
-    /// An option with a value that has to be there.
+    /// An option with a value, which is required.
     Required(char, &'static str),
     /// A word.
     Word(&'static str),
@@ -26,7 +26,7 @@ pub(crate) enum Argument {
 }
 
 impl Argument {
-    // The argument as `clap` has it.
+    // Returns the argument as `clap` has it.
     fn arg<'a>(&self, alloc: Global) -> Arg<'a>
         ensures { (result.global ≡ false) × (rule_of result ≡ rule_for self.now) }
     {
@@ -47,7 +47,7 @@ impl Argument {
     }
 }
 
-// An argument with a value that isn't empty.
+// Returns an argument with a value that isn't empty.
 fn valued<'a>(alloc: Global, name: &'a str) -> Arg<'a>
     ensures { (result.global ≡ false) × (rule_of result ≡ with_value name.entry.now) }
 {
@@ -56,7 +56,7 @@ fn valued<'a>(alloc: Global, name: &'a str) -> Arg<'a>
         .value_parser(ValueParser::NonEmptyString)
 }
 
-/// The command of this name with these arguments alone.
+/// Returns the command of this name with only these arguments.
 pub(crate) fn command<'a>(
     alloc: Global,
     name: &'a str,

@@ -27,7 +27,7 @@ pub struct DepmodWords {
     pub dry_run: bool,
     /// Whether to warn of symbols that nothing exports, and of versions that differ.
     pub errsyms: bool,
-    /// The root below which the modules stand.
+    /// The root below which the modules are.
     pub basedir: PathText,
     /// The root below which the files are written.
     pub outdir: PathText,
@@ -35,13 +35,14 @@ pub struct DepmodWords {
     pub config: Option<PathText>,
     /// The System.map of the kernel.
     pub filesyms: Option<PathText>,
-    /// The Module.symvers of the kernel. At most one of the two is there.
+    /// The Module.symvers of the kernel. At most one of the two is given.
     pub symvers: Option<PathText>,
     /// The kernel's version, which names the folder of its modules.
     pub version: Name,
 }
 
-/// What the words after `depmod` ask for. It is `None` exactly where they aren't understood. depmod(8).
+/// Reads what the words after `depmod` ask for. It is `None` exactly if they aren't understood.
+/// depmod(8).
 pub fn read_depmod(alloc: Global, words: &[Word]) -> Result<Option<DepmodWords>, AllocError>
     ensures { IfOk result (λ asked. asked ≡ depmod_request words.now) }
 {
@@ -53,7 +54,7 @@ pub fn read_depmod(alloc: Global, words: &[Word]) -> Result<Option<DepmodWords>,
     }
 }
 
-// What the matches ask for.
+// Returns what the matches ask for.
 #[tactic(auto, unfolding(crate::specs::Depmod::depmod_asked))]
 fn asked(alloc: Global, matches: &ArgMatches<'_>) -> Result<Option<DepmodWords>, AllocError>
     ensures { IfOk result (λ asked. asked ≡ depmod_asked (rows_of (found_of matches.now))) }
@@ -74,7 +75,7 @@ fn has_two_kernels(matches: &ArgMatches<'_>) -> bool
     value_of(matches, "filesyms").is_some() && value_of(matches, "symvers").is_some()
 }
 
-// What is asked for of a version.
+// Returns what is asked for with a version.
 fn words_for(
     alloc: Global,
     matches: &ArgMatches<'_>,

@@ -1,8 +1,9 @@
 //! The words of the commands: what they ask for, or that they aren't understood.
 //!
-//! Each command is a simple command of `clap`, with its options and words and nothing else. What options exclude each other, which
-//! forms texts have and which ranges numbers have is tested here, on the matches. The crate stands on `clap` for the words, and on
-//! `km_names` for lists and hexadecimal numbers. Only memory can be wanting.
+//! Each command is a simple command of `clap`, with only its options and words. Which options
+//! exclude each other, which forms texts have and which ranges numbers have is tested here, on the
+//! matches. The crate builds on `clap` for the words, and on `km_names` for lists and hexadecimal
+//! numbers. The only error is out of memory.
 #![tactic(auto)]
 
 mod arguments;

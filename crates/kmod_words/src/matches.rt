@@ -10,7 +10,7 @@ use clap::{ArgMatches, Command};
 use km_names::{Bytes, Name, Names, Word};
 use std::alloc::{AllocError, Global};
 
-/// The words as texts.
+/// Returns the words as texts.
 pub(crate) fn texts_of<'a>(alloc: Global, words: &'a [Word]) -> Result<Vec<&'a str>, AllocError>
     ensures { IfOk result (λ texts. map (λ text. text.now) texts.items ≡ words.now) }
 {
@@ -21,7 +21,7 @@ pub(crate) fn texts_of<'a>(alloc: Global, words: &'a [Word]) -> Result<Vec<&'a s
     Ok(texts)
 }
 
-/// What `clap` makes of the words. It is `None` exactly where `clap` refuses them.
+/// Returns what `clap` makes of the words. It is `None` exactly if `clap` refuses them.
 pub(crate) fn understood<'a>(
     command: Command<'a>,
     words: &'a [&'a str],
@@ -39,7 +39,7 @@ pub(crate) fn understood<'a>(
     }
 }
 
-/// Whether a flag stands among the words.
+/// Whether a flag is among the words.
 pub(crate) fn is_given(matches: &ArgMatches<'_>, name: &str) -> bool
     ensures { result ≡ is_given_in name.now (rows_of (found_of matches.now)) }
 {
@@ -56,14 +56,14 @@ fn is_from_words(source: Option<ValueSource>) -> bool
     }
 }
 
-/// The value of an option, or the one word of a name.
+/// Returns the value of an option, or the one word of a name.
 pub(crate) fn value_of<'a>(matches: &ArgMatches<'a>, name: &str) -> Option<&'a str>
     ensures { option_map (λ value. value.now) result ≡ value_of name.now (rows_of (found_of matches.now)) }
 {
     matches.get_str(name)
 }
 
-/// A copy of that value.
+/// Copies the value of an option, or the one word of a name.
 pub(crate) fn bytes_of<K>(
     alloc: Global,
     matches: &ArgMatches<'_>,
@@ -77,7 +77,7 @@ pub(crate) fn bytes_of<K>(
     }
 }
 
-/// A copy of that value, or of another where there is none.
+/// Copies that value, or `other` if there is none.
 pub(crate) fn bytes_or<K>(
     alloc: Global,
     matches: &ArgMatches<'_>,
@@ -92,7 +92,7 @@ pub(crate) fn bytes_or<K>(
     }
 }
 
-/// The words of a name.
+/// Returns the words of a name.
 pub(crate) fn words_of(
     alloc: Global,
     matches: &ArgMatches<'_>,

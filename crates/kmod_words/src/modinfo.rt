@@ -26,19 +26,20 @@ const ARGUMENTS: [Argument; 10] = [
 /// What `modinfo` is asked for.
 #[derive(Debug, Drop)]
 pub struct ModinfoWords {
-    /// The key whose values alone are to be shown: `filename` is the path, `parm` are the parameters.
+    /// The only key whose values are shown: `filename` is the path, `parm` are the parameters.
     pub field: Option<Name>,
     /// Whether a line ends with a NUL in place of a line end.
     pub zero: bool,
-    /// The kernel's version, where the words are names of its modules. Without it they are paths.
+    /// The kernel's version, if the words are names of its modules. Without it they are paths.
     pub version: Option<Name>,
-    /// The root below which the kernel's modules stand.
+    /// The root below which the kernel's modules are.
     pub basedir: PathText,
-    /// The names or the paths of modules, at least one, as they stand among the words.
+    /// The names or the paths of modules, at least one, as the words have them.
     pub words: Names,
 }
 
-/// What the words after `modinfo` ask for. It is `None` exactly where they aren't understood. modinfo(8).
+/// Reads what the words after `modinfo` ask for. It is `None` exactly if they aren't understood.
+/// modinfo(8).
 pub fn read_modinfo(alloc: Global, words: &[Word]) -> Result<Option<ModinfoWords>, AllocError>
     ensures { IfOk result (λ asked. asked ≡ modinfo_request words.now) }
 {
@@ -50,7 +51,7 @@ pub fn read_modinfo(alloc: Global, words: &[Word]) -> Result<Option<ModinfoWords
     }
 }
 
-// What the matches ask for.
+// Returns what the matches ask for.
 #[tactic(auto, unfolding(crate::specs::Modinfo::modinfo_asked))]
 fn asked(alloc: Global, matches: &ArgMatches<'_>) -> Result<Option<ModinfoWords>, AllocError>
     ensures { IfOk result (λ asked. asked ≡ modinfo_asked (rows_of (found_of matches.now))) }
@@ -65,7 +66,7 @@ fn asked(alloc: Global, matches: &ArgMatches<'_>) -> Result<Option<ModinfoWords>
     Ok(Some(words_for(alloc, matches, key)?))
 }
 
-// All keys that the matches ask for.
+// Returns all keys that the matches ask for.
 #[tactic(auto, unfolding(crate::specs::Modinfo::keys_asked))]
 fn keys_asked<'a>(alloc: Global, matches: &ArgMatches<'a>) -> Result<Vec<&'a str>, AllocError>
     ensures { IfOk result (λ keys. map (λ key. key.now) keys.items ≡ all_keys (rows_of (found_of matches.now))) }
@@ -98,7 +99,7 @@ fn push_key<'a>(
     Ok(())
 }
 
-// The key, if there is one, and nothing where there are two.
+// Returns the key, if there is one, and nothing if there are two.
 fn single<'a>(keys: &[&'a str]) -> Option<Option<&'a str>>
     ensures { option_map (option_map (λ key. key.now)) result ≡ single_key (map (λ key. key.now) keys.now) }
 {
@@ -119,7 +120,7 @@ fn is_by_name_or_path(matches: &ArgMatches<'_>) -> bool
     }
 }
 
-// What is asked for of a key.
+// Returns what is asked for with a key.
 fn words_for(
     alloc: Global,
     matches: &ArgMatches<'_>,

@@ -53,7 +53,7 @@ pub struct ModprobeWords {
     pub use_blacklist: bool,
     /// Whether install commands of the requested modules are ignored.
     pub ignore_install: bool,
-    /// The root below which the modules stand.
+    /// The root below which the modules are.
     pub dirname: PathText,
     /// The kernel's version, which names the folder of its modules.
     pub version: Name,
@@ -63,11 +63,11 @@ pub struct ModprobeWords {
     pub loaded: Option<PathText>,
     /// The System.map of the kernel. To load it is there.
     pub system_map: Option<PathText>,
-    /// The Module.symvers of the kernel.
+    /// The System.map of the kernel, which is always given for a load.
     pub symvers: Option<PathText>,
     /// Where the region begins in which modules are placed, a multiple of 4096.
     pub region_base: u64,
-    /// How many bytes it has, a multiple of 4096 and not 0. It ends at 2^64 at most.
+    /// How many bytes the region has, a multiple of 4096 and not 0. It ends at 2^64 at most.
     pub region_size: u64,
     /// The folder into which images are written.
     pub image: Option<PathText>,
@@ -75,7 +75,8 @@ pub struct ModprobeWords {
     pub words: Names,
 }
 
-/// What the words after `modprobe` ask for. It is `None` exactly where they aren't understood. modprobe(8).
+/// Reads what the words after `modprobe` ask for. It is `None` exactly if they aren't understood.
+/// modprobe(8).
 pub fn read_modprobe(alloc: Global, words: &[Word]) -> Result<Option<ModprobeWords>, AllocError>
     ensures { IfOk result (λ asked. asked ≡ modprobe_request words.now) }
 {
@@ -87,7 +88,7 @@ pub fn read_modprobe(alloc: Global, words: &[Word]) -> Result<Option<ModprobeWor
     }
 }
 
-// What the matches ask for.
+// Returns what the matches ask for.
 fn asked(alloc: Global, matches: &ArgMatches<'_>) -> Result<Option<ModprobeWords>, AllocError>
     ensures { IfOk result (λ asked. asked ≡ modprobe_asked (rows_of (found_of matches.now))) }
 {
@@ -97,7 +98,7 @@ fn asked(alloc: Global, matches: &ArgMatches<'_>) -> Result<Option<ModprobeWords
     }
 }
 
-// What is chosen among what the words leave open or may get wrong.
+// The choice of what the words leave open or may get wrong.
 #[derive(Clone, Copy)]
 struct Choice<'a> {
     mode: Mode,
@@ -105,7 +106,7 @@ struct Choice<'a> {
     region: Region,
 }
 
-// The choice that the matches make.
+// Returns the choice that the matches make.
 #[tactic(auto, unfolding(crate::specs::Modprobe::chosen))]
 fn choice_of<'a>(matches: &ArgMatches<'a>) -> Option<Choice<'a>>
     ensures { option_map shown result ≡ chosen (rows_of (found_of matches.now)) }
@@ -124,7 +125,7 @@ fn choice_of<'a>(matches: &ArgMatches<'a>) -> Option<Choice<'a>>
     }
 }
 
-// The mode by its flags.
+// Returns the mode that the flags ask for.
 fn mode_asked(matches: &ArgMatches<'_>) -> Option<Mode>
     ensures { result ≡ mode_of_flags (rows_of (found_of matches.now)) }
 {
@@ -157,7 +158,7 @@ fn has_addresses(matches: &ArgMatches<'_>, mode: Mode) -> bool
     }
 }
 
-// What is asked for, by this choice.
+// Returns what is asked for, by this choice.
 fn words_for(
     alloc: Global,
     matches: &ArgMatches<'_>,

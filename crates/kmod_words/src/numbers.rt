@@ -4,7 +4,7 @@ ghost use Rattle.std.specs.List.{list_all};
 ghost use Rattle.std.specs.Char.{is_digit};
 ghost use Rattle.kmod_words.specs.Numbers.{decimal as decimal_number};
 
-/// The number that a text states in 1 to `most` decimal digits, where it has 64 bits.
+/// Returns the number that a text states in 1 to `most` decimal digits, if it has at most 64 bits.
 #[tactic(auto, unfolding(crate::specs::Numbers::decimal))]
 pub(crate) fn decimal(text: &str, most: usize) -> Option<u64>
     ensures { result ≡ decimal_number most text.now }

@@ -11,7 +11,7 @@ pub(crate) struct Region {
     pub size: u64,
 }
 
-/// The region that a text states, or the usual one where there is no text.
+/// Returns the region that a text states, or the usual one if there is no text.
 pub(crate) fn region_or_usual(text: Option<&str>) -> Option<Region>
     ensures { result ≡ region_or_usual_one (option_map (λ t. t.now) text.entry) }
 {
@@ -24,7 +24,7 @@ pub(crate) fn region_or_usual(text: Option<&str>) -> Option<Region>
     }
 }
 
-// The region of a text `BASE:SIZE`.
+// Returns the region of a text `BASE:SIZE`.
 #[tactic(auto, unfolding(crate::specs::Numbers::region_of))]
 fn region_of(text: &[u8]) -> Option<Region>
     ensures { result ≡ region_of_text text.now }
@@ -39,7 +39,7 @@ fn region_of(text: &[u8]) -> Option<Region>
     }
 }
 
-// The number of a text of `0x` and hexadecimal digits.
+// Returns the number of a text of `0x` and hexadecimal digits.
 #[tactic(auto, unfolding(crate::specs::Numbers::prefixed_hexadecimal))]
 fn prefixed_hexadecimal(text: &[u8]) -> Option<u64>
     ensures { result ≡ number_of_text text.now }

@@ -14,13 +14,14 @@ const ARGUMENTS: [Argument; 2] = [Argument::Word("seed"), Argument::Word("count"
 /// What `trial` is asked for.
 #[derive(Clone, Copy, Debug, PartialEq, Eq)]
 pub struct TrialWords {
-    /// What the made tree is drawn from.
+    /// The seed of the made tree.
     pub seed: u64,
     /// How many modules it has, 1 to 2000.
     pub count: u32,
 }
 
-/// What the words after `trial` ask for: `SEED COUNT`. It is `None` exactly where they aren't understood.
+/// Reads what the words after `trial` ask for: `SEED COUNT`. It is `None` exactly if they aren't
+/// understood.
 pub fn read_trial(alloc: Global, words: &[Word]) -> Result<Option<TrialWords>, AllocError>
     ensures request { IfOk result (λ asked. asked ≡ trial_request words.now) }
     ensures range { IfOk result (λ asked. IfSome asked (λ words. (1 ≤ words.count) × (words.count ≤ 2000))) }
@@ -33,7 +34,7 @@ pub fn read_trial(alloc: Global, words: &[Word]) -> Result<Option<TrialWords>, A
     }
 }
 
-// What the matches ask for.
+// Returns what the matches ask for.
 #[tactic(auto, unfolding(crate::specs::Trial::trial_asked))]
 fn asked(matches: &ArgMatches<'_>) -> Option<TrialWords>
     ensures request { result ≡ trial_asked (rows_of (found_of matches.now)) }
@@ -51,7 +52,7 @@ fn asked(matches: &ArgMatches<'_>) -> Option<TrialWords>
     }
 }
 
-// The number that the word of a name states.
+// Returns the number that the word of a name states.
 fn number_of(matches: &ArgMatches<'_>, name: &str, most: usize) -> Option<u64>
     ensures { result ≡ number_of_name most name.now (rows_of (found_of matches.now)) }
 {

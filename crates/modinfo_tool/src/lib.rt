@@ -1,7 +1,7 @@
 //! What modinfo(8) prints of a module: its path, its fields and its parameters, or the values under one key.
 //!
-//! It stands on `modinfo_fields` for the fields, and on `indexmap`, so that telling of many parameters takes a time in proportion to
-//! their number. Only memory can be wanting.
+//! It builds on `modinfo_fields` for the fields. It builds on `indexmap`, so that the text of many
+//! parameters takes a time in proportion to their number. The only error is out of memory.
 #![tactic(auto)]
 
 mod parameters;

@@ -11,10 +11,10 @@ use name_table::{NameHash, NameKey, NameSet};
 use std::alloc::{AllocError, Global};
 use std::hash::BuildHasherDefault;
 
-// What is told of parameters, by their names.
+// Descriptions of parameters, by the parameters' names.
 type Told<'a> = IndexMap<NameKey<'a>, &'a [u8], NameHash>;
 
-/// Whether the field tells of a parameter.
+/// Whether the field describes a parameter.
 pub(crate) fn is_parameter(field: &Field) -> bool
     ensures { result ≡ tells_of_parameter field.now }
 {
@@ -22,7 +22,8 @@ pub(crate) fn is_parameter(field: &Field) -> bool
     key == b"parm".as_slice() || key == b"parmtype".as_slice()
 }
 
-/// The values of the parameters that the fields tell of, in the order in which they are first seen.
+/// Returns the values of the parameters that the fields describe, in the order in which they are
+/// first seen.
 #[tactic(auto, unfolding(crate::specs::Parameters::parameter_values))]
 pub(crate) fn parameter_values(alloc: Global, fields: &FieldList) -> Result<Texts, AllocError>
     ensures { IfOk result (λ values. values ≡ values_of_parameters fields.now) }
@@ -35,7 +36,7 @@ pub(crate) fn parameter_values(alloc: Global, fields: &FieldList) -> Result<Text
     described_all(alloc, &names, &texts, &kinds)
 }
 
-// The values of parameters, by what is told of them.
+// Returns the values of parameters, by their descriptions.
 fn described_all(
     alloc: Global,
     names: &NameSet<'_>,
@@ -54,7 +55,7 @@ fn described_all(
     Ok(values)
 }
 
-// The value of a parameter, by what is told of each.
+// Returns the value of a parameter, by the descriptions of all.
 fn describe_by(
     alloc: Global,
     name: &[u8],
@@ -69,7 +70,7 @@ fn describe_by(
     describe(alloc, name, text, kind)
 }
 
-// The value of a parameter, by its text and its type.
+// Returns the value of a parameter, by its text and its type.
 fn describe(
     alloc: Global,
     name: &[u8],
@@ -95,7 +96,7 @@ fn describe(
     Ok(value)
 }
 
-// For each parameter, what the first of the values that tells of it tells of it.
+// Returns for each parameter its description by the first of the values that describes it.
 fn first_told<'a>(alloc: Global, values: &'a [Blob]) -> Result<Told<'a>, AllocError>
     ensures { IfOk result (λ told. (name : List ℕ) → told_in told name ≡ first_told_of values.now name) }
 {
@@ -107,7 +108,7 @@ fn first_told<'a>(alloc: Global, values: &'a [Blob]) -> Result<Told<'a>, AllocEr
     Ok(told)
 }
 
-// Puts in what is told under a name, unless something is.
+// Puts in a description under a name, unless the name has one.
 fn keep_first<'a>(told: &mut Told<'a>, name: &'a [u8], rest: &'a [u8]) -> Result<(), AllocError>
     ensures ok { OnOk result ((other : List ℕ) → told_in told.new other
         ≡ option_or (told_in told.old other) (if bytes_eq name.now other then Some rest.now else None)) }
@@ -119,7 +120,7 @@ fn keep_first<'a>(told: &mut Told<'a>, name: &'a [u8], rest: &'a [u8]) -> Result
     Ok(())
 }
 
-// The parameters that any field tells of, in the order in which they are first seen.
+// Returns the parameters that any field describes, in the order in which they are first seen.
 fn parameter_names<'a>(alloc: Global, fields: &'a FieldList) -> Result<NameSet<'a>, AllocError>
     ensures { IfOk result (λ names. names ≡ names_of_parameters fields.now) }
 {

@@ -12,17 +12,19 @@ use std::alloc::{AllocError, Global};
 /// What modinfo is to show of a module, and how.
 #[derive(Debug, Drop)]
 pub struct ShowOptions {
-    /// The key whose values alone are shown: `filename` is the path, `parm` are the parameters. `None` shows all.
+    /// The only key whose values are shown: `filename` is the path, `parm` are the parameters.
+    /// `None` shows all.
     pub field: Option<Name>,
     /// Whether a line ends with a NUL in place of a line end.
     pub zero: bool,
 }
 
-/// The text that modinfo shows of the module at a path, with these fields. modinfo(8).
+/// Returns the text that modinfo shows of the module at a path, with these fields. modinfo(8).
 ///
-/// Without a key it has a line for the path, one for each field in order but `parm` and `parmtype`, and one for
-/// each parameter in the order in which they are first seen. The value of a parameter is `NAME:TEXT (TYPE)`, by its
-/// first `parm` and its first `parmtype`. With a key it has the values of that key alone.
+/// Without a key it has a line for the path, and one for each field except `parm` and `parmtype`,
+/// in order. Then it has one for each parameter, in the order in which they are first seen. The
+/// value of a parameter is `NAME:TEXT (TYPE)`, by its first `parm` and its first `parmtype`. With a
+/// key it has only the values of that key.
 #[tactic(auto, unfolding(crate::specs::Show::shown))]
 pub fn show(
     alloc: Global,
@@ -48,7 +50,7 @@ fn line_end(zero: bool) -> u8
     if zero { 0 } else { b'\n' }
 }
 
-// All that is known of a module.
+// Returns all that is known of a module.
 #[tactic(auto, unfolding(crate::specs::Show::all_lines))]
 fn all_text(alloc: Global, path: &PathText, fields: &FieldList, end: u8) -> Result<Blob, AllocError>
     ensures { IfOk result (λ text. text ≡ ended end (all_lines path.now fields.now)) }
@@ -61,7 +63,7 @@ fn all_text(alloc: Global, path: &PathText, fields: &FieldList, end: u8) -> Resu
     Ok(text)
 }
 
-// A line for each field but those that tell of parameters.
+// Puts a line for each field at the end, except those that describe parameters.
 fn push_fields(text: &mut Blob, fields: &FieldList, end: u8) -> Result<(), AllocError>
     ensures ok { OnOk result (text.new ≡ text.old ++ ended end
         (map (λ (field : Field). labelled field.key field.value) (filter (λ field. not (tells_of_parameter field)) fields.now))) }
@@ -76,7 +78,7 @@ fn push_fields(text: &mut Blob, fields: &FieldList, end: u8) -> Result<(), Alloc
     Ok(())
 }
 
-// A line for each parameter.
+// Puts a line for each parameter at the end.
 fn push_parameters(text: &mut Blob, values: &[Blob], end: u8) -> Result<(), AllocError>
     ensures ok { OnOk result (text.new ≡ text.old ++ ended end (map (labelled (codes "parm")) values.now)) }
 {
@@ -86,7 +88,7 @@ fn push_parameters(text: &mut Blob, values: &[Blob], end: u8) -> Result<(), Allo
     Ok(())
 }
 
-// A value under its key, on a line of its own.
+// Puts a value under its key at the end, on a line of its own.
 fn push_labelled(text: &mut Blob, key: &[u8], value: &[u8], end: u8) -> Result<(), AllocError>
     ensures ok { OnOk result (text.new ≡ text.old ++ (labelled key.now value.now ++ end ∷ [])) }
 {
@@ -106,7 +108,7 @@ fn push_spaces(text: &mut Blob, count: usize) -> Result<(), AllocError>
     Ok(())
 }
 
-// The values under a key.
+// Returns the values under a key.
 #[tactic(auto, unfolding(crate::specs::Show::values_under))]
 fn values_under(
     alloc: Global,
@@ -127,7 +129,7 @@ fn values_under(
     fields.values_of(alloc, key)
 }
 
-// The lines, each with its end.
+// Returns the lines, each with its end.
 fn lines_text(alloc: Global, lines: &[Blob], end: u8) -> Result<Blob, AllocError>
     ensures { IfOk result (λ text. text ≡ ended end lines.now) }
 {

@@ -13,7 +13,7 @@ use Rattle.km_names.specs.Path.{path_below}
 use Rattle.km_names.specs.declared.conf.ConfFile.{ConfFile}
 use Rattle.km_outside.specs.Contents.{by_bytes}
 use Rattle.km_course.proofs.Steps.{gave}
-use Rattle.km_course.specs.Course.{Stage, ◌>>=◌, gives, each_from, reads, lists_any_conf}
+use Rattle.km_course.specs.Course.{Stage, ◌>>=◌, gives, each_from, lists_any_conf}
 use Rattle.km_course.specs.World.{World}
 use Rattle.km_course.specs.Follows.{Follows}
 use Rattle.km_course.specs.declared.stop.Stop.{Stop}
@@ -108,10 +108,9 @@ abbrev pub folder_added : List ListedFolder → List ℕ → List (List ℕ) →
 folder_added listed path names = gives (listed ++ record { path = path; names = names } ∷ [])
 
 -- a folder of this path is the one below the root
-pub at-root : (name root path named : List ℕ) (listed : List ListedFolder) (old new : World) (r : Result (List ListedFolder) Stop) → named ≡ path → path ≡ path_below root name → Follows (λ x. x) (lists_any_conf named >>= folder_added listed path) old new r → Follows (λ x. x) (lists_folder name listed root) old new r
-at-root name root path named listed old new r same is f =
-    subst (λ p. Follows (λ (x : List ListedFolder). x) (lists_any_conf p >>= folder_added listed p) old new r) is
-    (subst (λ p. Follows (λ (x : List ListedFolder). x) (lists_any_conf p >>= folder_added listed path) old new r) same f)
+pub at-root : (name root path : List ℕ) (listed : List ListedFolder) (old new : World) (r : Result (List ListedFolder) Stop) → path ≡ path_below root name → Follows (λ x. x) (lists_any_conf path >>= folder_added listed path) old new r → Follows (λ x. x) (lists_folder name listed root) old new r
+at-root name root path listed old new r is f =
+    subst (λ p. Follows (λ (x : List ListedFolder). x) (lists_any_conf p >>= folder_added listed p) old new r) is f
 
 -- a value that was given is this one
 pub gave-as : {X : Type 0} (w : World) (x y : X) → x ≡ y → Follows (λ (x : X). x) (gives y) w w (Ok x)
@@ -124,12 +123,6 @@ folders_rest name roots listed = each_from (lists_folder name) listed roots
 -- the stage after a file was read
 abbrev pub file_added : List ConfFile → List ℕ → List ℕ → Stage (List ConfFile)
 file_added files path bytes = gives (files ++ record { path = path; bytes = bytes } ∷ [])
-
--- a file of this path
-pub at-path : (path named own : List ℕ) (files : List ConfFile) (old new : World) (r : Result (List ConfFile) Stop) → named ≡ path → own ≡ path → Follows (λ x. x) (reads named >>= file_added files own) old new r → Follows (λ x. x) (reads_file files path) old new r
-at-path path named own files old new r same is f =
-    subst (λ p. Follows (λ (x : List ConfFile). x) (reads path >>= file_added files p) old new r) is
-    (subst (λ p. Follows (λ (x : List ConfFile). x) (reads p >>= file_added files own) old new r) same f)
 
 -- the stage of the files after the first one
 abbrev pub files_rest : List (List ℕ) → List ConfFile → Stage (List ConfFile)

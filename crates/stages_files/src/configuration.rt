@@ -31,11 +31,15 @@ pub struct ListedFolder {
     pub names: Names,
 }
 
-/// The files of a tool's configuration, in the order in which they count. Without `config` they stand in the folders
-/// `/etc/X`, `/run/X`, `/usr/local/lib/X`, `/usr/lib/X` and `/lib/X`, with X `depmod.d` or `modprobe.d`; one that isn't
-/// there is empty. Of equal base names the earlier folder's file counts, and the files stand in the order of the bytes of
-/// their base names. With a `config` that ends in `.conf` it is the one file, any other is the one folder, and it has to
-/// be there. All folders are listed, and then the files are read. depmod.d(5), modprobe.d(5).
+/// Reads the files of a tool's configuration, in the order in which they count.
+///
+/// Without `config` they are in the folders `/etc/X`, `/run/X`, `/usr/local/lib/X`, `/usr/lib/X`
+/// and `/lib/X`, with X `depmod.d` or `modprobe.d`. A missing folder counts as empty. Of equal base
+/// names the file of the earlier folder counts, and the files are in the order of the bytes of
+/// their base names.
+///
+/// A `config` that ends in `.conf` is the only file, and any other is the only folder; it is
+/// required. All folders are listed, and then the files are read. depmod.d(5), modprobe.d(5).
 pub fn read_configuration<F: Reads>(
     alloc: Global,
     tool: Tool,
@@ -56,7 +60,7 @@ pub fn read_configuration<F: Reads>(
     }
 }
 
-/// How a fault of configuration files stops a command.
+/// Returns how a fault of configuration files stops a command.
 pub fn stop_of_fault(fault: ConfFault) -> Stop
     ensures { result ≡ stop_of fault }
 {
@@ -66,7 +70,7 @@ pub fn stop_of_fault(fault: ConfFault) -> Stop
     }
 }
 
-/// Where the folders of a tool's configuration stand.
+/// Returns where the folders of a tool's configuration are.
 fn roots(alloc: Global) -> Result<Paths, AllocError>
     ensures { IfOk result (λ paths. paths ≡ roots_in_order) }
 {
@@ -79,7 +83,7 @@ fn roots(alloc: Global) -> Result<Paths, AllocError>
     Ok(paths)
 }
 
-/// The name of the folders of a tool's configuration.
+/// Returns the name of the folders of a tool's configuration.
 fn folder_name(tool: Tool) -> &'static [u8]
     ensures { result.now ≡ folder_name_of tool }
 {
@@ -89,7 +93,7 @@ fn folder_name(tool: Tool) -> &'static [u8]
     }
 }
 
-/// The files of the configuration at the path, which is a file or a folder.
+/// Reads the files of the configuration at the path, which is a file or a folder.
 fn read_given<F: Reads>(alloc: Global, path: PathText, files: &mut F) -> Result<ConfFiles, Stop>
     ensures follows { (out err : OutSeen) → Follows (λ x. x) (reads_given path)
         (world (F.seen files.old) out err) (world (F.seen files.new) out err) result }
@@ -99,9 +103,8 @@ fn read_given<F: Reads>(alloc: Global, path: PathText, files: &mut F) -> Result<
         let paths = one_path(alloc, path)?;
         return read_files(alloc, paths.as_slice(), files);
     }
-    let named = PathText::from_slice(alloc, path.as_bytes())?;
-    let names = list_conf_needed(alloc, files, path)?;
-    let folders = one_folder(alloc, named, names)?;
+    let names = list_conf_needed(alloc, files, &path)?;
+    let folders = one_folder(alloc, path, names)?;
     read_listed(alloc, &folders, files)
 }
 
@@ -125,7 +128,7 @@ fn one_folder(
     Ok(folders)
 }
 
-/// The folders of a tool's configuration below these roots, with what they list.
+/// Lists the folders of a tool's configuration below these roots.
 fn list_folders<F: Reads>(
     alloc: Global,
     tool: Tool,
@@ -143,7 +146,7 @@ fn list_folders<F: Reads>(
     Ok(listed)
 }
 
-/// The folders that were listed, and the one of this name below a root.
+/// Adds the folder of this name below a root to the folders that were listed.
 fn with_folder<F: Reads>(
     alloc: Global,
     mut listed: Items<ListedFolder>,
@@ -155,13 +158,12 @@ fn with_folder<F: Reads>(
         (world (F.seen files.old) out err) (world (F.seen files.new) out err) result }
 {
     let path = join(alloc, root, name)?;
-    let named = PathText::from_slice(alloc, path.as_bytes())?;
-    let names = list_conf_optional(alloc, files, named)?;
+    let names = list_conf_optional(alloc, files, &path)?;
     listed.push(ListedFolder { path, names })?;
     Ok(listed)
 }
 
-/// The files that folders list, as they count.
+/// Reads the files that folders list, as they count.
 fn read_listed<F: Reads>(
     alloc: Global,
     folders: &Items<ListedFolder>,
@@ -175,7 +177,7 @@ fn read_listed<F: Reads>(
     read_files(alloc, paths.as_slice(), files)
 }
 
-/// The paths of the files that count, in their order.
+/// Returns the paths of the files that count, in their order.
 fn chosen_paths(alloc: Global, folders: &[ListedFolder]) -> Result<Paths, AllocError>
     ensures { IfOk result (λ paths. paths ≡ paths_of folders.now) }
 {
@@ -217,7 +219,7 @@ fn put_name(
     Ok(())
 }
 
-/// The paths of files, in the order of their names.
+/// Returns the paths of files, in the order of their names.
 fn in_order(alloc: Global, found: BTreeMap<Vec<u8>, PathText>) -> Result<Paths, AllocError>
     ensures { IfOk result (λ paths. paths ≡ tree.values found) }
 {
@@ -225,7 +227,7 @@ fn in_order(alloc: Global, found: BTreeMap<Vec<u8>, PathText>) -> Result<Paths, 
     Ok(Paths::from_vec(paths))
 }
 
-/// The files at the paths, one after the other.
+/// Reads the files at the paths, one after the other.
 fn read_files<F: Reads>(alloc: Global, paths: &[PathText], files: &mut F) -> Result<ConfFiles, Stop>
     ensures follows { (out err : OutSeen) → Follows (λ x. x) (reads_files paths.now)
         (world (F.seen files.old) out err) (world (F.seen files.new) out err) result }
@@ -238,7 +240,7 @@ fn read_files<F: Reads>(alloc: Global, paths: &[PathText], files: &mut F) -> Res
     Ok(read)
 }
 
-/// The files that were read, and the one at the path.
+/// Adds the file at the path to the files that were read.
 fn with_file<F: Reads>(
     alloc: Global,
     mut read: ConfFiles,
@@ -250,9 +252,8 @@ fn with_file<F: Reads>(
         (world (F.seen files.old) out err) (world (F.seen files.new) out err) result }
     ensures limit { IfOk result (λ more. All (λ file. length file.bytes ≤ file_limit) more) }
 {
-    let named = PathText::from_slice(alloc, path.as_bytes())?;
+    let bytes = read_needed(alloc, files, path)?;
     let own = PathText::from_slice(alloc, path.as_bytes())?;
-    let bytes = read_needed(alloc, files, named)?;
     read.push(ConfFile { path: own, bytes })?;
     Ok(read)
 }

@@ -13,18 +13,16 @@ use std::alloc::Global;
 use std::marker::Brand;
 use std::sync::ledger::{Blank, Ledger};
 
-/// The index in the file at the path, which is needed.
+/// Reads the index in the file at the path, which is required.
 pub fn read_index<F: Reads>(alloc: Global, path: PathText, files: &mut F) -> Result<Index, Stop>
     ensures { (out err : OutSeen) → Follows (λ x. x) (reads_index path)
         (world (F.seen files.old) out err) (world (F.seen files.new) out err) result }
 {
-    // A failed read and a bad index both name the path in their line.
-    let named = PathText::from_slice(alloc, path.as_bytes())?;
-    let bytes = read_needed(alloc, files, path)?;
-    adopt_index(alloc, bytes, named)
+    let bytes = read_needed(alloc, files, &path)?;
+    adopt_index(alloc, bytes, path)
 }
 
-/// The index of these bytes, or the refusal of the file at the path.
+/// Returns the index of these bytes, or the refusal of the file at the path.
 fn adopt_index(alloc: Global, bytes: Blob, file: PathText) -> Result<Index, Stop>
     ensures { Answers (λ x. x) (index_outcome file bytes (index_fault bytes)) result }
 {
@@ -40,14 +38,14 @@ fn adopt_index(alloc: Global, bytes: Blob, file: PathText) -> Result<Index, Stop
     }
 }
 
-/// The text of the first value that the index has for the key.
+/// Returns the text of the first value that the index has for the key.
 pub fn first_text<'a>(index: &'a Index, key: &[u8]) -> Option<&'a [u8]>
     ensures { option_copied result ≡ first_text index.now.nodes key.now }
 {
     counted_text::<Brand>(index, key, Blank::new(1))
 }
 
-/// The same, where the nodes that are read are counted on a ledger.
+/// Returns the same text, and counts the nodes that are read on a ledger.
 fn counted_text<'a, L: Ledger>(index: &'a Index, key: &[u8], blank: Blank) -> Option<&'a [u8]>
     requires name { blank.name ≡ L.name }
     requires parts { blank.parts ≡ L.parts }

@@ -18,11 +18,12 @@ use std::alloc::{AllocError, Global};
 pub struct KernelModules {
     /// The folder of the kernel's modules.
     pub folder: PathText,
-    /// Its index from the names of modules to their dependency lines.
+    /// The folder's index from the names of modules to their dependency lines.
     pub index: Index,
 }
 
-/// The folder of the modules of a kernel of this version, below a root. depmod(8), modprobe(8).
+/// Returns the folder of the modules of a kernel of this version, below a root. depmod(8),
+/// modprobe(8).
 pub fn modules_folder(
     alloc: Global,
     root: &PathText,
@@ -34,7 +35,7 @@ pub fn modules_folder(
     join(alloc, &folder, version.as_bytes())
 }
 
-/// The modules in the folder, by its modules.dep.bin.
+/// Reads the modules in the folder, by its modules.dep.bin.
 pub fn read_modules<F: Reads>(
     alloc: Global,
     folder: PathText,
@@ -48,8 +49,8 @@ pub fn read_modules<F: Reads>(
     Ok(KernelModules { folder, index })
 }
 
-/// The path of the module of this name, whose `-` is read as `_`. A name that isn't listed, or whose value is
-/// no dependency line, is not found.
+/// Returns the path of the module of this name, whose `-` is read as `_`. A name that isn't listed,
+/// or whose value is no dependency line, is not found.
 pub fn path_of_name(alloc: Global, modules: &KernelModules, name: &[u8]) -> Result<PathText, Stop>
     ensures { Answers (λ x. x) (path_outcome modules.now (underscored name.now)) result }
 {
@@ -60,8 +61,8 @@ pub fn path_of_name(alloc: Global, modules: &KernelModules, name: &[u8]) -> Resu
     }
 }
 
-/// The path in the folder of the module of this name, by its dependency line. There is none where the name isn't listed,
-/// or its value is no dependency line. modules.dep(5).
+/// Returns the path in the folder of the module of this name, by its dependency line. There is none
+/// if the name isn't listed, or its value is no dependency line. modules.dep(5).
 pub fn path_listed<'a>(index: &'a Index, name: &[u8]) -> Option<&'a [u8]>
     ensures { option_copied result ≡ path_listed index.now name.now }
 {

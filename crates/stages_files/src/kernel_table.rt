@@ -12,8 +12,8 @@ use km_outside::Reads;
 use provider_rel::{Kernel, KernelFault};
 use std::alloc::Global;
 
-/// The table of the kernel: of a System.map or of a Module.symvers, where one of them is named; else nothing is known
-/// of it. depmod(8), `-F` and `-E`.
+/// Reads the table of the kernel from a System.map or a Module.symvers, if one of them is named.
+/// Otherwise nothing is known of the kernel. depmod(8), `-F` and `-E`.
 pub fn read_kernel<F: Reads>(
     alloc: Global,
     map: Option<PathText>,
@@ -32,28 +32,27 @@ pub fn read_kernel<F: Reads>(
     }
 }
 
-/// The table of the System.map at the path, which is needed. A line that isn't understood is refused.
+/// Reads the table of the System.map at the path, which is required. A line that isn't understood
+/// is refused.
 pub fn read_map<F: Reads>(alloc: Global, file: PathText, files: &mut F) -> Result<Kernel, Stop>
     ensures { (out err : OutSeen) → Follows table_of (reads_map file)
         (world (F.seen files.old) out err) (world (F.seen files.new) out err) result }
 {
-    // A failed read and a bad line both name the path in their line.
-    let named = PathText::from_slice(alloc, file.as_bytes())?;
-    let bytes = read_needed(alloc, files, file)?;
-    map_table(alloc, bytes, named)
+    let bytes = read_needed(alloc, files, &file)?;
+    map_table(alloc, bytes, file)
 }
 
-/// The table of the Module.symvers at the path, which is needed. A line that isn't understood is refused.
+/// Reads the table of the Module.symvers at the path, which is required. A line that isn't
+/// understood is refused.
 pub fn read_symvers<F: Reads>(alloc: Global, file: PathText, files: &mut F) -> Result<Kernel, Stop>
     ensures { (out err : OutSeen) → Follows table_of (reads_symvers file)
         (world (F.seen files.old) out err) (world (F.seen files.new) out err) result }
 {
-    let named = PathText::from_slice(alloc, file.as_bytes())?;
-    let bytes = read_needed(alloc, files, file)?;
-    symvers_table(alloc, bytes, named)
+    let bytes = read_needed(alloc, files, &file)?;
+    symvers_table(alloc, bytes, file)
 }
 
-/// The table of a System.map of these bytes, or the refusal of the file at the path.
+/// Returns the table of a System.map of these bytes, or the refusal of the file at the path.
 fn map_table(alloc: Global, bytes: Blob, file: PathText) -> Result<Kernel, Stop>
     requires { length bytes ≤ file_limit }
     ensures { Answers table_of (table_outcome file (exports_of_map bytes)) result }
@@ -64,7 +63,7 @@ fn map_table(alloc: Global, bytes: Blob, file: PathText) -> Result<Kernel, Stop>
     }
 }
 
-/// The table of a Module.symvers of these bytes, or the refusal of the file at the path.
+/// Returns the table of a Module.symvers of these bytes, or the refusal of the file at the path.
 fn symvers_table(alloc: Global, bytes: Blob, file: PathText) -> Result<Kernel, Stop>
     requires { length bytes ≤ file_limit }
     ensures { Answers table_of (table_outcome file (exports_of_symvers bytes)) result }
@@ -75,7 +74,7 @@ fn symvers_table(alloc: Global, bytes: Blob, file: PathText) -> Result<Kernel, S
     }
 }
 
-/// How a fault of the kernel's table in the file at the path stops a command.
+/// Returns how a fault of the kernel's table in the file at the path stops a command.
 pub fn stop_of_table(fault: KernelFault, file: PathText) -> Stop
     ensures { result ≡ table_stop file fault }
 {

@@ -1,8 +1,9 @@
-//! The stages that the commands share: the file of a module, an index, the modules of a kernel, the kernel's table, and the
-//! files of a tool's configuration. Each gives what it read, checked at once where it is one file, or ends the command with
-//! the line of its refusal.
+//! The stages that the commands share: the file of a module, an index, the modules of a kernel, the
+//! kernel's table, and the files of a tool's configuration. Each stage gives what it read, and
+//! checks a single file at once. Or it ends the command with the line of its refusal.
 //!
-//! It stands on `km_course` for the relation between a call and its stage, and on the readers of the formats.
+//! It builds on `km_course` for the relation between a call and its stage, and on the readers of
+//! the formats.
 #![tactic(auto)]
 
 mod configuration;

@@ -10,7 +10,7 @@ use km_names::{Blob, PathText, is_compressed};
 use km_outside::Reads;
 use std::alloc::Global;
 
-/// The sections of the module at the path. A compressed one is refused unread.
+/// Reads the sections of the module at the path. A compressed one is refused unread.
 pub fn read_sections<F: Reads>(
     alloc: Global,
     path: PathText,
@@ -22,13 +22,11 @@ pub fn read_sections<F: Reads>(
     if is_compressed(&path) {
         return Err(Stop::from(Refusal::Compressed { path }));
     }
-    // A failed read and a bad module both name the path in their line.
-    let named = PathText::from_slice(alloc, path.as_bytes())?;
-    let bytes = read_needed(alloc, files, path)?;
-    check_sections(alloc, bytes, named)
+    let bytes = read_needed(alloc, files, &path)?;
+    check_sections(alloc, bytes, path)
 }
 
-/// The sections of a module's bytes, or the refusal of the module at the path.
+/// Returns the sections of a module's bytes, or the refusal of the module at the path.
 fn check_sections(alloc: Global, bytes: Blob, path: PathText) -> Result<Sections, Stop>
     ensures { Answers (λ x. x) (sections_outcome path bytes (shape_fault bytes)) result }
 {

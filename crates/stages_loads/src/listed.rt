@@ -15,10 +15,10 @@ use model_loader::Machine;
 use stages_files::path_listed;
 use std::alloc::Global;
 
-/// Loads the modules that are listed as loaded, the oldest first, from the folder of the kernel's modules, whose
-/// modules.dep.bin is the index; the list has the newest first. Nothing is written. A name that the index doesn't have, or
-/// whose value is no dependency line, and a module whose load is refused end the command with a line of their own.
-/// modprobe(8), proc(5).
+/// Loads the modules that are listed as loaded, the oldest first, from the folder of the kernel's
+/// modules. The folder's modules.dep.bin is the index, and the list has the newest first. Nothing
+/// is written. A name that the index doesn't have, or whose value is no dependency line, ends the
+/// command with a line of its own. So does a module whose load is refused. modprobe(8), proc(5).
 pub fn load_listed<F: Reads>(
     alloc: Global,
     folder: &PathText,
@@ -55,7 +55,7 @@ fn load_listed_one<F: Reads>(
     load(alloc, Cause::Listed, machine, &module)
 }
 
-/// The path in the folder of the listed module of a name, or its refusal.
+/// Returns the path in the folder of the listed module of a name, or its refusal.
 fn path_of_listed(alloc: Global, index: &Index, name: &Name) -> Result<PathText, Stop>
     ensures { Answers (λ x. x) (listed_outcome name.now (path_listed index.now name.now)) result }
 {

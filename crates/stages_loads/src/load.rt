@@ -24,9 +24,10 @@ pub enum Cause {
     Planned,
 }
 
-/// Loads the modules at these paths of the tree in the folder, one after the other: each is read and checked and goes into
-/// the machine; its image is put into the folder for images, where there is one; and the line of the load is written. The
-/// first refusal ends the command, and what was loaded before stands. modprobe(8).
+/// Loads the modules at these paths of the tree in the folder, one after the other. Each is read
+/// and checked and goes into the machine. Then its image is put into the folder for images, if
+/// there is one, and the line of the load is written. The first refusal ends the command, and what
+/// was loaded before it stays. modprobe(8).
 pub fn load_all<F: Writes, O: Out>(
     alloc: Global,
     folder: &PathText,
@@ -64,7 +65,7 @@ fn load_one<F: Writes, O: Out>(
     Ok(after)
 }
 
-/// The machine with the module, or the refusal of the load.
+/// Returns the machine with the module, or the refusal of the load.
 pub(crate) fn load(
     alloc: Global,
     cause: Cause,
@@ -86,7 +87,7 @@ pub(crate) fn load(
     }
 }
 
-/// The refusal of a load.
+/// Returns the refusal of a load.
 fn refused(cause: Cause, name: Name, text: Blob) -> Refusal
     ensures { result ≡ load_refusal cause name text }
 {

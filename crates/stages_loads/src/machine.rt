@@ -17,10 +17,11 @@ use provider_rel::Kernel;
 use stages_files::{read_map, read_symvers, stop_of_table};
 use std::alloc::Global;
 
-/// The machine of a kernel, with no module, into whose region modules are to be loaded. Its exports are those of the
-/// Module.symvers where one is named, else those of the System.map, which has their addresses. The System.map is read and
-/// understood before the Module.symvers is read. A line that isn't understood is refused, and so is the first export
-/// without an address. modprobe(8).
+/// Reads the machine of a kernel, with no module, whose region is for the modules to load. Its
+/// exports are those of the Module.symvers, if one is named, or else those of the System.map, which
+/// has their addresses. The System.map is read and understood before the Module.symvers is read. A
+/// line that isn't understood is refused, and so is the first export without an address.
+/// modprobe(8).
 pub fn read_machine<F: Reads>(
     alloc: Global,
     system_map: PathText,
@@ -35,7 +36,7 @@ pub fn read_machine<F: Reads>(
     make_machine(alloc, kernel, region)
 }
 
-/// The exports of a kernel at their addresses.
+/// Reads the exports of a kernel at their addresses.
 fn read_addressed<F: Reads>(
     alloc: Global,
     system_map: PathText,
@@ -51,7 +52,8 @@ fn read_addressed<F: Reads>(
     }
 }
 
-/// The exports of the Module.symvers at the addresses of the System.map, which is understood before.
+/// Reads the exports of the Module.symvers at the addresses of the System.map, which is understood
+/// before.
 fn read_both<F: Reads>(
     alloc: Global,
     system_map: PathText,
@@ -61,15 +63,13 @@ fn read_both<F: Reads>(
     ensures { (out err : OutSeen) → Follows table_of (reads_addressed system_map (Some symvers))
         (world (F.seen files.old) out err) (world (F.seen files.new) out err) result }
 {
-    // A failed read and a bad line both name the path in their line.
-    let named = PathText::from_slice(alloc, system_map.as_bytes())?;
-    let bytes = read_needed(alloc, files, system_map)?;
-    check_map(alloc, &named, &bytes)?;
+    let bytes = read_needed(alloc, files, &system_map)?;
+    check_map(alloc, &system_map, &bytes)?;
     let kernel = read_symvers(alloc, symvers, files)?;
-    with_addresses(kernel, named, &bytes)
+    with_addresses(kernel, system_map, &bytes)
 }
 
-/// The table of a System.map of these bytes, or the refusal of the file at the path.
+/// Returns the table of a System.map of these bytes, or the refusal of the file at the path.
 fn check_map(alloc: Global, file: &PathText, bytes: &Blob) -> Result<Kernel, Stop>
     requires { length bytes.now ≤ file_limit }
     ensures { Answers table_of (table_outcome file.now (exports_of_map bytes.now)) result }
@@ -83,7 +83,8 @@ fn check_map(alloc: Global, file: &PathText, bytes: &Blob) -> Result<Kernel, Sto
     }
 }
 
-/// The kernel with the addresses that a System.map of these bytes has, or the refusal of the file at the path.
+/// Returns the kernel with the addresses that a System.map of these bytes has, or the refusal of
+/// the file at the path.
 fn with_addresses(mut kernel: Kernel, file: PathText, bytes: &Blob) -> Result<Kernel, Stop>
     requires { length bytes.now ≤ file_limit }
     ensures { Answers table_of (addressed_outcome file kernel.known (exports_with_addresses bytes.now kernel.exports)) result }
@@ -94,7 +95,7 @@ fn with_addresses(mut kernel: Kernel, file: PathText, bytes: &Blob) -> Result<Ke
     }
 }
 
-/// The machine of the kernel, or the refusal of its first export without an address.
+/// Returns the machine of the kernel, or the refusal of its first export without an address.
 fn make_machine(alloc: Global, kernel: Kernel, region: Region) -> Result<Machine, Stop>
     ensures { Answers (λ x. x) (machine_outcome (table_of kernel) region (kernel_fault kernel.exports)) result }
 {

@@ -12,7 +12,8 @@ use km_outside::Reads;
 use module_facts::{Module, ModuleFault, read_module};
 use std::alloc::Global;
 
-/// The module at a path of the tree in the folder. A compressed one is refused unread. Refusals name the whole path.
+/// Reads the module at a path of the tree in the folder. A compressed one is refused unread.
+/// Refusals name the whole path.
 pub(crate) fn read_module_in<F: Reads>(
     alloc: Global,
     folder: &PathText,
@@ -26,13 +27,11 @@ pub(crate) fn read_module_in<F: Reads>(
     if is_compressed(path) {
         return Err(Stop::from(Refusal::Compressed { path: file }));
     }
-    // A failed read and a bad module both name the path in their line.
-    let named = PathText::from_slice(alloc, file.as_bytes())?;
-    let bytes = read_needed(alloc, files, file)?;
-    check_module(alloc, named, path, bytes)
+    let bytes = read_needed(alloc, files, &file)?;
+    check_module(alloc, file, path, bytes)
 }
 
-/// The module of these bytes at a path of the tree, or the refusal of the file.
+/// Returns the module of these bytes at a path of the tree, or the refusal of the file.
 fn check_module(alloc: Global, file: PathText, path: &PathText, bytes: Blob) -> Result<Module, Stop>
     requires { length bytes ≤ file_limit }
     ensures { Answers (λ x. x) (file_outcome file path.now bytes) result }

@@ -1,4 +1,4 @@
-// What becomes of a load: its image is put, and its line is written.
+// What follows a load: its image is put, and its line is written.
 ghost use Rattle.std.specs.Prelude.{◌≡◌, ◌++◌, codes, IfOk, option_copied};
 ghost use Rattle.km_names.specs.Path.{path_below};
 ghost use Rattle.km_outside.specs.OutSeen.{OutSeen};
@@ -14,8 +14,8 @@ use model_loader::{LoadedModule, Machine};
 use sha2::{Digest, Sha256};
 use std::alloc::{AllocError, Global};
 
-/// Puts the image of the module that was loaded last into the folder for images, where there is one, and then writes the
-/// line of its load.
+/// Puts the image of the last loaded module into the folder for images, if there is one. Then it
+/// writes the line of the load.
 pub(crate) fn show_load<F: Writes, O: Out>(
     alloc: Global,
     images: Option<&PathText>,
@@ -35,7 +35,7 @@ pub(crate) fn show_load<F: Writes, O: Out>(
     say(out, line.as_bytes())
 }
 
-/// Puts an image into the folder for images, where there is one, under the name of its module.
+/// Puts an image into the folder for images, if there is one, under the name of its module.
 fn put_image<F: Writes>(
     alloc: Global,
     images: Option<&PathText>,
@@ -55,7 +55,7 @@ fn put_image<F: Writes>(
     }
 }
 
-/// Where the image of a module of this name stands in the folder for images.
+/// Returns the path of the image of a module of this name in the folder for images.
 fn image_path(alloc: Global, folder: &PathText, name: &Name) -> Result<PathText, AllocError>
     ensures { IfOk result (λ path. path ≡ path_below folder.now (name.now ++ codes ".img")) }
 {
@@ -64,7 +64,7 @@ fn image_path(alloc: Global, folder: &PathText, name: &Name) -> Result<PathText,
     join(alloc, folder, file.as_bytes())
 }
 
-/// The line of the load of a module with this image.
+/// Returns the line of the load of a module with this image.
 #[tactic(auto, unfolding(crate::specs::Loads::loaded_line))]
 pub(crate) fn load_line(
     alloc: Global,

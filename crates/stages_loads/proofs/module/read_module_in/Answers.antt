@@ -29,11 +29,6 @@ returns-then-is_compressed g c = λ out err.
     (answered (λ (x : Module). x) (end (Refused (Compressed whole))) _ (Err c.from.result)
     (subst (λ stop. Answers (λ (x : Module). x) (end (Refused (Compressed whole))) (Err stop)) (sym (c.from.ensures ∙ ap (λ p. Ended (Refused (Compressed p))) at)) refl))
 
-pub returns-in_err-named : goal.returns-in_err-named
-returns-in_err-named g c = λ out err.
-    let p = err_from_is_err_and c.from_residual-in_err-named.result c.from_residual-in_err-named.ensures.1 in
-    wants _ _ _ _ p.1 p.2
-
 pub returns-in_err-bytes : goal.returns-in_err-bytes
 returns-in_err-bytes g c = λ out err.
     let p = err_from_is_err_and c.from_residual-in_err-bytes.result c.from_residual-in_err-bytes.ensures.1 in
@@ -53,4 +48,4 @@ returns g c = λ out err.
     (along (λ file. reads file >>= checked whole path) _ _ at
     (next (checked whole path) (c.in_ok-bytes.ensures.follows out err)
     (answered (λ (x : Module). x) (file_outcome whole path bytes) _ c.check_module.result
-    (subst (λ file. Answers (λ (x : Module). x) (file_outcome file path bytes) c.check_module.result) (c.in_ok-named.ensures ∙ c.as_bytes-2.ensures ∙ at) c.check_module.ensures))))
+    (subst (λ file. Answers (λ (x : Module). x) (file_outcome file path bytes) c.check_module.result) at c.check_module.ensures))))
