@@ -5,9 +5,10 @@ use Rattle.std.specs.List.{list_any}
 use Rattle.symbol_binding.specs.Symbols.{Export, Need, Module, Kernel}
 use Rattle.symbol_binding.specs.Provider.{Provided, export_under, of_kernel, of_one, module_exports, provider}
 use Rattle.symbol_binding.specs.Needs.{is_missing, is_hidden, is_other_version, is_barred}
-use Rattle.symbol_binding.specs.Unmet.{vmlinux, lines, exporters, doubles_of, doubles_after, unmet, belongs}
+use Rattle.symbol_binding.specs.Unmet.{vmlinux, lines, exporters, doubles_of, doubles, unmet, belongs}
 use Rattle.symbol_binding.specs.declared.unbound.Unbound.{Unbound}
 use Rattle.symbol_binding.specs.declared.unbound.Unbound.TheVariants.{Missing, Gpl, Version, Namespace, Double}
+use Rattle.symbol_binding.proofs.Doubles.{doubles_after, doubles-are}
 use Rattle.provider_rel.proofs.Laws.{unmet-clear}
 use Rattle.laws_closed_plans.specs.Members.{Member}
 use Rattle.laws_closed_plans.proofs.NeedLemmas.{IsFaultless}
@@ -41,7 +42,7 @@ doubles_after-split kernel earlier (p ∷ front) m back l in' =
 unmet-double : (tree : List Module) (kernel : Kernel) (l : Unbound) → Member l (doubles_after kernel [] tree) → Member l (unmet tree kernel)
 unfolding unmet
 unmet-double tree kernel l in' =
-    Member-right l (lines is_missing (λ m x by. Missing m x) tree kernel ++ lines is_hidden Gpl tree kernel ++ lines is_other_version Version tree kernel ++ lines is_barred Namespace tree kernel) (doubles_after kernel [] tree) in'
+    Member-right l (lines is_missing (λ m x by. Missing m x) tree kernel ++ lines is_hidden Gpl tree kernel ++ lines is_other_version Version tree kernel ++ lines is_barred Namespace tree kernel) (doubles kernel tree) (subst (Member l) (sym (doubles-are kernel tree)) in')
 
 -- a name that two modules export has a line
 pub double-modules : (tree : List Module) (kernel : Kernel) (p q : Module) (e : Export) (v : Provided Module) → Precedes p q tree → Member e q.face.exports → of_one module_exports e.name p ≡ Some v → Member (Double e.name p.path q.path) (unmet tree kernel)

@@ -8,29 +8,30 @@ ghost use Rattle.laws_closed_plans.specs.Instance.{TwoAreClosed};
 ghost use Rattle.laws_closed_plans.specs.Loads.{LoadsFollow};
 ghost use Rattle.laws_closed_plans.specs.Premises.{premises, all_but, bare, hidden, wanting, p, q};
 
-/// No module of a closed plan is refused for its names.
+/// States that no module of a closed plan is refused for its names.
 pub fn closed_plans_pass()
     ensures { ClosedPlansPass }
 {}
 
-/// Modules are loaded one after the other, and whatever is loaded into a new machine is bound.
+/// States that modules are loaded one after the other, and that whatever is loaded into a new
+/// machine is bound.
 pub fn loads_bind()
     ensures follow { LoadsFollow }
     ensures bind { LoadsBind }
 {}
 
-/// Addresses that are added to the table of a kernel change nothing of what is seen of it.
+/// States that addresses added to the table of a kernel change nothing of what is seen of it.
 pub fn addresses_are_unseen()
     ensures { AddressesAreUnseen }
 {}
 
-/// A closed plan of modules of an indexed tree, loaded after listed modules that load, is refused for want of room or for
-/// a word that doesn't fit alone, and binds.
+/// States that a closed plan of modules of an indexed tree, loaded after listed modules that load,
+/// binds. It is refused only for lack of room or for a word that doesn't fit.
 pub fn closed_plans_bind()
     ensures { ClosedPlansBind }
 {}
 
-/// Each premise of the first law is needed: with all others, a module is refused.
+/// States that each premise of the first law is needed: with all others, a module is refused.
 #[tactic(auto, unfolding(crate::specs::Names::name_fault, symbol_binding::specs::Unmet::unmet, symbol_binding::specs::Needs::agree, crate::specs::Premises::premises))]
 pub fn premises_are_needed()
     ensures all { premises (p ∷ wanting false ∷ []) bare [] (p ∷ wanting false ∷ []) ≡ all_but 8 }
@@ -55,7 +56,8 @@ pub fn premises_are_needed()
     ensures clear_refused { first_name_fault bare [] (faces_of (wanting false ∷ [])) ≡ Some (MissingSymbol (codes "x")) }
 {}
 
-/// What the law on plans asks of a tree, its kernel and a plan holds of a tree of two modules.
+/// States that what the law on plans asks of a tree, its kernel and a plan holds of a tree of two
+/// modules.
 pub fn two_modules_are_closed()
     ensures { TwoAreClosed }
 {}

@@ -1,12 +1,15 @@
-//! What loading a closed plan comes to: definitions and laws alone, on which the program's promise on loads rests.
+//! What loading a closed plan results in: only definitions and laws, on which the program's promise
+//! on loads rests.
 //!
-//! A plan is closed over the modules that are listed as loaded where its modules are new, each stands after those that its
-//! dependency line names, and no line of modules.unmet stands in its way. Loaded into the modelled machine one after the
-//! other, the modules of a closed plan are refused for want of room in the region or for a word that doesn't fit, and for
-//! nothing else; and each strong need is bound to an export of the kernel or of a module that was loaded before it.
+//! A plan is closed over the modules that are listed as loaded if three things hold. Its modules
+//! are new, each follows those that its dependency line names, and no line of modules.unmet is in
+//! its way. The modules of a closed plan are loaded into the modelled machine one after the other.
+//! They are refused only for lack of room in the region or for a word that doesn't fit. Each strong
+//! need is bound to an export of the kernel or of a module that was loaded before it.
 //!
-//! The crate stands on `symbol_binding` for who provides a name and what can be wrong with a need, on `provider_rel` and
-//! `relation_order` for dependencies, and on `model_loader` for the machine and its loads.
+//! The crate builds on `symbol_binding` for who provides a name and what can be wrong with a need.
+//! It builds on `provider_rel` and `relation_order` for dependencies, and on `model_loader` for the
+//! machine and its loads.
 #![tactic(auto)]
 
 mod laws;

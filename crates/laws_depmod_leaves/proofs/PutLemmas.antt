@@ -10,7 +10,6 @@ use Rattle.std.proofs.lemmas.Map.Text.{is_eq-slice_cmp}
 use Rattle.std.proofs.lemmas.Slice.Eq.{bytes_eq-Decides}
 use Rattle.km_names.specs.Path.{is_compressed, path_below, without_end_slashes}
 use Rattle.km_outside.specs.Contents.{Contents}
-use Rattle.km_course.specs.Course.{after}
 use Rattle.mod_tree.specs.Tree.{is_module_path}
 use Rattle.module_facts.specs.declared.facts.Facts.{Facts}
 use Rattle.depmod_core.specs.declared.file.OutputFile.{OutputFile}
@@ -18,8 +17,8 @@ use Rattle.depmod_core.specs.declared.file.OutputFile.TheVariants.{Dep, DepBin, 
 use Rattle.depmod_core.specs.declared.files.OutputFiles.{OutputFiles}
 use Rattle.depmod_core.specs.Files.{content, file_name}
 use Rattle.command_depmod.specs.Outputs.{all_files}
-use Rattle.command_depmod.proofs.ReplaceLaw.{puts_of}
 use Rattle.laws_indexed_folder.specs.Indexed.{AreIn, HasFile, IsModuleFile}
+use Rattle.laws_depmod_leaves.specs.Left.{with_files}
 use Rattle.laws_planned_loads.proofs.FileLemmas.{ends-ko, false-unless, last-ko, last_of, other-file, plain-path}
 
 -- ---- names below a folder
@@ -51,8 +50,7 @@ other-path folder name file other is =
 -- ---- files that are put
 
 -- what is there below another name stays as it was
-kept : (folder : List ℕ) (made : OutputFiles) (files : List OutputFile) (held : Contents) (name : List ℕ) → IsNone name files → get (after (puts_of folder made files) held) (path_below folder name) ≡ get held (path_below folder name)
-unfolding puts_of
+kept : (folder : List ℕ) (made : OutputFiles) (files : List OutputFile) (held : Contents) (name : List ℕ) → IsNone name files → get (with_files folder made files held) (path_below folder name) ≡ get held (path_below folder name)
 kept folder made [] held name none = refl
 kept folder made (file ∷ files) held name none =
     let apart = none-parts name file files none in
@@ -65,8 +63,7 @@ own-file held path bytes =
     ∙ ap (λ b. cond b (Some bytes) (get held path)) (is_eq-slice_cmp path path ∙ (bytes_eq-Decides path path).1 refl)
 
 -- a file that was put is there, where none of the later ones has its name
-put-there : (folder : List ℕ) (made : OutputFiles) (before : List OutputFile) (file : OutputFile) (later : List OutputFile) (held : Contents) → IsNone (file_name file) later → HasFile (after (puts_of folder made (before ++ file ∷ later)) held) (path_below folder (file_name file)) (content made file)
-unfolding puts_of
+put-there : (folder : List ℕ) (made : OutputFiles) (before : List OutputFile) (file : OutputFile) (later : List OutputFile) (held : Contents) → IsNone (file_name file) later → HasFile (with_files folder made (before ++ file ∷ later) held) (path_below folder (file_name file)) (content made file)
 put-there folder made [] file later held none =
     let path = path_below folder (file_name file) in
     kept folder made later (insert held path (content made file)) (file_name file) none ∙ own-file held path (content made file)
@@ -74,7 +71,7 @@ put-there folder made (first ∷ before) file later held none =
     put-there folder made before file later (insert held (path_below folder (file_name first)) (content made first)) none
 
 -- so all that modprobe reads are there
-pub all-there : (folder : List ℕ) (made : OutputFiles) (held : Contents) → AreIn (after (puts_of folder made all_files) held) folder made
+pub all-there : (folder : List ℕ) (made : OutputFiles) (held : Contents) → AreIn (with_files folder made all_files held) folder made
 all-there folder made held = record {
   dep = put-there folder made (Dep ∷ []) DepBin (Alias ∷ AliasBin ∷ Softdep ∷ Symbols ∷ SymbolsBin ∷ BuiltinBin ∷ Unmet ∷ []) held refl;
   alias = put-there folder made (Dep ∷ DepBin ∷ Alias ∷ []) AliasBin (Softdep ∷ Symbols ∷ SymbolsBin ∷ BuiltinBin ∷ Unmet ∷ []) held refl;
@@ -109,7 +106,7 @@ module-none path (file ∷ files) last =
     (module-none path files last)
 
 -- the file of a module stays as it was
-pub still-module : (folder : List ℕ) (made : OutputFiles) (held : Contents) (f : Facts) → IsModuleFile held folder f → IsModuleFile (after (puts_of folder made all_files) held) folder f
+pub still-module : (folder : List ℕ) (made : OutputFiles) (held : Contents) (f : Facts) → IsModuleFile held folder f → IsModuleFile (with_files folder made all_files held) folder f
 still-module folder made held f is =
     let none = module-none f.path all_files (module-last f.path is.kind (plain-path f.path is.bytes is.passed)) in
     record {

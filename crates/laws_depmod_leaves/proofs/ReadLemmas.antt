@@ -1,20 +1,23 @@
--- What a depmod that came past its reading has read: the table of a kernel, and a tree of valid modules.
-use Rattle.std.proofs.Common.{◌≡◌, ◌∙◌, ◌≤◌, ◌||◌, ℕ, true, List, [], ◌∷◌, ◌++◌, length, None, refl, sym, ap, subst, arith, append_assoc, append-nil, inl, inr}
-use Rattle.std.specs.Prelude.{Option, Some, Result, Ok, Err, All, is_some, map, option_map}
+-- How far the reading of a depmod comes: a tree of valid modules with its relation, or what ends it.
+use Rattle.std.proofs.Common.{◌≡◌, ◌∙◌, ◌≤◌, ◌||◌, ℕ, Bool, true, false, List, [], ◌∷◌, ◌++◌, length, refl, sym, ap, subst, arith, append_assoc, append-nil, inl, inr}
+use Rattle.std.specs.Prelude.{Option, Some, None, Result, Ok, Err, ◌⊎◌, All, codes, is_some, map, option_map}
 use Rattle.std.specs.FinMap.{get}
-use Rattle.std.specs.List.{AllByRecursion}
-use Rattle.std.proofs.lemmas.List.{take_all}
+use Rattle.std.specs.List.{AllByRecursion, sum_by}
+use Rattle.std.proofs.lemmas.List.{length-map, take_all}
 use Rattle.std.proofs.lemmas.List.Elements.{All-from_recursion, All-head, All-tail}
 use Rattle.km_names.specs.First.{first}
-use Rattle.km_names.specs.Limit.{file_limit}
 use Rattle.km_names.specs.Path.{is_compressed, path_below}
-use Rattle.km_outside.specs.Contents.{Contents}
-use Rattle.km_course.specs.Course.{Outcome, Stage, after, ◌>>=◌, given, reads}
+use Rattle.km_outside.specs.Contents.{Contents, is_path}
+use Rattle.km_course.specs.Course.{Outcome, Stage, after, continued, ◌>>=◌, ends, given, lists_tree, reads, reads_any, when◌then◌else◌}
 use Rattle.km_course.specs.Course.Outcome.{value, end}
+use Rattle.km_course.specs.declared.end.End.{End}
 use Rattle.km_course.specs.declared.end.End.TheVariants.{NoFile, Refused}
 use Rattle.km_course.specs.declared.refusal.Refusal.TheVariants.{Compressed}
+use Rattle.kmod_words.specs.declared.depmod.DepmodWords.{DepmodWords}
 use Rattle.elf_object.specs.Object.{file_object, object_fault}
 use Rattle.elf_object.specs.Shape.{fault_if}
+use Rattle.relation_order.specs.Cycle.{cycle}
+use Rattle.relation_order.specs.Sets.{below}
 use Rattle.module_facts.specs.declared.facts.Facts.{Facts}
 use Rattle.module_facts.specs.declared.fault.ModuleFault.{ModuleFault}
 use Rattle.module_facts.specs.declared.fault.ModuleFault.TheVariants.{Compressed as CompressedFile, Object}
@@ -23,56 +26,90 @@ use Rattle.module_facts.specs.Faults.{fact_fault, facts_tests, module_tests}
 use Rattle.module_facts.proofs.SoundLemmas.{IsSound-passed}
 use Rattle.mod_tree.specs.Tree.{is_module_path, tree_of}
 use Rattle.mod_tree.specs.declared.tree.TreeFault.{TreeFault}
+use Rattle.symbol_binding.specs.Symbols.{Kernel as SeenKernel, Module}
+use Rattle.symbol_binding.specs.Unmet.{doubles}
 use Rattle.provider_rel.specs.declared.fault.KernelFault.{KernelFault}
 use Rattle.provider_rel.specs.declared.fault.RelationFault.{RelationFault}
-use Rattle.provider_rel.specs.declared.kernel.Kernel.{Kernel}
+use Rattle.provider_rel.specs.declared.fault.RelationFault.TheVariants.{Cycle}
 use Rattle.provider_rel.specs.declared.kernel.KernelExport.{KernelExport}
-use Rattle.provider_rel.specs.Faces.{kernel_of, modules_of}
+use Rattle.provider_rel.specs.Faces.{module_of, modules_of}
 use Rattle.provider_rel.specs.KernelTable.{IsTable, exports_of_map, exports_of_symvers}
-use Rattle.provider_rel.specs.Relation.{relation_fault}
+use Rattle.provider_rel.specs.Relation.{cycle_fault, dependencies, deps_fault, doubles_fault, name_at, relation_fault, uses_at}
 use Rattle.provider_rel.specs.Tree.{IsTree}
-use Rattle.stages_files.specs.KernelTable.{Table, reads_kernel, seen_kernel, table_of, table_outcome}
+use Rattle.stages_files.specs.KernelTable.{Table, reads_kernel, seen_kernel, table_of, table_outcome, unknown_table}
+use Rattle.stages_files.specs.declared.configuration.Tool.TheVariants.{Depmod}
+use Rattle.stages_files.specs.Configuration.{reads_configuration}
+use Rattle.stages_files.proofs.TableSteps.{map_read, symvers_read}
 use Rattle.stages_loads.specs.Tables.{kernel_with}
 use Rattle.stages_loads.proofs.KernelLemmas.{kernel_with-exports, map-apart, symvers-apart}
 use Rattle.command_depmod.specs.Tree.{AreTreePaths, reads_tree, tree_outcome}
 use Rattle.command_depmod.specs.Search.{reads_search}
 use Rattle.command_depmod.specs.Modules.{AreFactsAt, adds_facts, facts_outcome, reads_facts, reads_modules_facts}
-use Rattle.command_depmod.specs.Relation.{Tree, relation_outcome, tree_unless}
-use Rattle.command_depmod.specs.Depmod.{reads_related}
+use Rattle.command_depmod.specs.Relation.{Tree, relation_outcome, relation_refusal, tree_unless}
+use Rattle.command_depmod.specs.Depmod.{modules_of_request, reads_related}
 use Rattle.command_depmod.proofs.IndexSteps.{related, with_kernel, with_paths, with_search}
 use Rattle.command_depmod.proofs.ModuleSteps.{AreFactsOf, added, checked, facts-at, facts-tree, the_others}
-use Rattle.command_depmod.proofs.ReplaceLaw.{Quiet, quiet-after, quiet-kernel, quiet-module, quiet-modules, quiet-search, quiet-tree}
+use Rattle.command_depmod.proofs.SearchSteps.{understood}
 use Rattle.command_depmod.proofs.TreeLaw.{tree-kinds, tree-paths}
 use Rattle.command_depmod.proofs.TreeSteps.{listed, ordered}
 use Rattle.laws_closed_plans.specs.Members.{Member}
 use Rattle.laws_closed_plans.proofs.ListLemmas.{first-none}
 use Rattle.laws_indexed_folder.specs.Indexed.{HasFile, IsModuleFile}
-use Rattle.laws_planned_loads.proofs.FileLemmas.{file-there, past-test}
-use Rattle.laws_planned_loads.proofs.KnownLemmas.{given-came, read-came}
-use Rattle.laws_planned_loads.proofs.RunLemmas.{after-append, goes-on}
+use Rattle.laws_planned_loads.proofs.FileLemmas.{file-there}
+use Rattle.laws_planned_loads.proofs.KnownLemmas.{given-came, only-configuration, read-came}
+use Rattle.laws_planned_loads.proofs.RunLemmas.{OnlyReads, goes-on, read-leaves, reads-each, reads-file, reads-given, reads-names, reads-then, reads-when, run-given}
+use Rattle.laws_depmod_leaves.specs.Comes.{AreValid, HasTree, IsBadModule, IsEnded, IsRead, bad, bad_module, compressed, cycle_in, has_cycle, no_search, no_table, no_tree, too_many, unread}
 
--- ---- stages that put no file
+-- ---- stages that only read
 
--- two stages gave a value, of which the first put no file
-pub record GoesQuiet {X Y : Type 0} (stage : Stage X) (next : X → Stage Y) (files : Contents) (y : Y) : Type 0 where
-  pub mid : X
-  pub first : (stage.run files).outcome ≡ value mid
-  pub rest : ((next mid).run files).outcome ≡ value y
-  pub left : after ((stage >>= next).run files).acts files ≡ after ((next mid).run files).acts files
+only-search : (config : Option (List ℕ)) → OnlyReads (reads_search config)
+only-search config =
+    reads-then (reads_configuration Depmod config) understood (only-configuration Depmod config) (λ files. reads-given _)
 
-pub quiet-on : {X Y : Type 0} (stage : Stage X) (next : X → Stage Y) (files : Contents) (y : Y) → Quiet stage → ((stage >>= next).run files).outcome ≡ value y → GoesQuiet stage next files y
-quiet-on {X} {Y} stage next files y quiet is =
-    let h = goes-on stage next files y is in
-    let acts = (stage.run files).acts in
-    let same : after acts files ≡ files = quiet-after acts files (quiet.acts files) in
-    record {
-      mid = h.mid;
-      first = h.first;
-      rest = subst (λ fs. ((next h.mid).run fs).outcome ≡ value y) same h.rest;
-      left = ap (λ done. after done files) h.acts
-          ∙ after-append acts ((next h.mid).run (after acts files)).acts files
-          ∙ ap (λ fs. after ((next h.mid).run fs).acts fs) same;
-    }
+only-tree : (folder : List ℕ) (search : List (List ℕ)) → OnlyReads (reads_tree folder search)
+only-tree folder search =
+    let order = path_below folder (codes "modules.order") in
+    reads-then (lists_tree folder) (listed folder search) (reads-names (end (NoFile folder)) is_path folder) (λ paths.
+    reads-then (reads_any order) (ordered search paths) (reads-file (value []) order) (λ bytes. reads-given _))
+
+only-kernel : (map symvers : Option (List ℕ)) → OnlyReads (reads_kernel map symvers)
+only-kernel (Some file) symvers = reads-then (reads file) (map_read file) (reads-file (end (NoFile file)) file) (λ bytes. reads-given _)
+only-kernel None (Some file) = reads-then (reads file) (symvers_read file) (reads-file (end (NoFile file)) file) (λ bytes. reads-given _)
+only-kernel None None = reads-given (value unknown_table)
+
+only-facts : (folder path : List ℕ) → OnlyReads (reads_facts folder path)
+only-facts folder path =
+    let file = path_below folder path in
+    reads-when (is_compressed path) (ends (Refused (Compressed path))) (reads file >>= checked path) (reads-given (end (Refused (Compressed path))))
+    (reads-then (reads file) (checked path) (reads-file (end (NoFile file)) file) (λ bytes. reads-given _))
+
+only-module : (folder : List ℕ) (before : List Facts) (path : List ℕ) → OnlyReads (adds_facts folder before path)
+only-module folder before path = reads-then (reads_facts folder path) (added before) (only-facts folder path) (λ facts. reads-given _)
+
+only-modules : (folder : List ℕ) (paths : List (List ℕ)) → OnlyReads (reads_modules_facts folder paths)
+only-modules folder paths = reads-each (adds_facts folder) (only-module folder) [] paths
+
+pub only-related : (folder : List ℕ) (config map symvers : Option (List ℕ)) → OnlyReads (reads_related folder config map symvers)
+only-related folder config map symvers =
+    reads-then (reads_search config) (with_search folder map symvers) (only-search config) (λ search.
+    reads-then (reads_tree folder search) (with_paths folder map symvers) (only-tree folder search) (λ paths.
+    reads-then (reads_kernel map symvers) (with_kernel folder paths) (only-kernel map symvers) (λ kernel.
+    reads-then (reads_modules_facts folder paths) (related kernel) (only-modules folder paths) (λ facts. reads-given _))))
+
+-- ---- outcomes
+
+pub outcome-given : {X : Type 0} (o : Outcome X) (files : Contents) → ((given o).run files).outcome ≡ o
+outcome-given o files = ap (λ r. r.outcome) (run-given o files)
+
+-- what is so of the outcome of two stages, of which the first only reads
+pub by-first : {X Y : Type 0} (P : Outcome Y → Type 0) (stage : Stage X) (next : X → Stage Y) (files : Contents) → OnlyReads stage → ((e : End) → (stage.run files).outcome ≡ end e → P (end e)) → ((x : X) → (stage.run files).outcome ≡ value x → P ((next x).run files).outcome) → P ((stage >>= next).run files).outcome
+unfolding ◌>>=◌ continued
+by-first {X} {Y} P stage next files only ended gone = by_outcome (stage.run files).outcome refl
+  where
+    by_outcome : (o : Outcome X) → (stage.run files).outcome ≡ o → P (continued (stage.run files).acts o next files).outcome
+    by_outcome (value x) came =
+        subst (λ fs. P ((next x).run fs).outcome) (sym (read-leaves (stage.run files).acts files (only files))) (gone x came)
+    by_outcome (end e) came = ended e came
 
 -- ---- the kernel
 
@@ -90,7 +127,7 @@ stated-came files file state table apart came =
     let t = was-tabled file (state h.mid) table (given-came (table_outcome file (state h.mid)) table (after ((reads file).run files).acts files) h.rest) in
     (t.0, apart h.mid table.exports t.1)
 
-kernel-came : (files : Contents) (map symvers : Option (List ℕ)) (table : Table) → (is_some map || is_some symvers) ≡ true → ((reads_kernel map symvers).run files).outcome ≡ value table → (table.known ≡ true) × IsTable table.exports
+pub kernel-came : (files : Contents) (map symvers : Option (List ℕ)) (table : Table) → (is_some map || is_some symvers) ≡ true → ((reads_kernel map symvers).run files).outcome ≡ value table → (table.known ≡ true) × IsTable table.exports
 kernel-came files (Some file) symvers table named came = stated-came files file exports_of_map table map-apart came
 kernel-came files None (Some file) table named came = stated-came files file exports_of_symvers table symvers-apart came
 kernel-came files None None table named came = absurd cc
@@ -100,7 +137,7 @@ unfolding kernel_with
 kernel_with-known table = refl
 
 -- the kernel of a table has the table
-table-same : (table : Table) → IsTable table.exports → table ≡ table_of (kernel_with table)
+pub table-same : (table : Table) → IsTable table.exports → table ≡ table_of (kernel_with table)
 table-same table apart =
     ap (λ known. record { known = known; exports = table.exports }) (sym (kernel_with-known table))
     ∙ ap (λ es. record { known = (kernel_with table).known; exports = es }) (sym (kernel_with-exports table apart))
@@ -112,72 +149,18 @@ unfolding tree_outcome
 was-chosen (Ok others) paths came = cc
 was-chosen (Err fault) paths came = cc
 
-paths-came : (files : Contents) (folder : List ℕ) (search paths : List (List ℕ)) → ((reads_tree folder search).run files).outcome ≡ value paths → AreTreePaths paths × All (λ p. is_module_path p ≡ true) paths
+pub paths-came : (files : Contents) (folder : List ℕ) (search paths : List (List ℕ)) → ((reads_tree folder search).run files).outcome ≡ value paths → AreTreePaths paths × All (λ p. is_module_path p ≡ true) paths
 paths-came files folder words paths came =
     let a = goes-on _ (listed folder words) files paths came in
     let b = goes-on _ (ordered words a.mid) _ paths a.rest in
     let made : tree_of a.mid b.mid words ≡ Ok paths = was-chosen (tree_of a.mid b.mid words) paths (given-came (tree_outcome (tree_of a.mid b.mid words)) paths _ b.rest) in
     (tree-paths a.mid b.mid words paths made, tree-kinds a.mid b.mid words paths made)
 
--- ---- the modules
+-- ---- a module
 
--- the file at a path was read as that of a valid module, and these are its facts
-record IsFactsFile (files : Contents) (folder path : List ℕ) (f : Facts) : Type 0 where
-  bytes : List ℕ
-  there : HasFile files (path_below folder path) bytes
-  small : length bytes ≤ file_limit
-  passed : fact_fault path bytes ≡ None
-  facts : f ≡ facts_of path bytes
-
-was-passed : (path bytes : List ℕ) (o : Option ModuleFault) (f : Facts) → facts_outcome path bytes o ≡ value f → (o ≡ None) × (f ≡ facts_of path bytes)
-unfolding facts_outcome
-was-passed path bytes None f came = (refl, cc)
-was-passed path bytes (Some fault) f came = cc
-
-facts-came : (files : Contents) (folder path : List ℕ) (f : Facts) → ((reads_facts folder path).run files).outcome ≡ value f → IsFactsFile files folder path f
-facts-came files folder path f came =
-    let file = path_below folder path in
-    let past = past-test (is_compressed path) (Refused (Compressed path)) (reads file >>= checked path) files f came in
-    let h = goes-on (reads file) (checked path) files f past in
-    let bytes : List ℕ = h.mid in
-    let there = file-there file bytes (get files file) (read-came (end (NoFile file)) file files bytes h.first) in
-    let good = was-passed path bytes (fact_fault path bytes) f (given-came (facts_outcome path bytes (fact_fault path bytes)) f (after ((reads file).run files).acts files) h.rest) in
-    record { bytes = bytes; there = there.0; small = there.1; passed = good.0; facts = good.1 }
-
-abbrev AreFactsFiles : Contents → List ℕ → List (List ℕ) → List Facts → Type 0
-AreFactsFiles files folder [] [] = Unit {0}
-AreFactsFiles files folder [] (f ∷ fs) = ⊥
-AreFactsFiles files folder (path ∷ paths) [] = ⊥
-AreFactsFiles files folder (path ∷ paths) (f ∷ fs) = IsFactsFile files folder path f × AreFactsFiles files folder paths fs
-
-same-facts : (a b : List Facts) → ◌≡◌ {A = Outcome (List Facts)} (value a) (value b) → a ≡ b
-same-facts a b is = cc
-
--- after some facts, those of the modules at these paths were read
-record ReadsOn (files : Contents) (folder : List ℕ) (paths : List (List ℕ)) (before tree : List Facts) : Type 0 where
-  more : List Facts
-  is : tree ≡ before ++ more
-  of_files : AreFactsFiles files folder paths more
-
-reads-more : (files : Contents) (folder : List ℕ) (paths : List (List ℕ)) (before tree : List Facts) → ((the_others folder paths before).run files).outcome ≡ value tree → ReadsOn files folder paths before tree
-reads-more files folder [] before tree came =
-    record { more = []; is = sym (same-facts before tree (given-came (value before) tree files came)) ∙ sym (append-nil before); of_files = tt }
-reads-more files folder (path ∷ paths) before tree came =
-    let a = quiet-on (adds_facts folder before path) (the_others folder paths) files tree (quiet-module folder before path) came in
-    let b = goes-on (reads_facts folder path) (added before) files a.mid a.first in
-    let f : Facts = b.mid in
-    let pushed : before ++ f ∷ [] ≡ a.mid = same-facts (before ++ f ∷ []) a.mid (given-came (value (before ++ f ∷ [])) a.mid (after ((reads_facts folder path).run files).acts files) b.rest) in
-    let later = reads-more files folder paths a.mid tree a.rest in
-    record {
-      more = f ∷ later.more;
-      is = later.is ∙ ap (λ fs. fs ++ later.more) (sym pushed) ∙ append_assoc before (f ∷ []) later.more;
-      of_files = (facts-came files folder path f b.first, later.of_files);
-    }
-
--- the facts of a valid module
-its-path : (path bytes : List ℕ) (f : Facts) → f ≡ facts_of path bytes → f.path ≡ path
+its-path : (path bytes : List ℕ) → (facts_of path bytes).path ≡ path
 unfolding object_facts
-its-path path bytes f is = ap (λ (g : Facts). g.path) is
+its-path path bytes = refl
 
 its-tests : (path bytes : List ℕ) → fact_fault path bytes ≡ None → first (facts_tests (file_object bytes) (object_facts path (file_object bytes))) ≡ None
 unfolding fact_fault module_tests
@@ -186,109 +169,212 @@ its-tests path bytes passed =
     let of_object : Option ModuleFault = option_map (λ fault. Object fault) (object_fault bytes) in
     (first-none of_object tests (first-none (fault_if (is_compressed path) CompressedFile) (of_object ∷ tests) passed).1).1
 
-known-facts : (path bytes : List ℕ) (f : Facts) → fact_fault path bytes ≡ None → f ≡ facts_of path bytes → AreFactsAt f.path f
-known-facts path bytes f passed is =
+known-facts : (path bytes : List ℕ) (f : Facts) → f.path ≡ path → fact_fault path bytes ≡ None → f ≡ facts_of path bytes → AreFactsAt f.path f
+known-facts path bytes f at passed is =
     let object = file_object bytes in
-    let at : f.path ≡ path = its-path path bytes f is in
     let tests : first (facts_tests object f) ≡ None = ap (λ (g : Facts). first (facts_tests object g)) is ∙ its-tests path bytes passed in
     subst (λ p. AreFactsAt p f) (sym at) (facts-at path bytes object f is at (IsSound-passed path object f is tests))
 
-their-paths : (files : Contents) (folder : List ℕ) (paths : List (List ℕ)) (tree : List Facts) → AreFactsFiles files folder paths tree → map (λ (f : Facts). f.path) tree ≡ paths
-their-paths files folder [] [] are = refl
-their-paths files folder [] (f ∷ fs) are = absurd are
-their-paths files folder (path ∷ paths) [] are = absurd are
-their-paths files folder (path ∷ paths) (f ∷ fs) are =
-    ap (λ p. p ∷ map (λ (g : Facts). g.path) fs) (its-path path are.0.bytes f are.0.facts)
-    ∙ ap (λ ps. path ∷ ps) (their-paths files folder paths fs are.1)
+-- what the file at a path comes to
+abbrev FactsCome : Contents → List ℕ → List ℕ → Outcome Facts → Type 0
+FactsCome held folder path (value f) = (f.path ≡ path) × IsModuleFile held folder f
+FactsCome held folder path (end e) = IsBadModule held folder path e
 
-their-facts : (files : Contents) (folder : List ℕ) (paths : List (List ℕ)) (tree : List Facts) → AreFactsFiles files folder paths tree → AllByRecursion (λ (f : Facts). AreFactsAt f.path f) tree
-their-facts files folder [] [] are = tt
-their-facts files folder [] (f ∷ fs) are = absurd are
-their-facts files folder (path ∷ paths) [] are = absurd are
-their-facts files folder (path ∷ paths) (f ∷ fs) are =
-    (known-facts path are.0.bytes f are.0.passed are.0.facts, their-facts files folder paths fs are.1)
+-- a file that passes is that of a valid module
+valid-file : (held : Contents) (folder path bytes : List ℕ) → is_module_path path ≡ true → ((reads (path_below folder path)).run held).outcome ≡ value bytes → fact_fault path bytes ≡ None → IsModuleFile held folder (facts_of path bytes)
+valid-file held folder path bytes kind came passed =
+    let file = path_below folder path in
+    let f = facts_of path bytes in
+    let at : path ≡ f.path = sym (its-path path bytes) in
+    let there = file-there file bytes (get held file) (read-came (end (NoFile file)) file held bytes came) in
+    record {
+      kind = subst (λ p. is_module_path p ≡ true) at kind;
+      bytes = bytes;
+      there = subst (λ p. HasFile held (path_below folder p) bytes) at there.0;
+      small = there.1;
+      passed = subst (λ p. fact_fault p bytes ≡ None) at passed;
+      facts = subst (λ p. f ≡ facts_of p bytes) at refl;
+    }
 
-their-tree : (files : Contents) (folder : List ℕ) (paths : List (List ℕ)) (tree : List Facts) → AreTreePaths paths → AreFactsFiles files folder paths tree → IsTree tree
-their-tree files folder paths tree known are =
+facts-found : (held : Contents) (folder path bytes : List ℕ) → is_module_path path ≡ true → is_compressed path ≡ false → ((reads (path_below folder path)).run held).outcome ≡ value bytes → (o : Option ModuleFault) → fact_fault path bytes ≡ o → FactsCome held folder path (facts_outcome path bytes o)
+unfolding facts_outcome
+facts-found held folder path bytes kind plain came None passed = (its-path path bytes, valid-file held folder path bytes kind came passed)
+facts-found held folder path bytes kind plain came (Some fault) failed = bad plain bytes came fault failed
+
+facts-come : (held : Contents) (folder path : List ℕ) → is_module_path path ≡ true → FactsCome held folder path ((reads_facts folder path).run held).outcome
+facts-come held folder path kind = by_test (is_compressed path) refl
+  where
+    by_test : (test : Bool) → is_compressed path ≡ test → FactsCome held folder path ((when test then ends (Refused (Compressed path)) else (reads (path_below folder path) >>= checked path)).run held).outcome
+    by_test true is =
+        subst (FactsCome held folder path) (sym (outcome-given (end (Refused (Compressed path))) held)) (compressed is)
+    by_test false is =
+        let file = path_below folder path in
+        by-first (FactsCome held folder path) (reads file) (checked path) held (reads-file (end (NoFile file)) file)
+        (λ e ended. unread is e ended)
+        (λ bytes came.
+        subst (FactsCome held folder path) (sym (outcome-given (facts_outcome path bytes (fact_fault path bytes)) held))
+        (facts-found held folder path bytes kind is came (fact_fault path bytes) refl))
+
+-- what facts with those of one module more come to
+abbrev AddsCome : Contents → List ℕ → List ℕ → List Facts → Outcome (List Facts) → Type 0
+AddsCome held folder path before (value all) = (f : Facts) × (all ≡ before ++ f ∷ []) × (f.path ≡ path) × IsModuleFile held folder f
+AddsCome held folder path before (end e) = IsBadModule held folder path e
+
+adds-come : (held : Contents) (folder path : List ℕ) (before : List Facts) → is_module_path path ≡ true → AddsCome held folder path before ((adds_facts folder before path).run held).outcome
+adds-come held folder path before kind =
+    by-first (AddsCome held folder path before) (reads_facts folder path) (added before) held (only-facts folder path)
+    (λ e ended. subst (FactsCome held folder path) ended (facts-come held folder path kind))
+    (λ f came.
+    let known : FactsCome held folder path (value f) = subst (FactsCome held folder path) came (facts-come held folder path kind) in
+    subst (AddsCome held folder path before) (sym (outcome-given (value (before ++ f ∷ [])) held)) (f, refl, known.0, known.1))
+
+-- ---- modules
+
+-- all of some modules were read after others, and are valid
+record AllValid (held : Contents) (folder : List ℕ) (paths : List (List ℕ)) (before all : List Facts) : Type 0 where
+  more : List Facts
+  is : all ≡ before ++ more
+  valid : AreValid held folder paths more []
+
+-- the first ones are valid, and then one is refused
+record OneBad (held : Contents) (folder : List ℕ) (paths : List (List ℕ)) (e : End) : Type 0 where
+  more : List Facts
+  path : List ℕ
+  later : List (List ℕ)
+  valid : AreValid held folder paths more (path ∷ later)
+  refused : IsBadModule held folder path e
+
+abbrev ModulesCome : Contents → List ℕ → List (List ℕ) → List Facts → Outcome (List Facts) → Type 0
+ModulesCome held folder paths before (value all) = AllValid held folder paths before all
+ModulesCome held folder paths before (end e) = OneBad held folder paths e
+
+none-valid : (held : Contents) (folder : List ℕ) (paths : List (List ℕ)) → AreValid held folder paths [] paths
+none-valid held folder paths = record { split = refl; valid = λ f in'. absurd in' }
+
+valid-first : (held : Contents) (folder path : List ℕ) (paths left : List (List ℕ)) (f : Facts) (more : List Facts) → f.path ≡ path → IsModuleFile held folder f → AreValid held folder paths more left → AreValid held folder (path ∷ paths) (f ∷ more) left
+valid-first held folder path paths left f more at file v = record {
+  split = ap (λ ps. path ∷ ps) v.split ∙ ap (λ p. p ∷ (map (λ (g : Facts). g.path) more ++ left)) (sym at);
+  valid = λ g in'. elim in' [ inl same ↦ subst (IsModuleFile held folder) same file | inr later ↦ v.valid g later ];
+}
+
+one-more : (held : Contents) (folder path : List ℕ) (paths : List (List ℕ)) (before all : List Facts) (f : Facts) → all ≡ before ++ f ∷ [] → f.path ≡ path → IsModuleFile held folder f → (o : Outcome (List Facts)) → ModulesCome held folder paths all o → ModulesCome held folder (path ∷ paths) before o
+one-more held folder path paths before all f pushed at file (value whole) h = record {
+  more = f ∷ h.more;
+  is = h.is ∙ ap (λ fs. fs ++ h.more) pushed ∙ append_assoc before (f ∷ []) h.more;
+  valid = valid-first held folder path paths [] f h.more at file h.valid;
+}
+one-more held folder path paths before all f pushed at file (end e) h = record {
+  more = f ∷ h.more;
+  path = h.path;
+  later = h.later;
+  valid = valid-first held folder path paths (h.path ∷ h.later) f h.more at file h.valid;
+  refused = h.refused;
+}
+
+modules-come : (held : Contents) (folder : List ℕ) (paths : List (List ℕ)) → All (λ p. is_module_path p ≡ true) paths → (before : List Facts) → ModulesCome held folder paths before ((the_others folder paths before).run held).outcome
+modules-come held folder [] kinds before =
+    subst (ModulesCome held folder [] before) (sym (outcome-given (value before) held))
+    (record { more = []; is = sym (append-nil before); valid = none-valid held folder [] })
+modules-come held folder (path ∷ paths) kinds before =
+    let come = adds-come held folder path before (All-head (λ p. is_module_path p ≡ true) path paths kinds) in
+    by-first (ModulesCome held folder (path ∷ paths) before) (adds_facts folder before path) (the_others folder paths) held (only-module folder before path)
+    (λ e ended. record {
+      more = [];
+      path = path;
+      later = paths;
+      valid = none-valid held folder (path ∷ paths);
+      refused = subst (AddsCome held folder path before) ended come;
+    })
+    (λ all came.
+    let one : AddsCome held folder path before (value all) = subst (AddsCome held folder path before) came come in
+    one-more held folder path paths before all one.0 one.1 one.2 one.3 ((the_others folder paths all).run held).outcome
+    (modules-come held folder paths (All-tail (λ p. is_module_path p ≡ true) path paths kinds) all))
+
+-- valid modules of the paths of a tree are a tree
+valid-facts : (held : Contents) (folder : List ℕ) (tree : List Facts) → ((f : Facts) → Member f tree → IsModuleFile held folder f) → AllByRecursion (λ (f : Facts). AreFactsAt f.path f) tree
+valid-facts held folder [] valid = tt
+valid-facts held folder (f ∷ fs) valid =
+    let h = valid f (inl refl) in
+    (known-facts f.path h.bytes f refl h.passed h.facts, valid-facts held folder fs (λ g later. valid g (inr later)))
+
+pub valid-tree : (held : Contents) (folder : List ℕ) (paths : List (List ℕ)) (tree : List Facts) → AreTreePaths paths → AreValid held folder paths tree [] → IsTree tree
+valid-tree held folder paths tree known v =
     let count = length paths in
     let whole : AreFactsOf paths count tree = record {
-      named = their-paths files folder paths tree are ∙ sym (take_all count paths (omega arith));
-      each = All-from_recursion (λ (f : Facts). AreFactsAt f.path f) tree (their-facts files folder paths tree are);
+      named = sym (append-nil (map (λ (f : Facts). f.path) tree)) ∙ sym v.split ∙ sym (take_all count paths (omega arith));
+      each = All-from_recursion (λ (f : Facts). AreFactsAt f.path f) tree (valid-facts held folder tree v.valid);
     } in
     facts-tree paths count tree (omega arith) known whole
 
-one-file : (files : Contents) (folder path : List ℕ) (f : Facts) → is_module_path path ≡ true → IsFactsFile files folder path f → IsModuleFile files folder f
-one-file files folder path f kind is =
-    let at : path ≡ f.path = sym (its-path path is.bytes f is.facts) in
-    record {
-      kind = subst (λ p. is_module_path p ≡ true) at kind;
-      bytes = is.bytes;
-      there = subst (λ p. HasFile files (path_below folder p) is.bytes) at is.there;
-      small = is.small;
-      passed = subst (λ p. fact_fault p is.bytes ≡ None) at is.passed;
-      facts = subst (λ p. f ≡ facts_of p is.bytes) at is.facts;
-    }
+-- ---- the relation
 
-their-files : (files : Contents) (folder : List ℕ) (paths : List (List ℕ)) (tree : List Facts) → All (λ p. is_module_path p ≡ true) paths → AreFactsFiles files folder paths tree → (f : Facts) → Member f tree → IsModuleFile files folder f
-their-files files folder paths [] kinds are f in' = absurd in'
-their-files files folder [] (g ∷ fs) kinds are f in' = absurd are
-their-files files folder (path ∷ paths) (g ∷ fs) kinds are f (inl is) =
-    subst (IsModuleFile files folder) is (one-file files folder path g (All-head (λ p. is_module_path p ≡ true) path paths kinds) are.0)
-their-files files folder (path ∷ paths) (g ∷ fs) kinds are f (inr later) =
-    their-files files folder paths fs (All-tail (λ p. is_module_path p ≡ true) path paths kinds) are.1 f later
+-- a tree was read, and has a relation
+pub record IsRelated (held : Contents) (asked : DepmodWords) (made : Tree) : Type 0 where
+  pub tree : List Facts
+  pub table : Table
+  pub is : record { facts = tree; kernel = seen_kernel table } ≡ made
+  pub read : IsRead held asked tree table
+  pub related : relation_fault (modules_of tree) (seen_kernel table) ≡ None
 
--- ---- the tree
+abbrev pub RelatedCome : Contents → DepmodWords → Outcome Tree → Type 0
+RelatedCome held asked (value made) = IsRelated held asked made
+RelatedCome held asked (end e) = IsEnded held asked e
 
-was-related : (tree : Tree) (fault : Option RelationFault) (made : Tree) → tree_unless tree fault ≡ value made → (fault ≡ None) × (tree ≡ made)
-was-related tree None made came = (refl, cc)
-was-related tree (Some fault) made came = cc
+-- a cycle is the first fault
+cycle-first : (tree : List Module) (kernel : SeenKernel) (i : ℕ) (is : List ℕ) → cycle (uses_at tree kernel) (below (length tree)) ≡ i ∷ is → relation_fault tree kernel ≡ Some (Cycle (map (name_at tree) (i ∷ is)))
+unfolding relation_fault
+cycle-first tree kernel i is found =
+    let others = deps_fault (sum_by length (dependencies tree kernel)) ∷ doubles_fault (length (doubles kernel tree)) ∷ [] in
+    ap (λ places. first (cycle_fault tree places ∷ others)) found
 
-relation-came : (tree made : Tree) → relation_outcome tree ≡ value made → (relation_fault (modules_of tree.facts) tree.kernel ≡ None) × (tree ≡ made)
+same-fault : (a b : RelationFault) → Some a ≡ Some b → a ≡ b
+same-fault a b is = cc
+
+fault-ends : (held : Contents) (asked : DepmodWords) (tree : List Facts) (table : Table) → IsRead held asked tree table → (fault : RelationFault) → relation_fault (modules_of tree) (seen_kernel table) ≡ Some fault → (places : List ℕ) → cycle_in tree table ≡ places → IsEnded held asked (Refused (relation_refusal fault))
+fault-ends held asked tree table read fault failed [] none = too_many tree table read none fault failed
+fault-ends held asked tree table read fault failed (i ∷ is) found =
+    let ms = modules_of tree in
+    let kernel = seen_kernel table in
+    let here : cycle (uses_at ms kernel) (below (length ms)) ≡ i ∷ is =
+    ap (λ n. cycle (uses_at ms kernel) (below n)) (length-map tree module_of) ∙ found in
+    let named : Cycle (map (name_at ms) (i ∷ is)) ≡ fault = same-fault _ fault (sym (cycle-first ms kernel i is here) ∙ failed) in
+    subst (λ f. IsEnded held asked (Refused (relation_refusal f))) named (has_cycle tree table read i is found)
+
+relation-comes : (held : Contents) (asked : DepmodWords) (tree : List Facts) (table : Table) → IsRead held asked tree table → (o : Option RelationFault) → relation_fault (modules_of tree) (seen_kernel table) ≡ o → RelatedCome held asked (tree_unless (record { facts = tree; kernel = seen_kernel table }) o)
+relation-comes held asked tree table read None passed = record { tree = tree; table = table; is = refl; read = read; related = passed }
+relation-comes held asked tree table read (Some fault) failed = fault-ends held asked tree table read fault failed (cycle_in tree table) refl
+
+outcome-comes : (held : Contents) (asked : DepmodWords) (tree : List Facts) (table : Table) → IsRead held asked tree table → RelatedCome held asked (relation_outcome (record { facts = tree; kernel = seen_kernel table }))
 unfolding relation_outcome
-relation-came tree made came = was-related tree (relation_fault (modules_of tree.facts) tree.kernel) made came
+outcome-comes held asked tree table read = relation-comes held asked tree table read (relation_fault (modules_of tree) (seen_kernel table)) refl
 
--- what is known of a tree that was read with its relation
-pub record IsReadTree (files : Contents) (folder : List ℕ) (map symvers : Option (List ℕ)) (tree : Tree) : Type 0 where
-  pub kernel : Kernel
-  pub table : ((reads_kernel map symvers).run files).outcome ≡ value (table_of kernel)
-  pub known : kernel.known ≡ true
-  pub over : tree.kernel ≡ kernel_of kernel
-  pub is_tree : IsTree tree.facts
-  pub modules : (f : Facts) → Member f tree.facts → IsModuleFile files folder f
-  pub related : relation_fault (modules_of tree.facts) tree.kernel ≡ None
+-- after the tree and the kernel's table were read
+modules-related : (held : Contents) (asked : DepmodWords) (search paths : List (List ℕ)) (table : Table) → ((reads_search asked.config).run held).outcome ≡ value search → ((reads_tree (modules_of_request asked) search).run held).outcome ≡ value paths → ((reads_kernel asked.filesyms asked.symvers).run held).outcome ≡ value table → RelatedCome held asked ((with_kernel (modules_of_request asked) paths table).run held).outcome
+modules-related held asked search paths table searched chosen tabled =
+    let folder = modules_of_request asked in
+    let found : HasTree held asked paths table = record { search = search; searched = searched; chosen = chosen; kernel = tabled } in
+    let come = modules-come held folder paths (paths-came held folder search paths chosen).1 [] in
+    by-first (RelatedCome held asked) (reads_modules_facts folder paths) (related table) held (only-modules folder paths)
+    (λ e ended.
+    let h : OneBad held folder paths e = subst (ModulesCome held folder paths []) ended come in
+    bad_module paths table found h.more h.path h.later h.valid e h.refused)
+    (λ facts came.
+    let h : AllValid held folder paths [] facts = subst (ModulesCome held folder paths []) came come in
+    let read : IsRead held asked facts table = record { paths = paths; found = found; modules = subst (λ fs. AreValid held folder paths fs []) (sym h.is) h.valid } in
+    subst (RelatedCome held asked) (sym (outcome-given (relation_outcome (record { facts = facts; kernel = seen_kernel table })) held))
+    (outcome-comes held asked facts table read))
 
--- a tree of facts that were read, over the kernel of a table that was read
-tree-known : (files : Contents) (folder : List ℕ) (map symvers : Option (List ℕ)) (paths : List (List ℕ)) (table : Table) (facts : List Facts) → AreTreePaths paths → All (λ p. is_module_path p ≡ true) paths → ((reads_kernel map symvers).run files).outcome ≡ value table → table.known ≡ true → IsTable table.exports → AreFactsFiles files folder paths facts → relation_fault (modules_of facts) (seen_kernel table) ≡ None → IsReadTree files folder map symvers (record { facts = facts; kernel = seen_kernel table })
-tree-known files folder map symvers paths table facts of_tree kinds read known apart of_files fine =
-    let same : table ≡ table_of (kernel_with table) = table-same table apart in
-    record {
-      kernel = kernel_with table;
-      table = read ∙ ap (λ t. value t) same;
-      known = kernel_with-known table ∙ known;
-      over = ap seen_kernel same;
-      is_tree = their-tree files folder paths facts of_tree of_files;
-      modules = their-files files folder paths facts kinds of_files;
-      related = fine;
-    }
-
--- the same, where a tree is that one
-tree-same : (files : Contents) (folder : List ℕ) (map symvers : Option (List ℕ)) (made tree : Tree) → made ≡ tree → IsReadTree files folder map symvers made → IsReadTree files folder map symvers tree
-tree-same files folder map symvers made tree same is = subst (IsReadTree files folder map symvers) same is
-
--- the facts that were read first
-all-read : (files : Contents) (folder : List ℕ) (paths : List (List ℕ)) (tree : List Facts) → ReadsOn files folder paths [] tree → AreFactsFiles files folder paths tree
-all-read files folder paths tree reads = subst (AreFactsFiles files folder paths) (sym reads.is) reads.of_files
-
-pub tree-came : (files : Contents) (folder : List ℕ) (config map symvers : Option (List ℕ)) (tree : Tree) → (is_some map || is_some symvers) ≡ true → ((reads_related folder config map symvers).run files).outcome ≡ value tree → IsReadTree files folder map symvers tree
-tree-came files folder config map symvers tree named came =
-    let a = quiet-on (reads_search config) (with_search folder map symvers) files tree (quiet-search config) came in
-    let b = quiet-on (reads_tree folder a.mid) (with_paths folder map symvers) files tree (quiet-tree folder a.mid) a.rest in
-    let c = quiet-on (reads_kernel map symvers) (with_kernel folder b.mid) files tree (quiet-kernel map symvers) b.rest in
-    let d = quiet-on (reads_modules_facts folder b.mid) (related c.mid) files tree (quiet-modules folder b.mid) c.rest in
-    let whole : Tree = record { facts = d.mid; kernel = seen_kernel c.mid } in
-    let r = relation-came whole tree (given-came (relation_outcome whole) tree files d.rest) in
-    let paths = paths-came files folder a.mid b.mid b.first in
-    let kernel = kernel-came files map symvers c.mid named c.first in
-    let of_files = all-read files folder b.mid d.mid (reads-more files folder b.mid [] d.mid d.first) in
-    tree-same files folder map symvers whole tree r.1
-    (tree-known files folder map symvers b.mid c.mid d.mid paths.0 paths.1 c.first kernel.0 kernel.1 of_files r.0)
+pub related-comes : (held : Contents) (asked : DepmodWords) → RelatedCome held asked ((reads_related (modules_of_request asked) asked.config asked.filesyms asked.symvers).run held).outcome
+related-comes held asked =
+    let folder = modules_of_request asked in
+    let file = asked.filesyms in
+    let symvers = asked.symvers in
+    by-first (RelatedCome held asked) (reads_search asked.config) (with_search folder file symvers) held (only-search asked.config)
+    (λ e ended. no_search e ended)
+    (λ search searched.
+    by-first (RelatedCome held asked) (reads_tree folder search) (with_paths folder file symvers) held (only-tree folder search)
+    (λ e ended. no_tree search searched e ended)
+    (λ paths chosen.
+    by-first (RelatedCome held asked) (reads_kernel file symvers) (with_kernel folder paths) held (only-kernel file symvers)
+    (λ e ended. no_table search paths searched chosen e ended)
+    (λ table tabled. modules-related held asked search paths table searched chosen tabled)))

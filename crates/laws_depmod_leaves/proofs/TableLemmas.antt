@@ -1,4 +1,4 @@
--- The tables of kernels that depmod and modprobe read of one file.
+-- The tables of kernels that depmod and modprobe read of files of the same bytes.
 use Rattle.std.proofs.Common.{◌≡◌, ◌∙◌, ℕ, List, None, sym, ap, subst}
 use Rattle.std.specs.Prelude.{Option, Some, Result, Ok, Err}
 use Rattle.std.specs.FinMap.{get}
@@ -45,12 +45,18 @@ was-stated files file state table came =
 same-value : (a b : Table) → ◌≡◌ {A = Outcome Table} (value a) (value b) → a ≡ b
 same-value a b is = cc
 
+-- the table of what is stated doesn't tell at which path it stands
+same-stated : (file other : List ℕ) (stated : Result (List KernelExport) KernelFault) (a b : Table) → table_outcome file stated ≡ value a → table_outcome other stated ≡ value b → a ≡ b
+unfolding table_outcome
+same-stated file other (Ok exports) a b at_file at_other = same-value a b (sym at_file ∙ at_other)
+same-stated file other (Err fault) a b at_file at_other = absurd cc
+
 -- of the same bytes it is the same table
-one-table : (held left : Contents) (file : List ℕ) (state : List ℕ → Result (List KernelExport) KernelFault) (a b : Table) → get held file ≡ get left file → IsStated held file state a → IsStated left file state b → a ≡ b
-one-table held left file state a b same in_held in_left =
+one-table : (held left : Contents) (file other : List ℕ) (state : List ℕ → Result (List KernelExport) KernelFault) (a b : Table) → get held file ≡ get left other → IsStated held file state a → IsStated left other state b → a ≡ b
+one-table held left file other state a b same in_held in_left =
     let some : ◌≡◌ {A = Option (List ℕ)} (Some in_held.bytes) (Some in_left.bytes) = sym in_held.there ∙ same ∙ in_left.there in
     let bytes : in_held.bytes ≡ in_left.bytes = cc in
-    same-value a b (sym in_held.states ∙ ap (λ bs. table_outcome file (state bs)) bytes ∙ in_left.states)
+    same-stated file other (state in_left.bytes) a b (ap (λ bs. table_outcome file (state bs)) (sym bytes) ∙ in_held.states) in_left.states
 
 was-addressed : (file : List ℕ) (exported : Table) (stated : Result (List KernelExport) KernelFault) (table : Table) → addressed_outcome file exported.known stated ≡ value table → (table.known ≡ exported.known) × (stated ≡ Ok table.exports)
 unfolding addressed_outcome
@@ -94,16 +100,16 @@ added-came files map symvers table came =
     record { exported = exported; read = c.1; bytes = bytes; known = h.0; added = h.1 }
 
 -- the kernel of a System.map is the same
-of-map : (held left : Contents) (file : List ℕ) (kernel : Kernel) (table : Table) → get held file ≡ get left file → ((reads_map file).run held).outcome ≡ value (table_of kernel) → ((reads_map file).run left).outcome ≡ value table → kernel_of (kernel_with table) ≡ kernel_of kernel
-of-map held left file kernel table same before now =
-    let one : table_of kernel ≡ table = one-table held left file exports_of_map (table_of kernel) table same (was-stated held file exports_of_map (table_of kernel) before) (was-stated left file exports_of_map table now) in
+of-map : (held left : Contents) (file map : List ℕ) (kernel : Kernel) (table : Table) → get held file ≡ get left map → ((reads_map file).run held).outcome ≡ value (table_of kernel) → ((reads_map map).run left).outcome ≡ value table → kernel_of (kernel_with table) ≡ kernel_of kernel
+of-map held left file map kernel table same before now =
+    let one : table_of kernel ≡ table = one-table held left file map exports_of_map (table_of kernel) table same (was-stated held file exports_of_map (table_of kernel) before) (was-stated left map exports_of_map table now) in
     ap (λ t. kernel_of (kernel_with t)) (sym one) ∙ ap kernel_of (kernel_with-same kernel)
 
 -- that of a Module.symvers is seen as the same, with addresses
-of-symvers : (held left : Contents) (map file : List ℕ) (kernel : Kernel) (table : Table) → get held file ≡ get left file → ((reads_symvers file).run held).outcome ≡ value (table_of kernel) → ((reads_addressed map (Some file)).run left).outcome ≡ value table → kernel_of (kernel_with table) ≡ kernel_of kernel
-of-symvers held left map file kernel table same before now =
-    let a = added-came left map file table now in
-    let one : table_of kernel ≡ a.exported = one-table held left file exports_of_symvers (table_of kernel) a.exported same (was-stated held file exports_of_symvers (table_of kernel) before) (was-stated left file exports_of_symvers a.exported a.read) in
+of-symvers : (held left : Contents) (map file other : List ℕ) (kernel : Kernel) (table : Table) → get held file ≡ get left other → ((reads_symvers file).run held).outcome ≡ value (table_of kernel) → ((reads_addressed map (Some other)).run left).outcome ≡ value table → kernel_of (kernel_with table) ≡ kernel_of kernel
+of-symvers held left map file other kernel table same before now =
+    let a = added-came left map other table now in
+    let one : table_of kernel ≡ a.exported = one-table held left file other exports_of_symvers (table_of kernel) a.exported same (was-stated held file exports_of_symvers (table_of kernel) before) (was-stated left other exports_of_symvers a.exported a.read) in
     let added : exports_with_addresses a.bytes kernel.exports ≡ Ok table.exports = ap (λ (t : Table). exports_with_addresses a.bytes t.exports) one ∙ a.added in
     let exports : (kernel_with table).exports ≡ table.exports = kernel_with-exports table (addressed-apart a.bytes kernel.exports table.exports kernel.table added) in
     addresses-are-unseen kernel (kernel_with table) a.bytes
@@ -112,18 +118,19 @@ of-symvers held left map file kernel table same before now =
 
 one-kernel : (held left : Contents) (filesyms symvers : Option (List ℕ)) (map : List ℕ) (other : Option (List ℕ)) (kernel : Kernel) (table : Table) → AreOfOneTable held left filesyms symvers map other → ((reads_kernel filesyms symvers).run held).outcome ≡ value (table_of kernel) → ((reads_addressed map other).run left).outcome ≡ value table → kernel_of (kernel_with table) ≡ kernel_of kernel
 one-kernel held left (Some file) symvers map None kernel table one before now =
-    of-map held left file kernel table one.1 before (subst (λ path. ((reads_map path).run left).outcome ≡ value table) (sym one.0) now)
+    of-map held left file map kernel table one before now
 one-kernel held left (Some file) symvers map (Some other) kernel table one before now = absurd one
 one-kernel held left None (Some file) map (Some other) kernel table one before now =
-    of-symvers held left map file kernel table one.1 before (subst (λ path. ((reads_addressed map (Some path)).run left).outcome ≡ value table) (sym one.0) now)
+    of-symvers held left map file other kernel table one before now
 one-kernel held left None (Some file) map None kernel table one before now = absurd one
 one-kernel held left None None map other kernel table one before now = absurd one
 
 pub left-for-loads : LeftForLoads
-left-for-loads held asked left loads addressed region is load =
+left-for-loads held asked i left loads addressed region of_tree is load =
     let m = load.machine in
     let h = machine-came left m.map loads.symvers region addressed m.made in
+    let tabled : ((reads_kernel asked.filesyms asked.symvers).run held).outcome ≡ value (table_of is.kernel) = of_tree.read.found.kernel ∙ ap (λ t. value t) is.table in
     record {
-      indexed = subst (λ folder. Indexed left folder is.tree is.kernel is.builtin) (sym load.folder) is.indexed;
-      same_table = ap kernel_of (sym h.2) ∙ one-kernel held left asked.filesyms asked.symvers m.map loads.symvers is.kernel h.0 load.table is.table h.1;
+      indexed = subst (λ folder. Indexed left folder i.tree is.kernel i.builtin) (sym load.folder) is.indexed;
+      same_table = ap kernel_of (sym h.2) ∙ one-kernel held left asked.filesyms asked.symvers m.map loads.symvers is.kernel h.0 load.table tabled h.1;
     }

@@ -1,18 +1,24 @@
 -- What stands in a folder after a depmod that is done: what it indexed. depmod(8).
-use Rattle.std.specs.Prelude.{◌≡◌, ◌||◌, ℕ, true, false, List, [], codes, Option, Some, is_some, unwrap_or}
-use Rattle.std.specs.FinMap.{get}
+use Rattle.std.specs.Prelude.{◌≡◌, ◌||◌, ℕ, true, false, List, [], ◌∷◌, is_some}
+use Rattle.std.specs.FinMap.{insert}
 use Rattle.km_names.specs.Path.{path_below}
 use Rattle.km_outside.specs.Contents.{Contents}
-use Rattle.km_course.specs.Course.{after}
-use Rattle.km_course.specs.Course.Outcome.{value}
 use Rattle.kmod_words.specs.declared.depmod.DepmodWords.{DepmodWords}
-use Rattle.kmod_words.specs.Depmod.{depmod_request}
-use Rattle.module_facts.specs.declared.facts.Facts.{Facts}
 use Rattle.provider_rel.specs.declared.kernel.Kernel.{Kernel}
-use Rattle.provider_rel.specs.Faces.{kernel_of}
-use Rattle.stages_files.specs.KernelTable.{reads_kernel, table_of}
-use Rattle.command_depmod.specs.Depmod.{indexes, modules_of_request, reads_related, target_of_request}
+use Rattle.depmod_core.specs.declared.file.OutputFile.{OutputFile}
+use Rattle.depmod_core.specs.declared.files.OutputFiles.{OutputFiles}
+use Rattle.depmod_core.specs.Files.{content, file_name}
+use Rattle.stages_files.specs.KernelTable.{table_of}
+use Rattle.command_depmod.specs.Depmod.{modules_of_request, target_of_request}
+use Rattle.command_depmod.specs.Outputs.{all_files}
 use Rattle.laws_indexed_folder.specs.Indexed.{Indexed}
+use Rattle.laws_depmod_leaves.specs.Comes.{IndexedTree, IsIndexed, files_of}
+
+-- The files, with some of those that were made in a folder, each whole.
+abbrev pub with_files : List ℕ → OutputFiles → List OutputFile → Contents → Contents
+with_files folder made [] held = held
+with_files folder made (name ∷ names) held =
+    with_files folder made names (insert held (path_below folder (file_name name)) (content made name))
 
 -- A request for files that are replaced in the folder of the modules, by the table of a kernel.
 pub record IsInPlace (asked : DepmodWords) : Type 0 where
@@ -23,33 +29,17 @@ pub record IsInPlace (asked : DepmodWords) : Type 0 where
   -- and a System.map or a Module.symvers is named
   pub table : (is_some asked.filesyms || is_some asked.symvers) ≡ true
 
--- A depmod of a request that found the first files left the others: in these the folder of its modules stands as it indexed
--- it.
-pub record LeftIndexed (held : Contents) (asked : DepmodWords) (left : Contents) : Type 0 where
-  pub tree : List Facts
+-- In these files the folder of a request's modules stands as it was indexed, over the kernel of its table.
+pub record LeftIndexed (asked : DepmodWords) (i : IndexedTree) (left : Contents) : Type 0 where
   pub kernel : Kernel
-  pub builtin : List ℕ
-  -- the kernel's table is that of the file that is named
-  pub table : ((reads_kernel asked.filesyms asked.symvers).run held).outcome ≡ value (table_of kernel)
-  -- the tree is that which was in the folder
-  pub read : ((reads_related (modules_of_request asked) asked.config asked.filesyms asked.symvers).run held).outcome ≡ value (record { facts = tree; kernel = kernel_of kernel })
-  -- modules.builtin had these bytes; it counts as empty where there is none
-  pub built_in : builtin ≡ unwrap_or (get held (path_below (modules_of_request asked) (codes "modules.builtin"))) []
-  -- and these stand as indexed
-  pub indexed : Indexed left (modules_of_request asked) tree kernel builtin
+  pub table : i.table ≡ table_of kernel
+  pub indexed : Indexed left (modules_of_request asked) i.tree kernel i.builtin
 
--- A depmod that replaces its files there, by the table of a kernel, and is done leaves a folder that stands as it indexed
--- it.
+-- Where all files of an index are put into the folder of its modules, by the table of a kernel, that folder stands as it was
+-- indexed.
 abbrev pub DepmodLeavesIndexed : Type 0
 DepmodLeavesIndexed =
-    (held : Contents) (asked : DepmodWords)
+    (held : Contents) (asked : DepmodWords) (i : IndexedTree)
     → IsInPlace asked
-    → ((indexes asked).run held).outcome ≡ value tt
-    → LeftIndexed held asked (after ((indexes asked).run held).acts held)
-
--- What a depmod with these words left of files that were told, with this status: where it is to replace the files in the
--- folder of the modules, by the table of a kernel, and is done, that folder stands as it indexed it.
-abbrev pub LeavesIndexed : List (List ℕ) → Contents → Option Contents → ℕ → Type 0
-LeavesIndexed words files new status =
-    (asked : DepmodWords) → depmod_request words ≡ Some asked → IsInPlace asked → status ≡ 0
-    → (left : Contents) × (new ≡ Some left) × LeftIndexed files asked left
+    → IsIndexed held asked i
+    → LeftIndexed asked i (with_files (target_of_request asked) (files_of i) all_files held)

@@ -1,2 +1,4 @@
+pub mod Comes
+pub mod Course
 pub mod Left
 pub mod Loads

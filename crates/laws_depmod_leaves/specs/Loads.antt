@@ -9,20 +9,21 @@ use Rattle.model_loader.specs.declared.region.Region.{Region}
 use Rattle.stages_files.specs.KernelModules.{modules_folder}
 use Rattle.command_depmod.specs.Depmod.{modules_of_request}
 use Rattle.laws_planned_loads.specs.Courses.{HasMachine, IsIndexedFor}
+use Rattle.laws_depmod_leaves.specs.Comes.{IndexedTree, IsIndexed}
 use Rattle.laws_depmod_leaves.specs.Left.{LeftIndexed}
 
 -- Where a depmod names a System.map or a Module.symvers, and a modprobe a System.map and maybe a Module.symvers, both have the
--- kernel's table of one file: of the same Module.symvers, or of the same System.map where the modprobe names no
--- Module.symvers; and the file has the same bytes among the first files as among the others.
+-- kernel's table of the same bytes: each of its Module.symvers, or each of its System.map where the modprobe names no
+-- Module.symvers. The depmod's file has among the first files what the modprobe's has among the others, whatever their paths.
 abbrev pub AreOfOneTable : Contents → Contents → Option (List ℕ) → Option (List ℕ) → List ℕ → Option (List ℕ) → Type 0
-AreOfOneTable held left (Some file) symvers map None = (file ≡ map) × (get held file ≡ get left file)
+AreOfOneTable held left (Some file) symvers map None = get held file ≡ get left map
 AreOfOneTable held left (Some file) symvers map (Some other) = ⊥
-AreOfOneTable held left None (Some file) map (Some other) = (file ≡ other) × (get held file ≡ get left file)
+AreOfOneTable held left None (Some file) map (Some other) = get held file ≡ get left other
 AreOfOneTable held left None (Some file) map None = ⊥
 AreOfOneTable held left None None map other = ⊥
 
 -- A modprobe is asked for that loads, over the files that a depmod left which found the first ones: of the same folder, into
--- the machine of this kernel, which has the table of the same file.
+-- the machine of this kernel, which has its table of the same bytes.
 pub record IsLoadAfter (held : Contents) (asked : DepmodWords) (left : Contents) (loads : ModprobeWords) (addressed : Kernel) (region : Region) : Type 0 where
   pub folder : modules_folder loads.dirname loads.version ≡ modules_of_request asked
   pub machine : HasMachine left loads addressed region
@@ -31,7 +32,8 @@ pub record IsLoadAfter (held : Contents) (asked : DepmodWords) (left : Contents)
 -- For such a load the folder stands as depmod indexed it, and the kernel has the table that was indexed.
 abbrev pub LeftForLoads : Type 0
 LeftForLoads =
-    (held : Contents) (asked : DepmodWords) (left : Contents) (loads : ModprobeWords) (addressed : Kernel) (region : Region)
-    → (is : LeftIndexed held asked left)
+    (held : Contents) (asked : DepmodWords) (i : IndexedTree) (left : Contents) (loads : ModprobeWords) (addressed : Kernel) (region : Region)
+    → IsIndexed held asked i
+    → (is : LeftIndexed asked i left)
     → IsLoadAfter held asked left loads addressed region
-    → IsIndexedFor left (modules_folder loads.dirname loads.version) is.tree is.kernel is.builtin addressed
+    → IsIndexedFor left (modules_folder loads.dirname loads.version) i.tree is.kernel i.builtin addressed

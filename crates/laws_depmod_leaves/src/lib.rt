@@ -1,11 +1,13 @@
-//! What a depmod that is done leaves: a folder that stands as it indexed it. Laws alone.
+//! What a depmod that is done leaves: a folder as it indexed it. Only laws.
 //!
-//! A `depmod` that replaces its files in the folder of the modules, by the table of a kernel, and comes to its end leaves
-//! the tree that it read, each module of it a valid file, with the files that are made of that tree. A modprobe that has the
-//! kernel's table of the same file finds there what the laws on courses of loads ask for.
+//! A `depmod` that replaces its files in the folder of the modules, by the table of a kernel, and
+//! is done leaves the tree that it read. Each module of the tree is a valid file, and the files
+//! that are made of the tree are there. A modprobe that has the kernel's table of a file of the
+//! same bytes finds there what the laws on courses of loads ask for.
 //!
-//! The crate stands on `command_depmod` for the course of depmod, on `stages_loads` for the kernels of tables, on
-//! `laws_indexed_folder` for folders that stand as they were indexed, and on `laws_planned_loads` for what a load asks for.
+//! The crate builds on `command_depmod` for the course of depmod, and on `stages_loads` for the
+//! kernels of tables. It builds on `laws_indexed_folder` for folders as they were indexed, and on
+//! `laws_planned_loads` for what a load asks for.
 #![tactic(auto)]
 
 mod laws;

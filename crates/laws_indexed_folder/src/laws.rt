@@ -6,40 +6,42 @@ ghost use Rattle.laws_indexed_folder.specs.Binding.{IndexedPlansBind, LinesAreOf
 ghost use Rattle.laws_indexed_folder.specs.Steps.{PlansAreClosed};
 ghost use Rattle.laws_indexed_folder.specs.Standing.{FilesStand, LinesAreNoObstacle};
 
-/// The map that depmod makes has the dependency lines of its tree, the lines of such a map say what each module of the
-/// tree depends on, and it has no others.
+/// States that the map that depmod makes has the dependency lines of its tree, and no others. The
+/// lines of such a map say what each module of the tree depends on.
 pub fn indexed_lines()
     ensures files { FilesHaveLines }
     ensures maps { MapsHaveLines }
     ensures named { LinesAreOfTree }
 {}
 
-/// A plan that is closed over the dependency lines that depmod made of a tree binds.
+/// States that a plan that is closed over the dependency lines that depmod made of a tree binds.
 pub fn indexed_plans_bind()
     ensures { IndexedPlansBind }
 {}
 
-/// A folder that stands as depmod indexed it is read as that: its modules are valid and have the facts of the tree, its
-/// modules.dep.bin has the tree's dependency lines, and its modules.unmet the tree's lines.
+/// States that a folder as depmod indexed it is read as that. Its modules are valid and have the
+/// facts of the tree, its modules.dep.bin has the tree's dependency lines, and its modules.unmet
+/// the tree's lines.
 pub fn folders_read_as_indexed()
     ensures { FoldersReadAsIndexed }
 {}
 
-/// Each module that a plan names is read of a valid file of such a folder; and a plan that is closed over what was read
-/// of the folder binds, after listed modules that load.
+/// States that each module that a plan names is read from a valid file of such a folder. A plan
+/// that is closed over what was read of the folder binds, after listed modules that load.
 pub fn folders_bind()
     ensures valid { FilesAreValid }
     ensures bind { FoldersBind }
 {}
 
-/// A plan for a request that runs no command loads modules that are closed over the loaded ones, where these have
-/// dependency lines, and loads each from the first path of its own.
+/// States that a plan for a request that runs no command loads modules that are closed over the
+/// loaded ones, if these have dependency lines. It loads each from the first path of its own line.
 pub fn plans_are_closed()
     ensures { PlansAreClosed }
 {}
 
-/// Each index that depmod makes is accepted and stands for its map, and its modules.unmet for its lines; and over the
-/// dependency lines that it made of a tree no plan is refused for a bad one.
+/// States that each index that depmod makes is accepted and represents its map, and its
+/// modules.unmet its lines. Over the dependency lines that it made of a tree, no plan is refused
+/// for a bad line.
 pub fn written_files_stand()
     ensures files { FilesStand }
     ensures lines { LinesAreNoObstacle }

@@ -1,11 +1,12 @@
-//! Closed plans over the files that depmod writes: laws alone.
+//! Closed plans over the files that depmod writes: only laws.
 //!
-//! The map of modules.dep.bin has the dependency line of each module under its name. What these lines say is what closed
-//! plans go by: so a plan that is closed over the lines of the map binds, loaded after listed modules that load. The
-//! plans that are made for requests are closed so.
+//! The map of modules.dep.bin has the dependency line of each module under its name. Closed plans
+//! go by what these lines say. So a plan that is closed over the lines of the map binds, loaded
+//! after listed modules that load. The plans that are made for requests are closed in this way.
 //!
-//! The crate stands on `laws_closed_plans` for closed plans and what they bind, on `depmod_core` for the map, on `mod_tree` for
-//! what a dependency line says, and on `plan_builder` for the plans of requests.
+//! The crate builds on `laws_closed_plans` for closed plans and what they bind, and on
+//! `depmod_core` for the map. It builds on `mod_tree` for what a dependency line says, and on
+//! `plan_builder` for the plans of requests.
 #![tactic(auto)]
 
 mod laws;

@@ -1,5 +1,5 @@
 -- The courses of modprobe over a folder that stands as it was indexed end for no file that depmod wrote.
-use Rattle.std.proofs.Common.{◌≡◌, ◌∙◌, ℕ, Bool, List, [], ◌∷◌, ◌++◌, find, map, reverse, flat_map, None, refl, sym, subst}
+use Rattle.std.proofs.Common.{◌≡◌, ◌∙◌, ℕ, Bool, List, [], ◌∷◌, ◌++◌, find, get_or, map, reverse, flat_map, take, None, refl, sym, ap, subst, arith}
 use Rattle.std.specs.Prelude.{Option, Some, Result, Ok, Err, codes, nat_eq, ⊤}
 use Rattle.std.specs.List.{ends_with}
 use Rattle.km_names.specs.First.{first}
@@ -16,7 +16,7 @@ use Rattle.km_course.specs.Course.Outcome.{value, end}
 use Rattle.km_course.specs.declared.end.End.{End}
 use Rattle.km_course.specs.declared.end.End.TheVariants.{NoFile, NotUnderstood, Refused}
 use Rattle.km_course.specs.declared.refusal.Refusal.TheVariants.{BadLine, BadModule, Compressed, InstallChosen, KernelWithoutAddress, InnerOutputFull, ListedNotFound, ListedRefused, LoadRefused, NotFound}
-use Rattle.km_course.specs.declared.refusal.Refusal.TheVariants as refusals
+use Rattle.km_course.specs.declared.refusal.Refusal.TheVariants.{Obstacle as Unplanned}
 use Rattle.index_read.specs.Contents.{contents}
 use Rattle.index_read.specs.declared.index.Index.{Index}
 use Rattle.index_read.proofs.ContentsLemmas.{held as contents-held}
@@ -42,11 +42,13 @@ use Rattle.model_loader.specs.Machine.{Machine, kernel_fault}
 use Rattle.model_loader.specs.Step.{step}
 use Rattle.name_lookup.specs.declared.indexes.Indexes.{Indexes}
 use Rattle.plan_builder.specs.declared.obstacle.Obstacle.{Obstacle}
+use Rattle.unmet_file.specs.Line.{line_text}
 use Rattle.plan_builder.specs.declared.obstacle.Obstacle.TheVariants as obstacles
 use Rattle.plan_builder.specs.declared.request.Request.{Request}
 use Rattle.plan_builder.specs.declared.step.PlanStep.{PlanStep}
 use Rattle.plan_builder.specs.Obstacles.{obstacle_of}
 use Rattle.plan_builder.specs.Steps.{plan_steps}
+use Rattle.plan_builder.specs.Text.{obstacle_text}
 use Rattle.depmod_core.specs.Files.{files}
 use Rattle.laws_indexed_folder.specs.Binding.{StandsAsIndexed}
 use Rattle.laws_indexed_folder.specs.Indexed.{Indexed}
@@ -229,17 +231,25 @@ module _ (held : Contents) (asked : ModprobeWords) where
 
   -- ---- plans
 
+  -- a text that begins with another letter isn't that of a dependency line
+  is-text : (o : Obstacle) (e : End) (letter : ℕ) → take 1 (obstacle_text o) ≡ letter ∷ [] → (letter ≡ 98 → ⊥) → ◌≡◌ {A = Outcome (List PlanStep)} (end (Refused (Unplanned (obstacle_text o)))) (end e) → Other e
+  is-text o e letter begins other is =
+      so-ends Other (Refused (Unplanned (obstacle_text o))) e
+      (λ name same. other (ap (λ bs. get_or bs 0 0) (sym begins ∙ ap (take 1) same)))
+      is
+
   other-obstacle : (o : Option Obstacle) (steps : List PlanStep) → ((name : List ℕ) → o ≡ Some (obstacles.BadDepLine name) → ⊥) → (e : End) → plan_unless o steps ≡ end e → Other e
+  unfolding line_text
   other-obstacle None steps fine e is = absurd (no-end steps e is)
   other-obstacle (Some (obstacles.BadDepLine name)) steps fine e is = absurd (fine name refl)
-  other-obstacle (Some (obstacles.NotFound name)) steps fine e is = so-ends Other (Refused (refusals.NotFound name)) e tt is
-  other-obstacle (Some (obstacles.Missing path symbol)) steps fine e is = so-ends Other (Refused (refusals.Missing path symbol)) e tt is
-  other-obstacle (Some (obstacles.Gpl path symbol by)) steps fine e is = so-ends Other (Refused (refusals.Gpl path symbol by)) e tt is
-  other-obstacle (Some (obstacles.Version path symbol by)) steps fine e is = so-ends Other (Refused (refusals.Version path symbol by)) e tt is
-  other-obstacle (Some (obstacles.Namespace path symbol by)) steps fine e is = so-ends Other (Refused (refusals.Namespace path symbol by)) e tt is
-  other-obstacle (Some (obstacles.Cycle names)) steps fine e is = so-ends Other (Refused (refusals.Cycle names)) e tt is
-  other-obstacle (Some (obstacles.Double symbol a b)) steps fine e is = so-ends Other (Refused (refusals.Double symbol a b)) e tt is
-  other-obstacle (Some obstacles.Memory) steps fine e is = so-ends Other (Refused InnerOutputFull) e tt is
+  other-obstacle (Some (obstacles.NotFound name)) steps fine e is = is-text (obstacles.NotFound name) e 110 refl (omega arith) is
+  other-obstacle (Some (obstacles.Missing path symbol)) steps fine e is = is-text (obstacles.Missing path symbol) e 109 refl (omega arith) is
+  other-obstacle (Some (obstacles.Gpl path symbol by)) steps fine e is = is-text (obstacles.Gpl path symbol by) e 103 refl (omega arith) is
+  other-obstacle (Some (obstacles.Version path symbol by)) steps fine e is = is-text (obstacles.Version path symbol by) e 118 refl (omega arith) is
+  other-obstacle (Some (obstacles.Namespace path symbol by)) steps fine e is = is-text (obstacles.Namespace path symbol by) e 110 refl (omega arith) is
+  other-obstacle (Some (obstacles.Cycle names)) steps fine e is = is-text (obstacles.Cycle names) e 99 refl (omega arith) is
+  other-obstacle (Some (obstacles.Double symbol a b)) steps fine e is = is-text (obstacles.Double symbol a b) e 100 refl (omega arith) is
+  other-obstacle (Some obstacles.Memory) steps fine e is = is-text obstacles.Memory e 111 refl (omega arith) is
 
   -- no dependency line is an obstacle over what is known
   abbrev Fine : Known → Type 0

@@ -4,29 +4,33 @@ ghost use Rattle.laws_planned_loads.specs.Listed.{ListedLoadsAreOfMachine, Liste
 ghost use Rattle.laws_planned_loads.specs.Courses.{CoursesLoad, CoursesBind, CoursesEnd};
 ghost use Rattle.laws_planned_loads.specs.Reading.{FoldersAreRead, ReadingsEnd, CoursesPass};
 
-/// Loads of modules whose files are read are those of the machine: of a plan, with all that is said and written of them,
-/// and of listed modules, of which nothing is said.
+/// States that loads of modules whose files are read are those of the machine. This holds of a
+/// plan, with all that is printed and written of its loads, and of listed modules, of which nothing
+/// is printed.
 pub fn loads_are_of_machines()
     ensures planned { LoadsAreOfMachine }
     ensures listed { ListedLoadsAreOfMachine }
     ensures given { ListedAreOfMachine }
 {}
 
-/// A course that came past its reading is that of its loads: it has the end that these have, and writes what they write.
+/// States that a course past its reading is that of its loads: it ends as they end, and writes what
+/// they write.
 pub fn courses_load()
     ensures { CoursesLoad }
 {}
 
-/// Over a folder that stands as depmod indexed it, and the same kernel's table with addresses, a course that came past its
-/// reading loads modules that bind; and it stops for want of room or for a word that doesn't fit, and for nothing else.
+/// States that a course past its reading loads modules that bind, over a folder as depmod indexed
+/// it and the same kernel's table with addresses. It stops only for lack of room or for a word that
+/// doesn't fit.
 pub fn courses_bind()
     ensures bind { CoursesBind }
     ensures stop { CoursesEnd }
 {}
 
-/// The files that depmod wrote are never refused: each index is accepted, and each line of modules.softdep and of
-/// modules.unmet is understood. What a modprobe over such a folder is refused for before it looks a name up is its
-/// configuration or its list of loaded modules; and in no mode does it end for an index or a dependency line.
+/// States that the files that depmod wrote are never refused: each index is accepted, and each line
+/// of modules.softdep and of modules.unmet is understood. Before it looks a name up, a modprobe
+/// over such a folder is refused only for its configuration or its list of loaded modules. In no
+/// mode does it end for an index or a dependency line.
 pub fn written_files_are_read()
     ensures folder { FoldersAreRead }
     ensures reading { ReadingsEnd }

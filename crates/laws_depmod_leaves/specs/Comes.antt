@@ -1,0 +1,116 @@
+-- How far a depmod comes, by the files that it finds: it indexes the tree in a folder, or something ends it. depmod(8),
+-- modules.dep(5).
+use Rattle.std.specs.Prelude.{◌≡◌, ℕ, true, false, List, [], ◌∷◌, ◌++◌, length, map, codes, Some, None}
+use Rattle.km_names.specs.Path.{is_compressed, path_below}
+use Rattle.km_outside.specs.Contents.{Contents}
+use Rattle.km_course.specs.Course.{Outcome, reads, reads_any}
+use Rattle.km_course.specs.Course.Outcome.{value, end}
+use Rattle.km_course.specs.declared.end.End.{End}
+use Rattle.km_course.specs.declared.end.End.TheVariants.{Refused}
+use Rattle.km_course.specs.declared.refusal.Refusal.TheVariants.{BadModule, Compressed, Cycle}
+use Rattle.kmod_words.specs.declared.depmod.DepmodWords.{DepmodWords}
+use Rattle.relation_order.specs.Cycle.{cycle}
+use Rattle.relation_order.specs.Sets.{below}
+use Rattle.module_facts.specs.declared.facts.Facts.{Facts}
+use Rattle.module_facts.specs.declared.fault.ModuleFault.{ModuleFault}
+use Rattle.module_facts.specs.Faults.{fact_fault}
+use Rattle.module_facts.specs.FaultText.{module_fault_text}
+use Rattle.provider_rel.specs.declared.fault.RelationFault.{RelationFault}
+use Rattle.provider_rel.specs.Faces.{modules_of}
+use Rattle.provider_rel.specs.Relation.{name_at, relation_fault, uses_at}
+use Rattle.depmod_core.specs.declared.fault.OutputFault.{OutputFault}
+use Rattle.depmod_core.specs.declared.files.OutputFiles.{OutputFiles}
+use Rattle.depmod_core.specs.Files.{StandFor, files, output_fault}
+use Rattle.stages_files.specs.KernelTable.{Table, reads_kernel, seen_kernel}
+use Rattle.command_depmod.specs.Depmod.{modules_of_request}
+use Rattle.command_depmod.specs.Outputs.{output_refusal}
+use Rattle.command_depmod.specs.Relation.{relation_refusal}
+use Rattle.command_depmod.specs.Search.{reads_search}
+use Rattle.command_depmod.specs.Tree.{reads_tree}
+use Rattle.laws_closed_plans.specs.Members.{Member}
+use Rattle.laws_indexed_folder.specs.Indexed.{IsModuleFile}
+
+-- ---- what is indexed
+
+-- What is indexed: the modules of a tree, the kernel's table, and the bytes of modules.builtin.
+pub record IndexedTree : Type 0 where
+  pub tree : List Facts
+  pub table : Table
+  pub builtin : List ℕ
+
+-- The files that are made of it.
+abbrev pub files_of : IndexedTree → OutputFiles
+files_of i = files i.tree (seen_kernel i.table) i.builtin
+
+-- In the folder that is asked for there is a tree of modules at these paths, in this order, as it is chosen from the listing
+-- of the folder; and the kernel has the table that is named, or one of which nothing is known.
+pub record HasTree (held : Contents) (asked : DepmodWords) (paths : List (List ℕ)) (table : Table) : Type 0 where
+  pub search : List (List ℕ)
+  pub searched : ((reads_search asked.config).run held).outcome ≡ value search
+  pub chosen : ((reads_tree (modules_of_request asked) search).run held).outcome ≡ value paths
+  pub kernel : ((reads_kernel asked.filesyms asked.symvers).run held).outcome ≡ value table
+
+-- The first modules of a tree are valid and state these facts; and these paths are left.
+pub record AreValid (held : Contents) (folder : List ℕ) (paths : List (List ℕ)) (modules : List Facts) (left : List (List ℕ)) : Type 0 where
+  pub split : paths ≡ map (λ (f : Facts). f.path) modules ++ left
+  pub valid : (f : Facts) → Member f modules → IsModuleFile held folder f
+
+-- All modules of the tree are valid.
+pub record IsRead (held : Contents) (asked : DepmodWords) (tree : List Facts) (table : Table) : Type 0 where
+  pub paths : List (List ℕ)
+  pub found : HasTree held asked paths table
+  pub modules : AreValid held (modules_of_request asked) paths tree []
+
+-- The bytes of modules.builtin, or the end that it comes to. It counts as empty where there is none.
+abbrev pub built_in : Contents → DepmodWords → Outcome (List ℕ)
+built_in held asked = ((reads_any (path_below (modules_of_request asked) (codes "modules.builtin"))).run held).outcome
+
+-- Nothing is in the way of an index, and its files stand for what they are made of.
+pub record IsIndexed (held : Contents) (asked : DepmodWords) (i : IndexedTree) : Type 0 where
+  pub read : IsRead held asked i.tree i.table
+  -- no walk from a module to one that it uses leads back, and no limit is passed
+  pub related : relation_fault (modules_of i.tree) (seen_kernel i.table) ≡ None
+  pub builtin : built_in held asked ≡ value i.builtin
+  pub small : output_fault (files_of i) ≡ None
+  -- each index holds its map, and modules.unmet is read back as what stands in the way of loading modules
+  pub stand : StandFor i.tree (seen_kernel i.table) i.builtin (files_of i)
+
+-- ---- what ends it
+
+-- The module at a path of the tree is refused, and this is the end.
+pub data IsBadModule (held : Contents) (folder path : List ℕ) : End → Type 0 where
+  -- it is a compressed one, which isn't read
+  compressed : is_compressed path ≡ true → IsBadModule held folder path (Refused (Compressed path))
+  -- its file can't be read
+  unread : is_compressed path ≡ false → (e : End) → ((reads (path_below folder path)).run held).outcome ≡ end e → IsBadModule held folder path e
+  -- this is the first test that its file fails
+  bad : is_compressed path ≡ false → (bytes : List ℕ) → ((reads (path_below folder path)).run held).outcome ≡ value bytes → (fault : ModuleFault) → fact_fault path bytes ≡ Some fault → IsBadModule held folder path (Refused (BadModule path (module_fault_text fault)))
+
+-- The walk along which the modules of a tree use one another and that leads back, by places in the tree; none where there is
+-- no such walk.
+abbrev pub cycle_in : List Facts → Table → List ℕ
+cycle_in tree table = cycle (uses_at (modules_of tree) (seen_kernel table)) (below (length tree))
+
+-- Something ends a depmod before it has files, in the order of its work.
+pub data IsEnded (held : Contents) (asked : DepmodWords) : End → Type 0 where
+  -- the configuration
+  no_search : (e : End) → ((reads_search asked.config).run held).outcome ≡ end e → IsEnded held asked e
+  -- the listing, modules.order, a bad path or too many modules
+  no_tree : (search : List (List ℕ)) → ((reads_search asked.config).run held).outcome ≡ value search → (e : End) → ((reads_tree (modules_of_request asked) search).run held).outcome ≡ end e → IsEnded held asked e
+  -- the kernel's table
+  no_table : (search paths : List (List ℕ)) → ((reads_search asked.config).run held).outcome ≡ value search → ((reads_tree (modules_of_request asked) search).run held).outcome ≡ value paths → (e : End) → ((reads_kernel asked.filesyms asked.symvers).run held).outcome ≡ end e → IsEnded held asked e
+  -- a module, after valid ones
+  bad_module : (paths : List (List ℕ)) (table : Table) → HasTree held asked paths table → (before : List Facts) (path : List ℕ) (later : List (List ℕ)) → AreValid held (modules_of_request asked) paths before (path ∷ later) → (e : End) → IsBadModule held (modules_of_request asked) path e → IsEnded held asked e
+  -- a cycle, where all modules are valid
+  has_cycle : (tree : List Facts) (table : Table) → IsRead held asked tree table → (i : ℕ) (is : List ℕ) → cycle_in tree table ≡ i ∷ is → IsEnded held asked (Refused (Cycle (map (name_at (modules_of tree)) (i ∷ is))))
+  -- where there is none, a limit of dependencies or of double lines
+  too_many : (tree : List Facts) (table : Table) → IsRead held asked tree table → cycle_in tree table ≡ [] → (fault : RelationFault) → relation_fault (modules_of tree) (seen_kernel table) ≡ Some fault → IsEnded held asked (Refused (relation_refusal fault))
+  -- modules.builtin
+  no_builtin : (tree : List Facts) (table : Table) → IsRead held asked tree table → relation_fault (modules_of tree) (seen_kernel table) ≡ None → (e : End) → built_in held asked ≡ end e → IsEnded held asked e
+  -- the first file that is too large
+  too_large : (i : IndexedTree) → IsRead held asked i.tree i.table → relation_fault (modules_of i.tree) (seen_kernel i.table) ≡ None → built_in held asked ≡ value i.builtin → (fault : OutputFault) → output_fault (files_of i) ≡ Some fault → IsEnded held asked (Refused (output_refusal fault))
+
+-- What a depmod comes to over the files that it finds.
+abbrev pub ComesTo : Contents → DepmodWords → Outcome IndexedTree → Type 0
+ComesTo held asked (value i) = IsIndexed held asked i
+ComesTo held asked (end e) = IsEnded held asked e
