@@ -1,6 +1,6 @@
-//! The program `kmod`: hands the words of the command line, the files of the machine and the standard
-//! streams to `kmod_cli::run`, and exits with its status. Called by the name of a command, by a link to it, it
-//! is that command.
+//! The program `kmod`. It hands the words of the command line, the files of the machine and the
+//! standard streams to `kmod_cli::run`, and exits with its status. Called by the name of a command,
+//! through a link, it is that command.
 #![tactic(auto)]
 
 use km_course::{End, Stop, conclude};
@@ -23,8 +23,8 @@ fn main(rt: HostRuntime) -> ExitCode {
     ExitCode::from(status)
 }
 
-/// The words after the program's name, and before them that name where it is a command's. Words that aren't
-/// text aren't understood.
+/// Returns the words after the program's name, and before them that name if it is a command's.
+/// Words that aren't text aren't understood.
 fn command_words(rt: &HostRuntime) -> Result<List<Word>, Stop> {
     let alloc = rt.alloc();
     let mut words = List::new(alloc);
@@ -40,7 +40,7 @@ fn command_words(rt: &HostRuntime) -> Result<List<Word>, Stop> {
     Ok(words)
 }
 
-/// The command by whose name the program at the path is called.
+/// Returns the command by whose name the program at the path is called.
 fn command_called(program: &str) -> Option<&'static str> {
     match program.rsplit('/').next() {
         Some("depmod") => Some("depmod"),
@@ -50,7 +50,7 @@ fn command_called(program: &str) -> Option<&'static str> {
     }
 }
 
-/// How an error of reading the words stops the program.
+/// Returns how an error of reading the words stops the program.
 fn stop_of(error: io::Error) -> Stop {
     match error.kind() {
         io::ErrorKind::OutOfMemory => Stop::Memory,

@@ -84,12 +84,12 @@ part-append (act ∷ a) b shown held printed (inr p) =
 
 -- ---- acts that neither put a file nor say anything
 
-abbrev IsSilent : Act → Type 0
+abbrev pub IsSilent : Act → Type 0
 IsSilent (put path bytes) = ⊥
 IsSilent (say bytes) = ⊥
 IsSilent act = Unit {0}
 
-abbrev AreSilent : List Act → Type 0
+abbrev pub AreSilent : List Act → Type 0
 AreSilent [] = Unit {0}
 AreSilent (act ∷ acts) = IsSilent act × AreSilent acts
 
@@ -105,7 +105,7 @@ closing-silent : (o : Outcome ⊤) → AreSilent (closing_acts o)
 closing-silent (value x) = tt
 closing-silent (end e) = (tt, tt)
 
-part-silent : (acts : List Act) (shown : Shown) (held : Contents) (printed : List ℕ) → AreSilent acts → Part acts shown held printed → (shown.files ≡ held) × (shown.out ≡ printed)
+pub part-silent : (acts : List Act) (shown : Shown) (held : Contents) (printed : List ℕ) → AreSilent acts → Part acts shown held printed → (shown.files ≡ held) × (shown.out ≡ printed)
 part-silent [] shown held printed silent p = p
 part-silent (read path ∷ acts) shown held printed silent (inl p) = (p.0, p.1.1)
 part-silent (read path ∷ acts) shown held printed silent (inr p) = part-silent acts (act_done (read path) shown) held printed silent.1 p

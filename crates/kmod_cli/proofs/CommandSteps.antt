@@ -1,16 +1,14 @@
 -- The words of a command line: a name, and the words after it.
 use Rattle.std.proofs.Common.{◌≡◌, ℕ, ◌<◌, ◌≤◌, List, [], ◌∷◌, length, drop, get_or, refl, subst, arith}
 use Rattle.std.specs.Prelude.{codes}
-use Rattle.km_course.specs.World.{World, Shown, Tells}
+use Rattle.km_course.specs.World.{World}
 use Rattle.km_course.specs.Carries.{Carries}
-use Rattle.command_depmod.specs.Replaced.{LeavesFiles}
-use Rattle.command_depmod.proofs.ReplaceLaw.{leaves}
-use Rattle.laws_depmod_leaves.specs.Left.{LeavesIndexed}
-use Rattle.laws_depmod_leaves.proofs.LeftLemmas.{leaves-indexed}
 use Rattle.kmod_cli.specs.Headline.{Headline}
+use Rattle.kmod_cli.specs.Indexes.{Indexes}
 use Rattle.kmod_cli.specs.Plans.{Plans}
 use Rattle.kmod_cli.specs.Program.{command_named, course}
 use Rattle.kmod_cli.proofs.HeadlineLaw.{headline}
+use Rattle.kmod_cli.proofs.IndexesLaw.{indexes-law}
 use Rattle.kmod_cli.proofs.PlansLaw.{plans}
 
 pub no-words : (words : List (List ℕ)) → length words < 1 → words ≡ []
@@ -21,17 +19,11 @@ pub name-first : (words rest : List (List ℕ)) (name : List ℕ) → 1 ≤ leng
 name-first [] rest name h is after = absurd (omega arith)
 name-first (word ∷ words) rest name h is after = cc
 
--- what is left of files where the first word is `depmod`
-pub depmod-leaves : (words : List (List ℕ)) (old new : World) (status : ℕ) → Carries (course words) old new status → (rest : List (List ℕ)) → words ≡ codes "depmod" ∷ rest → (shown : Shown) → Tells old shown → LeavesFiles rest shown.files new.files.contents status
-unfolding command_named
-depmod-leaves words old new status c rest is =
-    leaves rest old new status (subst (λ w. Carries (course w) old new status) is c)
-
--- and its folder stands as it indexed it
-pub depmod-indexes : (words : List (List ℕ)) (old new : World) (status : ℕ) → Carries (course words) old new status → (rest : List (List ℕ)) → words ≡ codes "depmod" ∷ rest → (shown : Shown) → Tells old shown → LeavesIndexed rest shown.files new.files.contents status
+-- what was indexed where the first word is `depmod`
+pub depmod-indexes : (words : List (List ℕ)) (old new : World) (status : ℕ) → Carries (course words) old new status → (rest : List (List ℕ)) → words ≡ codes "depmod" ∷ rest → Indexes rest old new status
 unfolding command_named
 depmod-indexes words old new status c rest is =
-    leaves-indexed rest old new status (subst (λ w. Carries (course w) old new status) is c)
+    indexes-law rest old new status (subst (λ w. Carries (course w) old new status) is c)
 
 -- what a load did where the first word is `modprobe`
 pub modprobe-loads : (words : List (List ℕ)) (old new : World) (status : ℕ) → Carries (course words) old new status → (rest : List (List ℕ)) → words ≡ codes "modprobe" ∷ rest → Headline rest old new status

@@ -10,6 +10,7 @@ use Rattle.km_course.specs.Course.Outcome.{value, end}
 use Rattle.km_course.specs.World.{World, Shown, Tells, done}
 use Rattle.km_course.specs.declared.end.End.{End}
 use Rattle.km_course.specs.declared.end.End.TheVariants.{Refused}
+use Rattle.km_course.specs.declared.refusal.Refusal.TheVariants.{Obstacle as Unplanned}
 use Rattle.kmod_words.specs.declared.modprobe.Mode.{Mode}
 use Rattle.kmod_words.specs.declared.modprobe.Mode.TheVariants.{Load, DryRun, ShowDepends, ResolveAlias}
 use Rattle.kmod_words.specs.declared.modprobe.ModprobeWords.{ModprobeWords}
@@ -21,12 +22,13 @@ use Rattle.plan_builder.specs.declared.obstacle.Obstacle.{Obstacle}
 use Rattle.plan_builder.specs.declared.step.PlanStep.{PlanStep}
 use Rattle.plan_builder.specs.Obstacles.{obstacle_of}
 use Rattle.plan_builder.specs.Steps.{plan_steps}
+use Rattle.plan_builder.specs.Text.{obstacle_text}
 use Rattle.stages_loads.specs.Tables.{reads_machine}
 use Rattle.command_modprobe.specs.declared.known.Known.{Known}
 use Rattle.command_modprobe.specs.Known.{reads_known}
 use Rattle.command_modprobe.specs.Loaded.{loads_into, loads_plan, region_at}
 use Rattle.command_modprobe.specs.Modprobe.{modprobe_asked_for, modprobe_course, modprobe_in_mode}
-use Rattle.command_modprobe.specs.Planned.{loaded_in, obstacle_refusal, plan_lines, plan_outcome, plan_unless, request_of, shows_plan, sources_with}
+use Rattle.command_modprobe.specs.Planned.{loaded_in, plan_lines, plan_outcome, plan_unless, request_of, shows_plan, sources_with}
 use Rattle.command_modprobe.proofs.LoadSteps.{after_machine, after_steps, loads_known}
 use Rattle.command_modprobe.proofs.PlanSteps.{after_plan, plans_known}
 use Rattle.laws_planned_loads.specs.Acts.{is_reading, said}
@@ -129,13 +131,13 @@ module _ (held : Contents) (words : List (List ℕ)) (asked : ModprobeWords) (kn
       by_mode ShowDepends m ready = of-words ShowDepends m _ _ (shown-so held asked known came.knows _ (outcome-is known asked None none))
       by_mode ResolveAlias m ready = absurd ready
 
-  plan-refused : (obstacle : Obstacle) → obstacle_of (sources_asked asked known) (request_of asked) ≡ Some obstacle → Prints [] (end (Refused (obstacle_refusal obstacle))) ((modprobe_course words).run held)
+  plan-refused : (obstacle : Obstacle) → obstacle_of (sources_asked asked known) (request_of asked) ≡ Some obstacle → Prints [] (end (Refused (Unplanned (obstacle_text obstacle)))) ((modprobe_course words).run held)
   plan-refused obstacle some = by_mode asked.mode refl came.ready
     where
-      met : plan_outcome known (loaded_in asked.mode known.loaded) (request_of asked) ≡ end (Refused (obstacle_refusal obstacle))
+      met : plan_outcome known (loaded_in asked.mode known.loaded) (request_of asked) ≡ end (Refused (Unplanned (obstacle_text obstacle)))
       met = outcome-is known asked (Some obstacle) some
 
-      by_mode : (mode : Mode) → asked.mode ≡ mode → IsReady held asked mode → Prints [] (end (Refused (obstacle_refusal obstacle))) ((modprobe_course words).run held)
+      by_mode : (mode : Mode) → asked.mode ≡ mode → IsReady held asked mode → Prints [] (end (Refused (Unplanned (obstacle_text obstacle)))) ((modprobe_course words).run held)
       by_mode Load m ready =
           of-words Load m _ _
           (loaded-not held asked known ready.0 ready.1 ready.2 came.knows _
@@ -192,8 +194,8 @@ plans words old new status c = λ shown tells asked is known came.
           (omega arith) (ap (λ (r : Run ⊤). outcome_status r.outcome) p.is) (printed-part lines (value tt) run shown new p);
       refused = λ obstacle some.
           let p = plan-refused held words asked known is came obstacle some in
-          let told = printed-told [] (end (Refused (obstacle_refusal obstacle))) run shown p in
+          let told = printed-told [] (end (Refused (Unplanned (obstacle_text obstacle)))) run shown p in
           came-to course old new status c shown tells 1 _
           (record { files = told.files; out = told.out ∙ append-nil shown.out; err = told.err })
-          (omega arith) (ap (λ (r : Run ⊤). outcome_status r.outcome) p.is) (printed-part [] (end (Refused (obstacle_refusal obstacle))) run shown new p);
+          (omega arith) (ap (λ (r : Run ⊤). outcome_status r.outcome) p.is) (printed-part [] (end (Refused (Unplanned (obstacle_text obstacle)))) run shown new p);
     }

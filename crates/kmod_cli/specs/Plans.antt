@@ -3,7 +3,7 @@
 use Rattle.std.specs.Prelude.{◌≡◌, ℕ, List, [], ◌++◌, take, Option, Some, None, ⊤}
 use Rattle.km_outside.specs.Contents.{Contents}
 use Rattle.km_course.specs.Course.Outcome.{value}
-use Rattle.km_course.specs.Lines.{line, refusal_text}
+use Rattle.km_course.specs.Lines.{line}
 use Rattle.km_course.specs.World.{World, Shown, Tells}
 use Rattle.kmod_words.specs.declared.modprobe.Mode.{Mode}
 use Rattle.kmod_words.specs.declared.modprobe.Mode.TheVariants.{Load, DryRun, ShowDepends, ResolveAlias}
@@ -15,9 +15,10 @@ use Rattle.plan_builder.specs.declared.obstacle.Obstacle.{Obstacle}
 use Rattle.plan_builder.specs.Needs.{Sources}
 use Rattle.plan_builder.specs.Obstacles.{obstacle_of}
 use Rattle.plan_builder.specs.Steps.{plan_steps}
+use Rattle.plan_builder.specs.Text.{obstacle_text}
 use Rattle.command_modprobe.specs.declared.known.Known.{Known}
 use Rattle.command_modprobe.specs.Known.{reads_known}
-use Rattle.command_modprobe.specs.Planned.{loaded_in, obstacle_refusal, plan_lines, request_of, sources_with}
+use Rattle.command_modprobe.specs.Planned.{loaded_in, plan_lines, request_of, sources_with}
 use Rattle.laws_planned_loads.specs.Courses.{HasMachine}
 use Rattle.kmod_cli.specs.CameTo.{CameTo}
 use Rattle.kmod_cli.specs.Headline.{folder_asked}
@@ -58,7 +59,7 @@ pub record IsPlanned (asked : ModprobeWords) (known : Known) (shown : Shown) (ol
   -- nothing else is written
   pub planned : ¬ (asked.mode ≡ Load) → obstacle_of (sources_asked asked known) (request_of asked) ≡ None → CameTo 0 (record shown { out = shown.out ++ lines_asked asked known }) (IsPrintedPart (lines_asked asked known) shown) old new status
   -- where something is, the first obstacle is named on err, and nothing else is written
-  pub refused : (obstacle : Obstacle) → obstacle_of (sources_asked asked known) (request_of asked) ≡ Some obstacle → CameTo 1 (record shown { err = shown.err ++ line (refusal_text (obstacle_refusal obstacle)) }) (IsPrintedPart [] shown) old new status
+  pub refused : (obstacle : Obstacle) → obstacle_of (sources_asked asked known) (request_of asked) ≡ Some obstacle → CameTo 1 (record shown { err = shown.err ++ line (obstacle_text obstacle) }) (IsPrintedPart [] shown) old new status
 
 -- modprobe with these words after its name, where files and outputs tell what they hold.
 abbrev pub Plans : List (List ℕ) → World → World → ℕ → Type 0

@@ -8,13 +8,14 @@ pub(crate) enum Command {
     Depmod,
     /// Shows what modules say of themselves. modinfo(8).
     Modinfo,
-    /// Plans and loads modules into the modelled machine, and tells what names stand for. modprobe(8).
+    /// Plans and loads modules into the modelled machine, and prints what names stand for.
+    /// modprobe(8).
     Modprobe,
     /// Makes a tree of modules in memory, indexes it and loads its modules there.
     Trial,
 }
 
-/// The command of this name.
+/// Returns the command of this name.
 #[tactic(auto, unfolding(crate::specs::Program::command_named))]
 pub(crate) fn command_named(word: &[u8]) -> Option<Command>
     ensures { result ≡ command_named word.now }

@@ -1,14 +1,13 @@
 ghost use Rattle.std.specs.Prelude.{◌≡◌, ◌∷◌, ℕ, List, codes};
 ghost use Rattle.km_outside.specs.FilesSeen.{FilesSeen};
-ghost use Rattle.km_course.specs.World.{Shown, Tells, world};
+ghost use Rattle.km_course.specs.World.{world};
 ghost use Rattle.km_course.specs.Carries.{Carries};
 ghost use Rattle.command_depmod.specs.Depmod.{depmod_course};
-ghost use Rattle.command_depmod.specs.Replaced.{LeavesFiles};
 ghost use Rattle.command_modinfo.specs.Modinfo.{modinfo_course};
 ghost use Rattle.command_modprobe.specs.Modprobe.{modprobe_course};
 ghost use Rattle.command_trial.specs.Trial.{trial_course};
-ghost use Rattle.laws_depmod_leaves.specs.Left.{LeavesIndexed};
 ghost use Rattle.kmod_cli.specs.Headline.{Headline};
+ghost use Rattle.kmod_cli.specs.Indexes.{Indexes};
 ghost use Rattle.kmod_cli.specs.Plans.{Plans};
 ghost use Rattle.kmod_cli.specs.Program.{course, course_named};
 
@@ -19,10 +18,14 @@ use km_outside::{Files, Out, Reads, Writes};
 use std::alloc::Global;
 
 /// Does all that the program does: carries out the course of the words, which are those after the
-/// program's name, and answers the exit status. Status 0 is done, 1 refused, 2 not understood, 3 a failed
-/// call on files, `out` or `err`, and 4 want of memory; all but 0 have a line on `err`. The first word names
-/// the command. Where it is `depmod`, files are left as [`depmod`] leaves them; where it is `modprobe`,
-/// it plans, its plan binds, and what it prints and writes is of these loads, as [`modprobe`] says.
+/// program's name, and answers the exit status.
+///
+/// Status 0 is done, 1 refused, 2 not understood, 3 a failed call on files, `out` or `err`, and 4
+/// out of memory. All but 0 have a line on `err`, as far as it can be written.
+///
+/// The first word names the command. For `depmod` it indexes a tree or names the obstacle, as
+/// [`depmod`] says. For `modprobe` it plans, its plan binds, and what it prints and writes is of
+/// these loads, as [`modprobe`] says.
 pub fn run<F: Files, O: Out, E: Out>(
     alloc: Global,
     words: &[Word],
@@ -33,12 +36,9 @@ pub fn run<F: Files, O: Out, E: Out>(
     ensures carries { Carries (course words.now)
         (world (F.seen files.old) (O.seen out.old) (E.seen err.old))
         (world (F.seen files.new) (O.seen out.new) (E.seen err.new)) result }
-    ensures replaces { (rest : List (List ℕ)) → words.now ≡ codes "depmod" ∷ rest → (shown : Shown) →
-        Tells (world (F.seen files.old) (O.seen out.old) (E.seen err.old)) shown →
-        LeavesFiles rest shown.files (F.seen files.new).contents result }
-    ensures indexes { (rest : List (List ℕ)) → words.now ≡ codes "depmod" ∷ rest → (shown : Shown) →
-        Tells (world (F.seen files.old) (O.seen out.old) (E.seen err.old)) shown →
-        LeavesIndexed rest shown.files (F.seen files.new).contents result }
+    ensures indexes { (rest : List (List ℕ)) → words.now ≡ codes "depmod" ∷ rest →
+        Indexes rest (world (F.seen files.old) (O.seen out.old) (E.seen err.old))
+        (world (F.seen files.new) (O.seen out.new) (E.seen err.new)) result }
     ensures plans { (rest : List (List ℕ)) → words.now ≡ codes "modprobe" ∷ rest →
         Plans rest (world (F.seen files.old) (O.seen out.old) (E.seen err.old))
         (world (F.seen files.new) (O.seen out.new) (E.seen err.new)) result }
@@ -79,10 +79,14 @@ fn command<F: Files, O: Out, E: Out>(
     }
 }
 
-/// Does what `depmod` does with these words after its name, and answers the exit status, as [`run`] does: indexes the
-/// modules of a kernel. A refused one replaces no file, and neither does one with `-n`; whatever stops another, it has
-/// replaced a first part of its nine files, each whole. One that replaces them in the folder of the modules, by the table of
-/// a kernel, and is done leaves that folder as it indexed it. depmod(8).
+/// Does what `depmod` does with these words after its name, and answers the exit status, as [`run`]
+/// does: indexes the modules of a kernel.
+///
+/// If it is done, it has replaced its files, or printed their texts with `-n`. They are exactly
+/// those of the tree in the folder, whose modules are all valid, over the kernel's table that is
+/// named, and they decode. If it is refused, it names the first obstacle, such as the first bad
+/// module or the cycle, and replaces no file. Whatever else stops it, it has replaced a first part
+/// of its files, each whole. depmod(8).
 pub fn depmod<F: Files, O: Out, E: Out>(
     alloc: Global,
     words: &[Word],
@@ -93,10 +97,9 @@ pub fn depmod<F: Files, O: Out, E: Out>(
     ensures carries { Carries (depmod_course words.now)
         (world (F.seen files.old) (O.seen out.old) (E.seen err.old))
         (world (F.seen files.new) (O.seen out.new) (E.seen err.new)) result }
-    ensures replaces { (shown : Shown) → Tells (world (F.seen files.old) (O.seen out.old) (E.seen err.old)) shown →
-        LeavesFiles words.now shown.files (F.seen files.new).contents result }
-    ensures indexes { (shown : Shown) → Tells (world (F.seen files.old) (O.seen out.old) (E.seen err.old)) shown →
-        LeavesIndexed words.now shown.files (F.seen files.new).contents result }
+    ensures indexes { Indexes words.now
+        (world (F.seen files.old) (O.seen out.old) (E.seen err.old))
+        (world (F.seen files.new) (O.seen out.new) (E.seen err.new)) result }
 {
     let outcome = command_depmod::depmod(alloc, words, files, out, err);
     conclude(alloc, outcome, err)
@@ -118,14 +121,17 @@ fn modinfo<F: Reads, O: Out, E: Out>(
     conclude(alloc, outcome, err)
 }
 
-/// Does what `modprobe` does with these words after its name, and answers the exit status, as [`run`]
-/// does: prints the plan for names and loads its modules into the modelled machine, prints it alone,
-/// or tells what names stand for. It lists no folder of modules, so that their paths come from the
-/// index alone. Where what it reads is understood, it plans exactly where an order exists, and else
-/// names the first obstacle. While tree and kernel stand as depmod indexed them, no install command
-/// is chosen and the listed modules load, the modules that it loads bind: status 0 is that all of the
-/// plan are loaded, and 1 that one of them finds no room or has a word that doesn't fit; the images
-/// that it put and the lines that it printed are those of the modules that were loaded. modprobe(8).
+/// Does what `modprobe` does with these words after its name, and answers the exit status, as
+/// [`run`] does. It prints the plan for names and loads its modules into the modelled machine, or
+/// only prints the plan, or prints what names stand for.
+///
+/// It lists no folder of modules, so that their paths come only from the index. If what it reads is
+/// understood, it plans exactly if an order exists, and else names the first obstacle.
+///
+/// The modules that it loads bind while tree and kernel are as depmod indexed them, no install
+/// command is chosen, and the listed modules load. Then status 0 means that all modules of the plan
+/// are loaded, and 1 that one of them finds no room or has a word that doesn't fit. The images that
+/// it put and the lines that it printed are those of the loaded modules. modprobe(8).
 pub fn modprobe<F: Writes, O: Out, E: Out>(
     alloc: Global,
     words: &[Word],
@@ -147,8 +153,8 @@ pub fn modprobe<F: Writes, O: Out, E: Out>(
     conclude(alloc, outcome, err)
 }
 
-/// Does what `trial` does with these words after its name: tries the tools on a tree that it makes in memory. No call on
-/// files is made.
+/// Does what `trial` does with these words after its name: tries the tools on a tree that it makes
+/// in memory. It makes no call on files.
 fn trial<O: Out, E: Out>(alloc: Global, words: &[Word], out: &mut O, err: &mut E) -> u8
     ensures { (files : FilesSeen) → Carries (trial_course words.now)
         (world files (O.seen out.old) (E.seen err.old)) (world files (O.seen out.new) (E.seen err.new)) result }

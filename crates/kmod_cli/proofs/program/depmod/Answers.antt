@@ -2,8 +2,7 @@ use Rattle.km_course.specs.World.{world}
 use Rattle.km_course.specs.Carries.{Carries}
 use Rattle.km_course.proofs.Carried.{carried}
 use Rattle.command_depmod.specs.Depmod.{depmod_course}
-use Rattle.command_depmod.proofs.ReplaceLaw.{leaves}
-use Rattle.laws_depmod_leaves.proofs.LeftLemmas.{leaves-indexed}
+use Rattle.kmod_cli.proofs.IndexesLaw.{indexes-law}
 use Rattle.kmod_cli.proofs.program.depmod.Goals as goal
 
 pub returns : goal.returns
@@ -21,6 +20,5 @@ returns g c =
     c.conclude.ensures in
     record {
       carries = carries;
-      replaces = leaves c.args.words.now old new c.conclude.result carries;
-      indexes = leaves-indexed c.args.words.now old new c.conclude.result carries;
+      indexes = indexes-law c.args.words.now old new c.conclude.result carries;
     }

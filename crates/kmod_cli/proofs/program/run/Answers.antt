@@ -3,7 +3,7 @@ use Rattle.std.proofs.lemmas.List.{take_rest}
 use Rattle.km_course.specs.World.{world}
 use Rattle.km_course.specs.Carries.{Carries}
 use Rattle.kmod_cli.specs.Program.{command_named, course, course_named}
-use Rattle.kmod_cli.proofs.CommandSteps.{no-words, name-first, depmod-leaves, depmod-indexes, modprobe-loads, modprobe-plans}
+use Rattle.kmod_cli.proofs.CommandSteps.{no-words, name-first, depmod-indexes, modprobe-loads, modprobe-plans}
 use Rattle.kmod_cli.proofs.program.run.Goals as goal
 
 pub returns-in-empty : goal.returns-in-empty
@@ -15,7 +15,6 @@ returns-in-empty g c =
     subst (λ all. Carries (course all) old new c.command.result) (sym (no-words words c.in-empty.len_below)) c.command.ensures in
     record {
       carries = carries;
-      replaces = depmod-leaves words old new c.command.result carries;
       indexes = depmod-indexes words old new c.command.result carries;
       headline = modprobe-loads words old new c.command.result carries;
       plans = modprobe-plans words old new c.command.result carries;
@@ -35,7 +34,6 @@ returns-in-len1-up g c =
     c.command-in-len1-up.ensures) in
     record {
       carries = carries;
-      replaces = depmod-leaves words old new c.command-in-len1-up.result carries;
       indexes = depmod-indexes words old new c.command-in-len1-up.result carries;
       headline = modprobe-loads words old new c.command-in-len1-up.result carries;
       plans = modprobe-plans words old new c.command-in-len1-up.result carries;
