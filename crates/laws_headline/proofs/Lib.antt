@@ -1,0 +1,10 @@
+pub mod Computing
+pub mod Maps
+pub mod Folders
+pub mod MetFiles
+pub mod MetMachine
+pub mod MetReads
+pub mod MetPlan
+pub mod MetLemmas
+pub mod MetLoads
+pub mod NeededLemmas

@@ -1,0 +1,82 @@
+-- The headline is met: a depmod of a folder with two modules, of which one uses the other, and a load of the one that uses
+-- the other. depmod(8), modprobe(8); gABI 4, "Relocation".
+use Rattle.std.specs.Prelude.{◌≡◌, true, false, List, [], ◌∷◌, map, codes, Some, None, Ok}
+use Rattle.km_names.specs.Number.{le}
+use Rattle.km_outside.specs.Contents.{Contents}
+use Rattle.kmod_words.specs.declared.depmod.DepmodWords.{DepmodWords}
+use Rattle.kmod_words.specs.declared.modprobe.Mode.TheVariants.{Load}
+use Rattle.kmod_words.specs.declared.modprobe.ModprobeWords.{ModprobeWords}
+use Rattle.module_facts.specs.declared.module.Module.{Module}
+use Rattle.model_loader.specs.declared.entry.Entry.{Entry}
+use Rattle.model_loader.specs.Machine.{Machine}
+use Rattle.command_depmod.specs.Depmod.{target_of_request}
+use Rattle.command_depmod.specs.Outputs.{all_files}
+use Rattle.laws_closed_plans.specs.Loads.{load_all}
+use Rattle.laws_depmod_leaves.specs.Comes.{IndexedTree, IsIndexed, files_of}
+use Rattle.laws_depmod_leaves.specs.Left.{with_files}
+use Rattle.laws_planned_loads.specs.Files.{AreFileModules}
+use Rattle.kmod_cli.specs.Headline.{Loading, StandsAsIndexed, folder_asked}
+use Rattle.laws_headline.specs.Objects.{found, giver_facts, taker_facts}
+
+-- ---- what is asked for
+
+-- A depmod of that folder, by the System.map.
+abbrev pub depmod_asked : DepmodWords
+depmod_asked = record {
+  dry_run = false;
+  errsyms = false;
+  basedir = [];
+  outdir = [];
+  config = None;
+  filesyms = Some (codes "/S");
+  symvers = None;
+  version = codes "1";
+}
+
+-- What it indexes.
+abbrev pub indexed : IndexedTree
+indexed = record {
+  tree = taker_facts ∷ giver_facts ∷ [];
+  table = record { known = true; exports = [] };
+  builtin = [];
+}
+
+-- What it leaves.
+abbrev pub left : Contents
+left = with_files (target_of_request depmod_asked) (files_of indexed) all_files found
+
+-- A modprobe of the module that uses the other, by the same System.map, into a region of 16 pages from 65536 on.
+abbrev pub load_asked : ModprobeWords
+load_asked = record {
+  mode = Load;
+  all = false;
+  use_blacklist = false;
+  ignore_install = false;
+  dirname = [];
+  version = codes "1";
+  config = None;
+  loaded = None;
+  system_map = Some (codes "/S");
+  symvers = None;
+  region_base = 65536;
+  region_size = 65536;
+  image = None;
+  words = codes "m" ∷ [];
+}
+
+-- ---- what it comes to
+
+-- The premises of the headline hold of this load: it has a plan of both modules. Loaded into its machine, that with the export
+-- stands at the region's base, and the 8 bytes of data of the other are the address of the export.
+pub record IsMet (l : Loading) : Type 0 where
+  pub stands : StandsAsIndexed left load_asked l
+  pub plan : List Module
+  pub files : AreFileModules left (folder_asked load_asked) l.paths plan
+  pub paths : l.paths ≡ codes "p.ko" ∷ codes "m.ko" ∷ []
+  pub machine : Machine
+  pub loads : load_all l.listed plan ≡ Ok machine
+  pub words : map (λ (e : Entry). le e.image 0 8) machine.entries ≡ 0 ∷ 65536 ∷ []
+
+-- The headline is met.
+abbrev pub HeadlineIsMet : Type 0
+HeadlineIsMet = IsIndexed found depmod_asked indexed × (l : Loading) × IsMet l
