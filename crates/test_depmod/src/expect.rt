@@ -1,16 +1,133 @@
-// What a row over a tree comes to.
-use std::alloc::Global;
+// What a depmod results in: what it answers and writes, and every file.
+use crate::indexes::{Index, files_of};
+use std::alloc::{AllocError, Global};
 use std::process::Abort;
 use std::test::Fail;
-use test_rows::{TreeRow, run_tree, wanted};
+use test_rows::{Failing, FileRow, INDEX, ModuleRow, Objects, SYMVERS, objects_with};
 
-/// Runs a command over a tree, and compares what came of it.
-pub(crate) fn expect_tree(rt: &impl Abort, alloc: Global, row: &TreeRow<'_>) -> Result<(), Fail> {
-    let objects = run_tree(alloc, row)?;
-    let want = wanted((row.words, row.status, row.out, row.err));
-    assert_eq!(rt; objects.seen(), want);
-    for file in row.after {
-        assert_eq!(rt; objects.file(alloc, file.path)?, Some(file.bytes));
+/// The folder of a kernel's modules.
+const FOLDER: &str = "/r/lib/modules/6.1.0";
+
+/// The names of the files of an index, in the order in which they are replaced.
+const NAMES: [&str; 9] = [
+    "modules.dep",
+    "modules.dep.bin",
+    "modules.alias",
+    "modules.alias.bin",
+    "modules.softdep",
+    "modules.symbols",
+    "modules.symbols.bin",
+    "modules.builtin.bin",
+    "modules.unmet",
+];
+
+/// A depmod over a tree.
+#[derive(Clone, Copy)]
+pub(crate) struct IndexRow<'a> {
+    /// What the row shows.
+    pub(crate) name: &'a str,
+    /// The modules of the tree.
+    pub(crate) modules: &'a [ModuleRow<'a>],
+    /// Whether there is an index already, whose files have the text `old`.
+    pub(crate) files: &'a [FileRow<'a>],
+    /// Whether there is an index already, whose files hold `old`.
+    pub(crate) is_old: bool,
+    /// What fails.
+    pub(crate) failing: Failing,
+    /// The words.
+    pub(crate) words: &'a str,
+    /// The status that the words are to answer.
+    pub(crate) status: u8,
+    /// What the words are to write to the output.
+    pub(crate) out: &'a str,
+    /// What the words are to write to err.
+    pub(crate) err: &'a str,
+    /// The folder of the index.
+    pub(crate) folder: &'a str,
+    /// The files of the index.
+    pub(crate) index: Index,
+    /// How many of them are replaced, in their order. All other files are to be as they were.
+    pub(crate) replaced: usize,
+}
+
+/// The usual words over the usual table, done.
+pub(crate) const DONE: IndexRow<'static> = IndexRow {
+    name: "",
+    modules: &[],
+    files: &[SYMVERS],
+    is_old: true,
+    failing: Failing::Nothing,
+    words: INDEX,
+    status: 0,
+    out: "",
+    err: "",
+    folder: FOLDER,
+    index: Index::None,
+    replaced: 9,
+};
+
+/// The usual words over the usual table, refused.
+pub(crate) const REFUSED: IndexRow<'static> = IndexRow {
+    status: 1,
+    replaced: 0,
+    ..DONE
+};
+
+/// Returns the paths of the files of an index in a folder.
+fn paths_in(alloc: Global, folder: &str) -> Result<Vec<String>, AllocError> {
+    let mut paths = Vec::new(alloc);
+    for name in NAMES {
+        paths.push(format!(in alloc; "{folder}/{name}")?)?;
     }
+    Ok(paths)
+}
+
+/// Returns the objects of a row.
+pub(crate) fn objects_of(alloc: Global, row: &IndexRow<'_>) -> Result<Objects, Fail> {
+    let mut objects = objects_with(alloc, row.modules, row.files, row.failing)?;
+    if row.is_old {
+        for path in paths_in(alloc, FOLDER)?.iter() {
+            objects.put(alloc, path.as_str(), b"old")?;
+        }
+    }
+    Ok(objects)
+}
+
+/// Compares all files with those before, except the first files of an index, which were replaced.
+pub(crate) fn expect_replaced(
+    rt: &impl Abort,
+    alloc: Global,
+    objects: &mut Objects,
+    row: &IndexRow<'_>,
+) -> Result<(), Fail> {
+    let paths = paths_in(alloc, row.folder)?;
+    let mut after = Vec::new(alloc);
+    for (path, bytes) in paths.iter().zip(files_of(row.index)).take(row.replaced) {
+        after.push(FileRow {
+            path: path.as_str(),
+            bytes,
+        })?;
+    }
+    let stray = objects.stray(alloc, after.as_slice())?;
+    assert_eq!(rt; stray.as_bytes(), b"".as_slice(), "{}", row.name);
     Ok(())
+}
+
+/// Runs the words of a row over objects, and compares the outcome.
+pub(crate) fn expect_over(
+    rt: &impl Abort,
+    alloc: Global,
+    objects: &mut Objects,
+    row: &IndexRow<'_>,
+) -> Result<(), Fail> {
+    objects.run(alloc, row.words)?;
+    let want = (row.status, row.out.as_bytes(), row.err.as_bytes());
+    assert_eq!(rt; objects.seen(), want, "{}", row.name);
+    expect_replaced(rt, alloc, objects, row)
+}
+
+/// Runs a depmod over a tree, and compares the outcome.
+pub(crate) fn expect_index(rt: &impl Abort, alloc: Global, row: &IndexRow<'_>) -> Result<(), Fail> {
+    let mut objects = objects_of(alloc, row)?;
+    expect_over(rt, alloc, &mut objects, row)
 }

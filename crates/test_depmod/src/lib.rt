@@ -1,11 +1,17 @@
-//! Tests of `depmod`, whole: over files and outputs in memory, the words that go in, and the status, the output, the lines on
-//! err and the files that come out.
+//! Tests of whole runs of `depmod`, over files and outputs in memory. A row has the words that go
+//! in, and the status, the output, the lines on err and every file that come out.
 //!
-//! It stands on `test_rows`, which runs them.
+//! It builds on `test_rows`, which runs them.
 #![tactic(auto)]
 
 #[cfg(test)]
+mod again;
+#[cfg(test)]
 mod expect;
+#[cfg(test)]
+mod failing;
+#[cfg(test)]
+mod indexes;
 #[cfg(test)]
 mod indexing;
 #[cfg(test)]

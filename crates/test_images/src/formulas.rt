@@ -5,67 +5,71 @@ use elf_format::{
 };
 use x86_relocate::{TooWide, Written, value};
 
+/// A relocation type, the symbol, the addend, the place, and the word.
+type Row = (u32, u64, i64, u64, Result<Written, TooWide>);
+
 /// The table's formulas at the edges of their fields, worked by hand.
+static ROWS: [Row; 13] = [
+    (
+        R_X86_64_32S,
+        0xffff_ffff_8000_0000,
+        0,
+        0,
+        Ok(Written::Four(0x8000_0000)),
+    ),
+    (R_X86_64_32S, 0x8000_0000, 0, 0, Err(TooWide)),
+    (
+        R_X86_64_32,
+        0xffff_ffff,
+        0,
+        0,
+        Ok(Written::Four(0xffff_ffff)),
+    ),
+    (R_X86_64_32, 0x1_0000_0000, 0, 0, Err(TooWide)),
+    (R_X86_64_32, 0, -1, 0, Err(TooWide)),
+    (
+        R_X86_64_PC32,
+        0x8000_0000,
+        -1,
+        0,
+        Ok(Written::Four(0x7fff_ffff)),
+    ),
+    (R_X86_64_PC32, 0x8000_0000, 0, 0, Err(TooWide)),
+    (
+        R_X86_64_PC32,
+        0,
+        0,
+        0x8000_0000,
+        Ok(Written::Four(0x8000_0000)),
+    ),
+    (R_X86_64_PC32, 0, 0, 0x8000_0001, Err(TooWide)),
+    (
+        R_X86_64_PLT32,
+        0x1000,
+        -4,
+        0x2000,
+        Ok(Written::Four(0xffff_effc)),
+    ),
+    (
+        R_X86_64_PC64,
+        0,
+        0,
+        1,
+        Ok(Written::Eight(0xffff_ffff_ffff_ffff)),
+    ),
+    (
+        R_X86_64_64,
+        0xffff_ffff_ffff_ffff,
+        1,
+        0,
+        Ok(Written::Eight(0)),
+    ),
+    (R_X86_64_NONE, 5, 5, 5, Ok(Written::Nothing)),
+];
+
 #[test]
 fn words_are_the_tables(rt: HostRuntime) {
-    let rows = [
-        (
-            R_X86_64_32S,
-            0xffff_ffff_8000_0000,
-            0,
-            0,
-            Ok(Written::Four(0x8000_0000)),
-        ),
-        (R_X86_64_32S, 0x8000_0000, 0, 0, Err(TooWide)),
-        (
-            R_X86_64_32,
-            0xffff_ffff,
-            0,
-            0,
-            Ok(Written::Four(0xffff_ffff)),
-        ),
-        (R_X86_64_32, 0x1_0000_0000, 0, 0, Err(TooWide)),
-        (R_X86_64_32, 0, -1, 0, Err(TooWide)),
-        (
-            R_X86_64_PC32,
-            0x8000_0000,
-            -1,
-            0,
-            Ok(Written::Four(0x7fff_ffff)),
-        ),
-        (R_X86_64_PC32, 0x8000_0000, 0, 0, Err(TooWide)),
-        (
-            R_X86_64_PC32,
-            0,
-            0,
-            0x8000_0000,
-            Ok(Written::Four(0x8000_0000)),
-        ),
-        (R_X86_64_PC32, 0, 0, 0x8000_0001, Err(TooWide)),
-        (
-            R_X86_64_PLT32,
-            0x1000,
-            -4,
-            0x2000,
-            Ok(Written::Four(0xffff_effc)),
-        ),
-        (
-            R_X86_64_PC64,
-            0,
-            0,
-            1,
-            Ok(Written::Eight(0xffff_ffff_ffff_ffff)),
-        ),
-        (
-            R_X86_64_64,
-            0xffff_ffff_ffff_ffff,
-            1,
-            0,
-            Ok(Written::Eight(0)),
-        ),
-        (R_X86_64_NONE, 5, 5, 5, Ok(Written::Nothing)),
-    ];
-    for (kind, s, a, p, want) in rows {
+    for (kind, s, a, p, want) in ROWS {
         assert!(rt; width(kind).is_some());
         assert_eq!(rt;
             value(kind, s, a, p),

@@ -2,7 +2,8 @@
 use raw_image::Image;
 use std::test::Fail;
 
-/// Each call once, with the eight bytes at a place that no multiple of eight is.
+/// Makes each call once, with the eight bytes at a place that isn't a multiple of eight. An image
+/// of no bytes has no block.
 #[test]
 fn bytes_stand_where_they_are_put(rt: HostRuntime) -> Result<(), Fail> {
     let mut image = Image::zeroed(rt.alloc(), 11)?;
@@ -16,14 +17,8 @@ fn bytes_stand_where_they_are_put(rt: HostRuntime) -> Result<(), Fail> {
     image.put_u32(7, 0x0a0b_0c0d);
     let want = [97, 98, 99, 0xef, 0xcd, 0xab, 0x89, 0x0d, 0x0c, 0x0b, 0x0a];
     assert_eq!(rt; image.as_bytes(), want.as_slice());
-    Ok(())
-}
-
-/// An image of no bytes, which has no block.
-#[test]
-fn no_bytes(rt: HostRuntime) -> Result<(), Fail> {
-    let mut image = Image::zeroed(rt.alloc(), 0)?;
-    image.copy_in(0, b"");
-    assert_eq!(rt; image.as_bytes().len(), 0);
+    let mut none = Image::zeroed(rt.alloc(), 0)?;
+    none.copy_in(0, b"");
+    assert_eq!(rt; none.as_bytes().len(), 0);
     Ok(())
 }

@@ -1,15 +1,17 @@
-// Objects by hand: the bytes were worked out from the ELF structures by a program of its own, and readelf
+// Objects by hand: a separate program worked out the bytes from the ELF structures, and readelf
 // shows what the sheets say.
-use km_names::{Blob, List, Name, Names};
+use km_names::Name;
 use std::alloc::{AllocError, Global};
+use std::process::Abort;
 use std::test::Fail;
-use tree_gen::{
-    Sheet, SheetExport, SheetMore, SheetNeed, SheetPlace, SheetSpace, SheetVersion, is_sheet,
-    object, object_more,
+use test_objects::{
+    EMPTY_MORE, EMPTY_SHEET, ExportRow, MoreRow, NeedRow, PlaceRow, SheetRow, SpaceRow, VersionRow,
+    more, sheet,
 };
+use tree_gen::{Sheet, SheetExport, SheetMore, is_sheet, object, object_more};
 
 /// What is not 0 in the object of one text, each run by its place.
-const TEXT_ALONE: [(usize, &[u8]); 35] = [
+static TEXT_ALONE: [(usize, &[u8]); 35] = [
     (0, b"\x7fELF\x02\x01\x01"),
     (16, b"\x01\0>\0\x01"),
     (40, b"\xb8"),
@@ -51,7 +53,7 @@ const TEXT_ALONE: [(usize, &[u8]); 35] = [
 ];
 
 /// What is not 0 in the object of a text, a version, an export with its version, a weak need and a place.
-const ONE_OF_EACH: [(usize, &[u8]); 46] = [
+static ONE_OF_EACH: [(usize, &[u8]); 46] = [
     (0, b"\x7fELF\x02\x01\x01"),
     (16, b"\x01\0>\0\x01"),
     (40, b"\xa0\x01"),
@@ -103,9 +105,9 @@ const ONE_OF_EACH: [(usize, &[u8]); 46] = [
     (976, b"\x01"),
 ];
 
-/// What is not 0 in the object of three exports, a GPL-only one with a namespace between one with a version and one with
-/// a namespace, of a need, and of two extended versions.
-const MORE: [(usize, &[u8]); 79] = [
+/// What is not 0 in the object of three exports, a need and two extended versions. A GPL-only
+/// export with a namespace is between one with a version and one with a namespace.
+static MORE: [(usize, &[u8]); 79] = [
     (0, b"\x7fELF\x02\x01\x01"),
     (16, b"\x01\0>\0\x01"),
     (40, b"\xb0\x02"),
@@ -193,152 +195,169 @@ const MORE: [(usize, &[u8]); 79] = [
     (1504, b"\x08"),
 ];
 
-/// The list of one item.
-fn one<T: Drop>(alloc: Global, item: T) -> Result<List<T>, AllocError> {
-    let mut items = List::new(alloc);
-    items.push(item)?;
-    Ok(items)
-}
-
 /// The sheet with a text and nothing else.
-fn text_alone(alloc: Global) -> Result<Sheet, AllocError> {
-    let text = Blob::from_slice(alloc, b"license=GPL")?;
-    let texts = one(alloc, text)?;
-    let versions = List::new(alloc);
-    let exports = List::new(alloc);
-    let needs = List::new(alloc);
-    let places = List::new(alloc);
-    Ok(Sheet {
-        texts,
-        versions,
-        exports,
-        needs,
-        places,
-    })
-}
+const TEXT_SHEET: SheetRow = SheetRow {
+    texts: &[b"license=GPL"],
+    ..EMPTY_SHEET
+};
 
 /// The sheet with one of each.
-fn one_of_each(alloc: Global) -> Result<Sheet, AllocError> {
-    let text = Blob::from_slice(alloc, b"license=GPL")?;
-    let texts = one(alloc, text)?;
-    let versioned = Name::from_slice(alloc, b"printk")?;
-    let version = SheetVersion {
-        name: versioned,
+const EACH_SHEET: SheetRow = SheetRow {
+    texts: &[b"license=GPL"],
+    versions: &[VersionRow {
+        name: b"printk",
         crc: 0x1234_5678,
-    };
-    let versions = one(alloc, version)?;
-    let exported = Name::from_slice(alloc, b"f")?;
-    let export = SheetExport {
-        name: exported,
+    }],
+    exports: &[ExportRow {
+        name: b"f",
         crc: Some(0xabcd_ef01),
-    };
-    let exports = one(alloc, export)?;
-    let needed = Name::from_slice(alloc, b"printk")?;
-    let need = SheetNeed {
-        name: needed,
+    }],
+    needs: &[NeedRow {
+        name: b"printk",
         weak: true,
-    };
-    let needs = one(alloc, need)?;
-    let symbol = Name::from_slice(alloc, b"printk")?;
-    let place = SheetPlace {
+    }],
+    places: &[PlaceRow {
         kind: 2,
-        symbol,
+        symbol: b"printk",
         addend: -4,
-    };
-    let places = one(alloc, place)?;
-    Ok(Sheet {
-        texts,
-        versions,
-        exports,
-        needs,
-        places,
-    })
-}
+    }],
+};
 
-/// The list of these names.
-fn listed(alloc: Global, names: &[&[u8]]) -> Result<Names, AllocError> {
-    let mut list = Names::new(alloc);
-    for name in names {
-        list.push(Name::from_slice(alloc, name)?)?;
-    }
-    Ok(list)
-}
-
-/// An export of this name.
-fn exported(alloc: Global, name: &[u8], crc: Option<u64>) -> Result<SheetExport, AllocError> {
-    Ok(SheetExport {
-        name: Name::from_slice(alloc, name)?,
-        crc,
-    })
-}
-
-/// The version of this name.
-fn versioned(alloc: Global, name: &[u8], crc: u64) -> Result<SheetVersion, AllocError> {
-    Ok(SheetVersion {
-        name: Name::from_slice(alloc, name)?,
-        crc,
-    })
-}
-
-/// The namespace of this export.
-fn spaced(alloc: Global, name: &[u8], space: &[u8]) -> Result<SheetSpace, AllocError> {
-    Ok(SheetSpace {
-        name: Name::from_slice(alloc, name)?,
-        space: Name::from_slice(alloc, space)?,
-    })
-}
+/// The same with a place, but without its symbol.
+const NEEDLESS_SHEET: SheetRow = SheetRow {
+    needs: &[],
+    ..EACH_SHEET
+};
 
 /// The sheet of three exports.
-fn three_exports(alloc: Global) -> Result<Sheet, AllocError> {
-    let text = Blob::from_slice(alloc, b"license=GPL")?;
-    let texts = one(alloc, text)?;
-    let mut exports = List::new(alloc);
-    exports.push(exported(alloc, b"f", Some(1))?)?;
-    exports.push(exported(alloc, b"g", None)?)?;
-    exports.push(exported(alloc, b"h", None)?)?;
-    let needed = Name::from_slice(alloc, b"printk")?;
-    let need = SheetNeed {
-        name: needed,
+const THREE_SHEET: SheetRow = SheetRow {
+    texts: &[b"license=GPL"],
+    versions: &[],
+    exports: &[
+        ExportRow {
+            name: b"f",
+            crc: Some(1),
+        },
+        ExportRow {
+            name: b"g",
+            crc: None,
+        },
+        ExportRow {
+            name: b"h",
+            crc: None,
+        },
+    ],
+    needs: &[NeedRow {
+        name: b"printk",
         weak: false,
-    };
-    let needs = one(alloc, need)?;
-    let symbol = Name::from_slice(alloc, b"g")?;
-    let place = SheetPlace {
+    }],
+    places: &[PlaceRow {
         kind: 1,
-        symbol,
+        symbol: b"g",
         addend: 0,
-    };
-    let places = one(alloc, place)?;
-    Ok(Sheet {
-        texts,
-        versions: List::new(alloc),
-        exports,
-        needs,
-        places,
-    })
+    }],
+};
+
+/// What is more of it.
+const THREE_MORE: MoreRow = MoreRow {
+    ext: &[
+        VersionRow {
+            name: b"printk",
+            crc: 0x11,
+        },
+        VersionRow {
+            name: b"",
+            crc: 0xffff_ffff,
+        },
+    ],
+    gpl: &[b"g"],
+    spaces: &[
+        SpaceRow {
+            name: b"h",
+            space: b"NS",
+        },
+        SpaceRow {
+            name: b"g",
+            space: b"MINE",
+        },
+    ],
+};
+
+/// What more of it can't be: a GPL-only name that isn't exported, a namespace that is empty, one with a NUL, and a version of
+/// more than 32 bits.
+static NO_MORE_OF_THREE: [MoreRow; 4] = [
+    MoreRow {
+        gpl: &[b"printk"],
+        ..THREE_MORE
+    },
+    MoreRow {
+        spaces: &[SpaceRow {
+            name: b"g",
+            space: b"",
+        }],
+        ..THREE_MORE
+    },
+    MoreRow {
+        spaces: &[SpaceRow {
+            name: b"g",
+            space: b"MI\0NE",
+        }],
+        ..THREE_MORE
+    },
+    MoreRow {
+        ext: &[VersionRow {
+            name: b"",
+            crc: 0x1_0000_0000,
+        }],
+        ..THREE_MORE
+    },
+];
+
+/// Further names of an export beside the one of `EACH_SHEET`, and whether there is a sheet with
+/// both.
+static FURTHER: [(&[u8], bool); 4] = [
+    (b"", true),
+    (b"f", false),
+    (b"f\0", false),
+    (b"printk", false),
+];
+
+// Each call is in a function of its own that promises nothing.
+
+/// Returns the object of a sheet, if it is one.
+fn object_of(alloc: Global, row: &SheetRow) -> Result<Option<Vec<u8>>, AllocError> {
+    let sheet = sheet(alloc, row)?;
+    if !is_sheet(alloc, &sheet, &SheetMore::none(alloc))? {
+        return Ok(None);
+    }
+    Ok(Some(object(alloc, &sheet)?.into_vec()))
 }
 
-/// What is more of it, with a name of a symbol that is GPL-only, and a namespace.
-fn more_of_three(
+/// Returns the object of a sheet with more, if these are one.
+fn object_with(
     alloc: Global,
-    gpl: &[u8],
-    space: &[u8],
-    crc: u64,
-) -> Result<SheetMore, AllocError> {
-    let mut ext = List::new(alloc);
-    ext.push(versioned(alloc, b"printk", 0x11)?)?;
-    ext.push(versioned(alloc, b"", crc)?)?;
-    let mut spaces = List::new(alloc);
-    spaces.push(spaced(alloc, b"h", b"NS")?)?;
-    spaces.push(spaced(alloc, b"g", space)?)?;
-    Ok(SheetMore {
-        ext,
-        gpl: listed(alloc, &[gpl])?,
-        spaces,
-    })
+    row: &SheetRow,
+    besides: &MoreRow,
+) -> Result<Option<Vec<u8>>, AllocError> {
+    let sheet = sheet(alloc, row)?;
+    let more = more(alloc, besides)?;
+    if !is_sheet(alloc, &sheet, &more)? {
+        return Ok(None);
+    }
+    Ok(Some(object_more(alloc, &sheet, &more)?.into_vec()))
 }
 
-/// So many bytes, with these runs and zeros between.
+/// Whether the sheet of one of each is one with a further export.
+fn is_sheet_with(alloc: Global, name: &[u8]) -> Result<bool, AllocError> {
+    let mut sheet: Sheet = sheet(alloc, &EACH_SHEET)?;
+    sheet.exports.push(SheetExport {
+        name: Name::from_slice(alloc, name)?,
+        crc: None,
+    })?;
+    is_sheet(alloc, &sheet, &SheetMore::none(alloc))
+}
+
+/// Returns so many bytes, with these runs and zeros between.
 fn unpacked(alloc: Global, length: usize, runs: &[(usize, &[u8])]) -> Result<Vec<u8>, AllocError> {
     let mut bytes = Vec::new(alloc);
     for (place, run) in runs {
@@ -349,61 +368,44 @@ fn unpacked(alloc: Global, length: usize, runs: &[(usize, &[u8])]) -> Result<Vec
     Ok(bytes)
 }
 
+/// Checks that an object has these bytes.
+fn expect_bytes(
+    rt: &impl Abort,
+    alloc: Global,
+    object: Option<Vec<u8>>,
+    length: usize,
+    runs: &[(usize, &[u8])],
+) -> Result<(), Fail> {
+    let object = object.ok_or("no sheet")?;
+    let want = unpacked(alloc, length, runs)?;
+    assert_eq!(rt; object.as_slice(), want.as_slice());
+    Ok(())
+}
+
 #[test]
 fn objects_have_the_bytes_of_the_structures(rt: HostRuntime) -> Result<(), Fail> {
     let alloc = rt.alloc();
-    let none = SheetMore::none(alloc);
-    let sheet = text_alone(alloc)?;
-    assert!(rt; is_sheet(alloc, &sheet, &none)?);
-    let got = object(alloc, &sheet)?;
-    let want = unpacked(alloc, 760, &TEXT_ALONE)?;
-    assert_eq!(rt; got.as_bytes(), want.as_slice());
-    let sheet = one_of_each(alloc)?;
-    assert!(rt; is_sheet(alloc, &sheet, &none)?);
-    let got = object(alloc, &sheet)?;
-    let want = unpacked(alloc, 992, &ONE_OF_EACH)?;
-    assert_eq!(rt; got.as_bytes(), want.as_slice());
-    Ok(())
+    expect_bytes(&rt, alloc, object_of(alloc, &TEXT_SHEET)?, 760, &TEXT_ALONE)?;
+    expect_bytes(
+        &rt,
+        alloc,
+        object_of(alloc, &EACH_SHEET)?,
+        992,
+        &ONE_OF_EACH,
+    )?;
+    let three = object_with(alloc, &THREE_SHEET, &THREE_MORE)?;
+    expect_bytes(&rt, alloc, three, 1520, &MORE)
 }
 
 #[test]
 fn sheets_that_are_none(rt: HostRuntime) -> Result<(), Fail> {
     let alloc = rt.alloc();
-    let none = SheetMore::none(alloc);
-    for name in [b"".as_slice(), b"f", b"f\0", b"printk"] {
-        let mut sheet = one_of_each(alloc)?;
-        let export = SheetExport {
-            name: Name::from_slice(alloc, name)?,
-            crc: None,
-        };
-        sheet.exports.push(export)?;
-        let fits = name.is_empty();
-        assert_eq!(rt; is_sheet(alloc, &sheet, &none)?, fits);
+    for (name, fits) in FURTHER {
+        assert_eq!(rt; is_sheet_with(alloc, name)?, fits);
     }
-    let mut sheet = one_of_each(alloc)?;
-    sheet.needs = List::new(alloc);
-    assert!(rt; !is_sheet(alloc, &sheet, &none)?);
-    Ok(())
-}
-
-#[test]
-fn further_sections_follow_those_of_the_sheet(rt: HostRuntime) -> Result<(), Fail> {
-    let alloc = rt.alloc();
-    let sheet = three_exports(alloc)?;
-    let more = more_of_three(alloc, b"g", b"MINE", 0xffff_ffff)?;
-    assert!(rt; is_sheet(alloc, &sheet, &more)?);
-    let got = object_more(alloc, &sheet, &more)?;
-    let want = unpacked(alloc, 1520, &MORE)?;
-    assert_eq!(rt; got.as_bytes(), want.as_slice());
-    let faults = [
-        (b"printk".as_slice(), b"MINE".as_slice(), 1),
-        (b"g", b"", 1),
-        (b"g", b"MI\0NE", 1),
-        (b"g", b"MINE", 0x1_0000_0000),
-    ];
-    for (gpl, space, crc) in faults {
-        let more = more_of_three(alloc, gpl, space, crc)?;
-        assert!(rt; !is_sheet(alloc, &sheet, &more)?);
+    assert!(rt; object_with(alloc, &NEEDLESS_SHEET, &EMPTY_MORE)?.is_none());
+    for more in &NO_MORE_OF_THREE {
+        assert!(rt; object_with(alloc, &THREE_SHEET, more)?.is_none());
     }
     Ok(())
 }

@@ -21,7 +21,7 @@ fn patch(entry: u32, at: usize, kind: u32, s: u64) -> Patch
     }
 }
 
-/// Patches before one that is too wide are applied, and no other.
+/// Checks that the patches before one that is too wide are applied, and no others.
 #[test]
 fn a_patch_that_is_too_wide_stops_the_pass(rt: HostRuntime) -> Result<(), Fail> {
     let words = [

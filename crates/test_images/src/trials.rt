@@ -1,8 +1,9 @@
-// Trees by hand: lengths and hashes of files were worked out from the ELF structures and the generator of the draws
-// by a program of its own.
+// Trees by hand: a separate program worked out lengths and hashes of files from the ELF structures
+// and the generator of the draws.
 use km_names::PathText;
 use km_outside::MemFiles;
 use std::alloc::{AllocError, Global};
+use std::process::Abort;
 use std::test::Fail;
 use tree_gen::generate;
 
@@ -10,7 +11,7 @@ use tree_gen::generate;
 type Rows = [(&'static str, usize, u64); 4];
 
 /// All files of the tree of seed 1 and 2 modules.
-const TWO: Rows = [
+static TWO: Rows = [
     ("/t/Module.symvers", 40, 0xd0a3_2c8f_6bd0_fb44),
     ("/t/System.map", 26, 0xafb5_b551_e332_67c0),
     (
@@ -26,7 +27,7 @@ const TWO: Rows = [
 ];
 
 /// Modules of the tree of seed 7 and 20 modules that draw one module or two.
-const TWENTY: Rows = [
+static TWENTY: Rows = [
     (
         "/t/lib/modules/trial/kernel/m0004.ko",
         1_144,
@@ -49,7 +50,7 @@ const TWENTY: Rows = [
     ),
 ];
 
-/// The hash FNV-1a of 64 bits.
+/// Returns the hash FNV-1a of 64 bits.
 fn hash(bytes: &[u8]) -> u64 {
     let mut hash: u64 = 0xcbf2_9ce4_8422_2325;
     for byte in bytes {
@@ -58,30 +59,39 @@ fn hash(bytes: &[u8]) -> u64 {
     hash
 }
 
-/// The length and the hash of the file at a path, if there is one.
+/// Returns the length and the hash of the file at a path, if there is one.
 fn seen(alloc: Global, files: &MemFiles, path: &str) -> Result<Option<(usize, u64)>, AllocError> {
     let path = PathText::from_slice(alloc, path.as_bytes())?;
     Ok(files.get(&path).map(|bytes| (bytes.len(), hash(bytes))))
 }
 
-#[test]
-fn a_tree_of_two_modules(rt: HostRuntime) -> Result<(), Fail> {
-    let alloc = rt.alloc();
-    let files = generate(alloc, 1, 2)?;
-    for (path, length, hash) in TWO {
-        assert_eq!(rt; seen(alloc, &files, path)?, Some((length, hash)), "{path}");
+/// The file past the last of the tree of two modules.
+const PAST: &str = "/t/lib/modules/trial/kernel/m0002.ko";
+
+/// Checks that the made tree has these files.
+fn expect_files(
+    rt: &impl Abort,
+    alloc: Global,
+    (seed, count): (u64, u32),
+    rows: &Rows,
+) -> Result<MemFiles, AllocError> {
+    assert!(rt; 0 < count && count <= 2000);
+    let files = generate(alloc, seed, count)?;
+    for (path, length, hash) in rows {
+        assert_eq!(rt;
+            seen(alloc, &files, path)?,
+            Some((*length, *hash)),
+            "{path}"
+        );
     }
-    let past = seen(alloc, &files, "/t/lib/modules/trial/kernel/m0002.ko")?;
-    assert!(rt; past.is_none());
-    Ok(())
+    Ok(files)
 }
 
 #[test]
-fn modules_that_draw_one_or_two(rt: HostRuntime) -> Result<(), Fail> {
+fn trees_of_two_and_of_twenty_modules(rt: HostRuntime) -> Result<(), Fail> {
     let alloc = rt.alloc();
-    let files = generate(alloc, 7, 20)?;
-    for (path, length, hash) in TWENTY {
-        assert_eq!(rt; seen(alloc, &files, path)?, Some((length, hash)), "{path}");
-    }
+    let two = expect_files(&rt, alloc, (1, 2), &TWO)?;
+    assert!(rt; seen(alloc, &two, PAST)?.is_none());
+    expect_files(&rt, alloc, (7, 20), &TWENTY)?;
     Ok(())
 }

@@ -10,7 +10,7 @@ use std::alloc::Global;
 use std::test::Fail;
 use test_objects::{RowFault, conf_file};
 
-/// An index file of one key with one value, or of none.
+/// Returns an index file of one key with one value, or of none.
 fn index_of(alloc: Global, entry: Option<(&[u8], &[u8])>) -> Result<Index, Fail> {
     let mut file = Blob::from_slice(alloc, &[0xb0, 0x07, 0xf4, 0x57, 0, 2, 0, 1])?;
     match entry {
@@ -44,7 +44,7 @@ fn rules_of(alloc: Global, text: &[u8]) -> Result<Rules, Fail> {
     )
 }
 
-/// What is found: the list's number, and the names, each after a space.
+/// Returns what is found: the list's number, and the names, each after a space.
 fn written(alloc: Global, found: &Found) -> Result<Blob, Fail> {
     let mut text = Blob::new(alloc);
     text.push(b'0' + found.list % 10)?;
@@ -55,7 +55,7 @@ fn written(alloc: Global, found: &Found) -> Result<Blob, Fail> {
     Ok(text)
 }
 
-/// What the index files have under a name that each may have.
+/// Returns what the index files have under a name that each may have.
 fn indexes_of(
     alloc: Global,
     dep: bool,
@@ -75,47 +75,119 @@ fn indexes_of(
     })
 }
 
-/// A name that all six lists have, with one list after the other taken away.
-#[test]
-fn the_first_list_that_is_not_empty_decides(rt: HostRuntime) -> Result<(), Fail> {
-    let alloc = rt.alloc();
-    let name = Name::from_slice(alloc, b"symbol:f")?;
-    let both =
-        b"alias symbol:? by-rule\ninstall symbol:f /bin/true\nalias symbol:f by_rule\nalias symbol:* last".as_slice();
-    let install = b"install symbol:f /bin/true".as_slice();
-    for (text, dep, symbols, alias, builtin, want) in [
-        (both, true, true, true, true, b"1 by_rule last".as_slice()),
-        (install, true, true, true, true, b"2 symbol:f"),
-        (install, false, true, true, true, b"3 gives_f"),
-        (install, false, false, true, true, b"4 symbol:f"),
-        (b"", false, false, true, true, b"5 own"),
-        (b"", false, false, false, true, b"6 symbol:f"),
-        (b"", false, false, false, false, b"0"),
-    ] {
-        let rules = rules_of(alloc, text)?;
-        let indexes = indexes_of(alloc, dep, symbols, alias, builtin)?;
-        let found = resolve(alloc, &name, false, &rules, &indexes)?;
-        assert_eq!(rt; written(alloc, &found)?.as_bytes(), want);
-    }
-    Ok(())
+/// Rules of each kind for the name `symbol:f`.
+const RULES: &[u8] =
+    b"alias symbol:? by-rule\ninstall symbol:f /bin/true\nalias symbol:f by_rule\nalias symbol:* last";
+
+/// A command that is only for its loading.
+const INSTALL: &[u8] = b"install symbol:f /bin/true";
+
+/// Rules that blacklist.
+const BLACKLIST: &[u8] = b"blacklist own\nblacklist symbol:f";
+
+/// A name, rules, whether each index has it, whether the blacklist counts for all lists, and what is found.
+type FoundRow = (
+    &'static [u8],
+    &'static [u8],
+    (bool, bool, bool, bool),
+    bool,
+    &'static [u8],
+);
+
+/// A name that all six lists have, with one list after the other taken away: the first that isn't
+/// empty decides. Blacklisted names are dropped from modules' own aliases, and with the option from
+/// every list. The list keeps its number. A name without a normal form is found nowhere.
+static FOUND: [FoundRow; 11] = [
+    (
+        b"symbol:f",
+        RULES,
+        (true, true, true, true),
+        false,
+        b"1 by_rule last",
+    ),
+    (
+        b"symbol:f",
+        INSTALL,
+        (true, true, true, true),
+        false,
+        b"2 symbol:f",
+    ),
+    (
+        b"symbol:f",
+        INSTALL,
+        (false, true, true, true),
+        false,
+        b"3 gives_f",
+    ),
+    (
+        b"symbol:f",
+        INSTALL,
+        (false, false, true, true),
+        false,
+        b"4 symbol:f",
+    ),
+    (
+        b"symbol:f",
+        b"",
+        (false, false, true, true),
+        false,
+        b"5 own",
+    ),
+    (
+        b"symbol:f",
+        b"",
+        (false, false, false, true),
+        false,
+        b"6 symbol:f",
+    ),
+    (b"symbol:f", b"", (false, false, false, false), false, b"0"),
+    (
+        b"symbol:f",
+        BLACKLIST,
+        (false, false, true, true),
+        false,
+        b"5",
+    ),
+    (
+        b"symbol:f",
+        BLACKLIST,
+        (true, false, true, true),
+        false,
+        b"2 symbol:f",
+    ),
+    (
+        b"symbol:f",
+        BLACKLIST,
+        (true, false, true, true),
+        true,
+        b"2",
+    ),
+    (
+        b"symbol:]",
+        BLACKLIST,
+        (true, false, true, true),
+        false,
+        b"0",
+    ),
+];
+
+/// Returns how a name is found.
+fn found(alloc: Global, row: FoundRow) -> Result<Blob, Fail> {
+    let (name, text, (dep, symbols, alias, builtin), use_blacklist, _) = row;
+    let name = Name::from_slice(alloc, name)?;
+    let rules = rules_of(alloc, text)?;
+    let indexes = indexes_of(alloc, dep, symbols, alias, builtin)?;
+    written(
+        alloc,
+        &resolve(alloc, &name, use_blacklist, &rules, &indexes)?,
+    )
 }
 
-/// Blacklisted names are dropped from modules' own aliases, and with the option from every list; the list keeps its
-/// number. A name without a normal form is found nowhere.
 #[test]
-fn blacklisted_names_are_dropped(rt: HostRuntime) -> Result<(), Fail> {
-    let alloc = rt.alloc();
-    let rules = rules_of(alloc, b"blacklist own\nblacklist symbol:f")?;
-    for (name, dep, use_blacklist, want) in [
-        (b"symbol:f".as_slice(), false, false, b"5".as_slice()),
-        (b"symbol:f", true, false, b"2 symbol:f"),
-        (b"symbol:f", true, true, b"2"),
-        (b"symbol:]", true, false, b"0"),
-    ] {
-        let indexes = indexes_of(alloc, dep, false, true, true)?;
-        let name = Name::from_slice(alloc, name)?;
-        let found = resolve(alloc, &name, use_blacklist, &rules, &indexes)?;
-        assert_eq!(rt; written(alloc, &found)?.as_bytes(), want);
+fn names_stand_for_what_is_found(rt: HostRuntime) -> Result<(), Fail> {
+    for row in FOUND {
+        let (.., want) = row;
+        assert_eq!(rt; found(rt.alloc(), row)?.as_bytes(), want);
     }
     Ok(())
 }

@@ -1,6 +1,7 @@
 //! Tests of indexes: patterns, the nodes of a file, lookups in it, the file of a map, and what a name stands for.
 //!
-//! It stands on the crates of these, and on `test_objects` for bytes in hexadecimal digits, and for keys and texts.
+//! It builds on the crates of these, and on `test_objects` for bytes in hexadecimal digits, and for
+//! keys and texts.
 #![tactic(auto)]
 
 #[cfg(test)]

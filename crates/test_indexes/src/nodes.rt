@@ -2,6 +2,7 @@
 ghost use Rattle.std.specs.Prelude.{◌≡◌, ◌<◌};
 
 use index_nodes::{IndexFault, Node, Nodes, Steps};
+use std::alloc::Global;
 use std::marker::Brand;
 use std::process::Abort;
 use std::sync::ledger::{Blank, Ledger};
@@ -18,66 +19,63 @@ const FIVE_KEYS: &str = "b007f457 00020001 2000005e \
      61 6f 20000024 00000000 00000000 00000000 00000000 00000000 00000000 00000000 \
      00000000 00000000 00000000 00000000 00000000 00000000 e0000044";
 
-#[test]
-fn files_are_adopted_or_refused(rt: HostRuntime) -> Result<(), Fail> {
-    let alloc = rt.alloc();
-    let bad = |offset| Err(IndexFault::BadNode { offset });
-    for (digits, want) in [
-        (FIVE_KEYS, Ok(())),
-        ("b007f457 00020001 0000000c", Ok(())),
-        ("b007f457 00020001 1000000c", Ok(())),
-        ("b007f4", Err(IndexFault::BadMagic)),
-        ("b007f457 00020000 0000000c", Err(IndexFault::BadVersion)),
-        ("b007f457 00020001 000000", bad(8)),
-        (
-            "b007f457 00020001 2000000c 61 61 40000012 00000001 00000000 7800",
-            bad(18),
-        ),
-        (
-            "b007f457 00020001 20000016 00000001 00000000 7800 61 62 4000000c 4000000c",
-            Err(IndexFault::Revisited { offset: 12 }),
-        ),
-        ("b007f457 00020001 4000000c 00000001 00000000 78", bad(12)),
-        (
-            "b007f457 00020001 20000012 6161 2000000a 6162 2000000c 2000000b",
-            bad(10),
-        ),
-        (
-            "b007f457 00020001 2000001d 6b6b6b6b6b6b6b6b6b6b6b6b6b6b6b6b00 \
-             61 64 8000000c 8000000d 8000000e 8000000f",
-            Ok(()),
-        ),
-        (
-            "b007f457 00020001 2000001a 00000003 0000000000 0000000000 61 62 4000000c 40000010",
-            Ok(()),
-        ),
-        (
-            "b007f457 00020001 2000001a 00000004 0000000000 0000000000 61 62 4000000c 40000010",
-            bad(12),
-        ),
-    ] {
-        let got = Nodes::adopt(alloc, bytes_of(alloc, digits)?).map(|_| ());
-        assert_eq!(rt; got, want, "{digits}");
-    }
-    Ok(())
-}
+/// Files in digits, and whether they are adopted, or why not.
+static FILES: [(&str, Result<(), IndexFault>); 13] = [
+    (FIVE_KEYS, Ok(())),
+    ("b007f457 00020001 0000000c", Ok(())),
+    ("b007f457 00020001 1000000c", Ok(())),
+    ("b007f4", Err(IndexFault::BadMagic)),
+    ("b007f457 00020000 0000000c", Err(IndexFault::BadVersion)),
+    (
+        "b007f457 00020001 000000",
+        Err(IndexFault::BadNode { offset: 8 }),
+    ),
+    (
+        "b007f457 00020001 2000000c 61 61 40000012 00000001 00000000 7800",
+        Err(IndexFault::BadNode { offset: 18 }),
+    ),
+    (
+        "b007f457 00020001 20000016 00000001 00000000 7800 61 62 4000000c 4000000c",
+        Err(IndexFault::Revisited { offset: 12 }),
+    ),
+    (
+        "b007f457 00020001 4000000c 00000001 00000000 78",
+        Err(IndexFault::BadNode { offset: 12 }),
+    ),
+    (
+        "b007f457 00020001 20000012 6161 2000000a 6162 2000000c 2000000b",
+        Err(IndexFault::BadNode { offset: 10 }),
+    ),
+    (
+        "b007f457 00020001 2000001d 6b6b6b6b6b6b6b6b6b6b6b6b6b6b6b6b00 \
+         61 64 8000000c 8000000d 8000000e 8000000f",
+        Ok(()),
+    ),
+    (
+        "b007f457 00020001 2000001a 00000003 0000000000 0000000000 61 62 4000000c 40000010",
+        Ok(()),
+    ),
+    (
+        "b007f457 00020001 2000001a 00000004 0000000000 0000000000 61 62 4000000c 40000010",
+        Err(IndexFault::BadNode { offset: 12 }),
+    ),
+];
 
-#[test]
-fn faults_have_texts(rt: HostRuntime) -> Result<(), Fail> {
-    for (fault, want) in [
-        (IndexFault::BadMagic, "bad index magic"),
-        (IndexFault::BadVersion, "bad index version"),
-        (IndexFault::BadNode { offset: 18 }, "bad index node at 18"),
-        (
-            IndexFault::Revisited { offset: 12 },
-            "index node twice at 12",
-        ),
-        (IndexFault::Memory, "out of memory"),
-    ] {
-        let text = fault.text(rt.alloc())?;
-        assert_eq!(rt; text.as_bytes(), want.as_bytes());
-    }
-    Ok(())
+/// Faults and their texts.
+static TEXTS: [(IndexFault, &str); 5] = [
+    (IndexFault::BadMagic, "bad index magic"),
+    (IndexFault::BadVersion, "bad index version"),
+    (IndexFault::BadNode { offset: 18 }, "bad index node at 18"),
+    (
+        IndexFault::Revisited { offset: 12 },
+        "index node twice at 12",
+    ),
+    (IndexFault::Memory, "out of memory"),
+];
+
+/// Adopts a file in digits.
+fn adopt(alloc: Global, digits: &str) -> Result<Result<Nodes, IndexFault>, Fail> {
+    Ok(Nodes::adopt(alloc, bytes_of(alloc, digits)?))
 }
 
 /// Walks from the root to the node of "once" and reads it.
@@ -112,6 +110,14 @@ fn read_once<L: Ledger>(rt: &impl Abort, nodes: &Nodes, blank: Blank) -> Result<
 #[test]
 fn nodes_are_read(rt: HostRuntime) -> Result<(), Fail> {
     let alloc = rt.alloc();
-    let nodes = Nodes::adopt(alloc, bytes_of(alloc, FIVE_KEYS)?)?;
+    for (digits, want) in FILES {
+        let got = adopt(alloc, digits)?.map(|_| ());
+        assert_eq!(rt; got, want, "{digits}");
+    }
+    for (fault, want) in TEXTS {
+        let text = fault.text(alloc)?;
+        assert_eq!(rt; text.as_bytes(), want.as_bytes());
+    }
+    let nodes = adopt(alloc, FIVE_KEYS)??;
     read_once::<Brand>(&rt, &nodes, Blank::new(1))
 }

@@ -1,6 +1,7 @@
-//! Tests of what names stand for in a folder of index files, whole: by `modprobe -R`, and by `modinfo -k`.
+//! Tests of what names stand for in a folder of index files, in whole runs of `modprobe -R` and of
+//! `modinfo -k`.
 //!
-//! It stands on `test_rows`, which runs them.
+//! It builds on `test_rows`, which runs them.
 #![tactic(auto)]
 
 #[cfg(test)]

@@ -19,7 +19,7 @@ const NO_LINE: &[u8] =
 const COMPRESSED: &[u8] =
     b"\xb0\x07\xf4\x57\x00\x02\x00\x01\x20\x00\x00\x1d\x00\x00\x00\x01\x00\x00\x00\x00k.ko.xz:\0aa\x40\x00\x00\x0c";
 
-/// A child that stands after the node that leads to it.
+/// A child after the node that leads to it.
 pub(crate) const FORWARD_CHILD: &[u8] =
     b"\xb0\x07\xf4\x57\x00\x02\x00\x01\x20\x00\x00\x0caa\x40\x00\x00\x12\x00\x00\x00\x01\x00\x00\x00\x00x\0";
 
@@ -133,23 +133,6 @@ fn expect_shown(
     expect_over(rt, alloc, &files, failing, row)
 }
 
-#[test]
-fn modules_are_shown_by_their_names(rt: HostRuntime) -> Result<(), Fail> {
-    for row in &BY_NAME {
-        expect_shown(&rt, rt.alloc(), TWO_NAMES, Failing::Nothing, *row)?;
-    }
-    Ok(())
-}
-
-#[test]
-fn indexes_are_refused(rt: HostRuntime) -> Result<(), Fail> {
-    for (index, err) in &REFUSED {
-        let row = ("modinfo -k 6.1.0 -b /r a", 1, "", *err);
-        expect_shown(&rt, rt.alloc(), index, Failing::Nothing, row)?;
-    }
-    Ok(())
-}
-
 /// Which read fails, and what is written to the output and to err then.
 static FAILING: [(u8, &str, &str); 3] = [
     (
@@ -165,12 +148,30 @@ static FAILING: [(u8, &str, &str); 3] = [
     ),
 ];
 
-#[test]
-fn the_index_is_read_once_and_first(rt: HostRuntime) -> Result<(), Fail> {
+/// Runs the rows that are shown, and the rows of indexes that are refused.
+fn expect_rows(rt: &impl Abort, alloc: Global) -> Result<(), Fail> {
+    for row in &BY_NAME {
+        expect_shown(rt, alloc, TWO_NAMES, Failing::Nothing, *row)?;
+    }
+    for (index, err) in &REFUSED {
+        let row = ("modinfo -k 6.1.0 -b /r a", 1, "", *err);
+        expect_shown(rt, alloc, index, Failing::Nothing, row)?;
+    }
+    Ok(())
+}
+
+/// Makes each read fail in turn: the index is read once, and first.
+fn expect_failing(rt: &impl Abort, alloc: Global) -> Result<(), Fail> {
     for (read, out, err) in &FAILING {
         let row = ("modinfo -l -k 6.1.0 -b /r a a", 3, *out, *err);
         let failing = Failing::Call(CallKind::Read, *read);
-        expect_shown(&rt, rt.alloc(), TWO_NAMES, failing, row)?;
+        expect_shown(rt, alloc, TWO_NAMES, failing, row)?;
     }
     Ok(())
+}
+
+#[test]
+fn modules_are_shown_by_their_names(rt: HostRuntime) -> Result<(), Fail> {
+    expect_rows(&rt, rt.alloc())?;
+    expect_failing(&rt, rt.alloc())
 }

@@ -7,43 +7,43 @@ use std::test::Fail;
 use test_rows::{Failing, FileRow, Row};
 
 /// A modules.dep.bin of `a`, and of `b`, which needs `a`.
-const DEP: FileRow = FileRow {
+const DEP: FileRow<'static> = FileRow {
     path: "/r/lib/modules/6.1.0/modules.dep.bin",
     bytes: b"\xb0\x07\xf4W\x00\x02\x00\x01 \x00\x00B\x00\x00\x00\x01\x00\x00\x00\x00kernel/a.ko:\x00\x00\x00\x00\x01\x00\x00\x00\x01kernel/b.ko: kernel/a.ko\x00ab@\x00\x00\x0c@\x00\x00!",
 };
 
 /// A modules.dep.bin of `u2`.
-const DEP_OF_U2: FileRow = FileRow {
+const DEP_OF_U2: FileRow<'static> = FileRow {
     path: "/r/lib/modules/6.1.0/modules.dep.bin",
     bytes: b"\xb0\x07\xf4W\x00\x02\x00\x01 \x00\x00$2\x00\x00\x00\x00\x01\x00\x00\x00\x00kernel/u2.ko:\x00uu\xc0\x00\x00\x0c",
 };
 
 /// A modules.alias.bin: `usb:v*` is an alias of `u1`, `u2` and `u3`, and `pci_x:v0000[!a-f]d*` one of `x`.
-const ALIAS: FileRow = FileRow {
+const ALIAS: FileRow<'static> = FileRow {
     path: "/r/lib/modules/6.1.0/modules.alias.bin",
     bytes: b"\xb0\x07\xf4W\x00\x02\x00\x01 \x00\x00Hci_x:v0000[!a-f]d*\x00\x00\x00\x00\x01\x00\x00\x00\x04x\x00sb:v*\x00\x00\x00\x00\x03\x00\x00\x00\x01u1\x00\x00\x00\x00\x02u2\x00\x00\x00\x00\x03u3\x00pu\xc0\x00\x00\x0c\x00\x00\x00\x00\x00\x00\x00\x00\x00\x00\x00\x00\x00\x00\x00\x00\xc0\x00\x00)",
 };
 
 /// A modules.symbols.bin: `a` exports `fa`.
-const SYMBOLS: FileRow = FileRow {
+const SYMBOLS: FileRow<'static> = FileRow {
     path: "/r/lib/modules/6.1.0/modules.symbols.bin",
     bytes: b"\xb0\x07\xf4W\x00\x02\x00\x01 \x00\x00\x1fymbol:fa\x00\x00\x00\x00\x01\x00\x00\x00\x00a\x00ss\xc0\x00\x00\x0c",
 };
 
 /// A modules.builtin.bin of `built`.
-const BUILTIN: FileRow = FileRow {
+const BUILTIN: FileRow<'static> = FileRow {
     path: "/r/lib/modules/6.1.0/modules.builtin.bin",
     bytes: b"\xb0\x07\xf4W\x00\x02\x00\x01 \x00\x00\x1auilt\x00\x00\x00\x00\x01\x00\x00\x00\x00\x00bb\xc0\x00\x00\x0c",
 };
 
 /// A file of the configuration that blacklists `u2`.
-const BLACKLIST: FileRow = FileRow {
+const BLACKLIST: FileRow<'static> = FileRow {
     path: "/etc/modprobe.d/b.conf",
     bytes: b"blacklist u2\n",
 };
 
 /// Files, and a row of words over them.
-type FilesRow = (&'static [FileRow], Row);
+type FilesRow = (&'static [FileRow<'static>], Row);
 
 /// What names stand for.
 static NAMES: [FilesRow; 9] = [
@@ -100,7 +100,7 @@ static NAMES: [FilesRow; 9] = [
     ),
 ];
 
-/// Configurations, and the names of their aliases.
+/// Configurations, and the names of their aliases: the earlier folder counts.
 static CONFIGURED: [FilesRow; 5] = [
     (
         &[FileRow {
@@ -180,7 +180,7 @@ static CONFIGURED: [FilesRow; 5] = [
     ),
 ];
 
-/// Files that aren't understood, of which the first in the order of work is told.
+/// Files that aren't understood. The first in the order of work is reported.
 static IN_ORDER: [FilesRow; 4] = [
     (
         &[DEP, SYMBOLS],
@@ -266,30 +266,23 @@ fn expect_rows(rt: &impl Abort, alloc: Global, rows: &[FilesRow]) -> Result<(), 
     Ok(())
 }
 
-#[test]
-fn names_stand_for_modules(rt: HostRuntime) -> Result<(), Fail> {
-    expect_rows(&rt, rt.alloc(), &NAMES)
-}
-
-#[test]
-fn the_earlier_folder_counts(rt: HostRuntime) -> Result<(), Fail> {
-    expect_rows(&rt, rt.alloc(), &CONFIGURED)
-}
-
-#[test]
-fn each_file_is_understood_before_the_next(rt: HostRuntime) -> Result<(), Fail> {
-    expect_rows(&rt, rt.alloc(), &IN_ORDER)
-}
-
-#[test]
-fn bad_indexes_are_refused(rt: HostRuntime) -> Result<(), Fail> {
+/// Runs the words over folders with each of the bad indexes.
+fn expect_bad_indexes(rt: &impl Abort, alloc: Global) -> Result<(), Fail> {
     for (index, err) in &BAD_INDEXES {
         let file = FileRow {
             path: DEP.path,
             bytes: index,
         };
         let row = ("modprobe -d /r -S 6.1.0 -R a", 1, "", *err);
-        expect_over(&rt, rt.alloc(), &[file], Failing::Nothing, row)?;
+        expect_over(rt, alloc, &[file], Failing::Nothing, row)?;
     }
     Ok(())
+}
+
+#[test]
+fn names_stand_for_modules(rt: HostRuntime) -> Result<(), Fail> {
+    expect_rows(&rt, rt.alloc(), &NAMES)?;
+    expect_rows(&rt, rt.alloc(), &CONFIGURED)?;
+    expect_rows(&rt, rt.alloc(), &IN_ORDER)?;
+    expect_bad_indexes(&rt, rt.alloc())
 }

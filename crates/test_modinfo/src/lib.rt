@@ -1,6 +1,7 @@
-//! Tests of `modinfo` by paths, whole: what is shown of modules, and words that aren't understood.
+//! Tests of whole runs of `modinfo` by paths: what is shown of modules, and words that aren't
+//! understood.
 //!
-//! It stands on `test_rows`, which runs them.
+//! It builds on `test_rows`, which runs them.
 #![tactic(auto)]
 
 #[cfg(test)]

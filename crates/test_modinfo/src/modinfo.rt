@@ -1,4 +1,5 @@
 // Modules that are shown by their paths.
+use km_names::PathText;
 use km_outside::CallKind;
 use std::alloc::Global;
 use std::process::Abort;
@@ -21,7 +22,7 @@ static PARAMETERS: SheetRow = SheetRow {
     places: &[],
 };
 
-/// A module with empty texts and one that is a key alone.
+/// A module with empty texts and one that is only a key.
 static LONE_KEY: SheetRow = SheetRow {
     texts: &[b"license=GPL", b"", b"", b"lone", b"author=A"],
     versions: &[],
@@ -151,19 +152,19 @@ fn put_modules(alloc: Global, objects: &mut Objects) -> Result<(), Fail> {
     Ok(())
 }
 
-/// Runs each row over the modules.
-fn expect_rows(rt: &impl Abort, alloc: Global, rows: &[Row]) -> Result<(), Fail> {
-    for row in rows {
-        let mut objects = Objects::new(alloc)?;
-        put_modules(alloc, &mut objects)?;
-        let (words, ..) = *row;
-        objects.run(alloc, words)?;
-        assert_eq!(rt; objects.seen(), wanted(*row));
-    }
+/// Runs a row over the modules. No file is changed.
+fn expect_shown(rt: &impl Abort, alloc: Global, row: Row) -> Result<(), Fail> {
+    let (words, ..) = row;
+    let mut objects = Objects::new(alloc)?;
+    put_modules(alloc, &mut objects)?;
+    objects.run(alloc, words)?;
+    assert_eq!(rt; objects.seen(), wanted(row), "{words}");
+    let stray = objects.stray(alloc, &[])?;
+    assert_eq!(rt; stray.as_bytes(), b"".as_slice(), "{words}");
     Ok(())
 }
 
-/// Runs a row over one module while something fails.
+/// Runs a row over one module while something fails. No file is changed.
 fn expect_one(
     rt: &impl Abort,
     alloc: Global,
@@ -175,27 +176,16 @@ fn expect_one(
         bytes: &LICENSE_OBJECT,
     };
     let (words, ..) = row;
-    let objects = run_over(alloc, &[module], failing, words)?;
-    assert_eq!(rt; objects.seen(), wanted(row));
+    let mut objects = run_over(alloc, &[module], failing, words)?;
+    assert_eq!(rt; objects.seen(), wanted(row), "{words}");
+    let stray = objects.stray(alloc, &[])?;
+    assert_eq!(rt; stray.as_bytes(), b"".as_slice(), "{words}");
     Ok(())
 }
 
-#[test]
-fn modules_are_shown_by_their_paths(rt: HostRuntime) -> Result<(), Fail> {
-    expect_rows(&rt, rt.alloc(), &BY_PATH)
-}
-
-#[test]
-fn words_that_are_not_understood(rt: HostRuntime) -> Result<(), Fail> {
-    for words in &NOT_UNDERSTOOD {
-        expect_one(&rt, rt.alloc(), Failing::Nothing, (words, 2, "", USAGE))?;
-    }
-    Ok(())
-}
-
-/// What fails while modules are shown, and the row then. The first module is printed before the second is read, and where the
-/// line of a refusal can't be written there is none.
-static FAILING: [(Failing, Row); 4] = [
+/// What fails while modules are shown, and the row then. The first module is printed before the
+/// second is read. If the line of a refusal can't be written there is none.
+static FAILING: [(Failing, Row); 5] = [
     (
         Failing::Call(CallKind::Read, 0),
         (
@@ -215,6 +205,10 @@ static FAILING: [(Failing, Row); 4] = [
         ),
     ),
     (
+        Failing::Write(0),
+        ("modinfo -F license /m/a.ko", 3, "", "kmod: output fault\n"),
+    ),
+    (
         Failing::Write(1),
         (
             "modinfo -l /m/a.ko /m/a.ko",
@@ -230,9 +224,16 @@ static FAILING: [(Failing, Row); 4] = [
 ];
 
 #[test]
-fn failing_calls_have_status_3(rt: HostRuntime) -> Result<(), Fail> {
+fn modules_are_shown_by_their_paths(rt: HostRuntime) -> Result<(), Fail> {
+    let alloc = rt.alloc();
+    for row in &BY_PATH {
+        expect_shown(&rt, alloc, *row)?;
+    }
+    for words in &NOT_UNDERSTOOD {
+        expect_one(&rt, alloc, Failing::Nothing, (words, 2, "", USAGE))?;
+    }
     for (failing, row) in &FAILING {
-        expect_one(&rt, rt.alloc(), *failing, *row)?;
+        expect_one(&rt, alloc, *failing, *row)?;
     }
     Ok(())
 }
@@ -242,7 +243,8 @@ fn a_file_past_the_limit_is_too_large(rt: HostRuntime) -> Result<(), Fail> {
     let alloc = rt.alloc();
     let mut objects = Objects::new(alloc)?;
     let bytes = vec![in alloc; 0u8; 67_108_865]?;
-    objects.put(alloc, "/m/a.ko", bytes.as_slice())?;
+    let path = PathText::from_slice(alloc, b"/m/a.ko")?;
+    objects.files.put(&path, bytes.as_slice())?;
     objects.run(alloc, "modinfo -F license /m/a.ko")?;
     let line = b"kmod: /m/a.ko: too large\n".as_slice();
     assert_eq!(rt; objects.seen(), (1, b"".as_slice(), line));

@@ -11,8 +11,8 @@ use test_objects::{
     object_of,
 };
 
-/// Exports with and without versions, a strong and a weak need, a version of a name that isn't needed, texts
-/// that stand twice, and names with dashes.
+/// Exports with and without versions, a strong and a weak need, a version of a name that isn't
+/// needed, texts that occur twice, and names with dashes.
 const VARIED: SheetRow = SheetRow {
     texts: &[
         b"license=GPL",
@@ -126,12 +126,6 @@ static SHEETS: [FactsRow; 2] = [
     },
 ];
 
-/// The sheet's exports, needs, versions and texts are what its object is read as.
-#[test]
-fn objects_of_sheets_are_read_back(rt: HostRuntime) -> Result<(), Fail> {
-    expect_facts(&rt, rt.alloc(), &SHEETS)
-}
-
 /// A need without a version.
 static NEEDED: [NeedFact; 1] = [NeedFact {
     name: b"fa",
@@ -139,13 +133,12 @@ static NEEDED: [NeedFact; 1] = [NeedFact {
     crc: None,
 }];
 
-/// A need is found in the facts, and the word that it fills in the object.
-#[test]
-fn a_need_has_its_place(rt: HostRuntime) -> Result<(), Fail> {
-    let bytes = object_of(rt.alloc(), &NEEDS)?;
-    let module = module_at(&rt, rt.alloc(), b"kernel/b.ko", bytes)?;
+/// Checks that a need is found in the facts, and the word that it fills in the object.
+fn expect_place(rt: &impl Abort, alloc: Global) -> Result<(), Fail> {
+    let bytes = object_of(alloc, &NEEDS)?;
+    let module = module_at(rt, alloc, b"kernel/b.ko", bytes)?;
     assert!(rt; module.facts.exports.is_empty());
-    expect_needs(&rt, &module.facts.needs, &NEEDED);
+    expect_needs(rt, &module.facts.needs, &NEEDED);
     assert_eq!(rt; module.object.place_count(), 1);
     let place = module.object.place(0);
     assert_eq!(rt; (place.target, place.offset, place.kind), (2, 0, 1));
@@ -218,7 +211,8 @@ const LONG_READ: FactsRow = FactsRow {
     ..NO_FACTS
 };
 
-/// Modules with extended versions.
+/// Modules with extended versions: a name of 60 bytes has a version on both sides, which may be another one; extended versions
+/// hide the entries.
 static EXTENDED: [FactsRow; 3] = [
     LONG_READ,
     FactsRow {
@@ -240,12 +234,6 @@ static EXTENDED: [FactsRow; 3] = [
         ..LONG_READ
     },
 ];
-
-/// A name of 60 bytes has a version on both sides, which may be another one; extended versions hide the entries.
-#[test]
-fn long_names_have_versions(rt: HostRuntime) -> Result<(), Fail> {
-    expect_facts(&rt, rt.alloc(), &EXTENDED)
-}
 
 /// A module that exports the long name.
 const LONG_EXPORT: SheetRow = SheetRow {
@@ -271,12 +259,6 @@ static LONG_EXPORTED: [FactsRow; 1] = [FactsRow {
     ..NO_FACTS
 }];
 
-/// The long name is exported with its version.
-#[test]
-fn a_long_name_is_exported(rt: HostRuntime) -> Result<(), Fail> {
-    expect_facts(&rt, rt.alloc(), &LONG_EXPORTED)
-}
-
 /// Three exports.
 pub(crate) const THREE: SheetRow = SheetRow {
     texts: &[],
@@ -299,7 +281,7 @@ pub(crate) const THREE: SheetRow = SheetRow {
     places: &[],
 };
 
-/// Of these the second is GPL-only, and the last two have namespaces.
+/// The second of these is GPL-only, and the last two have namespaces.
 pub(crate) const GPL_AND_SPACES: MoreRow = MoreRow {
     ext: &[],
     gpl: &[b"fb"],
@@ -315,7 +297,8 @@ pub(crate) const GPL_AND_SPACES: MoreRow = MoreRow {
     ],
 };
 
-/// What they are read with.
+/// What they are read with. Exports are GPL-only by the section of their entry, and in the
+/// namespace that is stated for them.
 static EXPORTED: [FactsRow; 1] = [FactsRow {
     sheet: THREE,
     more: GPL_AND_SPACES,
@@ -342,13 +325,7 @@ static EXPORTED: [FactsRow; 1] = [FactsRow {
     ..NO_FACTS
 }];
 
-/// Exports are GPL-only by the section of their entry, and in the namespace that stands for them.
-#[test]
-fn exports_may_be_gpl_only_and_have_namespaces(rt: HostRuntime) -> Result<(), Fail> {
-    expect_facts(&rt, rt.alloc(), &EXPORTED)
-}
-
-/// Texts, and whether a module with them is free.
+/// Texts, and whether a module with them is free: the first license decides, and without one a module isn't.
 static LICENSES: [(&[&[u8]], bool); 12] = [
     (&[], false),
     (&[b"license=GPL"], true),
@@ -377,15 +354,6 @@ fn is_free(rt: &impl Abort, alloc: Global, texts: &'static [&'static [u8]]) -> R
     Ok(module_at(rt, alloc, b"kernel/b.ko", bytes)?.facts.free)
 }
 
-/// The first license decides, and without one a module isn't free.
-#[test]
-fn modules_are_free_by_their_first_license(rt: HostRuntime) -> Result<(), Fail> {
-    for (texts, want) in &LICENSES {
-        assert_eq!(rt; is_free(&rt, rt.alloc(), texts)?, *want);
-    }
-    Ok(())
-}
-
 /// A module that imports two namespaces.
 static IMPORTED: [FactsRow; 1] = [FactsRow {
     sheet: SheetRow {
@@ -397,8 +365,17 @@ static IMPORTED: [FactsRow; 1] = [FactsRow {
     ..NO_FACTS
 }];
 
-/// The namespaces that a module imports, in order.
 #[test]
-fn modules_import_namespaces(rt: HostRuntime) -> Result<(), Fail> {
-    expect_facts(&rt, rt.alloc(), &IMPORTED)
+fn facts_are_those_of_the_sheets(rt: HostRuntime) -> Result<(), Fail> {
+    let alloc = rt.alloc();
+    expect_facts(&rt, alloc, &SHEETS)?;
+    expect_facts(&rt, alloc, &EXTENDED)?;
+    expect_facts(&rt, alloc, &LONG_EXPORTED)?;
+    expect_facts(&rt, alloc, &EXPORTED)?;
+    expect_facts(&rt, alloc, &IMPORTED)?;
+    expect_place(&rt, alloc)?;
+    for (texts, want) in &LICENSES {
+        assert_eq!(rt; is_free(&rt, alloc, texts)?, *want);
+    }
+    Ok(())
 }

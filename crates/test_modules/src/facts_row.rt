@@ -53,7 +53,7 @@ pub(crate) const NO_FACTS: FactsRow = FactsRow {
     imports: &[],
 };
 
-/// The module of these bytes at the path.
+/// Returns the module of these bytes at the path.
 pub(crate) fn module_at(
     rt: &impl Abort,
     alloc: Global,
@@ -99,7 +99,7 @@ fn expect_texts<K>(rt: &impl Abort, texts: &List<Bytes<K>>, wanted: &[&[u8]]) {
     }
 }
 
-/// The facts are those that are written out.
+/// Checks that the facts are those that are written out.
 fn expect_read(rt: &impl Abort, facts: &Facts, row: &FactsRow) {
     assert_eq!(rt; facts.name.as_bytes(), row.name);
     expect_exports(rt, &facts.exports, row.exports);

@@ -9,7 +9,7 @@ use std::process::Abort;
 use std::test::Fail;
 use test_objects::{MoreRow, NEEDS, NeedRow, PlaceRow, SheetRow, object_of, object_with};
 
-/// The text of the fault of the module of these bytes at the path.
+/// Returns the text of the fault of the module of these bytes at the path.
 fn fault_at(rt: &impl Abort, alloc: Global, path: &[u8], bytes: Blob) -> Result<Blob, Fail> {
     match module_at(rt, alloc, path, bytes) {
         Ok(_) => Err("the module was read".into()),
@@ -17,7 +17,7 @@ fn fault_at(rt: &impl Abort, alloc: Global, path: &[u8], bytes: Blob) -> Result<
     }
 }
 
-/// The module of a sheet at the path has this fault.
+/// Checks that the module of a sheet at the path has this fault.
 fn expect_fault(
     rt: &impl Abort,
     alloc: Global,
@@ -45,19 +45,6 @@ static UNKNOWN_TYPE: SheetRow = SheetRow {
         addend: 0,
     }],
 };
-
-/// A module's fault is the first one: its path's, then its object's.
-#[test]
-fn faults_of_objects_are_named(rt: HostRuntime) -> Result<(), Fail> {
-    expect_fault(&rt, rt.alloc(), b"/m/x.ko.zst", &NEEDS, b"compressed")?;
-    expect_fault(
-        &rt,
-        rt.alloc(),
-        b"/m/x.ko",
-        &UNKNOWN_TYPE,
-        b"unknown relocation 5 0 9",
-    )
-}
 
 /// Two needs and two words.
 static TWO_WORDS: SheetRow = SheetRow {
@@ -88,7 +75,7 @@ static TWO_WORDS: SheetRow = SheetRow {
     ],
 };
 
-/// Where the second entry of the section `.rela.data`, the fifth, stands in the file.
+/// Returns where the second entry of the section `.rela.data`, the fifth, is in the file.
 fn second_relocation(rt: &impl Abort, bytes: &[u8]) -> usize {
     assert!(rt; bytes.len() >= 48);
     let header = le_u64_at(bytes, 40).saturating_add(64 * 5 + 24);
@@ -98,15 +85,14 @@ fn second_relocation(rt: &impl Abort, bytes: &[u8]) -> usize {
     content as usize + 24
 }
 
-/// The second word's place moves into the first.
-#[test]
-fn places_that_overlap_are_refused(rt: HostRuntime) -> Result<(), Fail> {
-    let mut bytes = object_of(rt.alloc(), &TWO_WORDS)?.into_vec();
-    let entry = second_relocation(&rt, bytes.as_slice());
+/// Checks an object whose second word's place moves into the first.
+fn expect_overlap(rt: &impl Abort, alloc: Global) -> Result<(), Fail> {
+    let mut bytes = object_of(alloc, &TWO_WORDS)?.into_vec();
+    let entry = second_relocation(rt, bytes.as_slice());
     assert!(rt; entry < bytes.len());
     assert_eq!(rt; bytes[entry], 8);
     bytes[entry] = 4;
-    let text = fault_at(&rt, rt.alloc(), b"/m/x.ko", Blob::from_vec(bytes))?;
+    let text = fault_at(rt, alloc, b"/m/x.ko", Blob::from_vec(bytes))?;
     assert_eq!(rt;
         text.as_bytes(),
         b"overlapping places in section 2 at 4".as_slice()
@@ -114,7 +100,7 @@ fn places_that_overlap_are_refused(rt: HostRuntime) -> Result<(), Fail> {
     Ok(())
 }
 
-/// Where the section of this name ends in the file.
+/// Returns where the section of this name ends in the file.
 fn section_end(rt: &impl Abort, alloc: Global, bytes: &Blob, section: &[u8]) -> Result<u64, Fail> {
     let copy = Blob::from_slice(alloc, bytes.as_bytes())?;
     assert!(rt; copy.len() <= FILE_LIMIT);
@@ -130,7 +116,7 @@ fn section_end(rt: &impl Abort, alloc: Global, bytes: &Blob, section: &[u8]) -> 
     }
 }
 
-/// The object with another byte before this place.
+/// Returns the object with another byte before this place.
 fn with_byte_before(rt: &impl Abort, bytes: Blob, end: u64, byte: u8) -> Blob {
     let mut changed = bytes.into_vec();
     assert!(rt; end > 0 && end <= 65536 && end as usize <= changed.len());
@@ -140,7 +126,7 @@ fn with_byte_before(rt: &impl Abort, bytes: Blob, end: u64, byte: u8) -> Blob {
     Blob::from_vec(changed)
 }
 
-/// The module without the NUL that ends a section has this fault.
+/// Checks that the module without the NUL that ends a section has this fault.
 fn expect_fault_without_nul(
     rt: &impl Abort,
     alloc: Global,
@@ -156,19 +142,30 @@ fn expect_fault_without_nul(
     Ok(())
 }
 
-/// A name or a namespace without a NUL is refused.
+/// Checks that the first fault is named: the path's, then the object's. A name or a namespace
+/// without a NUL is refused.
 #[test]
-fn texts_without_a_nul_are_refused(rt: HostRuntime) -> Result<(), Fail> {
+fn faults_are_named(rt: HostRuntime) -> Result<(), Fail> {
+    let alloc = rt.alloc();
+    expect_fault(&rt, alloc, b"/m/x.ko.zst", &NEEDS, b"compressed")?;
+    expect_fault(
+        &rt,
+        alloc,
+        b"/m/x.ko",
+        &UNKNOWN_TYPE,
+        b"unknown relocation 5 0 9",
+    )?;
+    expect_overlap(&rt, alloc)?;
     expect_fault_without_nul(
         &rt,
-        rt.alloc(),
+        alloc,
         (&LONG_NEED, &BUILT_AGAINST_11),
         b"__version_ext_names",
         b"bad versions",
     )?;
     expect_fault_without_nul(
         &rt,
-        rt.alloc(),
+        alloc,
         (&THREE, &GPL_AND_SPACES),
         b"__ksymtab_strings",
         b"bad namespace of fb",

@@ -1,7 +1,8 @@
-//! Tests of modules over their layers: what objects that are made from sheets are read as, and what a machine of the loader
-//! comes to as they are loaded.
+//! Tests of modules over their layers: what objects that are made from sheets are read as, and what
+//! loading them results in.
 //!
-//! It stands on `elf_object`, `module_facts`, `provider_rel` and `model_loader`, and on `test_objects` for the objects.
+//! It builds on `elf_object`, `module_facts`, `provider_rel` and `model_loader`, and on
+//! `test_objects` for the objects.
 #![tactic(auto)]
 
 #[cfg(test)]

@@ -1,3 +1,4 @@
+// A load that is written out, and what it is to answer.
 use crate::facts_row::module_at;
 use km_names::{Blob, le_u64_at};
 use model_loader::{LoadFault, LoadedAt, Machine, Region};
@@ -6,15 +7,15 @@ use provider_rel::Kernel;
 use std::alloc::{AllocError, Global};
 use std::process::Abort;
 use std::test::Fail;
-use test_objects::{MoreRow, NO_MORE, SheetRow, object_with};
+use test_objects::{MoreRow, NO_MORE, NOTHING, SheetRow, object_with};
 
 /// The usual base of the region of modules.
 pub(crate) const BASE: u64 = 0xffff_ffff_c000_0000;
 
 /// What a load is to answer.
-#[derive(Drop)]
+#[derive(Clone, Copy)]
 pub(crate) enum Answer {
-    /// The module's base and size, and words of its image: where each stands, and what it is.
+    /// The module's base and size, and words of its image: where each is, and its value.
     Loaded {
         base: u64,
         size: u64,
@@ -24,9 +25,9 @@ pub(crate) enum Answer {
     Refused(&'static [u8]),
 }
 
-/// A module that is loaded, written out, and what its load is to answer. The changes are bytes of its file that are to be
-/// other ones: where each stands, and what it is.
-#[derive(Drop)]
+/// A module that is loaded, written out, and what its load is to answer. The changes are bytes of
+/// its file that are to be other ones: where each is, and its value.
+#[derive(Clone, Copy)]
 pub(crate) struct LoadRow {
     pub(crate) path: &'static [u8],
     pub(crate) sheet: &'static SheetRow,
@@ -35,39 +36,16 @@ pub(crate) struct LoadRow {
     pub(crate) answer: Answer,
 }
 
-/// A module of a sheet that loads, with its base and size and words of its image.
-pub(crate) fn loads(
-    path: &'static [u8],
-    sheet: &'static SheetRow,
-    base: u64,
-    size: u64,
-    words: &'static [(usize, u64)],
-) -> LoadRow {
-    LoadRow {
-        path,
-        sheet,
-        more: &NO_MORE,
-        changes: &[],
-        answer: Answer::Loaded { base, size, words },
-    }
-}
+/// A module of nothing that is refused.
+pub(crate) const PLAIN: LoadRow = LoadRow {
+    path: b"",
+    sheet: &NOTHING,
+    more: &NO_MORE,
+    changes: &[],
+    answer: Answer::Refused(b""),
+};
 
-/// A module of a sheet that is refused with this text.
-pub(crate) fn refuses(
-    path: &'static [u8],
-    sheet: &'static SheetRow,
-    text: &'static [u8],
-) -> LoadRow {
-    LoadRow {
-        path,
-        sheet,
-        more: &NO_MORE,
-        changes: &[],
-        answer: Answer::Refused(text),
-    }
-}
-
-/// A kernel that exports `printk`.
+/// Returns a kernel that exports `printk`.
 fn kernel(alloc: Global) -> Result<Kernel, Fail> {
     let symvers = b"0x11111111\tprintk\tvmlinux\tEXPORT_SYMBOL\n".as_slice();
     let mut kernel = Kernel::from_symvers(alloc, symvers)?;
@@ -75,13 +53,13 @@ fn kernel(alloc: Global) -> Result<Kernel, Fail> {
     Ok(kernel)
 }
 
-/// A machine of that kernel with so many bytes for modules.
+/// Returns a machine of that kernel with so many bytes for modules.
 fn machine(rt: &impl Abort, alloc: Global, size: u64) -> Result<Machine, Fail> {
     let region = Region::new(BASE, size).expect(rt, "a region");
     Ok(Machine::new(alloc, kernel(alloc)?, region)?)
 }
 
-/// The bytes with some of them changed.
+/// Returns the bytes with some of them changed.
 fn changed(rt: &impl Abort, bytes: Blob, changes: &[(usize, u8)]) -> Blob {
     let mut bytes = bytes.into_vec();
     for (at, byte) in changes {
@@ -91,14 +69,14 @@ fn changed(rt: &impl Abort, bytes: Blob, changes: &[(usize, u8)]) -> Blob {
     Blob::from_vec(bytes)
 }
 
-/// The module of a row.
+/// Returns the module of a row.
 fn module_of(rt: &impl Abort, alloc: Global, row: &LoadRow) -> Result<Module, Fail> {
     let object = object_with(alloc, row.sheet, row.more)?;
     let bytes = changed(rt, object, row.changes);
     Ok(module_at(rt, alloc, row.path, bytes)?)
 }
 
-/// The image has these words.
+/// Checks that the image has these words.
 fn expect_words(rt: &impl Abort, image: &[u8], words: &[(usize, u64)]) {
     for (at, word) in words {
         assert!(rt; *at <= 65536 && *at + 8 <= image.len());
@@ -106,7 +84,7 @@ fn expect_words(rt: &impl Abort, image: &[u8], words: &[(usize, u64)]) {
     }
 }
 
-/// The module that was loaded last has this base and size, and these words in its image.
+/// Checks that the last loaded module has this base and size, and these words in its image.
 fn expect_loaded(
     rt: &impl Abort,
     machine: &Machine,
@@ -123,7 +101,7 @@ fn expect_loaded(
     expect_words(rt, image, words);
 }
 
-/// The load was refused with this text.
+/// Checks that the load was refused with this text.
 fn expect_refused(
     rt: &impl Abort,
     alloc: Global,
@@ -134,7 +112,8 @@ fn expect_refused(
     Ok(())
 }
 
-/// The answer of a load is the one of the row, and the machine has one module more or is as it was.
+/// Checks that the answer of a load is the row's, and that the machine has one module more or is as
+/// it was.
 fn expect_answer(
     rt: &impl Abort,
     alloc: Global,

@@ -1,4 +1,5 @@
-use crate::load_row::{BASE, LoadRow, expect_loads, loads, refuses};
+// Loads, and what is in the way of one.
+use crate::load_row::{Answer, BASE, LoadRow, PLAIN, expect_loads};
 use crate::sheets::{
     GIVES_AGAIN, GIVES_PRINTK, NEEDS_BY_DISTANCE, NEEDS_IN_32_BITS, NEEDS_VERSION_2_AND_MORE,
 };
@@ -8,189 +9,301 @@ use test_objects::{
     MAY_NEED_VERSION_2, NEEDS,
 };
 
-/// Two modules load one after the other, with their sizes, bases and words; neither before what it needs, nor twice.
-#[test]
-fn two_modules_load(rt: HostRuntime) -> Result<(), Fail> {
-    expect_loads(
-        &rt,
-        rt.alloc(),
+/// Loads in turn into a machine with so many bytes for modules.
+static LOADS: [(u64, &[LoadRow]); 10] = [
+    // Two modules load one after the other, with their sizes, bases and words; neither before what it needs, nor twice.
+    (
         0x3000,
         &[
-            refuses(b"kernel/b.ko", &NEEDS, b"missing symbol fa"),
-            loads(
-                b"kernel/a.ko",
-                &GIVES,
-                BASE,
-                0x2000,
-                &[(0, 0), (0x1000, 0xffff_ffff_8100_0000)],
-            ),
-            refuses(b"kernel/a.ko", &GIVES, b"already loaded"),
-            loads(b"kernel/b.ko", &NEEDS, BASE + 0x2000, 0x1000, &[(0, BASE)]),
+            LoadRow {
+                path: b"kernel/b.ko",
+                sheet: &NEEDS,
+                answer: Answer::Refused(b"missing symbol fa"),
+                ..PLAIN
+            },
+            LoadRow {
+                path: b"kernel/a.ko",
+                sheet: &GIVES,
+                answer: Answer::Loaded {
+                    base: BASE,
+                    size: 0x2000,
+                    words: &[(0, 0), (0x1000, 0xffff_ffff_8100_0000)],
+                },
+                ..PLAIN
+            },
+            LoadRow {
+                path: b"kernel/a.ko",
+                sheet: &GIVES,
+                answer: Answer::Refused(b"already loaded"),
+                ..PLAIN
+            },
+            LoadRow {
+                path: b"kernel/b.ko",
+                sheet: &NEEDS,
+                answer: Answer::Loaded {
+                    base: BASE + 0x2000,
+                    size: 0x1000,
+                    words: &[(0, BASE)],
+                },
+                ..PLAIN
+            },
         ],
-    )
-}
-
-/// A region that is too small for the second module.
-#[test]
-fn a_module_has_no_room(rt: HostRuntime) -> Result<(), Fail> {
-    expect_loads(
-        &rt,
-        rt.alloc(),
+    ),
+    // A region that is too small for the second module.
+    (
         0x2000,
         &[
-            loads(b"kernel/a.ko", &GIVES, BASE, 0x2000, &[]),
-            refuses(b"kernel/b.ko", &NEEDS, b"region full, 1 pages"),
+            LoadRow {
+                path: b"kernel/a.ko",
+                sheet: &GIVES,
+                answer: Answer::Loaded {
+                    base: BASE,
+                    size: 0x2000,
+                    words: &[],
+                },
+                ..PLAIN
+            },
+            LoadRow {
+                path: b"kernel/b.ko",
+                sheet: &NEEDS,
+                answer: Answer::Refused(b"region full, 1 pages"),
+                ..PLAIN
+            },
         ],
-    )
-}
-
-/// An address that doesn't fit its word; the module's place is free for the next one.
-#[test]
-fn a_word_does_not_fit(rt: HostRuntime) -> Result<(), Fail> {
-    expect_loads(
-        &rt,
-        rt.alloc(),
+    ),
+    // An address that doesn't fit its word; the module's place is free for the next one.
+    (
         0x3000,
         &[
-            refuses(
-                b"kernel/o.ko",
-                &NEEDS_IN_32_BITS,
-                b"overflow at section 5 entry 1",
-            ),
-            loads(b"kernel/a.ko", &GIVES, BASE, 0x2000, &[]),
+            LoadRow {
+                path: b"kernel/o.ko",
+                sheet: &NEEDS_IN_32_BITS,
+                answer: Answer::Refused(b"overflow at section 5 entry 1"),
+                ..PLAIN
+            },
+            LoadRow {
+                path: b"kernel/a.ko",
+                sheet: &GIVES,
+                answer: Answer::Loaded {
+                    base: BASE,
+                    size: 0x2000,
+                    words: &[],
+                },
+                ..PLAIN
+            },
         ],
-    )
-}
-
-/// A word that is the distance from its own place.
-#[test]
-fn a_distance_counts_from_its_place(rt: HostRuntime) -> Result<(), Fail> {
-    expect_loads(
-        &rt,
-        rt.alloc(),
+    ),
+    // A word that is the distance from its own place.
+    (
         0x3000,
         &[
-            loads(b"kernel/a.ko", &GIVES, BASE, 0x2000, &[]),
-            loads(
-                b"kernel/b.ko",
-                &NEEDS_BY_DISTANCE,
-                BASE + 0x2000,
-                0x1000,
-                &[(0, 0xffff_dffc)],
-            ),
+            LoadRow {
+                path: b"kernel/a.ko",
+                sheet: &GIVES,
+                answer: Answer::Loaded {
+                    base: BASE,
+                    size: 0x2000,
+                    words: &[],
+                },
+                ..PLAIN
+            },
+            LoadRow {
+                path: b"kernel/b.ko",
+                sheet: &NEEDS_BY_DISTANCE,
+                answer: Answer::Loaded {
+                    base: BASE + 0x2000,
+                    size: 0x1000,
+                    words: &[(0, 0xffff_dffc)],
+                },
+                ..PLAIN
+            },
         ],
-    )
-}
-
-/// A weak need that nobody provides is 0.
-#[test]
-fn a_weak_need_alone_is_0(rt: HostRuntime) -> Result<(), Fail> {
-    expect_loads(
-        &rt,
-        rt.alloc(),
+    ),
+    // A weak need that nobody provides is 0.
+    (
         0x1000,
-        &[loads(b"kernel/w.ko", &MAY_NEED, BASE, 0x1000, &[(0, 5)])],
-    )
-}
-
-/// A weak need is its provider's export, whose version agrees.
-#[test]
-fn a_weak_need_with_a_provider_is_bound(rt: HostRuntime) -> Result<(), Fail> {
-    expect_loads(
-        &rt,
-        rt.alloc(),
-        0x1_0000,
-        &[
-            loads(b"kernel/p.ko", &GIVES_VERSION_1, BASE, 0x1000, &[]),
-            refuses(
-                b"kernel/v.ko",
-                &MAY_NEED_VERSION_2,
-                b"version of fa differs",
-            ),
-            loads(
-                b"kernel/w.ko",
-                &MAY_NEED,
-                BASE + 0x1000,
-                0x1000,
-                &[(0, BASE + 5)],
-            ),
-        ],
-    )
-}
-
-/// A module lacks a symbol and has another version of one: the symbol is told.
-#[test]
-fn a_missing_symbol_comes_before_a_version(rt: HostRuntime) -> Result<(), Fail> {
-    expect_loads(
-        &rt,
-        rt.alloc(),
-        0x1_0000,
-        &[
-            loads(b"kernel/p.ko", &GIVES_VERSION_1, BASE, 0x1000, &[]),
-            refuses(
-                b"kernel/m.ko",
-                &NEEDS_VERSION_2_AND_MORE,
-                b"missing symbol nosuch",
-            ),
-        ],
-    )
-}
-
-/// Nobody exports what the kernel or an earlier module does.
-#[test]
-fn an_exported_name_is_taken(rt: HostRuntime) -> Result<(), Fail> {
-    expect_loads(
-        &rt,
-        rt.alloc(),
-        0x1_0000,
-        &[
-            loads(b"kernel/a.ko", &GIVES, BASE, 0x2000, &[]),
-            refuses(b"kernel/c.ko", &GIVES_AGAIN, b"fa is taken by a"),
-            refuses(b"kernel/k.ko", &GIVES_PRINTK, b"printk is taken by vmlinux"),
-        ],
-    )
-}
-
-/// What a module without a free license doesn't see, it lacks, or has as 0 where it needs it weakly.
-#[test]
-fn a_gpl_only_export_is_seen_by_free_modules(rt: HostRuntime) -> Result<(), Fail> {
-    expect_loads(
-        &rt,
-        rt.alloc(),
+        &[LoadRow {
+            path: b"kernel/w.ko",
+            sheet: &MAY_NEED,
+            answer: Answer::Loaded {
+                base: BASE,
+                size: 0x1000,
+                words: &[(0, 5)],
+            },
+            ..PLAIN
+        }],
+    ),
+    // A weak need is its provider's export, whose version agrees.
+    (
         0x1_0000,
         &[
             LoadRow {
+                path: b"kernel/p.ko",
+                sheet: &GIVES_VERSION_1,
+                answer: Answer::Loaded {
+                    base: BASE,
+                    size: 0x1000,
+                    words: &[],
+                },
+                ..PLAIN
+            },
+            LoadRow {
+                path: b"kernel/v.ko",
+                sheet: &MAY_NEED_VERSION_2,
+                answer: Answer::Refused(b"version of fa differs"),
+                ..PLAIN
+            },
+            LoadRow {
+                path: b"kernel/w.ko",
+                sheet: &MAY_NEED,
+                answer: Answer::Loaded {
+                    base: BASE + 0x1000,
+                    size: 0x1000,
+                    words: &[(0, BASE + 5)],
+                },
+                ..PLAIN
+            },
+        ],
+    ),
+    // A module lacks a symbol and has another version of one: the symbol is reported.
+    (
+        0x1_0000,
+        &[
+            LoadRow {
+                path: b"kernel/p.ko",
+                sheet: &GIVES_VERSION_1,
+                answer: Answer::Loaded {
+                    base: BASE,
+                    size: 0x1000,
+                    words: &[],
+                },
+                ..PLAIN
+            },
+            LoadRow {
+                path: b"kernel/m.ko",
+                sheet: &NEEDS_VERSION_2_AND_MORE,
+                answer: Answer::Refused(b"missing symbol nosuch"),
+                ..PLAIN
+            },
+        ],
+    ),
+    // Nobody exports what the kernel or an earlier module does.
+    (
+        0x1_0000,
+        &[
+            LoadRow {
+                path: b"kernel/a.ko",
+                sheet: &GIVES,
+                answer: Answer::Loaded {
+                    base: BASE,
+                    size: 0x2000,
+                    words: &[],
+                },
+                ..PLAIN
+            },
+            LoadRow {
+                path: b"kernel/c.ko",
+                sheet: &GIVES_AGAIN,
+                answer: Answer::Refused(b"fa is taken by a"),
+                ..PLAIN
+            },
+            LoadRow {
+                path: b"kernel/k.ko",
+                sheet: &GIVES_PRINTK,
+                answer: Answer::Refused(b"printk is taken by vmlinux"),
+                ..PLAIN
+            },
+        ],
+    ),
+    // What a module without a free license doesn't see, it lacks, or has as 0 if it needs it
+    // weakly.
+    (
+        0x1_0000,
+        &[
+            LoadRow {
+                path: b"kernel/a.ko",
+                sheet: &GIVES_ALONE,
                 more: &GPL_ONLY,
-                ..loads(b"kernel/a.ko", &GIVES_ALONE, BASE, 0x2000, &[])
+                answer: Answer::Loaded {
+                    base: BASE,
+                    size: 0x2000,
+                    words: &[],
+                },
+                ..PLAIN
             },
-            refuses(b"kernel/b.ko", &NEEDS, b"fa is GPL-only"),
-            loads(b"kernel/w.ko", &MAY_NEED, BASE + 0x2000, 0x1000, &[(0, 5)]),
-            loads(b"kernel/f.ko", &FREE, BASE + 0x3000, 0x1000, &[(0, BASE)]),
+            LoadRow {
+                path: b"kernel/b.ko",
+                sheet: &NEEDS,
+                answer: Answer::Refused(b"fa is GPL-only"),
+                ..PLAIN
+            },
+            LoadRow {
+                path: b"kernel/w.ko",
+                sheet: &MAY_NEED,
+                answer: Answer::Loaded {
+                    base: BASE + 0x2000,
+                    size: 0x1000,
+                    words: &[(0, 5)],
+                },
+                ..PLAIN
+            },
+            LoadRow {
+                path: b"kernel/f.ko",
+                sheet: &FREE,
+                answer: Answer::Loaded {
+                    base: BASE + 0x3000,
+                    size: 0x1000,
+                    words: &[(0, BASE)],
+                },
+                ..PLAIN
+            },
         ],
-    )
-}
-
-/// An export in a namespace needs an import.
-#[test]
-fn a_namespace_is_imported(rt: HostRuntime) -> Result<(), Fail> {
-    expect_loads(
-        &rt,
-        rt.alloc(),
+    ),
+    // An export in a namespace needs an import.
+    (
         0x1_0000,
         &[
             LoadRow {
+                path: b"kernel/a.ko",
+                sheet: &GIVES_ALONE,
                 more: &IN_SPACE,
-                ..loads(b"kernel/a.ko", &GIVES_ALONE, BASE, 0x2000, &[])
+                answer: Answer::Loaded {
+                    base: BASE,
+                    size: 0x2000,
+                    words: &[],
+                },
+                ..PLAIN
             },
-            refuses(b"kernel/b.ko", &NEEDS, b"namespace of fa not imported"),
-            refuses(b"kernel/w.ko", &MAY_NEED, b"namespace of fa not imported"),
-            loads(
-                b"kernel/i.ko",
-                &IMPORTS,
-                BASE + 0x2000,
-                0x1000,
-                &[(0, BASE)],
-            ),
+            LoadRow {
+                path: b"kernel/b.ko",
+                sheet: &NEEDS,
+                answer: Answer::Refused(b"namespace of fa not imported"),
+                ..PLAIN
+            },
+            LoadRow {
+                path: b"kernel/w.ko",
+                sheet: &MAY_NEED,
+                answer: Answer::Refused(b"namespace of fa not imported"),
+                ..PLAIN
+            },
+            LoadRow {
+                path: b"kernel/i.ko",
+                sheet: &IMPORTS,
+                answer: Answer::Loaded {
+                    base: BASE + 0x2000,
+                    size: 0x1000,
+                    words: &[(0, BASE)],
+                },
+                ..PLAIN
+            },
         ],
-    )
+    ),
+];
+
+#[test]
+fn modules_load_or_are_refused(rt: HostRuntime) -> Result<(), Fail> {
+    for (size, rows) in &LOADS {
+        expect_loads(&rt, rt.alloc(), *size, rows)?;
+    }
+    Ok(())
 }

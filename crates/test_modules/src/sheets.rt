@@ -2,8 +2,8 @@
 
 use test_objects::{EMPTY_SHEET, ExportRow, NeedRow, PlaceRow, SheetRow, VersionRow};
 
-/// A module that exports two names, the second that of another module.
-pub(crate) static GIVES_AGAIN: SheetRow = SheetRow {
+/// A module that exports two names. Another module exports the second one too.
+pub(crate) const GIVES_AGAIN: SheetRow = SheetRow {
     exports: &[
         ExportRow {
             name: b"fb",
@@ -18,7 +18,7 @@ pub(crate) static GIVES_AGAIN: SheetRow = SheetRow {
 };
 
 /// A module that exports what the kernel does.
-pub(crate) static GIVES_PRINTK: SheetRow = SheetRow {
+pub(crate) const GIVES_PRINTK: SheetRow = SheetRow {
     exports: &[ExportRow {
         name: b"printk",
         crc: None,
@@ -27,7 +27,7 @@ pub(crate) static GIVES_PRINTK: SheetRow = SheetRow {
 };
 
 /// A module that needs the distance to `fa`.
-pub(crate) static NEEDS_BY_DISTANCE: SheetRow = SheetRow {
+pub(crate) const NEEDS_BY_DISTANCE: SheetRow = SheetRow {
     needs: &[NeedRow {
         name: b"fa",
         weak: false,
@@ -41,7 +41,7 @@ pub(crate) static NEEDS_BY_DISTANCE: SheetRow = SheetRow {
 };
 
 /// A module that needs another version of `fa`, and what nobody exports.
-pub(crate) static NEEDS_VERSION_2_AND_MORE: SheetRow = SheetRow {
+pub(crate) const NEEDS_VERSION_2_AND_MORE: SheetRow = SheetRow {
     versions: &[VersionRow {
         name: b"fa",
         crc: 0x2,
@@ -60,7 +60,7 @@ pub(crate) static NEEDS_VERSION_2_AND_MORE: SheetRow = SheetRow {
 };
 
 /// A module whose word of four bytes can't hold the address of `printk`; its first word can.
-pub(crate) static NEEDS_IN_32_BITS: SheetRow = SheetRow {
+pub(crate) const NEEDS_IN_32_BITS: SheetRow = SheetRow {
     needs: &[NeedRow {
         name: b"printk",
         weak: false,
@@ -81,7 +81,7 @@ pub(crate) static NEEDS_IN_32_BITS: SheetRow = SheetRow {
 };
 
 /// A module that has the address of its own export in a word.
-pub(crate) static USES_ITS_OWN: SheetRow = SheetRow {
+pub(crate) const USES_ITS_OWN: SheetRow = SheetRow {
     exports: &[ExportRow {
         name: b"fa",
         crc: None,
@@ -94,8 +94,8 @@ pub(crate) static USES_ITS_OWN: SheetRow = SheetRow {
     ..EMPTY_SHEET
 };
 
-/// The same, with a section of a version, which stands in a section that loads where it is named otherwise.
-pub(crate) static HAS_VERSIONS: SheetRow = SheetRow {
+/// The same, with the section of a version. That section is loaded if it is named otherwise.
+pub(crate) const HAS_VERSIONS: SheetRow = SheetRow {
     versions: &[VersionRow {
         name: b"fa",
         crc: 0x1,
@@ -112,8 +112,8 @@ pub(crate) static HAS_VERSIONS: SheetRow = SheetRow {
     ..EMPTY_SHEET
 };
 
-/// A module with two words of `printk`, the first of which takes no relocation.
-pub(crate) static NEEDS_TWICE: SheetRow = SheetRow {
+/// A module with two words of `printk`. The first takes no relocation.
+pub(crate) const NEEDS_TWICE: SheetRow = SheetRow {
     needs: &[NeedRow {
         name: b"printk",
         weak: false,
@@ -134,7 +134,7 @@ pub(crate) static NEEDS_TWICE: SheetRow = SheetRow {
 };
 
 /// A module that names the table of global offsets.
-pub(crate) static NEEDS_OFFSET_TABLE: SheetRow = SheetRow {
+pub(crate) const NEEDS_OFFSET_TABLE: SheetRow = SheetRow {
     needs: &[NeedRow {
         name: b"_GLOBAL_OFFSET_TABLE_",
         weak: false,

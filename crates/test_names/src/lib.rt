@@ -1,7 +1,8 @@
-//! Tests of words and of the files that are lines: names, lists and tables of names, the rules of modprobe.d, the tree of a
-//! listing, loaded modules, modules.unmet, and who may use an export.
+//! Tests of words and of the files that are lines: names, lists and tables of names, and the rules
+//! of modprobe.d. There are also the tree of a listing, loaded modules, modules.unmet, and who may
+//! use an export.
 //!
-//! It stands on the crates of these, and on `test_objects` for files of a configuration.
+//! It builds on the crates of these, and on `test_objects` for files of a configuration.
 #![tactic(auto)]
 
 #[cfg(test)]

@@ -2,14 +2,18 @@
 use loaded_list::Loaded;
 use std::test::Fail;
 
+/// Lines of loaded modules, and blank ones.
+static LINES: &[u8] = b"b 4096 0 - Live 0x0\n\n \t\r\n\ta\t8192 1 b, Live 0x0\r\nlast";
+
+/// The names of these modules.
+static NAMES: [&[u8]; 3] = [b"b", b"a", b"last"];
+
 #[test]
 fn names_in_the_order_of_their_lines(rt: HostRuntime) -> Result<(), Fail> {
-    let text = b"b 4096 0 - Live 0x0\n\n \t\r\n\ta\t8192 1 b, Live 0x0\r\nlast";
-    let loaded = Loaded::read(rt.alloc(), text)?;
-    let want = [b"b".as_slice(), b"a", b"last"];
-    assert_eq!(rt; loaded.len(), want.len());
-    for (name, want) in loaded.as_slice().iter().zip(&want) {
-        assert_eq!(rt; name.as_bytes(), *want);
+    let loaded = Loaded::read(rt.alloc(), LINES)?;
+    assert_eq!(rt; loaded.len(), NAMES.len());
+    for (name, want) in loaded.as_slice().iter().zip(NAMES) {
+        assert_eq!(rt; name.as_bytes(), want);
     }
     Ok(())
 }

@@ -1,154 +1,159 @@
 // Names of modules, paths, aliases, lines, words, strings and numbers.
 use km_names::{
-    PathText, conf_lines, hexadecimal, is_compressed, is_graphic, join, module_name, normal_alias,
-    split_word, string_at, words,
+    Lines, PathText, conf_lines, hexadecimal, is_compressed, is_graphic, join, module_name,
+    normal_alias, split_word, string_at, words,
 };
+use std::alloc::{AllocError, Global};
+use std::process::Abort;
 use std::test::Fail;
 
+/// Paths, the names of their modules, and whether they are paths of compressed modules.
+static PATHS: [(&[u8], &[u8], bool); 11] = [
+    (b"kernel/fs/ext4/ext4.ko", b"ext4", false),
+    (b"updates/snd-hda.v2.ko.xz", b"snd_hda", true),
+    (b"a-b", b"a_b", false),
+    (b"kernel/.ko", b"", false),
+    (b"", b"", false),
+    (b"/m/a.ko.xz", b"a", true),
+    (b"a.ko.gz", b"a", true),
+    (b"a.ko.zst", b"a", true),
+    (b"a.ko", b"a", false),
+    (b"a.xz", b"a", false),
+    (b"a.ko.xz/b", b"b", false),
+];
+
+/// Folders, what is below them, and the paths of that.
+static JOINED: [(&[u8], &[u8], &[u8]); 4] = [
+    (b"/", b"lib/modules", b"/lib/modules"),
+    (b"/r//", b"a", b"/r/a"),
+    (b"/r", b"/a", b"/r//a"),
+    (b"", b"a", b"/a"),
+];
+
+/// Aliases, and their normal forms.
+static ALIASES: [(&[u8], Option<&[u8]>); 6] = [
+    (b"pci-x:v0000[!a-f]d*", Some(b"pci_x:v0000[!a-f]d*")),
+    (b"bad[x", None),
+    (b"bad]x", None),
+    (b"[[-]-", Some(b"[[-]_")),
+    (b"[]]", None),
+    (b"", Some(b"")),
+];
+
+// Each call is in a function of its own that promises nothing.
+
+fn name_of(alloc: Global, path: &[u8]) -> Result<(Vec<u8>, bool), AllocError> {
+    let path = PathText::from_slice(alloc, path)?;
+    let name = module_name(alloc, &path)?;
+    Ok((name.into_vec(), is_compressed(&path)))
+}
+
+fn joined(alloc: Global, folder: &[u8], rest: &[u8]) -> Result<Vec<u8>, AllocError> {
+    let folder = PathText::from_slice(alloc, folder)?;
+    Ok(join(alloc, &folder, rest)?.into_vec())
+}
+
+fn normal_form(alloc: Global, text: &[u8]) -> Result<Option<Vec<u8>>, AllocError> {
+    match normal_alias(alloc, text)? {
+        Some(normal) => Ok(Some(normal.into_vec())),
+        None => Ok(None),
+    }
+}
+
 #[test]
-fn names_of_modules(rt: HostRuntime) -> Result<(), Fail> {
-    let rows = [
-        (b"kernel/fs/ext4/ext4.ko".as_slice(), b"ext4".as_slice()),
-        (b"updates/snd-hda.v2.ko.xz", b"snd_hda"),
-        (b"a-b", b"a_b"),
-        (b"kernel/.ko", b""),
-        (b"", b""),
-    ];
-    for (path, name) in rows {
-        let path = PathText::from_slice(rt.alloc(), path)?;
-        assert_eq!(rt; module_name(rt.alloc(), &path)?.as_bytes(), name);
+fn paths_and_aliases(rt: HostRuntime) -> Result<(), Fail> {
+    for (path, name, compressed) in PATHS {
+        let got = name_of(rt.alloc(), path)?;
+        assert_eq!(rt; got.0.as_slice(), name);
+        assert_eq!(rt; got.1, compressed);
+    }
+    for (folder, rest, path) in JOINED {
+        assert_eq!(rt; joined(rt.alloc(), folder, rest)?.as_slice(), path);
+    }
+    for (text, want) in ALIASES {
+        let got = normal_form(rt.alloc(), text)?;
+        assert_eq!(rt; got.is_some(), want.is_some());
+        assert_eq!(rt; got.as_deref(), want);
     }
     Ok(())
 }
 
-#[test]
-fn compressed_paths(rt: HostRuntime) -> Result<(), Fail> {
-    let rows = [
-        (b"/m/a.ko.xz".as_slice(), true),
-        (b"a.ko.gz", true),
-        (b"a.ko.zst", true),
-        (b"a.ko", false),
-        (b"a.xz", false),
-        (b"a.ko.xz/b", false),
-    ];
-    for (path, compressed) in rows {
-        let path = PathText::from_slice(rt.alloc(), path)?;
-        assert_eq!(rt; is_compressed(&path), compressed);
-    }
-    Ok(())
+/// A file in which a backslash joins lines. Only the lines of the file are asked for one; a comment
+/// goes on like any other.
+static CONFIGURATION: &[u8] =
+    b"\n  options a x=1 \\\n\ty=2 \r\n# no \\\n options b\na\\\\\n\nb\n \t\nlast\\";
+
+/// Its lines, with their numbers.
+static LINES: [(u32, &[u8]); 4] = [
+    (2, b"options a x=1 \ty=2"),
+    (6, b"a\\"),
+    (8, b"b"),
+    (10, b"last"),
+];
+
+/// A line, and its words after the first.
+static WORDS: [&[u8]; 3] = [b"a", b"pre:", b"b"];
+
+fn lines_of(rt: &impl Abort, alloc: Global, text: &[u8]) -> Result<Lines, AllocError> {
+    assert!(rt; text.len() <= 67_108_864);
+    conf_lines(alloc, text)
 }
 
-#[test]
-fn paths_below_folders(rt: HostRuntime) -> Result<(), Fail> {
-    let rows = [
-        (
-            b"/".as_slice(),
-            b"lib/modules".as_slice(),
-            b"/lib/modules".as_slice(),
-        ),
-        (b"/r//", b"a", b"/r/a"),
-        (b"/r", b"/a", b"/r//a"),
-        (b"", b"a", b"/a"),
-    ];
-    for (folder, rest, path) in rows {
-        let folder = PathText::from_slice(rt.alloc(), folder)?;
-        assert_eq!(rt; join(rt.alloc(), &folder, rest)?.as_bytes(), path);
-    }
-    Ok(())
-}
-
-#[test]
-fn normal_forms_of_aliases(rt: HostRuntime) -> Result<(), Fail> {
-    let rows = [
-        (
-            b"pci-x:v0000[!a-f]d*".as_slice(),
-            Some(b"pci_x:v0000[!a-f]d*".as_slice()),
-        ),
-        (b"bad[x", None),
-        (b"bad]x", None),
-        (b"[[-]-", Some(b"[[-]_")),
-        (b"[]]", None),
-        (b"", Some(b"")),
-    ];
-    for (text, want) in rows {
-        match (normal_alias(rt.alloc(), text)?, want) {
-            (Some(normal), Some(want)) => assert_eq!(rt; normal.as_bytes(), want),
-            (None, None) => {}
-            _ => assert!(rt;
-                false,
-                "a form where there is none, or none where there is one"
-            ),
-        }
-    }
-    Ok(())
-}
-
-// A backslash joins lines, and only those of the file are asked for one; a comment goes on like any other.
-#[test]
-fn lines_of_configuration_files(rt: HostRuntime) -> Result<(), Fail> {
-    let text = b"\n  options a x=1 \\\n\ty=2 \r\n# no \\\n options b\na\\\\\n\nb\n \t\nlast\\";
-    let lines = conf_lines(rt.alloc(), text)?;
-    let want = [
-        (2, b"options a x=1 \ty=2".as_slice()),
-        (6, b"a\\"),
-        (8, b"b"),
-        (10, b"last"),
-    ];
-    assert_eq!(rt; lines.len(), want.len());
-    for (line, (number, text)) in lines.as_slice().iter().zip(&want) {
-        assert_eq!(rt; line.number, *number);
-        assert_eq!(rt; line.text.as_bytes(), *text);
-    }
-    Ok(())
-}
-
-#[test]
-fn words_of_lines(rt: HostRuntime) -> Result<(), Fail> {
+/// Checks that the words of a line begin after the first.
+fn expect_words(rt: &impl Abort, alloc: Global) -> Result<(), AllocError> {
     let (word, rest) = split_word(b"softdep \ta  pre: b ");
     assert_eq!(rt; word, b"softdep".as_slice());
     assert_eq!(rt; rest, b"a  pre: b".as_slice());
-    let list = words(rt.alloc(), rest)?;
-    let want = [b"a".as_slice(), b"pre:", b"b"];
-    assert_eq!(rt; list.len(), want.len());
-    for (word, want) in list.as_slice().iter().zip(&want) {
-        assert_eq!(rt; word.as_bytes(), *want);
+    let list = words(alloc, rest)?;
+    assert_eq!(rt; list.len(), WORDS.len());
+    for (word, want) in list.as_slice().iter().zip(WORDS) {
+        assert_eq!(rt; word.as_bytes(), want);
     }
     Ok(())
 }
 
 #[test]
-fn strings_of_a_table(rt: HostRuntime) -> Result<(), Fail> {
-    let table = b"\0.text\0.data\0cut";
-    let rows = [
-        (0, Some(b"".as_slice())),
-        (1, Some(b".text")),
-        (3, Some(b"ext")),
-        (7, Some(b".data")),
-        (13, None),
-        (16, None),
-        (17, None),
-    ];
-    for (at, string) in rows {
-        assert_eq!(rt; string_at(table, at), string);
+fn lines_and_words(rt: HostRuntime) -> Result<(), Fail> {
+    let lines = lines_of(&rt, rt.alloc(), CONFIGURATION)?;
+    assert_eq!(rt; lines.len(), LINES.len());
+    for (line, (number, text)) in lines.as_slice().iter().zip(LINES) {
+        assert_eq!(rt; line.number, number);
+        assert_eq!(rt; line.text.as_bytes(), text);
     }
+    expect_words(&rt, rt.alloc())?;
     Ok(())
 }
 
+/// Places in a table of strings, and the strings there.
+static STRINGS: [(usize, Option<&[u8]>); 7] = [
+    (0, Some(b"")),
+    (1, Some(b".text")),
+    (3, Some(b"ext")),
+    (7, Some(b".data")),
+    (13, None),
+    (16, None),
+    (17, None),
+];
+
+/// Texts, whether they are visible words, and the hexadecimal numbers that they are.
+static NUMBERS: [(&[u8], bool, Option<u64>); 8] = [
+    (b"", false, None),
+    (b"ffffffff81000000", true, Some(0xffff_ffff_8100_0000)),
+    (b"0Ff", true, Some(255)),
+    (b"+1", true, None),
+    (b"0x1", true, None),
+    (b"1 ", false, None),
+    (b"\x7f", false, None),
+    (b"00000000000000001", true, None),
+];
+
 #[test]
-fn visible_words_and_hexadecimal_numbers(rt: HostRuntime) -> Result<(), Fail> {
-    let rows = [
-        (b"".as_slice(), false, None),
-        (b"ffffffff81000000", true, Some(0xffff_ffff_8100_0000)),
-        (b"0Ff", true, Some(255)),
-        (b"+1", true, None),
-        (b"0x1", true, None),
-        (b"1 ", false, None),
-        (b"\x7f", false, None),
-        (b"00000000000000001", true, None),
-    ];
-    for (text, graphic, number) in rows {
+fn strings_and_numbers(rt: HostRuntime) {
+    for (at, string) in STRINGS {
+        assert_eq!(rt; string_at(b"\0.text\0.data\0cut", at), string);
+    }
+    for (text, graphic, number) in NUMBERS {
         assert_eq!(rt; is_graphic(text), graphic);
         assert_eq!(rt; hexadecimal(text), number);
     }
-    Ok(())
 }

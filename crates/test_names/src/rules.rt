@@ -2,13 +2,14 @@
 ghost use Rattle.std.specs.Prelude.{◌≤◌, length, All, IfOk};
 ghost use Rattle.km_names.specs.Limit.{file_limit};
 
-use km_names::{ConfFault, ConfFiles, Names};
+use km_names::{ConfFault, ConfFiles, Names, PathText};
 use modprobe_conf::{Rule, Rules, parse};
 use std::alloc::{AllocError, Global};
+use std::process::Abort;
 use std::test::Fail;
 use test_objects::{RowFault, conf_file};
 
-// The two files `0` and `1`.
+// Returns the two files `0` and `1`.
 fn files_of(alloc: Global, first: &[u8], second: &[u8]) -> Result<ConfFiles, RowFault>
     ensures { IfOk result (λ files. All (λ file. length file.bytes ≤ file_limit) files) }
 {
@@ -26,7 +27,7 @@ fn put_names(names: &Names, text: &mut Vec<u8>) -> Result<(), AllocError> {
     Ok(())
 }
 
-// A rule as a line of its own.
+// Puts a rule as a line of its own.
 fn put_rule(rule: &Rule, text: &mut Vec<u8>) -> Result<(), AllocError> {
     let (kind, name, rest) = match rule {
         Rule::Alias { pattern, name } => (b"alias ".as_slice(), name, pattern.as_bytes()),
@@ -57,45 +58,55 @@ fn text_of(alloc: Global, rules: &Rules) -> Result<Vec<u8>, AllocError> {
     Ok(text)
 }
 
-// A line that isn't understood, as `FILE:NUMBER`, is the first of all files.
-#[test]
-fn lines_that_are_not_understood(rt: HostRuntime) -> Result<(), Fail> {
-    let rows = [
-        (b"options x".as_slice(), b"".as_slice(), b'0', 1),
-        (b"options x y", b"blacklist", b'1', 1),
-        (b"alias a", b"alias a", b'0', 1),
-        (b"# c\n\nalias \\\n bad[x b", b"", b'0', 3),
-        (b"install a", b"", b'0', 1),
-        (b"remove a", b"", b'0', 1),
-        (b"softdep a", b"", b'0', 1),
-        (b"search updates", b"", b'0', 1),
-        (b"weakdep a b", b"", b'0', 1),
-        (b"Options a b", b"", b'0', 1),
-    ];
-    for (first, second, name, number) in rows {
-        let files = files_of(rt.alloc(), first, second)?;
-        match parse(rt.alloc(), &files) {
-            Err(ConfFault::BadLine { file, line }) => {
-                assert_eq!(rt; file.as_bytes(), [name].as_slice());
-                assert_eq!(rt; line, number);
-            }
-            Err(ConfFault::Memory) => assert!(rt; false, "no memory"),
-            Ok(_rules) => assert!(rt; false, "a bad line that was understood"),
-        }
+/// The texts of two files, and the name of the file and the number of the first line that isn't understood.
+static BAD_LINES: [(&[u8], &[u8], u8, u32); 10] = [
+    (b"options x", b"", b'0', 1),
+    (b"options x y", b"blacklist", b'1', 1),
+    (b"alias a", b"alias a", b'0', 1),
+    (b"# c\n\nalias \\\n bad[x b", b"", b'0', 3),
+    (b"install a", b"", b'0', 1),
+    (b"remove a", b"", b'0', 1),
+    (b"softdep a", b"", b'0', 1),
+    (b"search updates", b"", b'0', 1),
+    (b"weakdep a b", b"", b'0', 1),
+    (b"Options a b", b"", b'0', 1),
+];
+
+/// A file with a rule of each kind.
+static RULES: &[u8] =
+    b"alias pci-x[a-b]* snd-hda more\nblacklist u-2 more\noptions b-1 depth=3  raw-x=1\ninstall a /bin/true\nremove a /bin/false -x\n softdep m\tq pre: gone a-v[-] post: late pre: zed";
+
+/// Its rules, each as a line.
+static RULES_READ: &[u8] =
+    b"alias snd_hda|pci_x[a-b]*\nblacklist u_2|\noptions b_1|depth=3  raw-x=1\ninstall a|/bin/true\nremove a|/bin/false -x\nsoftdep m| gone a_v[_] zed/ late\n";
+
+// Returns the rules of two files as lines, or the file and the number of the first bad line.
+fn read(
+    rt: &impl Abort,
+    alloc: Global,
+    first: &[u8],
+    second: &[u8],
+) -> Result<Result<Vec<u8>, (PathText, u32)>, RowFault> {
+    let files = files_of(alloc, first, second)?;
+    match parse(alloc, &files) {
+        Ok(rules) => Ok(Ok(text_of(alloc, &rules)?)),
+        Err(ConfFault::BadLine { file, line }) => Ok(Err((file, line))),
+        Err(ConfFault::Memory) => panic!(rt; "no memory"),
     }
-    Ok(())
 }
 
 #[test]
 fn rules_of_lines(rt: HostRuntime) -> Result<(), Fail> {
-    let text =
-        b"alias pci-x[a-b]* snd-hda more\nblacklist u-2 more\noptions b-1 depth=3  raw-x=1\ninstall a /bin/true\nremove a /bin/false -x\n softdep m\tq pre: gone a-v[-] post: late pre: zed";
-    let want =
-        b"alias snd_hda|pci_x[a-b]*\nblacklist u_2|\noptions b_1|depth=3  raw-x=1\ninstall a|/bin/true\nremove a|/bin/false -x\nsoftdep m| gone a_v[_] zed/ late\n";
-    let files = files_of(rt.alloc(), text, b"")?;
-    match parse(rt.alloc(), &files) {
-        Ok(rules) => assert_eq!(rt; text_of(rt.alloc(), &rules)?.as_slice(), want.as_slice()),
-        Err(_fault) => assert!(rt; false, "a line that wasn't understood"),
+    for (first, second, name, number) in BAD_LINES {
+        let Err((file, line)) = read(&rt, rt.alloc(), first, second)? else {
+            panic!(rt; "a bad line that was understood");
+        };
+        assert_eq!(rt; file.as_bytes(), [name].as_slice());
+        assert_eq!(rt; line, number);
     }
+    let Ok(rules) = read(&rt, rt.alloc(), RULES, b"")? else {
+        panic!(rt; "a line that wasn't understood");
+    };
+    assert_eq!(rt; rules.as_slice(), RULES_READ);
     Ok(())
 }

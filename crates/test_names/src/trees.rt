@@ -25,17 +25,37 @@ fn file_of(alloc: Global, text: &[u8]) -> Result<ConfFiles, RowFault>
     Ok(files)
 }
 
-// The search list of a file that is understood.
-fn search_of(rt: &impl Abort, alloc: Global, text: &[u8]) -> Result<Search, RowFault> {
+// Returns the search list of a file, or the file and the number of its first bad line.
+fn search_of(
+    rt: &impl Abort,
+    alloc: Global,
+    text: &[u8],
+) -> Result<Result<Search, (PathText, u32)>, RowFault> {
     let files = file_of(alloc, text)?;
     match parse_search(alloc, &files) {
-        Ok(search) => Ok(search),
-        Err(ConfFault::Memory) => Err(RowFault::Memory),
-        Err(ConfFault::BadLine { .. }) => panic!(rt; "a line that wasn't understood"),
+        Ok(search) => Ok(Ok(search)),
+        Err(ConfFault::BadLine { file, line }) => Ok(Err((file, line))),
+        Err(ConfFault::Memory) => panic!(rt; "no memory"),
     }
 }
 
-// Each path on a line of its own.
+// Returns each item on a line of its own: of the tree that is chosen, or the bad path.
+fn chosen(
+    rt: &impl Abort,
+    alloc: Global,
+    paths: &Paths,
+    order: &[u8],
+    search: &Search,
+) -> Result<Vec<u8>, AllocError> {
+    match choose(alloc, paths, order, search) {
+        Ok(tree) => lines_of(alloc, &tree),
+        Err(TreeFault::BadPath { path }) => Ok(path.into_vec()),
+        Err(TreeFault::TooManyModules { .. }) => panic!(rt; "few paths"),
+        Err(TreeFault::Memory) => panic!(rt; "no memory"),
+    }
+}
+
+// Returns each path on a line of its own.
 fn lines_of(alloc: Global, paths: &Paths) -> Result<Vec<u8>, AllocError> {
     let mut text = Vec::new(alloc);
     for path in paths.as_slice() {
@@ -45,141 +65,138 @@ fn lines_of(alloc: Global, paths: &Paths) -> Result<Vec<u8>, AllocError> {
     Ok(text)
 }
 
-// For some search lines and lines of modules.order, the tree of one listing.
+/// The paths of a listing.
+static LISTED: [&[u8]; 8] = [
+    b"updates/a.ko",
+    b"kernel/b.ko",
+    b"kernel/a.ko",
+    b"extra/a.ko.xz",
+    b"kernel/drivers/a.ko",
+    b"kernel/c-d.ko",
+    b"kernel/c_d.ko",
+    b"notes.txt",
+];
+
+/// Search lines, lines of modules.order, and the tree of the listing.
+static TREES: [(&[u8], &[u8], &[u8]); 4] = [
+    (
+        b"search updates built-in",
+        b"",
+        b"kernel/b.ko\nkernel/c-d.ko\nupdates/a.ko\n",
+    ),
+    (
+        b"search extra updates",
+        b"kernel/c-d.ko\n\nkernel/b.ko\r\nupdates/a.ko\nkernel/c-d.ko",
+        b"kernel/c-d.ko\nextra/a.ko.xz\nkernel/b.ko\n",
+    ),
+    (
+        b"search built-in\nsearch updates",
+        b"kernel/none.ko\nupdates/a.ko\nkernel/b.ko",
+        b"kernel/b.ko\nextra/a.ko.xz\nkernel/c-d.ko\n",
+    ),
+    (
+        b"search kernel/drivers kernel",
+        b"c_d\nkernel/c_d.ko\n",
+        b"kernel/b.ko\nkernel/c-d.ko\nkernel/drivers/a.ko\n",
+    ),
+];
+
+/// Listings with bad paths. The least bad path is named.
+static BAD_PATHS: [[&[u8]; 3]; 2] = [
+    [b"kernel/b c.ko", b"kernel/a:.ko.gz", b"kernel/a\xff"],
+    [b"z/\x7f.ko", b"kernel/a:.ko.gz", b"kernel/a.ko"],
+];
+
 #[test]
-fn trees_of_a_listing(rt: HostRuntime) -> Result<(), Fail> {
-    let listed = [
-        b"updates/a.ko".as_slice(),
-        b"kernel/b.ko",
-        b"kernel/a.ko",
-        b"extra/a.ko.xz",
-        b"kernel/drivers/a.ko",
-        b"kernel/c-d.ko",
-        b"kernel/c_d.ko",
-        b"notes.txt",
-    ];
-    let rows = [
-        (
-            b"search updates built-in".as_slice(),
-            b"".as_slice(),
-            b"kernel/b.ko\nkernel/c-d.ko\nupdates/a.ko\n".as_slice(),
-        ),
-        (
-            b"search extra updates",
-            b"kernel/c-d.ko\n\nkernel/b.ko\r\nupdates/a.ko\nkernel/c-d.ko",
-            b"kernel/c-d.ko\nextra/a.ko.xz\nkernel/b.ko\n",
-        ),
-        (
-            b"search built-in\nsearch updates",
-            b"kernel/none.ko\nupdates/a.ko\nkernel/b.ko",
-            b"kernel/b.ko\nextra/a.ko.xz\nkernel/c-d.ko\n",
-        ),
-        (
-            b"search kernel/drivers kernel",
-            b"c_d\nkernel/c_d.ko\n",
-            b"kernel/b.ko\nkernel/c-d.ko\nkernel/drivers/a.ko\n",
-        ),
-    ];
-    let paths = paths_of(rt.alloc(), &listed)?;
-    for (search, order, want) in rows {
-        let search = search_of(&rt, rt.alloc(), search)?;
-        match choose(rt.alloc(), &paths, order, &search) {
-            Ok(tree) => assert_eq!(rt; lines_of(rt.alloc(), &tree)?.as_slice(), want),
-            Err(_) => assert!(rt; false, "no tree"),
-        }
+fn trees_of_listings(rt: HostRuntime) -> Result<(), Fail> {
+    let paths = paths_of(rt.alloc(), &LISTED)?;
+    for (search, order, want) in TREES {
+        let search = search_of(&rt, rt.alloc(), search)?
+            .ok()
+            .ok_or("a line that wasn't understood")?;
+        let got = chosen(&rt, rt.alloc(), &paths, order, &search)?;
+        assert_eq!(rt; got.as_slice(), want);
+    }
+    let search = search_of(&rt, rt.alloc(), b"")?
+        .ok()
+        .ok_or("a line that wasn't understood")?;
+    for listed in BAD_PATHS {
+        let paths = paths_of(rt.alloc(), &listed)?;
+        let got = chosen(&rt, rt.alloc(), &paths, b"", &search)?;
+        assert_eq!(rt; got.as_slice(), b"kernel/a:.ko.gz".as_slice());
     }
     Ok(())
 }
 
-#[test]
-fn paths_that_have_no_tree(rt: HostRuntime) -> Result<(), Fail> {
-    let rows = [
-        [
-            b"kernel/b c.ko".as_slice(),
-            b"kernel/a:.ko.gz",
-            b"kernel/a\xff",
-        ],
-        [b"z/\x7f.ko".as_slice(), b"kernel/a:.ko.gz", b"kernel/a.ko"],
-    ];
-    let search = search_of(&rt, rt.alloc(), b"")?;
-    for row in rows {
-        let paths = paths_of(rt.alloc(), &row)?;
-        match choose(rt.alloc(), &paths, b"", &search) {
-            Err(TreeFault::BadPath { path }) => assert_eq!(rt;
-                path.as_bytes(),
-                b"kernel/a:.ko.gz".as_slice()
-            ),
-            Err(TreeFault::TooManyModules { .. }) => assert!(rt; false, "three paths are few"),
-            Err(TreeFault::Memory) => assert!(rt; false, "no memory"),
-            Ok(_tree) => assert!(rt; false, "a bad path that was taken"),
-        }
+/// Texts of depmod.d, and their search lists, each word on a line.
+static SEARCHES: [(&[u8], &[u8]); 2] = [
+    (b"# none\n", b"updates\nbuilt-in\n"),
+    (
+        b"search a built-in\n search  b-c \\\n d",
+        b"a\nbuilt-in\nb-c\nd\n",
+    ),
+];
+
+/// Texts whose second line is the first bad one.
+static BAD_SEARCHES: [&[u8]; 3] = [
+    b"search a\nsearch",
+    b"search a\noverride a * b\nsearch",
+    b"\nalias a b",
+];
+
+// Returns the words of a search list, each on a line of its own.
+fn words_of(alloc: Global, search: &Search) -> Result<Vec<u8>, AllocError> {
+    let mut text = Vec::new(alloc);
+    for word in search.as_slice() {
+        text.extend_from_slice(word.as_bytes())?;
+        text.push(b'\n')?;
     }
-    Ok(())
+    Ok(text)
 }
 
 #[test]
 fn search_lists(rt: HostRuntime) -> Result<(), Fail> {
-    let rows = [
-        (b"# none\n".as_slice(), b"updates built-in".as_slice()),
-        (
-            b"search a built-in\n search  b-c \\\n d",
-            b"a built-in b-c d",
-        ),
-    ];
-    for (text, want) in rows {
-        let search = search_of(&rt, rt.alloc(), text)?;
-        let mut words = Vec::new(rt.alloc());
-        for word in search.as_slice() {
-            if !words.is_empty() {
-                words.push(b' ')?;
-            }
-            words.extend_from_slice(word.as_bytes())?;
-        }
-        assert_eq!(rt; words.as_slice(), want);
+    for (text, want) in SEARCHES {
+        let Ok(search) = search_of(&rt, rt.alloc(), text)? else {
+            panic!(rt; "a line that wasn't understood");
+        };
+        assert_eq!(rt; words_of(rt.alloc(), &search)?.as_slice(), want);
     }
-    for text in [
-        b"search a\nsearch".as_slice(),
-        b"search a\noverride a * b\nsearch",
-        b"\nalias a b",
-    ] {
-        let files = file_of(rt.alloc(), text)?;
-        match parse_search(rt.alloc(), &files) {
-            Err(ConfFault::BadLine { file, line }) => {
-                assert_eq!(rt; file.as_bytes(), b"/etc/depmod.d/a.conf".as_slice());
-                assert_eq!(rt; line, 2);
-            }
-            Err(ConfFault::Memory) => assert!(rt; false, "no memory"),
-            Ok(_search) => assert!(rt; false, "a bad line that was understood"),
-        }
+    for text in BAD_SEARCHES {
+        let Err((file, line)) = search_of(&rt, rt.alloc(), text)? else {
+            panic!(rt; "a bad line that was understood");
+        };
+        assert_eq!(rt; file.as_bytes(), b"/etc/depmod.d/a.conf".as_slice());
+        assert_eq!(rt; line, 2);
     }
     Ok(())
 }
 
-// What stands before the `:` of a dependency line, and texts that are no such lines.
+/// Dependency lines with what is before their `:`, and texts that are no such lines.
+static DEPENDENCY_LINES: [(&[u8], Option<&[u8]>); 15] = [
+    (b"kernel/a.ko:", Some(b"kernel/a.ko")),
+    (
+        b"kernel/b.ko.xz: kernel/a.ko kernel/c.ko.gz",
+        Some(b"kernel/b.ko.xz"),
+    ),
+    (b".ko:", Some(b".ko")),
+    (b"", None),
+    (b":", None),
+    (b"kernel/a.ko", None),
+    (b"kernel/a:", None),
+    (b"kernel/a b.ko:", None),
+    (b"kernel/a.ko: ", None),
+    (b"kernel/a.ko:kernel/b.ko", None),
+    (b"kernel/a.ko:  kernel/b.ko", None),
+    (b"kernel/a.ko: kernel/b.ko ", None),
+    (b"kernel/a.ko: kernel/b", None),
+    (b"kernel/a.ko: kernel/b.ko:", None),
+    (b"kernel/a.ko: kernel/b.ko\n", None),
+];
+
 #[test]
-fn dependency_lines(rt: HostRuntime) -> Result<(), Fail> {
-    let rows = [
-        (b"kernel/a.ko:".as_slice(), Some(b"kernel/a.ko".as_slice())),
-        (
-            b"kernel/b.ko.xz: kernel/a.ko kernel/c.ko.gz",
-            Some(b"kernel/b.ko.xz".as_slice()),
-        ),
-        (b".ko:", Some(b".ko".as_slice())),
-        (b"", None),
-        (b":", None),
-        (b"kernel/a.ko", None),
-        (b"kernel/a:", None),
-        (b"kernel/a b.ko:", None),
-        (b"kernel/a.ko: ", None),
-        (b"kernel/a.ko:kernel/b.ko", None),
-        (b"kernel/a.ko:  kernel/b.ko", None),
-        (b"kernel/a.ko: kernel/b.ko ", None),
-        (b"kernel/a.ko: kernel/b", None),
-        (b"kernel/a.ko: kernel/b.ko:", None),
-        (b"kernel/a.ko: kernel/b.ko\n", None),
-    ];
-    for (line, want) in rows {
+fn dependency_lines(rt: HostRuntime) {
+    for (line, want) in DEPENDENCY_LINES {
         assert_eq!(rt; line_path(line), want);
     }
-    Ok(())
 }

@@ -7,14 +7,15 @@ use hex::FromHexError;
 use km_names::Blob;
 use std::alloc::{AllocError, Global};
 
-/// Digits without the spaces between them.
+/// Returns digits without the spaces between them.
 fn packed(alloc: Global, digits: &[u8]) -> Result<Vec<u8>, AllocError>
     ensures { IfOk result (λ packed. packed.items ≡ filter (λ b. not (b == 32)) digits.now) }
 {
     digits.iter().copied().filter(|b| *b != b' ').collect(alloc)
 }
 
-/// The bytes of hexadecimal digits, two for each byte. Spaces part the fields, and count for nothing.
+/// Returns the bytes of hexadecimal digits, two for each byte. Spaces separate the fields, and
+/// don't count.
 pub fn bytes_of(alloc: Global, digits: &str) -> Result<Blob, FromHexError>
     ensures made { IfOk result (λ bytes. decode_of (filter (λ b. not (b == 32)) digits.now) ≡ Ok bytes) }
     ensures refused { IfErr result (λ fault.

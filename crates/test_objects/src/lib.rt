@@ -1,8 +1,9 @@
-//! What the crates of tests share: sheets that are written out, with what a module has as one constant, the object of that,
-//! and small modules; one object byte by byte; bytes in hexadecimal digits; and texts of which calls ask conditions.
+//! What the crates of tests share. There are written sheets, with what a module has as one
+//! constant, their objects, and small modules. There are also one object byte by byte, bytes in
+//! hexadecimal digits, and texts for which calls have conditions.
 //!
-//! It stands on `tree_gen` for sheets and their objects, on `km_names` for lists and names, on `hex` for digits, and on the
-//! definitions of `index_format` for keys and texts.
+//! It builds on `tree_gen` for sheets and their objects, on `km_names` for lists and names, on
+//! `hex` for digits, and on the definitions of `index_format` for keys and texts.
 #![tactic(auto)]
 
 mod digits;
@@ -17,7 +18,7 @@ mod texts;
 pub use digits::bytes_of;
 pub use fault::RowFault;
 pub use license::LICENSE_OBJECT;
-pub use object::{object_of, object_with};
+pub use object::{more, object_of, object_with, sheet};
 pub use row::{
     EMPTY_MORE, EMPTY_SHEET, ExportRow, MoreRow, NeedRow, PlaceRow, SheetRow, SpaceRow, VersionRow,
 };

@@ -10,7 +10,7 @@ use tree_gen::{
     SheetSpaces, SheetVersion, SheetVersions,
 };
 
-/// Texts or names.
+/// Returns the list of these texts or names.
 pub(crate) fn texts<K>(alloc: Global, rows: &[&[u8]]) -> Result<List<Bytes<K>>, AllocError>
     ensures { IfOk result (λ list. list ≡ slices_of rows.now) }
 {
@@ -21,7 +21,7 @@ pub(crate) fn texts<K>(alloc: Global, rows: &[&[u8]]) -> Result<List<Bytes<K>>, 
     Ok(list)
 }
 
-/// Versions of needed symbols.
+/// Returns the list of these versions of needed symbols.
 pub(crate) fn versions(alloc: Global, rows: &[VersionRow]) -> Result<SheetVersions, AllocError>
     ensures { IfOk result (λ list. list ≡ map version_of rows.now) }
 {
@@ -35,7 +35,7 @@ pub(crate) fn versions(alloc: Global, rows: &[VersionRow]) -> Result<SheetVersio
     Ok(list)
 }
 
-/// Exported symbols.
+/// Returns the list of these exported symbols.
 pub(crate) fn exports(alloc: Global, rows: &[ExportRow]) -> Result<SheetExports, AllocError>
     ensures { IfOk result (λ list. list ≡ map export_of rows.now) }
 {
@@ -49,7 +49,7 @@ pub(crate) fn exports(alloc: Global, rows: &[ExportRow]) -> Result<SheetExports,
     Ok(list)
 }
 
-/// Undefined symbols.
+/// Returns the list of these undefined symbols.
 pub(crate) fn needs(alloc: Global, rows: &[NeedRow]) -> Result<SheetNeeds, AllocError>
     ensures { IfOk result (λ list. list ≡ map need_of rows.now) }
 {
@@ -63,7 +63,7 @@ pub(crate) fn needs(alloc: Global, rows: &[NeedRow]) -> Result<SheetNeeds, Alloc
     Ok(list)
 }
 
-/// Relocated words.
+/// Returns the list of these relocated words.
 pub(crate) fn places(alloc: Global, rows: &[PlaceRow]) -> Result<SheetPlaces, AllocError>
     ensures { IfOk result (λ list. list ≡ map place_of rows.now) }
 {
@@ -78,7 +78,7 @@ pub(crate) fn places(alloc: Global, rows: &[PlaceRow]) -> Result<SheetPlaces, Al
     Ok(list)
 }
 
-/// Namespaces of exports.
+/// Returns the list of these namespaces of exports.
 pub(crate) fn spaces(alloc: Global, rows: &[SpaceRow]) -> Result<SheetSpaces, AllocError>
     ensures { IfOk result (λ list. list ≡ map space_of rows.now) }
 {

@@ -13,8 +13,8 @@ use km_names::Blob;
 use std::alloc::{AllocError, Global};
 use tree_gen::{Sheet, SheetMore, is_sheet, object_more};
 
-/// The sheet that is written out.
-fn sheet(alloc: Global, row: &SheetRow) -> Result<Sheet, AllocError>
+/// Returns the sheet that is written out.
+pub fn sheet(alloc: Global, row: &SheetRow) -> Result<Sheet, AllocError>
     ensures { IfOk result (λ sheet. sheet ≡ sheet_of row.now) }
 {
     Ok(Sheet {
@@ -26,8 +26,8 @@ fn sheet(alloc: Global, row: &SheetRow) -> Result<Sheet, AllocError>
     })
 }
 
-/// What is written out besides a sheet.
-fn more(alloc: Global, row: &MoreRow) -> Result<SheetMore, AllocError>
+/// Returns what is written out besides a sheet.
+pub fn more(alloc: Global, row: &MoreRow) -> Result<SheetMore, AllocError>
     ensures { IfOk result (λ more. more ≡ more_of row.now) }
 {
     Ok(SheetMore {
@@ -37,7 +37,7 @@ fn more(alloc: Global, row: &MoreRow) -> Result<SheetMore, AllocError>
     })
 }
 
-/// The object of a sheet that is written out.
+/// Returns the object of a sheet that is written out.
 pub fn object_of(alloc: Global, row: &SheetRow) -> Result<Blob, RowFault>
     ensures made { IfOk result (λ bytes. bytes ≡ object_more_of (sheet_of row.now) no_more) }
     ensures refused { IfErr result (λ fault. (fault ≡ Memory) ⊎ (is_the_sheet (sheet_of row.now) no_more ≡ false)) }
@@ -45,7 +45,7 @@ pub fn object_of(alloc: Global, row: &SheetRow) -> Result<Blob, RowFault>
     object_with(alloc, row, &NO_MORE)
 }
 
-/// The object of a sheet with more, both written out.
+/// Returns the object of a sheet with more, both written out.
 pub fn object_with(alloc: Global, row: &SheetRow, besides: &MoreRow) -> Result<Blob, RowFault>
     ensures made { IfOk result (λ bytes. bytes ≡ object_more_of (sheet_of row.now) (more_of besides.now)) }
     ensures refused { IfErr result (λ fault. (fault ≡ Memory) ⊎ (is_the_sheet (sheet_of row.now) (more_of besides.now) ≡ false)) }

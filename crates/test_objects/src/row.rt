@@ -76,7 +76,7 @@ pub const EMPTY_SHEET: SheetRow = SheetRow {
 pub struct MoreRow {
     /// The versions of needed symbols in the extended form.
     pub ext: &'static [VersionRow],
-    /// The exports for modules with a free license alone.
+    /// The exports for modules with a free license only.
     pub gpl: &'static [&'static [u8]],
     /// The namespaces of exports.
     pub spaces: &'static [SpaceRow],

@@ -4,13 +4,13 @@ use crate::row::{
 };
 
 /// A module of nothing at all.
-pub static NOTHING: SheetRow = EMPTY_SHEET;
+pub const NOTHING: SheetRow = EMPTY_SHEET;
 
 /// Nothing besides a sheet.
-pub static NO_MORE: MoreRow = EMPTY_MORE;
+pub const NO_MORE: MoreRow = EMPTY_MORE;
 
 /// A module that exports `fa` and needs `printk` of the kernel.
-pub static GIVES: SheetRow = SheetRow {
+pub const GIVES: SheetRow = SheetRow {
     exports: &[ExportRow {
         name: b"fa",
         crc: None,
@@ -28,7 +28,7 @@ pub static GIVES: SheetRow = SheetRow {
 };
 
 /// A module that exports `fa` and needs nothing.
-pub static GIVES_ALONE: SheetRow = SheetRow {
+pub const GIVES_ALONE: SheetRow = SheetRow {
     exports: &[ExportRow {
         name: b"fa",
         crc: None,
@@ -37,7 +37,7 @@ pub static GIVES_ALONE: SheetRow = SheetRow {
 };
 
 /// A module that exports `fa` with a version.
-pub static GIVES_VERSION_1: SheetRow = SheetRow {
+pub const GIVES_VERSION_1: SheetRow = SheetRow {
     exports: &[ExportRow {
         name: b"fa",
         crc: Some(0x1),
@@ -46,7 +46,7 @@ pub static GIVES_VERSION_1: SheetRow = SheetRow {
 };
 
 /// A module that needs `fa`.
-pub static NEEDS: SheetRow = SheetRow {
+pub const NEEDS: SheetRow = SheetRow {
     needs: &[NeedRow {
         name: b"fa",
         weak: false,
@@ -60,7 +60,7 @@ pub static NEEDS: SheetRow = SheetRow {
 };
 
 /// A module that needs `fa` weakly, with an addend.
-pub static MAY_NEED: SheetRow = SheetRow {
+pub const MAY_NEED: SheetRow = SheetRow {
     needs: &[NeedRow {
         name: b"fa",
         weak: true,
@@ -74,7 +74,7 @@ pub static MAY_NEED: SheetRow = SheetRow {
 };
 
 /// A module that needs another version of `fa`, weakly.
-pub static MAY_NEED_VERSION_2: SheetRow = SheetRow {
+pub const MAY_NEED_VERSION_2: SheetRow = SheetRow {
     versions: &[VersionRow {
         name: b"fa",
         crc: 0x2,
@@ -87,7 +87,7 @@ pub static MAY_NEED_VERSION_2: SheetRow = SheetRow {
 };
 
 /// A module that needs `fa` and has a free license.
-pub static FREE: SheetRow = SheetRow {
+pub const FREE: SheetRow = SheetRow {
     texts: &[b"license=Dual BSD/GPL"],
     needs: &[NeedRow {
         name: b"fa",
@@ -102,7 +102,7 @@ pub static FREE: SheetRow = SheetRow {
 };
 
 /// A module that needs `fa` and imports a namespace.
-pub static IMPORTS: SheetRow = SheetRow {
+pub const IMPORTS: SheetRow = SheetRow {
     texts: &[b"import_ns=NS"],
     needs: &[NeedRow {
         name: b"fa",
@@ -116,15 +116,15 @@ pub static IMPORTS: SheetRow = SheetRow {
     ..EMPTY_SHEET
 };
 
-/// `fa` is for modules with a free license alone.
-pub static GPL_ONLY: MoreRow = MoreRow {
+/// `fa` is only for modules with a free license.
+pub const GPL_ONLY: MoreRow = MoreRow {
     ext: &[],
     gpl: &[b"fa"],
     spaces: &[],
 };
 
 /// `fa` is in a namespace.
-pub static IN_SPACE: MoreRow = MoreRow {
+pub const IN_SPACE: MoreRow = MoreRow {
     ext: &[],
     gpl: &[],
     spaces: &[SpaceRow {
@@ -134,7 +134,7 @@ pub static IN_SPACE: MoreRow = MoreRow {
 };
 
 /// A module that needs what nobody exports.
-pub static NEEDS_NOSUCH: SheetRow = SheetRow {
+pub const NEEDS_NOSUCH: SheetRow = SheetRow {
     needs: &[NeedRow {
         name: b"nosuch",
         weak: false,

@@ -1,4 +1,4 @@
-// Texts that calls under test ask conditions of.
+// Texts for which calls under test have conditions.
 ghost use Rattle.std.specs.Prelude.{◌≡◌, ◌≤◌, ◌<◌, ◌⊎◌, ◌↔◌, length, IfErr, IfOk, IsTrue};
 ghost use Rattle.km_names.specs.Limit.{file_limit};
 ghost use Rattle.index_format.specs.Map.{IsKey, IsText};
@@ -8,7 +8,7 @@ use crate::fault::RowFault;
 use km_names::{Blob, ConfFile, FILE_LIMIT, PathText};
 use std::alloc::Global;
 
-/// A file of a configuration, with a text that isn't longer than files may be.
+/// Returns a file of a configuration, with a text that isn't longer than files may be.
 pub fn conf_file(alloc: Global, path: &[u8], text: &[u8]) -> Result<ConfFile, RowFault>
     ensures made { IfOk result (λ file. file ≡ record { path = path.now; bytes = text.now }) }
     ensures limited { IfOk result (λ file. length file.bytes ≤ file_limit) }

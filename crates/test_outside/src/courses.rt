@@ -17,7 +17,7 @@ fn name(alloc: Global, text: &[u8]) -> Result<Name, AllocError> {
     Name::from_slice(alloc, text)
 }
 
-/// Two files, put by calls.
+/// Returns two files, put by calls.
 fn made(alloc: Global) -> Result<MemFiles, Stop> {
     let mut files = MemFiles::new(alloc);
     put_file(alloc, &mut files, b"/e/a.conf", b"text")?;
@@ -29,34 +29,34 @@ fn put_file(alloc: Global, files: &mut MemFiles, path: &[u8], bytes: &[u8]) -> R
     put(alloc, files, PathText::from_slice(alloc, path)?, bytes)
 }
 
-// Each call stands in a function of its own that promises nothing: what a test compares is what the call answered, and
-// its contract needn't be carried along.
+// Each call is in a function of its own that promises nothing: a test compares what the call
+// answered, and its contract needn't be carried along.
 
 fn read(alloc: Global, files: &mut MemFiles, path: &[u8]) -> Result<Blob, Stop> {
-    read_needed(alloc, files, PathText::from_slice(alloc, path)?)
+    read_needed(alloc, files, &PathText::from_slice(alloc, path)?)
 }
 
 fn read_into(alloc: Global, files: &mut MemFiles, path: &[u8]) -> Result<Blob, Stop> {
     let mut buffer = FileBuffer::new(alloc);
     let path = PathText::from_slice(alloc, path)?;
-    read_needed_into(alloc, files, path, &mut buffer)?;
+    read_needed_into(alloc, files, &path, &mut buffer)?;
     Ok(buffer.into_blob())
 }
 
 fn read_any(alloc: Global, files: &mut MemFiles, path: &[u8]) -> Result<Blob, Stop> {
-    read_optional(alloc, files, PathText::from_slice(alloc, path)?)
+    read_optional(alloc, files, &PathText::from_slice(alloc, path)?)
 }
 
 fn list(alloc: Global, files: &mut MemFiles, dir: &[u8]) -> Result<Names, Stop> {
-    list_conf_needed(alloc, files, PathText::from_slice(alloc, dir)?)
+    list_conf_needed(alloc, files, &PathText::from_slice(alloc, dir)?)
 }
 
 fn list_any(alloc: Global, files: &mut MemFiles, dir: &[u8]) -> Result<Names, Stop> {
-    list_conf_optional(alloc, files, PathText::from_slice(alloc, dir)?)
+    list_conf_optional(alloc, files, &PathText::from_slice(alloc, dir)?)
 }
 
 fn list_below(alloc: Global, files: &mut MemFiles, dir: &[u8]) -> Result<Paths, Stop> {
-    list_tree_needed(alloc, files, PathText::from_slice(alloc, dir)?)
+    list_tree_needed(alloc, files, &PathText::from_slice(alloc, dir)?)
 }
 
 fn write(out: &mut MemOut, bytes: &[u8]) -> Result<(), Stop> {
@@ -113,7 +113,7 @@ fn bytes_are_written(rt: HostRuntime) -> Result<(), Fail> {
     Ok(())
 }
 
-/// Compares the status and the line of a stop with what is wanted.
+/// Compares the status and the line of a stop with the expected ones.
 fn expect(rt: &impl Abort, alloc: Global, stop: Stop, want: (u8, &str)) -> Result<(), AllocError> {
     let mut err = MemOut::with_room(alloc, 100)?;
     let status = conclude(alloc, Err(stop), &mut err);
@@ -134,13 +134,10 @@ fn a_cycle_names_its_first_module_again(rt: HostRuntime) -> Result<(), Fail> {
 }
 
 #[test]
-fn a_version_line_names_path_symbol_and_provider(rt: HostRuntime) -> Result<(), Fail> {
+fn an_obstacle_has_its_text(rt: HostRuntime) -> Result<(), Fail> {
     let alloc = rt.alloc();
-    let stop = Stop::from(Refusal::Version {
-        path: path(alloc, b"kernel/w.ko")?,
-        symbol: name(alloc, b"maybe")?,
-        provider: path(alloc, b"kernel/p.ko")?,
-    });
+    let text = Blob::from_slice(alloc, b"version kernel/w.ko maybe kernel/p.ko")?;
+    let stop = Stop::from(Refusal::Obstacle { text });
     expect(
         &rt,
         alloc,

@@ -94,7 +94,7 @@ struct OneFile {
     calls: &'static [Step],
 }
 
-/// What such a machine answers otherwise.
+/// Returns what such a machine answers otherwise.
 fn refused() -> io::Error {
     io::Error::from(ErrorKind::Unsupported)
 }
@@ -195,7 +195,7 @@ fn a_write_takes_several_turns_or_fails(rt: HostRuntime) -> Result<(), Fail> {
     Ok(())
 }
 
-/// The steps of a reader, and how many bytes it gives, or none where it fails.
+/// The steps of a reader, and how many bytes it gives, or none if it fails.
 static READS: [(&[Step], Option<usize>); 4] = [
     (&[Step::Ends, Step::Moves], Some(0)),
     (
@@ -216,7 +216,7 @@ static READS: [(&[Step], Option<usize>); 4] = [
     ),
 ];
 
-/// How many bytes are read of a file whose reader takes these steps.
+/// Returns how many bytes are read of a file whose reader takes these steps.
 fn read_length(alloc: Global, calls: &'static [Step]) -> Result<usize, FileAnswer> {
     let mut files = DiskFiles::new((OneFile { alloc, calls }, alloc));
     let path = PathText::from_slice(alloc, b"file")?;

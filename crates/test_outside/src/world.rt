@@ -11,23 +11,23 @@ use std::os::unix::fs::{PermissionsExt, symlink};
 use std::process::Abort;
 use std::test::Fail;
 
-/// A read through the bound, as the crates above make it.
+/// Reads through the bound, as the crates above do.
 fn read<F: Files>(files: &mut F, alloc: Global, path: &[u8]) -> Result<Blob, FileAnswer> {
     files.read(alloc, &PathText::from_slice(alloc, path)?)
 }
 
-/// A write through the bound, as the crates above make it.
+/// Writes through the bound, as the crates above do.
 pub(crate) fn write<O: Out>(out: &mut O, bytes: &[u8]) -> Result<(), OutFailed> {
     out.write(bytes)
 }
 
-/// A listing through the bound: the names, each with a line end.
+/// Lists through the bound: the names, each with a line end.
 fn conf_names<F: Files>(files: &mut F, alloc: Global, dir: &[u8]) -> Result<Blob, FileAnswer> {
     let names = files.list_conf(alloc, &PathText::from_slice(alloc, dir)?)?;
     lines(alloc, &names)
 }
 
-/// The same of all files below a folder.
+/// Lists all files below a folder in the same way.
 fn tree_paths<F: Files>(files: &mut F, alloc: Global, dir: &[u8]) -> Result<Blob, FileAnswer> {
     let paths = files.list_tree(alloc, &PathText::from_slice(alloc, dir)?)?;
     lines(alloc, &paths)
@@ -42,7 +42,7 @@ fn lines<K>(alloc: Global, names: &List<Bytes<K>>) -> Result<Blob, FileAnswer> {
     Ok(text)
 }
 
-/// A replacement through the bound.
+/// Replaces a file through the bound.
 fn replace<F: Files>(
     files: &mut F,
     alloc: Global,
@@ -52,7 +52,7 @@ fn replace<F: Files>(
     files.replace(alloc, &PathText::from_slice(alloc, path)?, bytes)
 }
 
-/// Compares an answer with the bytes or the refusal that is wanted.
+/// Compares an answer with the expected bytes or refusal.
 fn expect(rt: &impl Abort, got: Result<Blob, FileAnswer>, want: Result<&[u8], FileAnswer>) {
     match (&got, want) {
         (Ok(bytes), Ok(want)) => assert_eq!(rt; bytes.as_bytes(), want),
@@ -215,7 +215,7 @@ static REREAD: [(&[u8], Result<&[u8], FileAnswer>); 4] = [
     (b"long", Ok(b"some bytes\n")),
 ];
 
-/// The reads of that table, through the bound.
+/// Makes the reads of that table through the bound.
 fn reread<F: Files>(rt: &impl Abort, files: &mut F, alloc: Global) -> Result<(), FileAnswer> {
     let mut buffer = FileBuffer::new(alloc);
     assert!(rt; buffer.as_bytes().is_empty());
@@ -322,7 +322,7 @@ fn real_files_are_replaced_whole_or_not_at_all(rt: HostRuntime) -> Result<(), Fa
         fs::metadata(&rt, "d/made")?.permissions().mode() & 0o7133,
         0
     );
-    // Nothing is left of what failed: a folder stands at the path, or a folder of it isn't there.
+    // Nothing is left of what failed: a folder is at the path, or a folder of the path is missing.
     fs::create_dir_all(&rt, "d/taken/full")?;
     for path in [
         b"d/taken".as_slice(),

@@ -1,6 +1,6 @@
 //! Tests of plans, by the maps of a folder.
 //!
-//! It stands on `plan_builder`, and on `index_write` for the indexes.
+//! It builds on `plan_builder`, and on `index_write` for the indexes.
 #![tactic(auto)]
 
 #[cfg(test)]

@@ -15,7 +15,7 @@ use std::test::Fail;
 use test_objects::{RowFault, conf_file, is_key, is_text};
 use unmet_file::Unmet;
 
-/// Keys with their values, of which each has the priority of its place.
+/// Keys with their values. The priority of each value is its place.
 type Pairs = &'static [(&'static str, &'static str)];
 
 /// A folder, what is requested of it, and the plan or the obstacle.
@@ -68,7 +68,7 @@ const DOUBLE: PlanRow = PlanRow {
     ..EMPTY
 };
 
-/// The index file of some pairs.
+/// Returns the index file of some pairs.
 fn index_of(rt: &impl Abort, alloc: Global, pairs: Pairs) -> Result<Index, Fail> {
     let mut map = KeyMap::new(alloc);
     let mut place = 0;
@@ -83,7 +83,7 @@ fn index_of(rt: &impl Abort, alloc: Global, pairs: Pairs) -> Result<Index, Fail>
     Ok(Index::adopt(alloc, encode(alloc, &map)?)?)
 }
 
-/// The index files of a row.
+/// Returns the index files of a row.
 fn indexes_of(rt: &impl Abort, alloc: Global, row: &PlanRow) -> Result<Indexes, Fail> {
     Ok(Indexes {
         dep: index_of(rt, alloc, row.dep)?,
@@ -93,7 +93,7 @@ fn indexes_of(rt: &impl Abort, alloc: Global, row: &PlanRow) -> Result<Indexes, 
     })
 }
 
-/// A file of the configuration.
+/// Returns a file of the configuration.
 fn one_file(alloc: Global, text: &str) -> Result<ConfFiles, RowFault>
     ensures { IfOk result (λ files. All (λ file. length file.bytes ≤ file_limit) files) }
 {
@@ -102,7 +102,7 @@ fn one_file(alloc: Global, text: &str) -> Result<ConfFiles, RowFault>
     Ok(files)
 }
 
-/// The rules of a text.
+/// Returns the rules of a text.
 fn rules_of(alloc: Global, text: &str) -> Result<Rules, Fail> {
     let files = one_file(alloc, text)?;
     let rules = parse(alloc, &files)
@@ -111,7 +111,7 @@ fn rules_of(alloc: Global, text: &str) -> Result<Rules, Fail> {
     Ok(rules)
 }
 
-/// The lines of a modules.unmet.
+/// Returns the lines of a modules.unmet.
 fn unmet_of(rt: &impl Abort, alloc: Global, text: &str) -> Result<Unmet, Fail> {
     let path = PathText::from_slice(alloc, b"modules.unmet")?;
     let text = text.as_bytes();
@@ -125,7 +125,7 @@ fn unmet_of(rt: &impl Abort, alloc: Global, text: &str) -> Result<Unmet, Fail> {
     Ok(unmet)
 }
 
-/// What a row requests.
+/// Returns what a row requests.
 fn request_of(alloc: Global, row: &PlanRow) -> Result<Request, Fail> {
     let mut names = Names::new(alloc);
     for name in row.names {
@@ -139,7 +139,7 @@ fn request_of(alloc: Global, row: &PlanRow) -> Result<Request, Fail> {
     })
 }
 
-/// Parameters after a space, where there are any.
+/// Puts parameters after a space, if there are any.
 fn push_options(text: &mut Blob, options: &Blob) -> Result<(), Fail> {
     if !options.is_empty() {
         text.push(b' ')?;
@@ -148,7 +148,7 @@ fn push_options(text: &mut Blob, options: &Blob) -> Result<(), Fail> {
     Ok(())
 }
 
-/// A step as a line.
+/// Puts a step as a line.
 fn push_step(text: &mut Blob, step: &PlanStep) -> Result<(), Fail> {
     match step {
         PlanStep::Insert { path, options, .. } => {
@@ -169,7 +169,7 @@ fn push_step(text: &mut Blob, step: &PlanStep) -> Result<(), Fail> {
     Ok(())
 }
 
-/// Steps as lines.
+/// Returns steps as lines.
 fn lines_of(alloc: Global, steps: &PlanSteps) -> Result<Blob, Fail> {
     let mut text = Blob::new(alloc);
     for step in steps.as_slice() {
@@ -178,7 +178,7 @@ fn lines_of(alloc: Global, steps: &PlanSteps) -> Result<Blob, Fail> {
     Ok(text)
 }
 
-/// The steps of the plan of a row, or its obstacle.
+/// Returns the steps of the plan of a row, or its obstacle.
 fn answer_of(rt: &impl Abort, alloc: Global, row: &PlanRow) -> Result<Blob, Fail> {
     let request = request_of(alloc, row)?;
     let rules = rules_of(alloc, row.rules)?;
@@ -191,7 +191,7 @@ fn answer_of(rt: &impl Abort, alloc: Global, row: &PlanRow) -> Result<Blob, Fail
     }
 }
 
-/// The rows answer as they are to.
+/// Checks that the rows answer as they are to.
 fn expect_rows(rt: &impl Abort, alloc: Global, rows: &[PlanRow]) -> Result<(), Fail> {
     for row in rows {
         let answer = answer_of(rt, alloc, row)?;
@@ -200,111 +200,109 @@ fn expect_rows(rt: &impl Abort, alloc: Global, rows: &[PlanRow]) -> Result<(), F
     Ok(())
 }
 
-#[test]
-fn steps_stand_in_order(rt: HostRuntime) -> Result<(), Fail> {
-    let rows = [
-        PlanRow {
-            dep: &[
-                ("avail", "kernel/avail.ko:"),
-                ("late", "kernel/late.ko:"),
-                ("m", "kernel/m.ko: kernel/late.ko"),
-                ("zed", "kernel/zed.ko:"),
-            ],
-            rules: "softdep m pre: gone avail post: late zed",
-            names: &["m"],
-            want: "insmod kernel/avail.ko\ninsmod kernel/late.ko\ninsmod kernel/m.ko\ninsmod kernel/zed.ko\n",
-            ..EMPTY
-        },
-        PlanRow {
-            loaded: "a 8192 0 - Live 0x0",
-            names: &["b"],
-            want: "insmod kernel/b.ko\n",
-            ..PAIR
-        },
-        PlanRow {
-            builtin: &[("built", "")],
-            names: &["built"],
-            want: "builtin built\n",
-            ..EMPTY
-        },
-        PlanRow {
-            rules: "options b depth=3",
-            names: &["b"],
-            options: "raw=1",
-            want: "insmod kernel/a.ko\ninsmod kernel/b.ko depth=3 raw=1\n",
-            ..PAIR
-        },
-    ];
-    expect_rows(&rt, rt.alloc(), &rows)
+/// Plans of modules, in order.
+static STEPS: [PlanRow; 4] = [
+    PlanRow {
+        dep: &[
+            ("avail", "kernel/avail.ko:"),
+            ("late", "kernel/late.ko:"),
+            ("m", "kernel/m.ko: kernel/late.ko"),
+            ("zed", "kernel/zed.ko:"),
+        ],
+        rules: "softdep m pre: gone avail post: late zed",
+        names: &["m"],
+        want: "insmod kernel/avail.ko\ninsmod kernel/late.ko\ninsmod kernel/m.ko\ninsmod kernel/zed.ko\n",
+        ..EMPTY
+    },
+    PlanRow {
+        loaded: "a 8192 0 - Live 0x0",
+        names: &["b"],
+        want: "insmod kernel/b.ko\n",
+        ..PAIR
+    },
+    PlanRow {
+        builtin: &[("built", "")],
+        names: &["built"],
+        want: "builtin built\n",
+        ..EMPTY
+    },
+    PlanRow {
+        rules: "options b depth=3",
+        names: &["b"],
+        options: "raw=1",
+        want: "insmod kernel/a.ko\ninsmod kernel/b.ko depth=3 raw=1\n",
+        ..PAIR
+    },
+];
+
+/// Plans with a command in place of a module.
+static COMMANDS: [PlanRow; 3] = [
+    PlanRow {
+        names: &["b"],
+        want: "install /bin/true\ninsmod kernel/b.ko\n",
+        ..COMMAND
+    },
+    PlanRow {
+        names: &["b"],
+        ignore_install: true,
+        want: "install /bin/true\ninsmod kernel/b.ko\n",
+        ..COMMAND
+    },
+    PlanRow {
+        names: &["a"],
+        ignore_install: true,
+        want: "insmod kernel/a.ko\n",
+        ..COMMAND
+    },
+];
+
+/// What prevents plans, and plans beside it.
+static OBSTACLES: [PlanRow; 5] = [
+    PlanRow {
+        names: &["c"],
+        want: "insmod kernel/a.ko\ninsmod kernel/c.ko\n",
+        ..DOUBLE
+    },
+    PlanRow {
+        names: &["b"],
+        want: "insmod kernel/b.ko\n",
+        ..DOUBLE
+    },
+    PlanRow {
+        names: &["b", "c"],
+        want: "double x kernel/a.ko kernel/b.ko",
+        ..DOUBLE
+    },
+    PlanRow {
+        dep: &[("a", "kernel/a.ko:"), ("b", "kernel/b.ko:")],
+        rules: "softdep a pre: b\nsoftdep b pre: a",
+        names: &["a"],
+        want: "cycle a -> b -> a",
+        ..EMPTY
+    },
+    PlanRow {
+        dep: &[("n", "kernel/n.ko:")],
+        unmet: "missing kernel/n.ko nosuch\n",
+        names: &["n"],
+        want: "missing kernel/n.ko nosuch",
+        ..EMPTY
+    },
+];
+
+/// Whether the value of a name is a dependency line, in the folder of two modules.
+fn is_well_formed(rt: &impl Abort, alloc: Global, name: &str) -> Result<bool, Fail> {
+    let indexes = indexes_of(rt, alloc, &PAIR)?;
+    let name = Name::from_slice(alloc, name.as_bytes())?;
+    Ok(well_formed(alloc, &name, &indexes)?)
 }
 
 #[test]
-fn commands_stand_in_place_of_modules(rt: HostRuntime) -> Result<(), Fail> {
-    let rows = [
-        PlanRow {
-            names: &["b"],
-            want: "install /bin/true\ninsmod kernel/b.ko\n",
-            ..COMMAND
-        },
-        PlanRow {
-            names: &["b"],
-            ignore_install: true,
-            want: "install /bin/true\ninsmod kernel/b.ko\n",
-            ..COMMAND
-        },
-        PlanRow {
-            names: &["a"],
-            ignore_install: true,
-            want: "insmod kernel/a.ko\n",
-            ..COMMAND
-        },
-    ];
-    expect_rows(&rt, rt.alloc(), &rows)
-}
-
-#[test]
-fn obstacles_keep_plans_away(rt: HostRuntime) -> Result<(), Fail> {
-    let rows = [
-        PlanRow {
-            names: &["c"],
-            want: "insmod kernel/a.ko\ninsmod kernel/c.ko\n",
-            ..DOUBLE
-        },
-        PlanRow {
-            names: &["b"],
-            want: "insmod kernel/b.ko\n",
-            ..DOUBLE
-        },
-        PlanRow {
-            names: &["b", "c"],
-            want: "double x kernel/a.ko kernel/b.ko",
-            ..DOUBLE
-        },
-        PlanRow {
-            dep: &[("a", "kernel/a.ko:"), ("b", "kernel/b.ko:")],
-            rules: "softdep a pre: b\nsoftdep b pre: a",
-            names: &["a"],
-            want: "cycle a -> b -> a",
-            ..EMPTY
-        },
-        PlanRow {
-            dep: &[("n", "kernel/n.ko:")],
-            unmet: "missing kernel/n.ko nosuch\n",
-            names: &["n"],
-            want: "missing kernel/n.ko nosuch",
-            ..EMPTY
-        },
-    ];
-    expect_rows(&rt, rt.alloc(), &rows)
-}
-
-#[test]
-fn a_name_without_a_value_has_no_line(rt: HostRuntime) -> Result<(), Fail> {
+fn plans_and_obstacles(rt: HostRuntime) -> Result<(), Fail> {
     let alloc = rt.alloc();
-    let indexes = indexes_of(&rt, alloc, &PAIR)?;
-    for (name, want) in [("b", true), ("c", false)] {
-        let name = Name::from_slice(alloc, name.as_bytes())?;
-        assert_eq!(rt; well_formed(alloc, &name, &indexes)?, want);
-    }
+    expect_rows(&rt, alloc, &STEPS)?;
+    expect_rows(&rt, alloc, &COMMANDS)?;
+    expect_rows(&rt, alloc, &OBSTACLES)?;
+    assert!(rt; is_well_formed(&rt, alloc, "b")?);
+    assert!(rt; !is_well_formed(&rt, alloc, "c")?);
     Ok(())
 }

@@ -9,16 +9,17 @@ use std::test::Fail;
 const TWO_PARAMETERS: &[u8] =
     b"license=GPL\0parm=depth:how deep\0parmtype=depth:int\0parmtype=raw:bool\0alias=fs-x\0";
 
-/// The fields of a module whose parameters are told of again and in parts.
+/// The fields of a module whose parameters are described again and in parts.
 const ODD_PARAMETERS: &[u8] =
     b"parmtype=late:int\0parm=x:text\0parmtype=x:\0parm=x:other\0parm=bare\0parm=late\0parmtype=x:bool\0";
 
-/// Fields with a key of more than 15 bytes, a key of 15, a piece that is a key alone, and a `filename`.
+/// Fields with a key of more than 15 bytes, a key of 15, a piece that is only a key, and a
+/// `filename`.
 const LONG_KEYS: &[u8] =
     b"license=GPL\0\0\0lone\0author=A\0import_namespace=N\0a23456789012345=v\0filename=f\0";
 
 /// A module's path and section, the key that is asked for if any, whether NULs end the lines, and what is shown.
-const SHOWN: [(&[u8], &[u8], Option<&[u8]>, bool, &[u8]); 12] = [
+static SHOWN: [(&[u8], &[u8], Option<&[u8]>, bool, &[u8]); 12] = [
     (
         b"/m/a.ko",
         b"license=GPL\0",

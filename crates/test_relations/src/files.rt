@@ -12,7 +12,7 @@ use std::test::Fail;
 /// An index without keys.
 const NO_KEYS: &[u8] = b"\xb0\x07\xf4\x57\x00\x02\x00\x01\x00\x00\x00\x0c";
 
-/// The files of a tree over a kernel that exports nothing.
+/// Returns the files of a tree over a kernel that exports nothing.
 fn files(alloc: Global, tree: &TreeFacts, builtin: &[u8]) -> Result<OutputFiles, Fail>
     requires { IsTree tree.now }
 {
@@ -28,7 +28,7 @@ fn files(alloc: Global, tree: &TreeFacts, builtin: &[u8]) -> Result<OutputFiles,
     }
 }
 
-/// Some texts.
+/// Returns the list of some texts.
 fn texts(alloc: Global, all: &[&[u8]]) -> Result<Texts, AllocError> {
     let mut texts = Texts::new(alloc);
     for text in all {
@@ -37,7 +37,7 @@ fn texts(alloc: Global, all: &[&[u8]]) -> Result<Texts, AllocError> {
     Ok(texts)
 }
 
-/// The facts of a module that exports one symbol and needs another.
+/// Returns the facts of a module that exports one symbol and needs another.
 fn facts(alloc: Global) -> Result<Facts, AllocError>
     ensures { IfOk result IsTreeModule }
 {
@@ -71,7 +71,7 @@ fn facts(alloc: Global) -> Result<Facts, AllocError>
     })
 }
 
-/// The tree of one module.
+/// Returns the tree of one module.
 fn tree_of_one(alloc: Global, facts: Facts) -> Result<TreeFacts, AllocError>
     requires { IsTreeModule facts }
     ensures { IfOk result IsTree }

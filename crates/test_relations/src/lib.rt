@@ -1,8 +1,9 @@
-//! Tests of relations: orders, reach and cycles, orders of plans, kernel tables with the relation of a tree, the files of
-//! small trees, and trees of two thousand modules, up to the limit of dependencies and past it.
+//! Tests of relations: orders, reach and cycles, orders of plans, kernel tables with the relation
+//! of a tree, and the files of small trees. There are also trees of two thousand modules, up to the
+//! limit of dependencies and past it.
 //!
-//! It stands on `relation_order`, `plan_order`, `provider_rel` and `depmod_core`. The trees are made of facts, without
-//! files.
+//! It builds on `relation_order`, `plan_order`, `provider_rel` and `depmod_core`. The trees are
+//! made of facts, without files.
 #![tactic(auto)]
 
 #[cfg(test)]

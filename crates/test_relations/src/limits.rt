@@ -1,4 +1,4 @@
-// Trees of two thousand modules, up to the limit of dependencies and past it.
+// Trees of two thousand modules, up to the limit of dependencies and past it, and a cycle.
 ghost use Rattle.std.specs.Prelude.{◌≡◌, ◌+◌, ◌/◌, ◌%◌, ◌<◌, ◌≤◌, [], ◌∷◌, length, All, AllPairs, IsTrue, IfOk};
 ghost use Rattle.km_names.specs.Ascii.{is_graphic};
 ghost use Rattle.provider_rel.specs.Seen.{closures_by};
@@ -14,28 +14,35 @@ use std::test::Fail;
 /// Which modules of a tree a module needs a symbol of.
 #[derive(Clone, Copy)]
 enum Shape {
-    /// The next one.
+    /// The one before it.
     Chain,
+    /// The next one.
+    Back,
     /// The first one.
     Star,
     /// All before it.
     Clique,
+    /// The next one, and for the last the second: the first leads to a cycle of all others.
+    Circle,
 }
 
-/// The modules that a module needs a symbol of: from the first number on, up to the second.
+/// Returns the modules that a module needs a symbol of: from the first number on, up to the second.
 fn needed(shape: Shape, number: u16, count: u16) -> (u16, u16)
     requires there { number < count }
     requires few { count ≤ 2500 }
     ensures { result.1 ≤ 2500 }
 {
     match shape {
-        Shape::Chain => (number + 1, (number + 2).min(count)),
+        Shape::Chain => (number.max(1) - 1, number),
+        Shape::Back => (number + 1, (number + 2).min(count)),
         Shape::Star => (0, number.min(1)),
         Shape::Clique => (0, number),
+        Shape::Circle if number + 1 < count => (number + 1, number + 2),
+        Shape::Circle => (1, 2),
     }
 }
 
-/// The name of a module by its number, which is that of its symbol too: two letters.
+/// Returns the name of a module by its number, which is also the name of its symbol: two letters.
 fn name(alloc: Global, number: u16) -> Result<Name, AllocError>
     requires { number < 2500 }
     ensures { IfOk result (λ name. name ≡ (65 + number / 50) ∷ (65 + number % 50) ∷ []) }
@@ -46,7 +53,7 @@ fn name(alloc: Global, number: u16) -> Result<Name, AllocError>
     )
 }
 
-/// The needs of a module of the symbols of others.
+/// Returns the needs of a module of the symbols of others.
 fn needs(alloc: Global, start: u16, end: u16) -> Result<Needs, AllocError>
     requires { end ≤ 2500 }
     ensures { IfOk result (λ needs. All (λ need. IsTrue (is_graphic need.name)) needs) }
@@ -63,7 +70,7 @@ fn needs(alloc: Global, start: u16, end: u16) -> Result<Needs, AllocError>
     Ok(needs)
 }
 
-/// The symbol of a module.
+/// Returns the symbol of a module.
 fn exports(alloc: Global, number: u16) -> Result<Exports, AllocError>
     requires { number < 2500 }
     ensures distinct { IfOk result (λ exports. AllPairs (λ a b. a.name ≡ b.name → ⊥) exports) }
@@ -80,7 +87,7 @@ fn exports(alloc: Global, number: u16) -> Result<Exports, AllocError>
     Ok(exports)
 }
 
-/// The facts of a module.
+/// Returns the facts of a module.
 fn facts(alloc: Global, shape: Shape, number: u16, count: u16) -> Result<Facts, AllocError>
     requires there { number < count }
     requires few { count ≤ 2500 }
@@ -101,7 +108,7 @@ fn facts(alloc: Global, shape: Shape, number: u16, count: u16) -> Result<Facts, 
     })
 }
 
-/// A tree of so many modules, each of which exports a symbol.
+/// Returns a tree of so many modules, each of which exports a symbol.
 fn tree(alloc: Global, shape: Shape, count: u16) -> Result<TreeFacts, AllocError>
     requires { count ≤ 2500 }
     ensures good { IfOk result IsTree }
@@ -114,7 +121,7 @@ fn tree(alloc: Global, shape: Shape, count: u16) -> Result<TreeFacts, AllocError
     Ok(tree)
 }
 
-/// How many dependencies all modules have together.
+/// Returns how many dependencies all modules have together.
 fn dependencies(relation: &Relation, count: u16) -> usize
     requires { length (closures_by relation.now) ≡ count }
 {
@@ -125,7 +132,7 @@ fn dependencies(relation: &Relation, count: u16) -> usize
     sum
 }
 
-/// The relation of a tree of a shape over a kernel that exports nothing.
+/// Returns the relation of a tree of a shape over a kernel that exports nothing.
 fn related(alloc: Global, shape: Shape, count: u16) -> Result<Result<Relation, RelationFault>, Fail>
     requires { count ≤ 2500 }
     ensures { IfOk result (λ made. IfOk made (λ relation. length (closures_by relation) ≡ count)) }
@@ -137,7 +144,8 @@ fn related(alloc: Global, shape: Shape, count: u16) -> Result<Result<Relation, R
     Ok(Relation::make(alloc, &tree, &kernel))
 }
 
-/// The dependencies of 2,000 modules of a shape: of all together, of the first and of the last.
+/// Checks the dependencies of 2,000 modules of a shape: of all together, of the first and of the
+/// last.
 fn expect_related(
     rt: &impl Abort,
     alloc: Global,
@@ -154,7 +162,7 @@ fn expect_related(
     Ok(())
 }
 
-/// The 2,001 modules of a shape have too many dependencies together.
+/// Checks that the 2,001 modules of a shape have too many dependencies together.
 fn expect_too_many(rt: &impl Abort, alloc: Global, shape: Shape) -> Result<(), Fail> {
     match related(alloc, shape, 2001)? {
         Err(RelationFault::TooManyDeps { count }) => assert_eq!(rt; count, 2_001_000),
@@ -163,27 +171,34 @@ fn expect_too_many(rt: &impl Abort, alloc: Global, shape: Shape) -> Result<(), F
     Ok(())
 }
 
-#[test]
-fn a_chain_up_to_the_limit(rt: HostRuntime) -> Result<(), Fail> {
-    expect_related(&rt, rt.alloc(), Shape::Chain, (1_999_000, 1_999, 0))
+/// Checks four modules. The first leads to a cycle of the others, and the cycle is named by its
+/// first module.
+fn expect_circle(rt: &impl Abort, alloc: Global) -> Result<(), Fail> {
+    let Err(RelationFault::Cycle { names }) = related(alloc, Shape::Circle, 4)? else {
+        panic!(rt; "not refused");
+    };
+    let mut text = Vec::new(alloc);
+    for name in names.as_slice() {
+        text.extend_from_slice(name.as_bytes())?;
+        text.push(b' ')?;
+    }
+    assert_eq!(rt; text.as_slice(), b"AB AC AD ".as_slice());
+    Ok(())
 }
 
 #[test]
-fn a_chain_past_the_limit(rt: HostRuntime) -> Result<(), Fail> {
-    expect_too_many(&rt, rt.alloc(), Shape::Chain)
+fn trees_up_to_the_limit(rt: HostRuntime) -> Result<(), Fail> {
+    let alloc = rt.alloc();
+    expect_related(&rt, alloc, Shape::Chain, (1_999_000, 0, 1_999))?;
+    expect_related(&rt, alloc, Shape::Back, (1_999_000, 1_999, 0))?;
+    expect_related(&rt, alloc, Shape::Star, (1_999, 0, 1))?;
+    expect_related(&rt, alloc, Shape::Clique, (1_999_000, 0, 1_999))
 }
 
 #[test]
-fn a_star(rt: HostRuntime) -> Result<(), Fail> {
-    expect_related(&rt, rt.alloc(), Shape::Star, (1_999, 0, 1))
-}
-
-#[test]
-fn a_clique_up_to_the_limit(rt: HostRuntime) -> Result<(), Fail> {
-    expect_related(&rt, rt.alloc(), Shape::Clique, (1_999_000, 0, 1_999))
-}
-
-#[test]
-fn a_clique_past_the_limit(rt: HostRuntime) -> Result<(), Fail> {
-    expect_too_many(&rt, rt.alloc(), Shape::Clique)
+fn trees_past_the_limit(rt: HostRuntime) -> Result<(), Fail> {
+    expect_too_many(&rt, rt.alloc(), Shape::Chain)?;
+    expect_too_many(&rt, rt.alloc(), Shape::Back)?;
+    expect_too_many(&rt, rt.alloc(), Shape::Clique)?;
+    expect_circle(&rt, rt.alloc())
 }

@@ -5,7 +5,7 @@ use relation_order::{Closures, OrderOrCycle, all_members, order_or_cycle, reacha
 use std::alloc::{AllocError, Global};
 use std::test::Fail;
 
-// As many lists, in which each pair adds its second to the list of its first, where both are items.
+// Returns as many lists. Each pair adds its second to the list of its first, if both are items.
 fn lists(
     alloc: Global,
     count: usize,
@@ -91,7 +91,8 @@ fn members_alone_count(rt: HostRuntime) -> Result<(), Fail> {
     Ok(())
 }
 
-// What each item of the second row reaches, in the order in which each stands after those that it goes to.
+// What each item of the second row reaches, in the order in which each follows those that it goes
+// to.
 static CLOSURES: [&[usize]; 6] = [&[2, 1, 3], &[2], &[], &[2], &[2, 1, 3, 0], &[]];
 
 #[test]

@@ -4,8 +4,8 @@ use plan_order::{Needed, Needs, PlanOrCycle, find_planned, plan_or_cycle};
 use std::alloc::{AllocError, Global};
 use std::test::Fail;
 
-// Modules in a ring: before each comes the one of the number below, before 0 the last, and after it that one is wanted
-// which is as far from the last as it is from 0.
+// Modules in a ring. Before each comes the one of the number below, before 0 the last. After each
+// comes the one that is as far from the last as it is from 0.
 #[derive(Drop)]
 struct Ring {
     count: usize,
@@ -33,7 +33,7 @@ impl Needs for Ring {
 
 // Which of a ring are free, which one is requested, and the order with the end of its group, or the cycle.
 static ROWS: [(&[bool], usize, &[usize], Option<usize>); 4] = [
-    // 3 needs 2, which is there, and wants 1, which needs 0, which needs 4, which is there
+    // 3 needs 2, which is there, and asks for 1, which needs 0, which needs 4, which is there
     (&[true, true, false, true, false], 3, &[3, 0, 1], Some(1)),
     // what isn't free isn't planned
     (&[false, true], 0, &[], Some(0)),

@@ -12,7 +12,7 @@ pub type Row = RowOf<'static>;
 /// The line of words that aren't understood.
 pub const USAGE: &str = "kmod: usage: kmod depmod|modprobe|modinfo|trial WORDS\n";
 
-/// What a row is to come to: its status, and what is written to the output and to err.
+/// Returns what a row is to result in: its status, and what is written to the output and to err.
 pub fn wanted(row: RowOf<'_>) -> (u8, &[u8], &[u8]) {
     let (_, status, out, err) = row;
     (status, out.as_bytes(), err.as_bytes())
@@ -20,13 +20,15 @@ pub fn wanted(row: RowOf<'_>) -> (u8, &[u8], &[u8]) {
 
 /// A file that is there before a command, or is to be there after it.
 #[derive(Clone, Copy)]
-pub struct FileRow {
-    pub path: &'static str,
-    pub bytes: &'static [u8],
+pub struct FileRow<'a> {
+    /// Its path.
+    pub path: &'a str,
+    /// Its contents.
+    pub bytes: &'a [u8],
 }
 
 /// A module of a tree: its path in the tree, its sheet, and what more its object is to have.
-pub type ModuleRow<'a> = (&'static str, &'a SheetRow, &'a MoreRow);
+pub type ModuleRow<'a> = (&'a str, &'a SheetRow, &'a MoreRow);
 
 /// What is made to fail. Calls are counted from 0, those of a kind on their own.
 #[derive(Clone, Copy)]
@@ -41,66 +43,50 @@ pub enum Failing {
     Line(u8),
 }
 
-/// A command over a tree: which modules and other files are there, what fails, the words, the status, what is written to the
-/// output and to err, and which files are there afterwards.
-#[derive(Clone, Copy)]
-pub struct TreeRow<'a> {
-    pub modules: &'a [ModuleRow<'a>],
-    pub files: &'a [FileRow],
-    pub failing: Failing,
-    pub words: &'a str,
-    pub status: u8,
-    pub out: &'static str,
-    pub err: &'static str,
-    pub after: &'a [FileRow],
-}
-
 /// The table of a kernel that exports `printk`.
-pub const SYMVERS: FileRow = FileRow {
+pub const SYMVERS: FileRow<'static> = FileRow {
     path: "/r/Module.symvers",
     bytes: b"0x11111111\tprintk\tvmlinux\tEXPORT_SYMBOL\n",
 };
 
 /// The addresses of that kernel.
-pub const SYSTEM_MAP: FileRow = FileRow {
+pub const SYSTEM_MAP: FileRow<'static> = FileRow {
     path: "/r/System.map",
     bytes: b"ffffffff81000000 T printk\n",
 };
 
-/// Two modules, of which `b` needs `a`.
-pub fn two() -> [ModuleRow<'static>; 2] {
-    [
-        ("kernel/a.ko", &GIVES, &NO_MORE),
-        ("kernel/b.ko", &NEEDS, &NO_MORE),
-    ]
-}
+/// Two modules. `b` needs `a`.
+pub const TWO: &[ModuleRow<'static>] = &[
+    ("kernel/a.ko", &GIVES, &NO_MORE),
+    ("kernel/b.ko", &NEEDS, &NO_MORE),
+];
 
-/// The usual words over the usual table.
-pub const USUAL: TreeRow<'static> = TreeRow {
-    modules: &[],
-    files: &[SYMVERS],
-    failing: Failing::Nothing,
-    words: "depmod -b /r -E /r/Module.symvers 6.1.0",
-    status: 0,
-    out: "",
-    err: "",
-    after: &[],
-};
+/// The words that index the tree over the usual table.
+pub const INDEX: &str = "depmod -b /r -E /r/Module.symvers 6.1.0";
 
-/// Commands over a tree that depmod indexed: which modules and other files are there, what fails, counted from the first
-/// call of depmod's, and the rows, each over files of its own.
+/// Commands over a tree that depmod indexed: each row over files of its own.
 #[derive(Clone, Copy)]
 pub struct IndexedRow<'a> {
+    /// What the rows show.
+    pub name: &'a str,
+    /// The modules of the tree.
     pub modules: &'a [ModuleRow<'a>],
-    pub files: &'a [FileRow],
+    /// The other files.
+    pub files: &'a [FileRow<'a>],
+    /// What fails, counted from the first call of depmod's.
     pub failing: Failing,
+    /// The words, and what they are to result in.
     pub rows: &'a [RowOf<'a>],
+    /// The files that are to be there afterwards. All others are to be as depmod left them.
+    pub after: &'a [FileRow<'a>],
 }
 
 /// The usual table, and no modules.
 pub const INDEXED: IndexedRow<'static> = IndexedRow {
+    name: "",
     modules: &[],
     files: &[SYMVERS],
     failing: Failing::Nothing,
     rows: &[],
+    after: &[],
 };

@@ -1,12 +1,12 @@
 // Rows that are run.
 use crate::objects::Objects;
-use crate::row::{Failing, FileRow, IndexedRow, ModuleRow, TreeRow, USUAL};
-use std::alloc::Global;
+use crate::row::{Failing, FileRow, INDEX, IndexedRow, ModuleRow};
+use std::alloc::{AllocError, Global};
 use std::test::Fail;
 use test_objects::object_with;
 
 /// Puts the modules of a row into the folder of the kernel.
-fn put_modules(
+pub fn put_modules(
     alloc: Global,
     objects: &mut Objects,
     modules: &[ModuleRow<'_>],
@@ -31,18 +31,18 @@ fn set_failing(objects: &mut Objects, failing: Failing) -> Result<(), Fail> {
 }
 
 /// Puts the other files of a row.
-fn put_files(alloc: Global, objects: &mut Objects, files: &[FileRow]) -> Result<(), Fail> {
+fn put_files(alloc: Global, objects: &mut Objects, files: &[FileRow<'_>]) -> Result<(), Fail> {
     for file in files {
         objects.put(alloc, file.path, file.bytes)?;
     }
     Ok(())
 }
 
-/// The objects of a row: its modules and other files, and what fails.
-fn objects_with(
+/// Returns the objects of a row: its modules and other files, and what fails.
+pub fn objects_with(
     alloc: Global,
     modules: &[ModuleRow<'_>],
-    files: &[FileRow],
+    files: &[FileRow<'_>],
     failing: Failing,
 ) -> Result<Objects, Fail> {
     let mut objects = Objects::new(alloc)?;
@@ -55,7 +55,7 @@ fn objects_with(
 /// Runs words over files while something fails.
 pub fn run_over(
     alloc: Global,
-    files: &[FileRow],
+    files: &[FileRow<'_>],
     failing: Failing,
     words: &str,
 ) -> Result<Objects, Fail> {
@@ -64,21 +64,30 @@ pub fn run_over(
     Ok(objects)
 }
 
-/// Runs a command over a tree.
-pub fn run_tree(alloc: Global, row: &TreeRow<'_>) -> Result<Objects, Fail> {
-    let mut objects = objects_with(alloc, row.modules, row.files, row.failing)?;
-    objects.run(alloc, row.words)?;
-    Ok(objects)
-}
-
 /// Runs depmod over a tree, which is to be done and write nothing, and then words.
 pub fn run_indexed(alloc: Global, tree: &IndexedRow<'_>, words: &str) -> Result<Objects, Fail> {
     let mut objects = objects_with(alloc, tree.modules, tree.files, tree.failing)?;
-    objects.run(alloc, USUAL.words)?;
+    objects.run(alloc, INDEX)?;
     let (status, out, err) = objects.seen();
     if status != 0 || !out.is_empty() || !err.is_empty() {
         return Err("the tree wasn't indexed".into());
     }
+    objects.note(alloc)?;
     objects.run(alloc, words)?;
     Ok(objects)
+}
+
+/// Returns the bytes of an image: zeros except for some bytes, each piece of them at a place.
+pub fn image(
+    alloc: Global,
+    length: usize,
+    pieces: &[(usize, &[u8])],
+) -> Result<Vec<u8>, AllocError> {
+    let mut image = vec![in alloc; 0u8; length]?;
+    for (at, piece) in pieces {
+        for (byte, new) in image.iter_mut().skip(*at).zip(*piece) {
+            *byte = *new;
+        }
+    }
+    Ok(image)
 }

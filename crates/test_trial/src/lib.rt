@@ -1,6 +1,6 @@
-//! Tests of `trial`, whole.
+//! Tests of whole runs of `trial`.
 //!
-//! It stands on `test_rows`, which runs them.
+//! It builds on `test_rows`, which runs them.
 #![tactic(auto)]
 
 #[cfg(test)]

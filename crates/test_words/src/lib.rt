@@ -1,6 +1,6 @@
 //! Tests of the words of all commands, with what they ask for.
 //!
-//! It stands on `kmod_words`.
+//! It builds on `kmod_words`.
 #![tactic(auto)]
 
 #[cfg(test)]

@@ -1,10 +1,12 @@
 use km_names::Word;
 use kmod_words::{read_depmod, read_modinfo, read_modprobe, read_trial};
 use std::alloc::{AllocError, Global};
+use std::fmt::Debug;
+use std::process::Abort;
 use std::test::Fail;
 
 /// Words after `depmod`, and what they ask for.
-const DEPMOD: [(&str, &str); 5] = [
+static DEPMOD: [(&str, &str); 5] = [
     (
         "6.1.0",
         r#"DepmodWords { dry_run: false, errsyms: false, basedir: "/", outdir: "/", config: None, filesyms: None, symvers: None, version: "6.1.0" }"#,
@@ -28,7 +30,7 @@ const DEPMOD: [(&str, &str); 5] = [
 ];
 
 /// Words after `depmod` that aren't understood. `''` is an empty word.
-const NO_DEPMOD: [&str; 17] = [
+static NO_DEPMOD: [&str; 17] = [
     "",
     "-n",
     "-F x -E y 6.1.0",
@@ -49,7 +51,7 @@ const NO_DEPMOD: [&str; 17] = [
 ];
 
 /// Words after `modprobe`, and what they ask for.
-const MODPROBE: [(&str, &str); 9] = [
+static MODPROBE: [(&str, &str); 9] = [
     (
         "-n b -S 6.1.0",
         r#"ModprobeWords { mode: DryRun, all: false, use_blacklist: false, ignore_install: false, dirname: "/", version: "6.1.0", config: None, loaded: None, system_map: None, symvers: None, region_base: 18446744072635809792, region_size: 1056964608, image: None, words: List { elements: ["b"] } }"#,
@@ -89,7 +91,7 @@ const MODPROBE: [(&str, &str); 9] = [
 ];
 
 /// Words after `modprobe` that aren't understood. `''` is an empty word.
-const NO_MODPROBE: [&str; 27] = [
+static NO_MODPROBE: [&str; 27] = [
     "-S 6.1.0 b",
     "-n b",
     "-n -S 6.1.0",
@@ -120,7 +122,7 @@ const NO_MODPROBE: [&str; 27] = [
 ];
 
 /// Words after `modinfo`, and what they ask for.
-const MODINFO: [(&str, &str); 14] = [
+static MODINFO: [(&str, &str); 14] = [
     (
         "-F license /m/a.ko",
         r#"ModinfoWords { field: Some("license"), zero: false, version: None, basedir: "/", words: List { elements: ["/m/a.ko"] } }"#,
@@ -180,7 +182,7 @@ const MODINFO: [(&str, &str); 14] = [
 ];
 
 /// Words after `modinfo` that aren't understood. `''` is an empty word.
-const NO_MODINFO: [&str; 20] = [
+static NO_MODINFO: [&str; 20] = [
     "",
     "-F license",
     "-l -l a",
@@ -204,7 +206,7 @@ const NO_MODINFO: [&str; 20] = [
 ];
 
 /// Words after `trial`, and what they ask for.
-const TRIAL: [(&str, &str); 4] = [
+static TRIAL: [(&str, &str); 4] = [
     ("1 2", "TrialWords { seed: 1, count: 2 }"),
     (
         "18446744073709551615 2000",
@@ -218,7 +220,7 @@ const TRIAL: [(&str, &str); 4] = [
 ];
 
 /// Words after `trial` that aren't understood. `''` is an empty word.
-const NO_TRIAL: [&str; 14] = [
+static NO_TRIAL: [&str; 14] = [
     "",
     "1",
     "1 0",
@@ -244,66 +246,59 @@ fn words_of(alloc: Global, line: &str) -> Result<Vec<Word>, AllocError> {
     Ok(words)
 }
 
-#[test]
-fn words_of_depmod(rt: HostRuntime) -> Result<(), Fail> {
-    let alloc = rt.alloc();
-    for (line, want) in DEPMOD {
-        let words = words_of(alloc, line)?;
-        let asked = read_depmod(alloc, words.as_slice())?.ok_or("not understood")?;
-        let got = format!(in alloc; "{asked:?}")?;
-        assert_eq!(rt; got.as_str(), want);
+/// A command.
+#[derive(Clone, Copy)]
+enum Command {
+    Depmod,
+    Modprobe,
+    Modinfo,
+    Trial,
+}
+
+/// Returns what words ask for as it is shown, if they are understood. It promises nothing, so that
+/// no contract is carried along.
+fn asked(alloc: Global, command: Command, line: &str) -> Result<Option<String>, AllocError> {
+    let words = words_of(alloc, line)?;
+    let words = words.as_slice();
+    match command {
+        Command::Depmod => shown(alloc, &read_depmod(alloc, words)?),
+        Command::Modprobe => shown(alloc, &read_modprobe(alloc, words)?),
+        Command::Modinfo => shown(alloc, &read_modinfo(alloc, words)?),
+        Command::Trial => shown(alloc, &read_trial(alloc, words)?),
     }
-    for line in NO_DEPMOD {
-        let words = words_of(alloc, line)?;
-        assert!(rt; read_depmod(alloc, words.as_slice())?.is_none(), "{line}");
+}
+
+/// Returns a request as it is shown.
+fn shown<T: Debug>(alloc: Global, asked: &Option<T>) -> Result<Option<String>, AllocError> {
+    match asked {
+        Some(asked) => Ok(Some(format!(in alloc; "{asked:?}")?)),
+        None => Ok(None),
+    }
+}
+
+/// Checks words after a command, and what they ask for; and words that aren't understood.
+fn expect_words(
+    rt: &impl Abort,
+    alloc: Global,
+    command: Command,
+    understood: &[(&str, &str)],
+    refused: &[&str],
+) -> Result<(), Fail> {
+    for (line, want) in understood {
+        let got = asked(alloc, command, line)?.ok_or("not understood")?;
+        assert_eq!(rt; got.as_str(), *want);
+    }
+    for line in refused {
+        assert!(rt; asked(alloc, command, line)?.is_none(), "{line}");
     }
     Ok(())
 }
 
 #[test]
-fn words_of_modprobe(rt: HostRuntime) -> Result<(), Fail> {
+fn words_of_each_command(rt: HostRuntime) -> Result<(), Fail> {
     let alloc = rt.alloc();
-    for (line, want) in MODPROBE {
-        let words = words_of(alloc, line)?;
-        let asked = read_modprobe(alloc, words.as_slice())?.ok_or("not understood")?;
-        let got = format!(in alloc; "{asked:?}")?;
-        assert_eq!(rt; got.as_str(), want);
-    }
-    for line in NO_MODPROBE {
-        let words = words_of(alloc, line)?;
-        assert!(rt; read_modprobe(alloc, words.as_slice())?.is_none(), "{line}");
-    }
-    Ok(())
-}
-
-#[test]
-fn words_of_modinfo(rt: HostRuntime) -> Result<(), Fail> {
-    let alloc = rt.alloc();
-    for (line, want) in MODINFO {
-        let words = words_of(alloc, line)?;
-        let asked = read_modinfo(alloc, words.as_slice())?.ok_or("not understood")?;
-        let got = format!(in alloc; "{asked:?}")?;
-        assert_eq!(rt; got.as_str(), want);
-    }
-    for line in NO_MODINFO {
-        let words = words_of(alloc, line)?;
-        assert!(rt; read_modinfo(alloc, words.as_slice())?.is_none(), "{line}");
-    }
-    Ok(())
-}
-
-#[test]
-fn words_of_trial(rt: HostRuntime) -> Result<(), Fail> {
-    let alloc = rt.alloc();
-    for (line, want) in TRIAL {
-        let words = words_of(alloc, line)?;
-        let asked = read_trial(alloc, words.as_slice())?.ok_or("not understood")?;
-        let got = format!(in alloc; "{asked:?}")?;
-        assert_eq!(rt; got.as_str(), want);
-    }
-    for line in NO_TRIAL {
-        let words = words_of(alloc, line)?;
-        assert!(rt; read_trial(alloc, words.as_slice())?.is_none(), "{line}");
-    }
-    Ok(())
+    expect_words(&rt, alloc, Command::Depmod, &DEPMOD, &NO_DEPMOD)?;
+    expect_words(&rt, alloc, Command::Modprobe, &MODPROBE, &NO_MODPROBE)?;
+    expect_words(&rt, alloc, Command::Modinfo, &MODINFO, &NO_MODINFO)?;
+    expect_words(&rt, alloc, Command::Trial, &TRIAL, &NO_TRIAL)
 }

@@ -1,0 +1,329 @@
+// The files of indexes, byte by byte: modules.dep, modules.dep.bin, modules.alias,
+// modules.alias.bin, modules.softdep, modules.symbols, modules.symbols.bin, modules.builtin.bin and
+// modules.unmet. A separate program made the binary ones from the format.
+
+/// The contents of the nine files of an index, in the order in which they are replaced.
+pub(crate) type Files = [&'static [u8]; 9];
+
+/// An index.
+#[derive(Clone, Copy)]
+pub(crate) enum Index {
+    /// Of no module.
+    None,
+    /// Of two modules. `b` needs `a`.
+    TwoModules,
+    /// Of these and `c`, which needs nothing, exports `fc`, and has an alias and a soft dependency.
+    WithC,
+    /// Of the two over a kernel that doesn't export `printk`.
+    PrintkMissing,
+    /// Of only `a`.
+    AAlone,
+    /// Of `x`, which has an alias and a soft dependency.
+    AliasesOfX,
+    /// Of two modules that export `fa`, and one that needs it.
+    ExportedTwice,
+    /// Of a module that needs what nobody exports.
+    NosuchMissing,
+    /// The same over an unknown kernel.
+    NAlone,
+    /// Of a module that needs another version than its provider's.
+    VersionDiffers,
+    /// Of a module that needs another weakly.
+    WeakNeed,
+    /// Of an export for modules with a free license, and two that need it.
+    GplLine,
+    /// Of an export in a namespace, and two modules that need it.
+    NamespaceLine,
+    /// Of `b`, and of an `a` that is an update.
+    Updated,
+    /// The same where the update exports nothing.
+    UpdatedByNothing,
+    /// Of `a`, and of a `b` that is an update.
+    UpdatedB,
+    /// Of no module, and one built-in name.
+    BuiltIn,
+    /// Of two modules. One needs a symbol with a long name of the other.
+    LongName,
+    /// The same, but it needs another version.
+    LongNameDiffers,
+    /// Of a file system and its two helpers.
+    FileSystemFiles,
+}
+
+/// Returns the files of an index.
+pub(crate) fn files_of(index: Index) -> &'static Files {
+    match index {
+        Index::None => &NONE,
+        Index::TwoModules => &TWO_MODULES,
+        Index::WithC => &WITH_C,
+        Index::PrintkMissing => &PRINTK_MISSING,
+        Index::AAlone => &A_ALONE,
+        Index::AliasesOfX => &ALIASES_OF_X,
+        Index::ExportedTwice => &EXPORTED_TWICE,
+        Index::NosuchMissing => &NOSUCH_MISSING,
+        Index::NAlone => &N_ALONE,
+        Index::VersionDiffers => &VERSION_DIFFERS,
+        Index::WeakNeed => &WEAK_NEED,
+        Index::GplLine => &GPL_LINE,
+        Index::NamespaceLine => &NAMESPACE_LINE,
+        Index::Updated => &UPDATED,
+        Index::UpdatedByNothing => &UPDATED_BY_NOTHING,
+        Index::UpdatedB => &UPDATED_B,
+        Index::BuiltIn => &BUILT_IN,
+        Index::LongName => &LONG_NAME,
+        Index::LongNameDiffers => &LONG_NAME_DIFFERS,
+        Index::FileSystemFiles => &FILE_SYSTEM_FILES,
+    }
+}
+
+/// A text without aliases.
+const NO_ALIASES: &[u8] = b"# Aliases extracted from modules themselves.\n";
+
+/// A text without soft dependencies.
+const NO_SOFTDEPS: &[u8] = b"# Soft dependencies extracted from modules themselves.\n";
+
+/// A text without symbols.
+const NO_SYMBOLS: &[u8] = b"# Aliases for symbols, used by symbol_request().\n";
+
+/// An index without keys.
+const NO_KEYS: &[u8] = b"\xb0\x07\xf4W\x00\x02\x00\x01\x00\x00\x00\x0c";
+
+static NONE: Files = [
+    b"",
+    NO_KEYS,
+    NO_ALIASES,
+    NO_KEYS,
+    NO_SOFTDEPS,
+    NO_SYMBOLS,
+    NO_KEYS,
+    NO_KEYS,
+    b"",
+];
+
+static TWO_MODULES: Files = [
+    b"kernel/a.ko:\nkernel/b.ko: kernel/a.ko\n",
+    b"\xb0\x07\xf4W\x00\x02\x00\x01 \x00\x00B\x00\x00\x00\x01\x00\x00\x00\x00kernel/a.ko:\x00\x00\x00\x00\x01\x00\x00\x00\x01kernel/b.ko: kernel/a.ko\x00ab@\x00\x00\x0c@\x00\x00!",
+    NO_ALIASES,
+    NO_KEYS,
+    NO_SOFTDEPS,
+    b"# Aliases for symbols, used by symbol_request().\nalias symbol:fa a\n",
+    b"\xb0\x07\xf4W\x00\x02\x00\x01 \x00\x00\x1fymbol:fa\x00\x00\x00\x00\x01\x00\x00\x00\x00a\x00ss\xc0\x00\x00\x0c",
+    NO_KEYS,
+    b"",
+];
+
+static WITH_C: Files = [
+    b"kernel/a.ko:\nkernel/b.ko: kernel/a.ko\nkernel/c.ko:\n",
+    b"\xb0\x07\xf4W\x00\x02\x00\x01 \x00\x00W\x00\x00\x00\x01\x00\x00\x00\x00kernel/a.ko:\x00\x00\x00\x00\x01\x00\x00\x00\x01kernel/b.ko: kernel/a.ko\x00\x00\x00\x00\x01\x00\x00\x00\x02kernel/c.ko:\x00ac@\x00\x00\x0c@\x00\x00!@\x00\x00B",
+    b"# Aliases extracted from modules themselves.\nalias c:* c\n",
+    b"\xb0\x07\xf4W\x00\x02\x00\x01 \x00\x00\x19:*\x00\x00\x00\x00\x01\x00\x00\x00\x02c\x00cc\xc0\x00\x00\x0c",
+    b"# Soft dependencies extracted from modules themselves.\nsoftdep c post: a\n",
+    b"# Aliases for symbols, used by symbol_request().\nalias symbol:fa a\nalias symbol:fc c\n",
+    b"\xb0\x07\xf4W\x00\x02\x00\x01 \x00\x006\x00\x00\x00\x01\x00\x00\x00\x00a\x00\x00\x00\x00\x01\x00\x00\x00\x02c\x00ymbol:f\x00ac@\x00\x00\x0c\x00\x00\x00\x00@\x00\x00\x16ss\xa0\x00\x00 ",
+    NO_KEYS,
+    b"",
+];
+
+static PRINTK_MISSING: Files = [
+    b"kernel/a.ko:\nkernel/b.ko: kernel/a.ko\n",
+    b"\xb0\x07\xf4W\x00\x02\x00\x01 \x00\x00B\x00\x00\x00\x01\x00\x00\x00\x00kernel/a.ko:\x00\x00\x00\x00\x01\x00\x00\x00\x01kernel/b.ko: kernel/a.ko\x00ab@\x00\x00\x0c@\x00\x00!",
+    NO_ALIASES,
+    NO_KEYS,
+    NO_SOFTDEPS,
+    b"# Aliases for symbols, used by symbol_request().\nalias symbol:fa a\n",
+    b"\xb0\x07\xf4W\x00\x02\x00\x01 \x00\x00\x1fymbol:fa\x00\x00\x00\x00\x01\x00\x00\x00\x00a\x00ss\xc0\x00\x00\x0c",
+    NO_KEYS,
+    b"missing kernel/a.ko printk\n",
+];
+
+static A_ALONE: Files = [
+    b"kernel/a.ko:\n",
+    b"\xb0\x07\xf4W\x00\x02\x00\x01 \x00\x00!\x00\x00\x00\x01\x00\x00\x00\x00kernel/a.ko:\x00aa@\x00\x00\x0c",
+    NO_ALIASES,
+    NO_KEYS,
+    NO_SOFTDEPS,
+    b"# Aliases for symbols, used by symbol_request().\nalias symbol:fa a\n",
+    b"\xb0\x07\xf4W\x00\x02\x00\x01 \x00\x00\x1fymbol:fa\x00\x00\x00\x00\x01\x00\x00\x00\x00a\x00ss\xc0\x00\x00\x0c",
+    NO_KEYS,
+    b"",
+];
+
+static ALIASES_OF_X: Files = [
+    b"kernel/x.ko:\n",
+    b"\xb0\x07\xf4W\x00\x02\x00\x01 \x00\x00!\x00\x00\x00\x01\x00\x00\x00\x00kernel/x.ko:\x00xx@\x00\x00\x0c",
+    b"# Aliases extracted from modules themselves.\nalias pci-x:v0000[!a-f]d* x\n",
+    b"\xb0\x07\xf4W\x00\x02\x00\x01 \x00\x00)ci_x:v0000[!a-f]d*\x00\x00\x00\x00\x01\x00\x00\x00\x00x\x00pp\xc0\x00\x00\x0c",
+    b"# Soft dependencies extracted from modules themselves.\nsoftdep x pre: y\n",
+    NO_SYMBOLS,
+    NO_KEYS,
+    NO_KEYS,
+    b"",
+];
+
+static EXPORTED_TWICE: Files = [
+    b"kernel/a.ko:\nkernel/b.ko:\nkernel/c.ko: kernel/a.ko\n",
+    b"\xb0\x07\xf4W\x00\x02\x00\x01 \x00\x00W\x00\x00\x00\x01\x00\x00\x00\x00kernel/a.ko:\x00\x00\x00\x00\x01\x00\x00\x00\x01kernel/b.ko:\x00\x00\x00\x00\x01\x00\x00\x00\x02kernel/c.ko: kernel/a.ko\x00ac@\x00\x00\x0c@\x00\x00!@\x00\x006",
+    NO_ALIASES,
+    NO_KEYS,
+    NO_SOFTDEPS,
+    b"# Aliases for symbols, used by symbol_request().\nalias symbol:fa a\nalias symbol:fa b\n",
+    b"\xb0\x07\xf4W\x00\x02\x00\x01 \x00\x00%ymbol:fa\x00\x00\x00\x00\x02\x00\x00\x00\x00a\x00\x00\x00\x00\x01b\x00ss\xc0\x00\x00\x0c",
+    NO_KEYS,
+    b"double fa kernel/a.ko kernel/b.ko\n",
+];
+
+static NOSUCH_MISSING: Files = [
+    b"kernel/n.ko:\n",
+    b"\xb0\x07\xf4W\x00\x02\x00\x01 \x00\x00!\x00\x00\x00\x01\x00\x00\x00\x00kernel/n.ko:\x00nn@\x00\x00\x0c",
+    NO_ALIASES,
+    NO_KEYS,
+    NO_SOFTDEPS,
+    NO_SYMBOLS,
+    NO_KEYS,
+    NO_KEYS,
+    b"missing kernel/n.ko nosuch\n",
+];
+
+static N_ALONE: Files = [
+    b"kernel/n.ko:\n",
+    b"\xb0\x07\xf4W\x00\x02\x00\x01 \x00\x00!\x00\x00\x00\x01\x00\x00\x00\x00kernel/n.ko:\x00nn@\x00\x00\x0c",
+    NO_ALIASES,
+    NO_KEYS,
+    NO_SOFTDEPS,
+    NO_SYMBOLS,
+    NO_KEYS,
+    NO_KEYS,
+    b"",
+];
+
+static VERSION_DIFFERS: Files = [
+    b"kernel/p.ko:\nkernel/w.ko: kernel/p.ko\n",
+    b"\xb0\x07\xf4W\x00\x02\x00\x01 \x00\x00B\x00\x00\x00\x01\x00\x00\x00\x00kernel/p.ko:\x00\x00\x00\x00\x01\x00\x00\x00\x01kernel/w.ko: kernel/p.ko\x00pw@\x00\x00\x0c\x00\x00\x00\x00\x00\x00\x00\x00\x00\x00\x00\x00\x00\x00\x00\x00\x00\x00\x00\x00\x00\x00\x00\x00@\x00\x00!",
+    NO_ALIASES,
+    NO_KEYS,
+    NO_SOFTDEPS,
+    b"# Aliases for symbols, used by symbol_request().\nalias symbol:fa p\n",
+    b"\xb0\x07\xf4W\x00\x02\x00\x01 \x00\x00\x1fymbol:fa\x00\x00\x00\x00\x01\x00\x00\x00\x00p\x00ss\xc0\x00\x00\x0c",
+    NO_KEYS,
+    b"version kernel/w.ko fa kernel/p.ko\n",
+];
+
+static WEAK_NEED: Files = [
+    b"kernel/p.ko:\nkernel/w.ko: kernel/p.ko\n",
+    b"\xb0\x07\xf4W\x00\x02\x00\x01 \x00\x00B\x00\x00\x00\x01\x00\x00\x00\x00kernel/p.ko:\x00\x00\x00\x00\x01\x00\x00\x00\x01kernel/w.ko: kernel/p.ko\x00pw@\x00\x00\x0c\x00\x00\x00\x00\x00\x00\x00\x00\x00\x00\x00\x00\x00\x00\x00\x00\x00\x00\x00\x00\x00\x00\x00\x00@\x00\x00!",
+    NO_ALIASES,
+    NO_KEYS,
+    NO_SOFTDEPS,
+    b"# Aliases for symbols, used by symbol_request().\nalias symbol:fa p\n",
+    b"\xb0\x07\xf4W\x00\x02\x00\x01 \x00\x00\x1fymbol:fa\x00\x00\x00\x00\x01\x00\x00\x00\x00p\x00ss\xc0\x00\x00\x0c",
+    NO_KEYS,
+    b"",
+];
+
+static GPL_LINE: Files = [
+    b"kernel/a.ko:\nkernel/b.ko: kernel/a.ko\nkernel/c.ko: kernel/a.ko\n",
+    b"\xb0\x07\xf4W\x00\x02\x00\x01 \x00\x00c\x00\x00\x00\x01\x00\x00\x00\x00kernel/a.ko:\x00\x00\x00\x00\x01\x00\x00\x00\x01kernel/b.ko: kernel/a.ko\x00\x00\x00\x00\x01\x00\x00\x00\x02kernel/c.ko: kernel/a.ko\x00ac@\x00\x00\x0c@\x00\x00!@\x00\x00B",
+    NO_ALIASES,
+    NO_KEYS,
+    NO_SOFTDEPS,
+    b"# Aliases for symbols, used by symbol_request().\nalias symbol:fa a\n",
+    b"\xb0\x07\xf4W\x00\x02\x00\x01 \x00\x00\x1fymbol:fa\x00\x00\x00\x00\x01\x00\x00\x00\x00a\x00ss\xc0\x00\x00\x0c",
+    NO_KEYS,
+    b"gpl kernel/b.ko fa kernel/a.ko\n",
+];
+
+static NAMESPACE_LINE: Files = [
+    b"kernel/a.ko:\nkernel/b.ko: kernel/a.ko\nkernel/c.ko: kernel/a.ko\n",
+    b"\xb0\x07\xf4W\x00\x02\x00\x01 \x00\x00c\x00\x00\x00\x01\x00\x00\x00\x00kernel/a.ko:\x00\x00\x00\x00\x01\x00\x00\x00\x01kernel/b.ko: kernel/a.ko\x00\x00\x00\x00\x01\x00\x00\x00\x02kernel/c.ko: kernel/a.ko\x00ac@\x00\x00\x0c@\x00\x00!@\x00\x00B",
+    NO_ALIASES,
+    NO_KEYS,
+    NO_SOFTDEPS,
+    b"# Aliases for symbols, used by symbol_request().\nalias symbol:fa a\n",
+    b"\xb0\x07\xf4W\x00\x02\x00\x01 \x00\x00\x1fymbol:fa\x00\x00\x00\x00\x01\x00\x00\x00\x00a\x00ss\xc0\x00\x00\x0c",
+    NO_KEYS,
+    b"namespace kernel/b.ko fa kernel/a.ko\n",
+];
+
+static UPDATED: Files = [
+    b"kernel/b.ko: updates/a.ko\nupdates/a.ko:\n",
+    b"\xb0\x07\xf4W\x00\x02\x00\x01 \x00\x00D\x00\x00\x00\x01\x00\x00\x00\x01updates/a.ko:\x00\x00\x00\x00\x01\x00\x00\x00\x00kernel/b.ko: updates/a.ko\x00ab@\x00\x00\x0c@\x00\x00\"",
+    NO_ALIASES,
+    NO_KEYS,
+    NO_SOFTDEPS,
+    b"# Aliases for symbols, used by symbol_request().\nalias symbol:fa a\n",
+    b"\xb0\x07\xf4W\x00\x02\x00\x01 \x00\x00\x1fymbol:fa\x00\x00\x00\x00\x01\x00\x00\x00\x01a\x00ss\xc0\x00\x00\x0c",
+    NO_KEYS,
+    b"",
+];
+
+static UPDATED_BY_NOTHING: Files = [
+    b"kernel/b.ko:\nupdates/a.ko:\n",
+    b"\xb0\x07\xf4W\x00\x02\x00\x01 \x00\x007\x00\x00\x00\x01\x00\x00\x00\x01updates/a.ko:\x00\x00\x00\x00\x01\x00\x00\x00\x00kernel/b.ko:\x00ab@\x00\x00\x0c@\x00\x00\"",
+    NO_ALIASES,
+    NO_KEYS,
+    NO_SOFTDEPS,
+    NO_SYMBOLS,
+    NO_KEYS,
+    NO_KEYS,
+    b"missing kernel/b.ko fa\n",
+];
+
+static UPDATED_B: Files = [
+    b"kernel/a.ko:\nupdates/b.ko: kernel/a.ko\n",
+    b"\xb0\x07\xf4W\x00\x02\x00\x01 \x00\x00C\x00\x00\x00\x01\x00\x00\x00\x00kernel/a.ko:\x00\x00\x00\x00\x01\x00\x00\x00\x01updates/b.ko: kernel/a.ko\x00ab@\x00\x00\x0c@\x00\x00!",
+    NO_ALIASES,
+    NO_KEYS,
+    NO_SOFTDEPS,
+    b"# Aliases for symbols, used by symbol_request().\nalias symbol:fa a\n",
+    b"\xb0\x07\xf4W\x00\x02\x00\x01 \x00\x00\x1fymbol:fa\x00\x00\x00\x00\x01\x00\x00\x00\x00a\x00ss\xc0\x00\x00\x0c",
+    NO_KEYS,
+    b"",
+];
+
+static BUILT_IN: Files = [
+    b"",
+    NO_KEYS,
+    NO_ALIASES,
+    NO_KEYS,
+    NO_SOFTDEPS,
+    NO_SYMBOLS,
+    NO_KEYS,
+    b"\xb0\x07\xf4W\x00\x02\x00\x01 \x00\x00\x18_x\x00\x00\x00\x00\x01\x00\x00\x00\x00\x00bb\xc0\x00\x00\x0c",
+    b"",
+];
+
+static LONG_NAME: Files = [
+    b"kernel/a.ko:\nkernel/b.ko: kernel/a.ko\n",
+    b"\xb0\x07\xf4W\x00\x02\x00\x01 \x00\x00B\x00\x00\x00\x01\x00\x00\x00\x00kernel/a.ko:\x00\x00\x00\x00\x01\x00\x00\x00\x01kernel/b.ko: kernel/a.ko\x00ab@\x00\x00\x0c@\x00\x00!",
+    NO_ALIASES,
+    NO_KEYS,
+    NO_SOFTDEPS,
+    b"# Aliases for symbols, used by symbol_request().\nalias symbol:xxxxxxxxxxxxxxxxxxxxxxxxxxxxxxxxxxxxxxxxxxxxxxxxxxxxxxxxxxxx a\n",
+    b"\xb0\x07\xf4W\x00\x02\x00\x01 \x00\x00Yymbol:xxxxxxxxxxxxxxxxxxxxxxxxxxxxxxxxxxxxxxxxxxxxxxxxxxxxxxxxxxxx\x00\x00\x00\x00\x01\x00\x00\x00\x00a\x00ss\xc0\x00\x00\x0c",
+    NO_KEYS,
+    b"",
+];
+
+static LONG_NAME_DIFFERS: Files = [
+    b"kernel/a.ko:\nkernel/b.ko: kernel/a.ko\n",
+    b"\xb0\x07\xf4W\x00\x02\x00\x01 \x00\x00B\x00\x00\x00\x01\x00\x00\x00\x00kernel/a.ko:\x00\x00\x00\x00\x01\x00\x00\x00\x01kernel/b.ko: kernel/a.ko\x00ab@\x00\x00\x0c@\x00\x00!",
+    NO_ALIASES,
+    NO_KEYS,
+    NO_SOFTDEPS,
+    b"# Aliases for symbols, used by symbol_request().\nalias symbol:xxxxxxxxxxxxxxxxxxxxxxxxxxxxxxxxxxxxxxxxxxxxxxxxxxxxxxxxxxxx a\n",
+    b"\xb0\x07\xf4W\x00\x02\x00\x01 \x00\x00Yymbol:xxxxxxxxxxxxxxxxxxxxxxxxxxxxxxxxxxxxxxxxxxxxxxxxxxxxxxxxxxxx\x00\x00\x00\x00\x01\x00\x00\x00\x00a\x00ss\xc0\x00\x00\x0c",
+    NO_KEYS,
+    b"version kernel/b.ko xxxxxxxxxxxxxxxxxxxxxxxxxxxxxxxxxxxxxxxxxxxxxxxxxxxxxxxxxxxx kernel/a.ko\n",
+];
+
+static FILE_SYSTEM_FILES: Files = [
+    b"kernel/fs/mbcache.ko:\nkernel/fs/ext4/ext4.ko: kernel/fs/jbd2/jbd2.ko kernel/fs/mbcache.ko\nkernel/fs/jbd2/jbd2.ko:\n",
+    b"\xb0\x07\xf4W\x00\x02\x00\x01 \x00\x00\xa5xt4\x00\x00\x00\x00\x01\x00\x00\x00\x01kernel/fs/ext4/ext4.ko: kernel/fs/jbd2/jbd2.ko kernel/fs/mbcache.ko\x00bd2\x00\x00\x00\x00\x01\x00\x00\x00\x02kernel/fs/jbd2/jbd2.ko:\x00bcache\x00\x00\x00\x00\x01\x00\x00\x00\x00kernel/fs/mbcache.ko:\x00em\xc0\x00\x00\x0c\x00\x00\x00\x00\x00\x00\x00\x00\x00\x00\x00\x00\x00\x00\x00\x00\xc0\x00\x00\\\x00\x00\x00\x00\x00\x00\x00\x00\xc0\x00\x00\x80",
+    b"# Aliases extracted from modules themselves.\nalias fs-ext4 ext4\n",
+    b"\xb0\x07\xf4W\x00\x02\x00\x01 \x00\x00 s_ext4\x00\x00\x00\x00\x01\x00\x00\x00\x01ext4\x00ff\xc0\x00\x00\x0c",
+    b"# Soft dependencies extracted from modules themselves.\nsoftdep ext4 pre: crc32c\n",
+    b"# Aliases for symbols, used by symbol_request().\nalias symbol:mb_cache_create mbcache\nalias symbol:jbd2_journal_start jbd2\n",
+    b"\xb0\x07\xf4W\x00\x02\x00\x01 \x00\x00cbd2_journal_start\x00\x00\x00\x00\x01\x00\x00\x00\x02jbd2\x00b_cache_create\x00\x00\x00\x00\x01\x00\x00\x00\x00mbcache\x00ymbol:\x00jm\xc0\x00\x00\x0c\x00\x00\x00\x00\x00\x00\x00\x00\xc0\x00\x00+ss\xa0\x00\x00J",
+    NO_KEYS,
+    b"",
+];
