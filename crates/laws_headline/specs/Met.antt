@@ -64,7 +64,7 @@ load_asked = record {
   words = codes "m" ∷ [];
 }
 
--- ---- what it comes to
+-- ---- the result
 
 -- The premises of the headline hold of this load: it has a plan of both modules. Loaded into its machine, that with the export
 -- stands at the region's base, and the 8 bytes of data of the other are the address of the export.
