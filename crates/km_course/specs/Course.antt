@@ -8,8 +8,8 @@ use Rattle.km_outside.specs.FilesSeen.{list_limit}
 use Rattle.km_course.specs.declared.end.End.{End}
 use Rattle.km_course.specs.declared.end.End.TheVariants.{NoFile, TooLarge}
 
--- One act: to read a file, to list a folder, to write bytes to the output, to write bytes to err, to
--- put a file of these bytes at a path.
+-- One act: reading a file, listing a folder, writing bytes to the output, writing bytes to err, or
+-- putting a file of these bytes at a path.
 pub data Act : Type 0 where
   read : List ℕ → Act
   list : List ℕ → Act
@@ -17,112 +17,114 @@ pub data Act : Type 0 where
   warn : List ℕ → Act
   put : List ℕ → List ℕ → Act
 
--- How acts end: with a value for what comes next, or for good.
+-- The outcome of acts: a value for what comes next, or an end.
 pub data Outcome (X : Type 0) : Type 0 where
   value : X → Outcome X
   end : End → Outcome X
 
--- acts, and how they end
+-- Acts, and their outcome.
 pub record Run (X : Type 0) : Type 0 where
   pub acts : List Act
   pub outcome : Outcome X
 
--- A part of a command, or all of it. Over files that are told it says which acts are done, in order, and
--- how they end. Over others, whose files may change from call to call, it says how the acts may end,
+-- A part of a command, or all of it. Over known files it says which acts are done, in order, and
+-- how they end. Over others, which may change from call to call, it says how the acts may end,
 -- whatever the calls answer.
 pub record Stage (X : Type 0) : Type 1 where
   pub run : Contents → Run X
   pub possible : Outcome X → Type 0
 
--- the files after the act: a file that is put stands at its path
+-- The files after the act: a file that is put is at its path.
 abbrev pub file_done : Act → Contents → Contents
 file_done (put path bytes) files = map.insert files path bytes
 file_done _ files = files
 
--- the files after the acts
+-- The files after the acts.
 abbrev pub after : List Act → Contents → Contents
 after [] files = files
 after (act ∷ acts) files = after acts (file_done act files)
 
--- acts with this outcome, and on a value the acts of what is made of it, over the files that they leave
+-- The acts, and after a value also the acts of the stage that it makes, over the files that the
+-- first acts leave.
 unfoldable pub continued : {X Y : Type 0} → List Act → Outcome X → (X → Stage Y) → Contents → Run Y
 continued acts (value x) next files =
     record { acts = acts ++ ((next x).run (after acts files)).acts; outcome = ((next x).run (after acts files)).outcome }
 continued acts (end e) next files = record { acts = acts; outcome = end e }
 
--- the outcomes that may follow these: of what is made of a value, or the end that came first
+-- The outcomes possible after these: an outcome of the stage that a value makes, or the end that
+-- came first.
 unfoldable pub possible_after : {X Y : Type 0} → (Outcome X → Type 0) → (X → Stage Y) → Outcome Y → Type 0
 possible_after {X} possible next outcome =
     ((x : X) × possible (value x) × (next x).possible outcome) ⊎ ((e : End) × possible (end e) × (outcome ≡ end e))
 
 infixl 10 ◌>>=◌
--- a stage, and then the one that is made of its value
+-- A stage, and then the one that is made of its value.
 unfoldable pub ◌>>=◌ : {X Y : Type 0} → Stage X → (X → Stage Y) → Stage Y
 stage >>= next = record {
   run = λ files. continued (stage.run files).acts (stage.run files).outcome next files;
   possible = possible_after stage.possible next;
 }
 
--- no act, and this outcome
+-- No act, and this outcome.
 unfoldable pub given : {X : Type 0} → Outcome X → Stage X
 given outcome = record {
   run = λ files. record { acts = []; outcome = outcome };
   possible = λ other. other ≡ outcome;
 }
 
--- this act, and the outcome that the files make of it; it is one of the possible ones
+-- This act, and the outcome that the files give it, which is one of the possible ones.
 unfoldable pub act_with : {X : Type 0} → Act → (Contents → Outcome X) → (Outcome X → Type 0) → Stage X
 act_with act outcome possible = record {
   run = λ files. record { acts = act ∷ []; outcome = outcome files };
   possible = possible;
 }
 
--- this act, and no value worth naming
+-- This act, without a value.
 abbrev pub acts_alone : Act → Stage ⊤
 acts_alone act = act_with act (λ files. value tt) (λ outcome. outcome ≡ value tt)
 
--- no act, and this value
+-- No act, and this value.
 abbrev pub gives : {X : Type 0} → X → Stage X
 gives x = given (value x)
 
--- no act, and this end
+-- No act, and this end.
 abbrev pub ends : {X : Type 0} → End → Stage X
 ends e = given (end e)
 
 infix 1 when◌then◌else◌
--- the first stage where the test holds, else the second
+-- The first stage if the test holds, and else the second.
 abbrev pub when◌then◌else◌ : {X : Type 0} → Bool → Stage X → Stage X → Stage X
 when◌then◌else◌ true first second = first
 when◌then◌else◌ false first second = second
 
--- what reading the path comes to where these bytes, or nothing, are there; absent is what it comes to where
--- nothing is
+-- The outcome of reading the path if these bytes, or nothing, are there. `absent` is the outcome if
+-- nothing is.
 abbrev pub read_outcome : Outcome (List ℕ) → List ℕ → Option (List ℕ) → Outcome (List ℕ)
 read_outcome absent path None = absent
 read_outcome absent path (Some bytes) = if nat_lt file_limit (length bytes) then end (TooLarge path) else value bytes
 
--- the bytes of the file at the path, and this outcome where nothing is there
+-- The bytes of the file at the path, and this outcome if nothing is there.
 abbrev pub reads_or : Outcome (List ℕ) → List ℕ → Stage (List ℕ)
 reads_or absent path =
     act_with (read path) (λ files. read_outcome absent path (map.get files path))
     (λ outcome. (outcome ≡ absent) ⊎ (outcome ≡ end (TooLarge path))
     ⊎ ((bytes : List ℕ) × (length bytes ≤ file_limit) × (outcome ≡ value bytes)))
 
--- the bytes of the file at the path, which is needed
+-- The bytes of the file at the path, which is needed.
 abbrev pub reads : List ℕ → Stage (List ℕ)
 reads path = reads_or (end (NoFile path)) path
 
--- the bytes of the file at the path, and none where nothing is there
+-- The bytes of the file at the path, and none if nothing is there.
 abbrev pub reads_any : List ℕ → Stage (List ℕ)
 reads_any path = reads_or (value []) path
 
--- what listing the folder comes to where these paths lie below it and these names are listed; absent is what
--- it comes to where nothing lies below it
+-- The outcome of listing the folder if these paths lie below it and these names are listed.
+-- `absent` is the outcome if nothing lies below it.
 abbrev pub list_outcome : Outcome (List (List ℕ)) → List ℕ → List (List ℕ) → List (List ℕ) → Outcome (List (List ℕ))
 list_outcome absent folder [] names = absent
 list_outcome absent folder (_ ∷ _) names = if nat_lt list_limit (length names) then end (TooLarge folder) else value names
 
--- the names below the folder that pass the test, and this outcome where nothing lies below it
+-- The names below the folder that pass the test, and this outcome if nothing lies below it.
 abbrev pub lists_or : Outcome (List (List ℕ)) → (List ℕ → Bool) → List ℕ → Stage (List (List ℕ))
 lists_or absent fits folder =
     act_with (list folder) (λ files. list_outcome absent folder (listed is_path folder files) (listed fits folder files))
@@ -130,36 +132,37 @@ lists_or absent fits folder =
     ⊎ ((names : List (List ℕ)) × IsStrictlySortedBy by_bytes names × All (λ name. fits name ≡ true) names
     × (length names ≤ list_limit) × (outcome ≡ value names)))
 
--- the names of the configuration files in the folder, which is needed
+-- The names of the configuration files in the folder, which is needed.
 abbrev pub lists_conf : List ℕ → Stage (List (List ℕ))
 lists_conf folder = lists_or (end (NoFile folder)) is_conf_name folder
 
--- the names of the configuration files in the folder, and none where nothing is there
+-- The names of the configuration files in the folder, and none if nothing is there.
 abbrev pub lists_any_conf : List ℕ → Stage (List (List ℕ))
 lists_any_conf folder = lists_or (value []) is_conf_name folder
 
--- the paths of all files below the folder, relative to it, which is needed
+-- The paths of all files below the folder, relative to it, which is needed.
 abbrev pub lists_tree : List ℕ → Stage (List (List ℕ))
 lists_tree folder = lists_or (end (NoFile folder)) is_path folder
 
--- these bytes to the output
+-- These bytes to the output.
 abbrev pub says : List ℕ → Stage ⊤
 says bytes = acts_alone (say bytes)
 
--- these bytes to err
+-- These bytes to err.
 abbrev pub warns : List ℕ → Stage ⊤
 warns bytes = acts_alone (warn bytes)
 
--- a file of these bytes at the path
+-- A file of these bytes at the path.
 abbrev pub puts : List ℕ → List ℕ → Stage ⊤
 puts path bytes = acts_alone (put path bytes)
 
--- these bytes to the output, where there are any
+-- These bytes to the output, if there are any.
 abbrev pub says_any : List ℕ → Stage ⊤
 says_any [] = gives tt
 says_any (byte ∷ bytes) = says (byte ∷ bytes)
 
--- The stage of each item in turn, which takes what the one before it gave; and what the last one gave.
+-- The stage of each item in turn, which takes the value of the one before it. The value is the last
+-- one's.
 abbrev pub each_from : {A S : Type 0} → (S → A → Stage S) → S → List A → Stage S
 each_from step state [] = gives state
 each_from step state (item ∷ items) = step state item >>= λ next. each_from step next items

@@ -1,4 +1,4 @@
--- What it means that a call followed a stage: the relation of every function above the traits.
+-- What it means that a call followed a stage: the contract of every function above the traits.
 use Rattle.std.specs.Prelude.{◌≡◌, ℕ, ◌+◌, ◌<◌, false, List, [], ◌∷◌, ◌++◌, length, Option, Some, None, Result, Ok, Err, IfSome, ⊤}
 use Rattle.km_outside.specs.Counts.{Rose}
 use Rattle.km_outside.specs.declared.files.FileAnswer.{FileAnswer}
@@ -12,13 +12,14 @@ use Rattle.km_course.specs.declared.end.End.TheVariants.{NoFile, TooLarge}
 use Rattle.km_course.specs.declared.stop.Stop.{Stop}
 use Rattle.km_course.specs.declared.stop.Stop.TheVariants.{Ended, FileFault, OutputFault, WarningFault, Memory}
 
--- the first of the acts, if there is one
+-- The first of the acts, if there is one.
 abbrev pub next_act : List Act → Option Act
 next_act [] = None
 next_act (act ∷ acts) = Some act
 
--- A first part of the acts was done, the next one was begun, and nothing else was done. The cause holds of
--- how much of that next act was done, of what was told before it, and of that act.
+-- A first part of the acts was done, the next one was begun, and nothing else was done. The cause
+-- holds of three things: how much of the next act was done, what was seen before it, and the act
+-- itself.
 pub record StopsAt (acts : List Act) (shown : Shown) (new : World) (cause : ℕ → Shown → Option Act → Type 0) : Type 0 where
   pub before : List Act
   pub rest : List Act
@@ -35,30 +36,32 @@ IsCallAt path (put other bytes) = path ≡ other
 IsCallAt path (say bytes) = ⊥
 IsCallAt path (warn bytes) = ⊥
 
--- The bytes and these more pass the room, where it is told.
+-- The bytes and these more exceed the capacity, if it is known.
 abbrev pub PassesRoom : Option ℕ → List ℕ → List ℕ → Type 0
 PassesRoom room written bytes = IfSome room (λ n. n < length written + length bytes)
 
--- why a call on files failed: it is the next act, it was made, and the files aren't sure
+-- Why a call on files failed: it is the next act, it was made, and the files aren't sure.
 abbrev pub CallFailed : List ℕ → World → ℕ → Shown → Option Act → Type 0
 CallFailed path new count shown None = ⊥
 CallFailed path new count shown (Some act) = IsCallAt path act × (count ≡ 1) × (new.files.sure ≡ false)
 
--- why a write to the output failed: the next act is one, and an output that tells its room has no room for it
+-- Why a write to the output failed: it is the next act, and an output with a known capacity has no
+-- room for it.
 abbrev pub OutputFailed : World → ℕ → Shown → Option Act → Type 0
 OutputFailed new count shown (Some (say bytes)) = PassesRoom new.out.room shown.out bytes
 OutputFailed new count shown _ = ⊥
 
--- why a write to err failed
+-- Why a write to err failed: it is the next act, and an output with a known capacity has no room
+-- for it.
 abbrev pub WarningFailed : World → ℕ → Shown → Option Act → Type 0
 WarningFailed new count shown (Some (warn bytes)) = PassesRoom new.err.room shown.err bytes
 WarningFailed new count shown _ = ⊥
 
--- want of memory needs no cause
+-- Out of memory needs no cause.
 abbrev pub Free : ℕ → Shown → Option Act → Type 0
 Free count shown next = ⊤
 
--- What is told after a call that stopped so, where the stage comes to this run.
+-- What is seen after a call that stopped so, if the stage has this run.
 abbrev pub Stopped : {X : Type 0} → Run X → Shown → World → Stop → Type 0
 Stopped run shown new (Ended e) = (run.outcome ≡ end e) × Tells new (done run.acts shown)
 Stopped run shown new (FileFault path) = StopsAt run.acts shown new (CallFailed path new)
@@ -66,18 +69,18 @@ Stopped run shown new OutputFault = StopsAt run.acts shown new (OutputFailed new
 Stopped run shown new WarningFault = StopsAt run.acts shown new (WarningFailed new)
 Stopped run shown new Memory = StopsAt run.acts shown new Free
 
--- What is told after a call with this result, whose value is seen by view.
+-- What is seen after a call with this result, whose value is read by `view`.
 abbrev pub Told : {T X : Type 0} → (T → X) → Run X → Shown → World → Result T Stop → Type 0
 Told view run shown new (Ok x) = (run.outcome ≡ value (view x)) × Tells new (done run.acts shown)
 Told view run shown new (Err stop) = Stopped run shown new stop
 
--- Which count an end has for its cause: an absence, or an excess.
+-- The count that is the cause of an end: an absence, or an excess.
 abbrev pub EndCounts : World → World → End → Type 0
 EndCounts old new (NoFile path) = Rose old.files.counts.absences new.files.counts.absences
 EndCounts old new (TooLarge path) = Rose old.files.counts.excesses new.files.counts.excesses
 EndCounts old new _ = ⊤
 
--- Which counts a stop has for its cause.
+-- The counts that are the cause of a stop.
 abbrev pub StopCounts : World → World → Stop → Type 0
 StopCounts old new (Ended e) = NoFault old new × EndCounts old new e
 StopCounts old new (FileFault path) =
@@ -92,22 +95,22 @@ abbrev pub Counts : {T : Type 0} → World → World → Result T Stop → Type 
 Counts old new (Ok x) = NoFault old new
 Counts old new (Err stop) = StopCounts old new stop
 
--- The result is an outcome to which the stage may come, unless a call failed or memory was wanting.
+-- The result is a possible outcome of the stage, unless a call failed or memory ran out.
 abbrev pub Comes : {T X : Type 0} → (T → X) → Stage X → Result T Stop → Type 0
 Comes view stage (Ok x) = stage.possible (value (view x))
 Comes view stage (Err (Ended e)) = stage.possible (end e)
 Comes view stage (Err _) = ⊤
 
--- The call followed the stage: it left the world new, and answered the result, whose value is seen by view.
--- The first three sentences hold over objects that tell nothing.
+-- The call followed the stage: it left the world new, and answered the result, whose value is read
+-- by `view`. The first three fields hold over all objects, also those whose contents aren't known.
 pub record Follows {T X : Type 0} (view : T → X) (stage : Stage X) (old new : World) (result : Result T Stop) : Type 0 where
   pub keeps : Keeps old new
   pub counts : Counts old new result
   pub comes : Comes view stage result
   pub told : (shown : Shown) → Tells old shown → Told view (stage.run shown.files) shown new result
 
--- What a check that knows nothing of files and outputs may answer, where this is what it is to come to: the
--- value, the end, which isn't one that the objects are to blame for, or want of memory.
+-- What a check that uses no files and outputs may answer, if this is its outcome: the value, the
+-- end, or out of memory. The end is none that the files cause.
 abbrev pub Answers : {T X : Type 0} → (T → X) → Outcome X → Result T Stop → Type 0
 Answers view outcome (Ok x) = outcome ≡ value (view x)
 Answers view outcome (Err (Ended (NoFile path))) = ⊥
@@ -116,7 +119,7 @@ Answers view outcome (Err (Ended e)) = outcome ≡ end e
 Answers view outcome (Err Memory) = ⊤
 Answers view outcome (Err _) = ⊥
 
--- how a refused call on files at the path stops the command, where nothing may be absent
+-- The stop of a command after a refused call on files at the path, if nothing may be absent.
 abbrev pub stop_for : FileAnswer → List ℕ → Stop
 stop_for answers.Absent path = Ended (NoFile path)
 stop_for answers.Failed path = FileFault path

@@ -1,4 +1,5 @@
--- A course inside another: over files that were made for it, with outputs of its own whose rooms are told.
+-- A course inside another: over files that were made for it, with outputs of its own whose
+-- capacities are known.
 use Rattle.std.specs.Prelude.{ℕ, nat_lt, Bool, ◌||◌, if◌then◌else◌, List, [], length, ⊤}
 use Rattle.km_outside.specs.Contents.{Contents}
 use Rattle.km_course.specs.Lines.{end_line}
@@ -10,35 +11,36 @@ use Rattle.km_course.specs.declared.end.End.{End}
 use Rattle.km_course.specs.declared.end.End.TheVariants as ends
 use Rattle.km_course.specs.declared.refusal.Refusal.TheVariants.{InnerOutputFull}
 
--- what an inner course left: the files, and the bytes of its output
+-- What an inner course left: the files, and the bytes of its output.
 pub record Left : Type 0 where
   pub files : Contents
   pub out : List ℕ
 
--- what is told as an inner course begins: the files that were made, no call, and no byte written
+-- What is seen as an inner course begins: the files that were made, no call, and no byte written.
 abbrev pub bare : Contents → Shown
 bare files = record { files = files; calls = 0; out = []; err = [] }
 
--- what is told after all acts of the inner course and the line of its end
+-- What is seen after all acts of the inner course and the line of its end.
 abbrev pub inner_told : Run ⊤ → Contents → Shown
 inner_told run files = done (whole_acts run) (bare files)
 
--- whether the room of an output is too small for all of the inner course
+-- Whether the capacity of an output is too small for all of the inner course.
 abbrev pub overfull : ℕ → Shown → Bool
 overfull room told = nat_lt room (length told.out) || nat_lt room (length told.err)
 
--- What an end of the inner course is to the outer one: its line is handed on as it is. No call on the objects outside is
--- to blame for it.
+-- The end of an inner course as an end of the outer one: its line is kept unchanged. No call on the
+-- objects outside is its cause.
 abbrev pub inner_end : End → End
 inner_end ends.NotUnderstood = ends.NotUnderstood
 inner_end e = ends.Inner (end_line e)
 
--- what an inner course comes to, all of which fits its outputs
+-- The outcome of an inner course whose bytes all fit its outputs.
 abbrev pub inner_fitting : Outcome ⊤ → Shown → Outcome Left
 inner_fitting (value _) told = value (record { files = told.files; out = told.out })
 inner_fitting (end e) told = end (inner_end e)
 
--- What an inner course comes to: an output that would be full refuses it, else its own outcome does.
+-- The outcome of an inner course: an output that would be full refuses it, and else the outcome is
+-- its own.
 abbrev pub inner_outcome : ℕ → Run ⊤ → Contents → Outcome Left
 inner_outcome room run files =
     if overfull room (inner_told run files) then end (ends.Refused InnerOutputFull)

@@ -3,44 +3,44 @@ use Rattle.std.specs.Prelude.{ℕ, List, [], ◌∷◌, ◌++◌, codes}
 use Rattle.std.specs.List.{flat_map}
 use Rattle.std.specs.Fmt.{decimal}
 use Rattle.km_course.specs.declared.refusal.Refusal.{Refusal}
-use Rattle.km_course.specs.declared.refusal.Refusal.TheVariants.{BadModule, Compressed, Cycle, NotFound, Obstacle, BadIndex, BadLine, InstallChosen, KernelWithoutAddress, ListedNotFound, ListedRefused, LoadRefused, TooManyModules, TooManyDependencies, TooManyDoubles, OutputTooLarge, BadPath, InnerOutputFull}
+use Rattle.km_course.specs.declared.refusal.Refusal.TheVariants.{BadModule, Compressed, Cycle, NotFound, Obstacle, BadIndex, BadLine, InstallChosen, KernelWithoutAddress, ListedNotFound, ListedRefused, LoadRefused, ParamsRefused, InUse, RemoveChosen, TooManyModules, TooManyDependencies, TooManyDoubles, OutputTooLarge, BadPath, InnerOutputFull}
 use Rattle.km_course.specs.declared.end.End.{End}
 use Rattle.km_course.specs.declared.end.End.TheVariants.{Refused, NotUnderstood, NoFile, TooLarge, Inner}
 
--- the line of a text
+-- The line of a text.
 abbrev pub line : List ℕ → List ℕ
 line text = (codes "kmod: " ++ text) ++ 10 ∷ []
 
--- A file or folder that is needed isn't there.
+-- The line for a file or folder that is needed and missing.
 abbrev pub no_file : List ℕ → List ℕ
 no_file path = line (codes "no file " ++ path)
 
--- A file has more bytes, or a folder more names, than the limit.
+-- The line for a file with more bytes, or a folder with more names, than the limit.
 abbrev pub too_large : List ℕ → List ℕ
 too_large path = line (path ++ codes ": too large")
 
--- A call on the file or folder failed.
+-- The line for a failed call on the file or folder.
 abbrev pub file_fault : List ℕ → List ℕ
 file_fault path = line (codes "file fault " ++ path)
 
--- A write to the output failed.
+-- The line for a failed write to the output.
 abbrev pub output_fault : List ℕ
 output_fault = line (codes "output fault")
 
--- Memory was wanting.
+-- The line for out of memory.
 abbrev pub out_of_memory : List ℕ
 out_of_memory = line (codes "out of memory")
 
--- The words of the command line weren't understood.
+-- The line for words of the command line that weren't understood.
 abbrev pub usage : List ℕ
-usage = line (codes "usage: kmod depmod|modprobe|modinfo|trial WORDS")
+usage = line (codes "usage: kmod depmod|modprobe|modinfo|trial|static-nodes|builtin-alias WORDS")
 
 -- Names along a cycle: each leads to the next, and the last to the first, which is named again.
 abbrev pub cycle_text : List (List ℕ) → List ℕ
 cycle_text [] = []
 cycle_text (first ∷ rest) = flat_map (λ name. name ++ codes " -> ") (first ∷ rest) ++ first
 
--- What a refusal says.
+-- The text of a refusal.
 abbrev pub refusal_text : Refusal → List ℕ
 refusal_text (BadModule path text) = path ++ (codes ": " ++ text)
 refusal_text (Compressed path) = path ++ codes ": compressed"
@@ -54,6 +54,9 @@ refusal_text (KernelWithoutAddress name) = codes "kernel without address " ++ na
 refusal_text (ListedNotFound name) = codes "listed module " ++ (name ++ codes ": not found")
 refusal_text (ListedRefused name text) = codes "listed module " ++ (name ++ (codes ": " ++ text))
 refusal_text (LoadRefused name text) = name ++ (codes ": " ++ text)
+refusal_text (ParamsRefused name text) = name ++ (codes ": " ++ text)
+refusal_text (InUse name user) = name ++ (codes " is in use by " ++ user)
+refusal_text (RemoveChosen name) = codes "remove chosen " ++ name
 refusal_text TooManyModules = codes "too many modules"
 refusal_text TooManyDependencies = codes "too many dependencies"
 refusal_text TooManyDoubles = codes "too many doubles"

@@ -1,4 +1,4 @@
--- What is seen of the three objects that the program is handed, and what acts do to what they tell.
+-- What is seen of the three objects that the program gets, and what acts do to what is seen.
 use Rattle.std.specs.Prelude.{◌≡◌, ℕ, zero, suc, ◌≤◌, List, [], ◌∷◌, ◌++◌, take, Option, Some, None, is_some}
 use Rattle.km_outside.specs.CallCounts.{NoneFell}
 use Rattle.km_outside.specs.Contents.{Contents}
@@ -8,7 +8,7 @@ use Rattle.km_outside.specs.OutSeen.{OutSeen, Within}
 use Rattle.km_course.specs.Course.{Act, file_done}
 use Rattle.km_course.specs.Course.Act.{read, list, say, warn, put}
 
--- the files, the output and err, as seen
+-- The files, the output and err, as seen.
 pub record World : Type 0 where
   pub files : FilesSeen
   pub out : OutSeen
@@ -17,22 +17,22 @@ pub record World : Type 0 where
 abbrev pub world : FilesSeen → OutSeen → OutSeen → World
 world files out err = record { files = files; out = out; err = err }
 
--- what three objects tell that tell all: the files, how many calls were made on them, and the bytes written
--- to each output
+-- Everything that three objects with known contents show: the files, how many calls were made on
+-- them, and the bytes written to each output.
 pub record Shown : Type 0 where
   pub files : Contents
   pub calls : ℕ
   pub out : List ℕ
   pub err : List ℕ
 
--- The three objects tell this.
+-- The three objects show this.
 pub record Tells (seen : World) (shown : Shown) : Type 0 where
   pub files : seen.files.contents ≡ Some shown.files
   pub calls : seen.files.counts.calls ≡ shown.calls
   pub out : seen.out.told ≡ Some shown.out
   pub err : seen.err.told ≡ Some shown.err
 
--- the count of calls on files after the act
+-- The count of calls on files after the act.
 abbrev pub calls_done : Act → ℕ → ℕ
 calls_done (read path) calls = one_more calls
 calls_done (list folder) calls = one_more calls
@@ -40,17 +40,17 @@ calls_done (put path bytes) calls = one_more calls
 calls_done (say bytes) calls = calls
 calls_done (warn bytes) calls = calls
 
--- the bytes of the output after the act
+-- The bytes of the output after the act.
 abbrev pub out_done : Act → List ℕ → List ℕ
 out_done (say bytes) out = out ++ bytes
 out_done _ out = out
 
--- the bytes of err after the act
+-- The bytes of err after the act.
 abbrev pub err_done : Act → List ℕ → List ℕ
 err_done (warn bytes) err = err ++ bytes
 err_done _ err = err
 
--- what is told after the act
+-- What is seen after the act.
 abbrev pub act_done : Act → Shown → Shown
 act_done act shown = record {
   files = file_done act shown.files;
@@ -59,18 +59,18 @@ act_done act shown = record {
   err = err_done act shown.err;
 }
 
--- what is told after the acts
+-- What is seen after the acts.
 abbrev pub done : List Act → Shown → Shown
 done [] shown = shown
 done (act ∷ acts) shown = done acts (act_done act shown)
 
--- the call on files that an act is when n parts of it were done: it was made, or it wasn't
+-- The number of calls on files after n parts of an act that is one: it was made unless n is 0.
 abbrev pub call_begun : ℕ → ℕ → ℕ
 call_begun zero calls = calls
 call_begun (suc n) calls = one_more calls
 
--- What is told after a first part of the act. Of a write these are its first n bytes. A call on files was
--- made unless n is 0, and left the files as they were.
+-- What is seen after a first part of the act. A write has written its first n bytes. A call on
+-- files was made unless n is 0, and left the files as they were.
 abbrev pub act_begun : ℕ → Act → Shown → Shown
 act_begun n (read path) shown = record shown { calls = call_begun n shown.calls }
 act_begun n (list folder) shown = record shown { calls = call_begun n shown.calls }
@@ -78,30 +78,31 @@ act_begun n (put path bytes) shown = record shown { calls = call_begun n shown.c
 act_begun n (say bytes) shown = record shown { out = shown.out ++ take n bytes }
 act_begun n (warn bytes) shown = record shown { err = shown.err ++ take n bytes }
 
--- what is told after a first part of the first of the acts
+-- What is seen after a first part of the first act.
 abbrev pub begun : ℕ → List Act → Shown → Shown
 begun n [] shown = shown
 begun n (act ∷ acts) shown = act_begun n act shown
 
--- What was written stays, and more may follow, where it is told; and it is told as before.
+-- What was written stays, and more may follow. It is known exactly if it was known before.
 abbrev pub Extends : Option (List ℕ) → Option (List ℕ) → Type 0
 Extends None new = new ≡ None
 Extends (Some bytes) new = (more : List ℕ) × (new ≡ Some (bytes ++ more))
 
--- What no call on files changes, whether the contents are told and whether the object is sure, and what
--- never falls, its counts.
+-- What no call on files changes: whether the contents are known and whether the files are sure.
+-- What never falls: the counts.
 pub record KeepsFiles (old new : FilesSeen) : Type 0 where
   pub told : is_some new.contents ≡ is_some old.contents
   pub sure : new.sure ≡ old.sure
   pub counts : NoneFell old.counts new.counts
 
--- The same of an output.
+-- What no write to an output changes: whether its bytes are known, its capacity, and the bytes
+-- written before. Its count of faults never falls.
 pub record KeepsOut (old new : OutSeen) : Type 0 where
   pub told : Extends old.told new.told
   pub room : new.room ≡ old.room
   pub faults : old.faults ≤ new.faults
 
--- The same of the three objects.
+-- What no act on the three objects changes.
 pub record Keeps (old new : World) : Type 0 where
   pub files : KeepsFiles old.files new.files
   pub out : KeepsOut old.out new.out
@@ -113,7 +114,7 @@ pub record NoFault (old new : World) : Type 0 where
   pub out : new.out.faults ≡ old.out.faults
   pub err : new.err.faults ≡ old.err.faults
 
--- The bytes of both outputs are within the rooms that are told.
+-- The bytes of both outputs are within the known capacities.
 pub record FitsRooms (seen : World) : Type 0 where
   pub out : Within seen.out
   pub err : Within seen.err

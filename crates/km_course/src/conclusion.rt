@@ -9,7 +9,7 @@ use km_names::Blob;
 use km_outside::{Out, OutFailed};
 use std::alloc::{AllocError, Global};
 
-/// The status of a command that came to its end.
+/// The status of a command that reached its end.
 const DONE: u8 = 0;
 /// The status of a refusal.
 const REFUSED: u8 = 1;
@@ -21,7 +21,7 @@ const FAULT: u8 = 3;
 const OUT_OF_MEMORY: u8 = 4;
 
 /// Writes the line of a command's stop to err and returns the exit status. If the line can't be
-/// written the status is 3, or 4 when the command or the text of its refusal ran out of memory. The
+/// written the status is 3, or 4 if the command or the text of its refusal ran out of memory. The
 /// line of a failed call is written in pieces and takes no memory.
 pub fn conclude<E: Out>(alloc: Global, outcome: Result<(), Stop>, err: &mut E) -> u8
     ensures { Concludes outcome (E.seen err.old) (E.seen err.new) result }
@@ -35,7 +35,7 @@ pub fn conclude<E: Out>(alloc: Global, outcome: Result<(), Stop>, err: &mut E) -
     }
 }
 
-/// What the refusal says that the stop is, and nothing where it is none.
+/// Returns the text of the refusal, and nothing if the stop isn't a refusal.
 fn said(alloc: Global, stop: &Stop) -> Result<Blob, AllocError>
     ensures ok { IfOk result (SaysOf stop.now) }
     ensures err { OnErr result (IsRefused stop.now) }
@@ -52,7 +52,8 @@ fn said(alloc: Global, stop: &Stop) -> Result<Blob, AllocError>
     }
 }
 
-/// The status of the stop, after its line was written to err. The text is what it says, if it is a refusal.
+/// Writes the line of the stop to err, and returns the status. The text is the refusal's, if the
+/// stop is one.
 fn close<E: Out>(err: &mut E, stop: &Stop, text: &[u8]) -> u8
     requires { SaysOf stop.now text.now }
     ensures { Closes stop.now (E.seen err.old) (E.seen err.new) result }
@@ -103,7 +104,9 @@ fn write_end<E: Out>(err: &mut E, end: &End, text: &[u8]) -> Result<(), OutFaile
 {
     match end {
         End::Refused(_) => write_around(err, b"kmod: ", text, b"\n"),
-        End::NotUnderstood => err.write(b"kmod: usage: kmod depmod|modprobe|modinfo|trial WORDS\n"),
+        End::NotUnderstood => err.write(
+            b"kmod: usage: kmod depmod|modprobe|modinfo|trial|static-nodes|builtin-alias WORDS\n",
+        ),
         End::NoFile { path } => write_around(err, b"kmod: no file ", path.as_bytes(), b"\n"),
         End::TooLarge { path } => write_around(err, b"kmod: ", path.as_bytes(), b": too large\n"),
         End::Inner { line } => err.write(line.as_bytes()),

@@ -1,6 +1,8 @@
-//! Courses: what a command is to do, as a list of acts on the files and outputs with an end, and what it
-//! means that a call did it. A stage is a part of a course; a function above the traits follows a stage,
-//! and the lemmas of this crate compose such functions. It stands on `km_outside`.
+//! Courses: what a command is to do, as a list of acts on the files and outputs with an end, and
+//! what it means that a call did it.
+//!
+//! A stage is a part of a course. Each function above the traits follows a stage, and the lemmas of
+//! this crate compose such functions. The crate uses `km_outside`.
 #![tactic(auto)]
 
 mod conclusion;

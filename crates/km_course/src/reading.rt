@@ -1,5 +1,5 @@
-// Reads of files and listings of folders, each of which follows its stage. The path is copied before the call, since the
-// stop of a failed call takes no memory.
+// Reads of files and listings of folders, each with the stage that it follows. The path is copied
+// before the call, since the stop of a failed call takes no memory.
 ghost use Rattle.std.specs.Prelude.{◌≡◌, ◌≤◌, length, IfOk, OnOk};
 ghost use Rattle.km_names.specs.Limit.{file_limit};
 ghost use Rattle.km_outside.specs.OutSeen.{OutSeen};
@@ -12,8 +12,8 @@ use km_names::{Blob, Names, PathText, Paths};
 use km_outside::{FileAnswer, FileBuffer, Files, Reads};
 use std::alloc::Global;
 
-/// Reads the file at the path, which is needed: an absent file and one past the limit end the command with
-/// status 1, and a failed read stops it with status 3.
+/// Reads the file at the path, which is needed. An absent file and one past the limit end the
+/// command with status 1, and a failed read stops it with status 3.
 pub fn read_needed<F: Reads>(alloc: Global, files: &mut F, path: &PathText) -> Result<Blob, Stop>
     ensures follows { (out err : OutSeen) → Follows (λ bytes. bytes) (reads path.now)
         (world (F.seen files.old) out err) (world (F.seen files.new) out err) result }
@@ -44,7 +44,7 @@ pub fn read_needed_into<F: Reads>(
     }
 }
 
-/// Reads the file at the path, and gives no bytes if nothing is there.
+/// Reads the file at the path. Returns no bytes if nothing is there.
 pub fn read_optional<F: Reads>(alloc: Global, files: &mut F, path: &PathText) -> Result<Blob, Stop>
     ensures follows { (out err : OutSeen) → Follows (λ bytes. bytes) (reads_any path.now)
         (world (F.seen files.old) out err) (world (F.seen files.new) out err) result }
@@ -78,7 +78,7 @@ pub fn list_conf_needed<F: Reads>(
     }
 }
 
-/// Lists the names of the configuration files in the folder, and gives none if nothing is there.
+/// Lists the names of the configuration files in the folder. Returns none if nothing is there.
 pub fn list_conf_optional<F: Reads>(
     alloc: Global,
     files: &mut F,
@@ -115,7 +115,8 @@ pub fn list_tree_needed<F: Files>(
     }
 }
 
-/// Returns how a refused call on files at the path stops the command, if what it asks for is needed.
+/// Returns the stop of a command after a refused call on files at the path, if what it asks for is
+/// needed.
 fn stop_at(answer: FileAnswer, path: PathText) -> Stop
     ensures { result ≡ stop_for answer path }
 {

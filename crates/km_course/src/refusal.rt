@@ -4,15 +4,15 @@ ghost use Rattle.km_course.specs.Lines.{cycle_text, refusal_text};
 use km_names::{Blob, Name, Names, PathText};
 use std::alloc::{AllocError, Global};
 
-/// Why a command is refused with status 1: one variant for each line of its own. What the objects outside
-/// are to blame for, a file that isn't there or one past its limit, is an [`End`](crate::End) beside it.
+/// Why a command is refused with status 1: one variant for each line of its own. A missing file and
+/// one past its limit are an [`End`](crate::End) of their own.
 #[derive(Debug, Drop)]
 pub enum Refusal {
     /// The module at the path is bad: the text of its fault.
     BadModule { path: PathText, text: Blob },
     /// The module at the path is compressed.
     Compressed { path: PathText },
-    /// Modules need each other: their names in order, the first one named once.
+    /// Modules depend on each other in a cycle: their names in order, the first one named once.
     Cycle { names: Names },
     /// No module, command or built-in of the name is known.
     NotFound { name: Name },
@@ -22,32 +22,38 @@ pub enum Refusal {
     BadIndex { file: PathText, text: Blob },
     /// A line of the file isn't understood, counted from 1.
     BadLine { file: PathText, number: u32 },
-    /// A load was asked, and the plan has an install command for this module.
+    /// A load was asked for, and the plan has an install command for this module.
     InstallChosen { name: Name },
     /// The kernel exports the symbol without an address.
     KernelWithoutAddress { name: Name },
     /// A module that is listed as loaded isn't in modules.dep.bin.
     ListedNotFound { name: Name },
-    /// A module that is listed as loaded can't be: the text of its fault.
+    /// A module that is listed as loaded can't be one: the text of its fault.
     ListedRefused { name: Name, text: Blob },
     /// The module can't be loaded: the text of its fault.
     LoadRefused { name: Name, text: Blob },
+    /// The options of a loaded module can't be written into its image: the text of their fault.
+    ParamsRefused { name: Name, text: Blob },
+    /// A module that is to be removed is used by a module that stays.
+    InUse { name: Name, user: Name },
+    /// A removal was asked for, and it has a remove command for this module.
+    RemoveChosen { name: Name },
     /// The tree has more modules than the limit.
     TooManyModules,
-    /// The closures have more members than the limit.
+    /// All modules together have more dependencies than the limit.
     TooManyDependencies,
-    /// More symbols are exported twice than the limit.
+    /// There are more double lines than the limit: pairs of exporters of one symbol.
     TooManyDoubles,
     /// The output file of the name would have more bytes than the limit.
     OutputTooLarge { file: Name },
-    /// The path can't be one of a module.
+    /// The path isn't one that a module can have.
     BadPath { path: PathText },
     /// An output of an inner command is full.
     InnerOutputFull,
 }
 
 impl Refusal {
-    /// What the refusal says.
+    /// Returns the text of the refusal.
     pub(crate) fn text(&self, alloc: Global) -> Result<Blob, AllocError>
         ensures { IfOk result (λ text. text ≡ refusal_text self.now) }
     {
@@ -74,6 +80,13 @@ impl Refusal {
                 two(alloc, b"listed module ", load.as_bytes())
             }
             Refusal::LoadRefused { name, text } => faulty(alloc, name.as_bytes(), text.as_bytes()),
+            Refusal::ParamsRefused { name, text } => {
+                faulty(alloc, name.as_bytes(), text.as_bytes())
+            }
+            Refusal::InUse { name, user } => {
+                three(alloc, name.as_bytes(), b" is in use by ", user.as_bytes())
+            }
+            Refusal::RemoveChosen { name } => two(alloc, b"remove chosen ", name.as_bytes()),
             Refusal::TooManyModules => Blob::from_slice(alloc, b"too many modules"),
             Refusal::TooManyDependencies => Blob::from_slice(alloc, b"too many dependencies"),
             Refusal::TooManyDoubles => Blob::from_slice(alloc, b"too many doubles"),
@@ -84,7 +97,7 @@ impl Refusal {
     }
 }
 
-/// One text after the other.
+/// Returns the two texts, one after the other.
 fn two(alloc: Global, first: &[u8], second: &[u8]) -> Result<Blob, AllocError>
     ensures { IfOk result (λ text. text ≡ first.now ++ second.now) }
 {
@@ -93,7 +106,7 @@ fn two(alloc: Global, first: &[u8], second: &[u8]) -> Result<Blob, AllocError>
     Ok(text)
 }
 
-/// Three texts, one after the other.
+/// Returns the three texts, one after the other.
 fn three(alloc: Global, first: &[u8], second: &[u8], third: &[u8]) -> Result<Blob, AllocError>
     ensures { IfOk result (λ text. text ≡ first.now ++ (second.now ++ third.now)) }
 {
@@ -103,14 +116,14 @@ fn three(alloc: Global, first: &[u8], second: &[u8], third: &[u8]) -> Result<Blo
     Ok(text)
 }
 
-/// What is refused, and the text of its fault.
+/// Returns the thing that is refused, and the text of its fault.
 fn faulty(alloc: Global, what: &[u8], fault: &[u8]) -> Result<Blob, AllocError>
     ensures { IfOk result (λ text. text ≡ what.now ++ (codes ": " ++ fault.now)) }
 {
     three(alloc, what, b": ", fault)
 }
 
-/// The names along a cycle, an arrow between each two, and the first one again.
+/// Returns the names along a cycle, an arrow between each two, and the first one again.
 fn cycle_text(alloc: Global, names: &Names) -> Result<Blob, AllocError>
     ensures { IfOk result (λ text. text ≡ cycle_text names.now) }
 {

@@ -6,11 +6,11 @@ use crate::{End, Refusal};
 use km_names::PathText;
 use std::alloc::{AllocError, AllocFailed};
 
-/// Why a command stopped before its last act. A stop owns the path that its line on err names, so that
-/// the line of a failed call takes no memory.
+/// Why a command stopped before its last act. A stop owns the path that its line on err names, so
+/// that the line of a failed call takes no memory.
 #[derive(Debug, Drop)]
 pub enum Stop {
-    /// The course came to this end: status 1 or 2.
+    /// The course reached this end: status 1 or 2.
     Ended(End),
     /// A call on files at this path failed: status 3.
     FileFault { path: PathText },

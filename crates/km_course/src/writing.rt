@@ -43,8 +43,8 @@ pub fn warn<E: Out>(err: &mut E, bytes: &[u8]) -> Result<(), Stop>
     }
 }
 
-/// Puts a file of these bytes at the path, whole or not at all. A failed replacement stops the command
-/// with status 3.
+/// Puts a file of these bytes at the path, whole or not at all. A failed replacement stops the
+/// command with status 3.
 pub fn put<F: Writes>(
     alloc: Global,
     files: &mut F,

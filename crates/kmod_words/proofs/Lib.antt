@@ -2,3 +2,4 @@ pub mod ArgumentLemmas
 pub mod DecimalLemmas
 pub mod MatchLemmas
 pub mod RequestLemmas
+pub mod NodeRequests

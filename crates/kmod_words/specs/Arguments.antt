@@ -4,7 +4,7 @@ use Rattle.clap.specs.Words.{App, Rule, Text, new_app, new_rule}
 use Rattle.clap.specs.declared.builder.action.ArgAction.TheVariants.{Append, Set, SetTrue}
 use Rattle.clap.specs.declared.builder.value_parser.ValueParser.TheVariants.{NonEmptyString}
 
--- A flag: `-l` by its letter, or `--name`.
+-- A flag: `-l` by its letter, if it has one, or `--name`.
 abbrev pub flag : Text → Text → Rule
 flag letter name = record (new_rule name) { short = slice_get letter 0; long = Some name; action = Some SetTrue }
 
@@ -15,6 +15,10 @@ with_value name = record (new_rule name) { action = Some Set; parser = Some NonE
 -- An option with a value: `-l` by its letter, if it has one, or `--name`.
 abbrev pub valued : Text → Text → Rule
 valued letter name = record (with_value name) { short = slice_get letter 0; long = Some name }
+
+-- An option with a value that has a letter alone.
+abbrev pub lettered : Text → Text → Rule
+lettered letter name = record (with_value name) { short = slice_get letter 0 }
 
 -- Such an option, without which the words aren't understood.
 abbrev pub required : Rule → Rule

@@ -16,6 +16,7 @@ depmod_command = command (codes "depmod") (
     ∷ valued (codes "C") (codes "config")
     ∷ valued (codes "F") (codes "filesyms")
     ∷ valued (codes "E") (codes "symvers")
+    ∷ flag (codes "") (codes "extra")
     ∷ word (codes "version")
     ∷ []
     )
@@ -27,6 +28,7 @@ depmod_of rows version =
     record {
       dry_run = is_given (codes "dry-run") rows;
       errsyms = is_given (codes "errsyms") rows;
+      extra = is_given (codes "extra") rows;
       basedir = basedir;
       outdir = unwrap_or (value_of (codes "outdir") rows) basedir;
       config = value_of (codes "config") rows;

@@ -6,3 +6,5 @@ pub mod Depmod
 pub mod Modprobe
 pub mod Modinfo
 pub mod Trial
+pub mod BuiltinAlias
+pub mod StaticNodes

@@ -1,12 +1,12 @@
 -- What the words of `modprobe` ask for. modprobe(8).
-use Rattle.std.specs.Prelude.{◌&&◌, List, [], ◌∷◌, Bool, true, false, Option, Some, None, is_some, if◌then◌else◌, option_and_then, option_map, unwrap_or, codes}
+use Rattle.std.specs.Prelude.{◌&&◌, List, [], ◌∷◌, Bool, true, false, Option, Some, None, is_some, not, if◌then◌else◌, option_and_then, option_map, unwrap_or, codes}
 use Rattle.clap.specs.Words.{App, Row, Text}
 use Rattle.kmod_words.specs.Arguments.{command, flag, required, valued, words}
 use Rattle.kmod_words.specs.Numbers.{region_or_usual}
 use Rattle.kmod_words.specs.Understood.{understood, is_given, value_of, words_of, is_version}
 use Rattle.kmod_words.specs.declared.modprobe.Choice.{Choice}
 use Rattle.kmod_words.specs.declared.modprobe.Mode.{Mode}
-use Rattle.kmod_words.specs.declared.modprobe.Mode.TheVariants.{Load, DryRun, ShowDepends, ResolveAlias}
+use Rattle.kmod_words.specs.declared.modprobe.Mode.TheVariants.{Load, DryRun, ShowDepends, ResolveAlias, Remove}
 use Rattle.kmod_words.specs.declared.modprobe.ModprobeWords.{ModprobeWords}
 use Rattle.kmod_words.specs.declared.region.Region.{Region}
 
@@ -19,6 +19,7 @@ modprobe_command = command (codes "modprobe") (
     ∷ flag (codes "n") (codes "dry-run")
     ∷ flag (codes "D") (codes "show-depends")
     ∷ flag (codes "R") (codes "resolve-alias")
+    ∷ flag (codes "r") (codes "remove")
     ∷ valued (codes "d") (codes "dirname")
     ∷ required (valued (codes "S") (codes "set-version"))
     ∷ valued (codes "C") (codes "config")
@@ -27,25 +28,31 @@ modprobe_command = command (codes "modprobe") (
     ∷ valued (codes "") (codes "symvers")
     ∷ valued (codes "") (codes "region")
     ∷ valued (codes "") (codes "image")
+    ∷ flag (codes "") (codes "params")
     ∷ words (codes "words")
     ∷ []
     )
 
--- The mode by the flags `-n`, `-D` and `-R`, of which at most one is given.
-abbrev pub mode_by_flags : Bool → Bool → Bool → Option Mode
-mode_by_flags false false false = Some Load
-mode_by_flags true false false = Some DryRun
-mode_by_flags false true false = Some ShowDepends
-mode_by_flags false false true = Some ResolveAlias
-mode_by_flags _ _ _ = None
+-- The mode by the flags `-n`, `-D`, `-R` and `-r`: at most one of them is given, but `-n` goes with `-r`.
+abbrev pub mode_by_flags : Bool → Bool → Bool → Bool → Option Mode
+mode_by_flags false false false false = Some Load
+mode_by_flags true false false false = Some DryRun
+mode_by_flags false true false false = Some ShowDepends
+mode_by_flags false false true false = Some ResolveAlias
+mode_by_flags dry_run false false true = Some (Remove dry_run)
+mode_by_flags _ _ _ _ = None
 
 abbrev pub mode_asked : List Row → Option Mode
-mode_asked rows = mode_by_flags (is_given (codes "dry-run") rows) (is_given (codes "show-depends") rows) (is_given (codes "resolve-alias") rows)
+mode_asked rows = mode_by_flags (is_given (codes "dry-run") rows) (is_given (codes "show-depends") rows) (is_given (codes "resolve-alias") rows) (is_given (codes "remove") rows)
 
--- Whether a mode has the addresses of the kernel that it needs: to load, a System.map.
-abbrev pub has_addresses : List Row → Mode → Bool
-has_addresses rows Load = is_some (value_of (codes "system-map") rows)
-has_addresses rows _ = true
+-- Whether the other options go with a mode. A load and a removal need the addresses of a System.map, `--params` is for a
+-- load, and a removal has no `--image`.
+abbrev pub goes_with : List Row → Mode → Bool
+goes_with rows Load = is_some (value_of (codes "system-map") rows)
+goes_with rows DryRun = not (is_given (codes "params") rows)
+goes_with rows ShowDepends = not (is_given (codes "params") rows)
+goes_with rows ResolveAlias = not (is_given (codes "params") rows)
+goes_with rows (Remove dry_run) = is_some (value_of (codes "system-map") rows) && not (is_some (value_of (codes "image") rows)) && not (is_given (codes "params") rows)
 
 -- What is asked for in this mode, of this version and in this region.
 abbrev pub modprobe_of : List Row → Mode → Text → Region → ModprobeWords
@@ -63,15 +70,16 @@ modprobe_of rows mode version region = record {
   region_base = region.base;
   region_size = region.size;
   image = value_of (codes "image") rows;
+  params = is_given (codes "params") rows;
   words = words_of (codes "words") rows;
 }
 
--- The mode, the version and the region that the matches choose: at most one of `-n`, `-D` and `-R`, a version without `/`, a region of
--- modules, and to load a System.map.
+-- The mode, the version and the region that the matches choose: a mode with which the other options go, a version without
+-- `/`, and a region of modules.
 unfoldable pub chosen : List Row → Option (Mode × Text × Region)
 chosen rows =
     option_and_then (λ mode. option_and_then (λ version. option_and_then (λ region.
-    if is_version version && has_addresses rows mode then Some (mode, version, region) else None)
+    if is_version version && goes_with rows mode then Some (mode, version, region) else None)
     (region_or_usual (value_of (codes "region") rows)))
     (value_of (codes "set-version") rows))
     (mode_asked rows)

@@ -13,10 +13,16 @@ use std::alloc::{AllocError, Global};
 pub(crate) enum Argument {
     /// A flag, with its letter.
     Flag(char, &'static str),
+    /// A flag, without a letter.
+    FlagByName(&'static str),
     /// An option with a value, with its letter.
     Valued(char, &'static str),
     /// An option with a value, without a letter.
     ValuedByName(&'static str),
+    /// An option with a value, with its letter alone.
+    ValuedByLetter(char, &'static str),
+    /// An option with a value, with its letter alone, which is required.
+    RequiredByLetter(char, &'static str),
     /// An option with a value, which is required.
     Required(char, &'static str),
     /// A word.
@@ -35,8 +41,15 @@ impl Argument {
                 .short(letter)
                 .long(name)
                 .action(ArgAction::SetTrue),
+            Argument::FlagByName(name) => Arg::new(alloc, name)
+                .long(name)
+                .action(ArgAction::SetTrue),
             Argument::Valued(letter, name) => valued(alloc, name).short(letter).long(name),
             Argument::ValuedByName(name) => valued(alloc, name).long(name),
+            Argument::ValuedByLetter(letter, name) => valued(alloc, name).short(letter),
+            Argument::RequiredByLetter(letter, name) => {
+                valued(alloc, name).short(letter).required(true)
+            }
             Argument::Required(letter, name) => valued(alloc, name)
                 .short(letter)
                 .long(name)

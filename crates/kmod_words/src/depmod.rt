@@ -8,7 +8,7 @@ use clap::ArgMatches;
 use km_names::{Name, PathText, Word};
 use std::alloc::{AllocError, Global};
 
-const ARGUMENTS: [Argument; 9] = [
+const ARGUMENTS: [Argument; 10] = [
     Argument::Flag('a', "all"),
     Argument::Flag('n', "dry-run"),
     Argument::Flag('e', "errsyms"),
@@ -17,6 +17,7 @@ const ARGUMENTS: [Argument; 9] = [
     Argument::Valued('C', "config"),
     Argument::Valued('F', "filesyms"),
     Argument::Valued('E', "symvers"),
+    Argument::FlagByName("extra"),
     Argument::Word("version"),
 ];
 
@@ -27,6 +28,8 @@ pub struct DepmodWords {
     pub dry_run: bool,
     /// Whether to warn of symbols that nothing exports, and of versions that differ.
     pub errsyms: bool,
+    /// Whether to write the index of built-in aliases and the list of device nodes too.
+    pub extra: bool,
     /// The root below which the modules are.
     pub basedir: PathText,
     /// The root below which the files are written.
@@ -88,6 +91,7 @@ fn words_for(
     Ok(DepmodWords {
         dry_run: is_given(matches, "dry-run"),
         errsyms: is_given(matches, "errsyms"),
+        extra: is_given(matches, "extra"),
         basedir,
         outdir,
         config: bytes_of(alloc, matches, "config")?,

@@ -7,15 +7,19 @@
 #![tactic(auto)]
 
 mod arguments;
+mod builtin_alias;
 mod depmod;
 mod matches;
 mod modinfo;
 mod modprobe;
 mod numbers;
 mod region;
+mod static_nodes;
 mod trial;
 
+pub use builtin_alias::{BuiltinAliasWords, read_builtin_alias};
 pub use depmod::{DepmodWords, read_depmod};
 pub use modinfo::{ModinfoWords, read_modinfo};
 pub use modprobe::{Mode, ModprobeWords, read_modprobe};
+pub use static_nodes::{StaticNodesWords, read_static_nodes};
 pub use trial::{TrialWords, read_trial};

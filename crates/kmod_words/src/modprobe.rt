@@ -1,6 +1,6 @@
 ghost use Rattle.std.specs.Prelude.{◌≡◌, IfOk, Option, option_map};
 ghost use Rattle.clap.specs.Words.{found_of, rows_of};
-ghost use Rattle.kmod_words.specs.Modprobe.{modprobe_request, modprobe_asked, modprobe_of, mode_asked as mode_of_flags, mode_by_flags as mode_of_three, has_addresses as has_kernel_addresses, chosen, shown};
+ghost use Rattle.kmod_words.specs.Modprobe.{modprobe_request, modprobe_asked, modprobe_of, mode_asked as mode_of_flags, mode_by_flags as mode_of_four, goes_with as options_go_with, chosen, shown};
 
 use crate::arguments::{Argument, command};
 use crate::matches::{
@@ -11,13 +11,14 @@ use clap::ArgMatches;
 use km_names::{Name, Names, PathText, Word};
 use std::alloc::{AllocError, Global};
 
-const ARGUMENTS: [Argument; 15] = [
+const ARGUMENTS: [Argument; 17] = [
     Argument::Flag('a', "all"),
     Argument::Flag('b', "use-blacklist"),
     Argument::Flag('i', "ignore-install"),
     Argument::Flag('n', "dry-run"),
     Argument::Flag('D', "show-depends"),
     Argument::Flag('R', "resolve-alias"),
+    Argument::Flag('r', "remove"),
     Argument::Valued('d', "dirname"),
     Argument::Required('S', "set-version"),
     Argument::Valued('C', "config"),
@@ -26,6 +27,7 @@ const ARGUMENTS: [Argument; 15] = [
     Argument::ValuedByName("symvers"),
     Argument::ValuedByName("region"),
     Argument::ValuedByName("image"),
+    Argument::FlagByName("params"),
     Argument::Words("words"),
 ];
 
@@ -40,6 +42,8 @@ pub enum Mode {
     ShowDepends,
     /// Print what each name stands for.
     ResolveAlias,
+    /// Take them out, or only print the steps of the removal.
+    Remove { dry_run: bool },
 }
 
 /// What `modprobe` is asked for.
@@ -61,16 +65,19 @@ pub struct ModprobeWords {
     pub config: Option<PathText>,
     /// The file that lists the loaded modules, in the form of /proc/modules.
     pub loaded: Option<PathText>,
-    /// The System.map of the kernel. To load it is there.
+    /// The System.map of the kernel, which is always given for a load or a removal.
     pub system_map: Option<PathText>,
-    /// The System.map of the kernel, which is always given for a load.
+    /// The Module.symvers of the kernel.
     pub symvers: Option<PathText>,
     /// Where the region begins in which modules are placed, a multiple of 4096.
     pub region_base: u64,
     /// How many bytes the region has, a multiple of 4096 and not 0. It ends at 2^64 at most.
     pub region_size: u64,
-    /// The folder into which images are written.
+    /// The folder into which images are written. It is never given for a removal.
     pub image: Option<PathText>,
+    /// Whether the options of each loaded module are applied to a copy of its image. It is given
+    /// only for a load.
+    pub params: bool,
     /// The name and all further words, at least one.
     pub words: Names,
 }
@@ -114,7 +121,7 @@ fn choice_of<'a>(matches: &ArgMatches<'a>) -> Option<Choice<'a>>
     let mode = mode_asked(matches)?;
     let version = value_of(matches, "set-version")?;
     let region = region_or_usual(value_of(matches, "region"))?;
-    if is_version(version) && has_addresses(matches, mode) {
+    if is_version(version) && goes_with(matches, mode) {
         Some(Choice {
             mode,
             version,
@@ -133,28 +140,39 @@ fn mode_asked(matches: &ArgMatches<'_>) -> Option<Mode>
         is_given(matches, "dry-run"),
         is_given(matches, "show-depends"),
         is_given(matches, "resolve-alias"),
+        is_given(matches, "remove"),
     )
 }
 
-fn mode_by_flags(dry_run: bool, show_depends: bool, resolve_alias: bool) -> Option<Mode>
-    ensures { result ≡ mode_of_three dry_run show_depends resolve_alias }
+fn mode_by_flags(
+    dry_run: bool,
+    show_depends: bool,
+    resolve_alias: bool,
+    remove: bool,
+) -> Option<Mode>
+    ensures { result ≡ mode_of_four dry_run show_depends resolve_alias remove }
 {
-    match (dry_run, show_depends, resolve_alias) {
-        (false, false, false) => Some(Mode::Load),
-        (true, false, false) => Some(Mode::DryRun),
-        (false, true, false) => Some(Mode::ShowDepends),
-        (false, false, true) => Some(Mode::ResolveAlias),
+    match (dry_run, show_depends, resolve_alias, remove) {
+        (false, false, false, false) => Some(Mode::Load),
+        (true, false, false, false) => Some(Mode::DryRun),
+        (false, true, false, false) => Some(Mode::ShowDepends),
+        (false, false, true, false) => Some(Mode::ResolveAlias),
+        (dry_run, false, false, true) => Some(Mode::Remove { dry_run }),
         _ => None,
     }
 }
 
-// Whether the mode has the addresses that it needs.
-fn has_addresses(matches: &ArgMatches<'_>, mode: Mode) -> bool
-    ensures { result ≡ has_kernel_addresses (rows_of (found_of matches.now)) mode }
+// Whether the mode has the addresses that it needs, and no option that isn't for it.
+fn goes_with(matches: &ArgMatches<'_>, mode: Mode) -> bool
+    ensures { result ≡ options_go_with (rows_of (found_of matches.now)) mode }
 {
+    let has_map = value_of(matches, "system-map").is_some();
+    let has_image = value_of(matches, "image").is_some();
+    let params = is_given(matches, "params");
     match mode {
-        Mode::Load => value_of(matches, "system-map").is_some(),
-        _ => true,
+        Mode::Load => has_map,
+        Mode::DryRun | Mode::ShowDepends | Mode::ResolveAlias => !params,
+        Mode::Remove { .. } => has_map && !has_image && !params,
     }
 }
 
@@ -181,6 +199,7 @@ fn words_for(
         region_base: choice.region.base,
         region_size: choice.region.size,
         image: bytes_of(alloc, matches, "image")?,
+        params: is_given(matches, "params"),
         words: words_of(alloc, matches, "words")?,
     })
 }

@@ -18,5 +18,6 @@ returns c =
       region_base = c.args.choice.now.region.base;
       region_size = c.args.choice.now.region.size;
       image = c.in_ok-bytes_of-5.ensures i;
+      params = c.is_given-4.ensures i;
       words = c.in_ok-words_of.ensures i;
     }

@@ -1,0 +1,68 @@
+ghost use Rattle.std.specs.Prelude.{◌≡◌, IfOk, codes};
+ghost use Rattle.std.specs.Str.{bytes_eq};
+ghost use Rattle.clap.specs.Words.{found_of, rows_of};
+ghost use Rattle.kmod_words.specs.StaticNodes.{static_nodes_request, static_nodes_asked};
+
+use crate::arguments::{Argument, command};
+use crate::matches::{bytes_or, is_version, texts_of, understood, value_of};
+use clap::ArgMatches;
+use km_names::{Name, PathText, Word};
+use std::alloc::{AllocError, Global};
+
+const ARGUMENTS: [Argument; 3] = [
+    Argument::ValuedByLetter('d', "dirname"),
+    Argument::RequiredByLetter('S', "set-version"),
+    Argument::Required('f', "format"),
+];
+
+/// What `static-nodes` is asked for.
+#[derive(Debug, Drop)]
+pub struct StaticNodesWords {
+    /// The root below which the kernel's modules are.
+    pub dirname: PathText,
+    /// The kernel's version, which names the folder of its modules.
+    pub version: Name,
+}
+
+/// Reads what the words after `static-nodes` ask for: `-d ROOT -S VERSION --format devname`. It is `None` exactly if they
+/// aren't understood, as no other format is. kmod(8), "static-nodes"; `-d` and `-S` are this project's own.
+pub fn read_static_nodes(
+    alloc: Global,
+    words: &[Word],
+) -> Result<Option<StaticNodesWords>, AllocError>
+    ensures { IfOk result (λ asked. asked ≡ static_nodes_request words.now) }
+{
+    let command = command(alloc, "static-nodes", &ARGUMENTS)?;
+    let texts = texts_of(alloc, words)?;
+    match understood(command, texts.as_slice())? {
+        Some(matches) => asked(alloc, &matches),
+        None => Ok(None),
+    }
+}
+
+// Returns what the matches ask for.
+#[tactic(auto, unfolding(crate::specs::StaticNodes::static_nodes_asked))]
+fn asked(alloc: Global, matches: &ArgMatches<'_>) -> Result<Option<StaticNodesWords>, AllocError>
+    ensures { IfOk result (λ asked. asked ≡ static_nodes_asked (rows_of (found_of matches.now))) }
+{
+    let Some(version) = value_of(matches, "set-version") else {
+        return Ok(None);
+    };
+    let Some(format) = value_of(matches, "format") else {
+        return Ok(None);
+    };
+    if !is_version(version) || !is_devname(format) {
+        return Ok(None);
+    }
+    Ok(Some(StaticNodesWords {
+        dirname: bytes_or(alloc, matches, "dirname", b"/")?,
+        version: Name::from_slice(alloc, version.as_bytes())?,
+    }))
+}
+
+// Whether a format is the one that is understood.
+fn is_devname(format: &str) -> bool
+    ensures { result ≡ bytes_eq format.now (codes "devname") }
+{
+    format.as_bytes() == b"devname".as_slice()
+}
