@@ -1,4 +1,4 @@
--- What a fault of an index says, and its text in a line on standard error.
+-- The faults of an index, and their texts in a line on standard error.
 use Rattle.std.specs.Prelude.{◌≡◌, ℕ, List, ◌++◌, codes, Option, Some}
 use Rattle.std.specs.Fmt.{decimal}
 use Rattle.index_format.specs.Check.{Fault, BadMagic as NoMagic, BadVersion as NoVersion, BadNode as NodeFault, Revisited as SecondVisit}

@@ -1,4 +1,4 @@
--- Where the fields of a node stand in a file.
+-- The places of the fields of a node in a file.
 use Rattle.std.specs.Prelude.{◌≡◌, ℕ, ◌+◌, ◌≤◌, true, List, length, drop}
 use Rattle.index_format.specs.Link.{place_of, has_prefix}
 use Rattle.index_format.specs.Node.{prefix, after_prefix, after_children}
@@ -16,7 +16,7 @@ pub record IsChildrenEnd (b : List ℕ) (link end : ℕ) : Type 0 where
   pub within : end ≤ length b
   pub rest : drop end b ≡ after_children b link
 
--- The fields of the node stand where it says.
+-- The fields of the node are at the places that it states.
 pub record HasFields (b : List ℕ) (n : Node) : Type 0 where
   pub children : IsPrefixEnd b n.link n.children
   pub values : IsChildrenEnd b n.link n.values

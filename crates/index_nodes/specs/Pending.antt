@@ -1,4 +1,5 @@
 -- What is still to be visited.
+-- It belongs to the code: no public meaning rests on it.
 use Rattle.std.specs.Prelude.{◌≡◌, ℕ, zero, suc, ◌+◌, ◌*◌, ◌≤◌, false, List, [], ◌∷◌, ◌++◌, length, nat_eq, Option}
 use Rattle.std.specs.List.{cons_option, flat_map, list_any}
 use Rattle.km_names.specs.Number.{be}
@@ -16,41 +17,41 @@ unfoldable pub links_at : List ℕ → ℕ → ℕ → List ℕ
 links_at b place zero = []
 links_at b place (suc n) = cons_option (present (be b place 4)) (links_at b (place + 4) n)
 
--- The children that are still to be visited.
+-- The children still to be visited.
 abbrev pub links_of : List ℕ → Pending → List ℕ
 links_of b p = links_at b p.next p.left
 
--- The reader comes to a child from the node at a place.
+-- The visit to a child of the node at a place.
 abbrev pub child_arrival : ℕ → ℕ → Arrival
 child_arrival above link = record { above = above; is_root = false; link = link }
 
--- The arrivals at children of the node at a place and at all below them.
+-- The visits to children of the node at a place and to all nodes below them.
 abbrev pub child_arrivals : List ℕ → ℕ → List ℕ → List Arrival
 child_arrivals b above links = flat_map (λ link. arrivals b above (child_arrival above link)) links
 
--- The arrivals that are still to come, the last one's first.
+-- The visits still to come, the last one's first.
 abbrev pub arrivals_left : List ℕ → List Pending → List Arrival
 arrivals_left b [] = []
 arrivals_left b (p ∷ ps) = arrivals_left b ps ++ child_arrivals b p.above (links_of b p)
 
--- The offsets stand in the file.
+-- The offsets are in the file.
 abbrev pub IsInside : List ℕ → Pending → Type 0
 IsInside b p = p.next + 4 * p.left ≤ length b
 
--- The set has the places that were visited, and no other.
+-- The set has exactly the places that were visited.
 abbrev pub HasPlaces : PlaceSet → List ℕ → Type 0
 HasPlaces set seen = (place : ℕ) → has_place set place ≡ list_any (nat_eq place) seen
 
--- The arrival of a visit.
+-- The arrival of a visit, as the format defines it.
 abbrev pub arrival_of : Visit → Arrival
 arrival_of v = record { above = v.above; is_root = v.is_root; link = v.link }
 
--- What is pending after the visit of a node: its children.
+-- What is pending after the visit to a node: its children.
 pub record IsPendingOf (b : List ℕ) (link : ℕ) (p : Pending) : Type 0 where
   pub above : p.above ≡ place_of link
   pub links : links_of b p ≡ children b link
   pub inside : IsInside b p
 
--- The first fault at the root and at all below it.
+-- The first fault at the root and at all nodes below it.
 abbrev pub nodes_fault : List ℕ → Option Fault
 nodes_fault b = first (arrival_faults b [] (arrivals b (length b + 1) (root_arrival b)))

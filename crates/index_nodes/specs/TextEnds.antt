@@ -1,9 +1,9 @@
--- Where texts end, by the blocks of a file. Private contracts alone cite this.
+-- The ends of texts, by the blocks of a file: a part of the invariant of `Nodes`.
 use Rattle.std.specs.Prelude.{◌≡◌, ◌≢◌, ℕ, ◌+◌, ◌*◌, ◌/◌, ◌<◌, ◌≤◌, List, length, vec_len, min, slice_index}
 use Rattle.index_nodes.specs.declared.text_ends.TextEnds.{TextEnds}
 use Rattle.index_nodes.specs.declared.text_ends.TheConstants.{BLOCK}
 
--- The text from a place on ends before this one: at the first NUL, or at the end of the file where
+-- The text from a place on ends before this one: at the first NUL, or at the end of the file if
 -- there is none.
 pub record IsTextEnd (b : List ℕ) (start end : ℕ) : Type 0 where
   pub low : start ≤ end
@@ -11,7 +11,7 @@ pub record IsTextEnd (b : List ℕ) (start end : ℕ) : Type 0 where
   pub clear : (k : ℕ) → start ≤ k → k < end → slice_index b k ≢ 0
   pub nul : end < length b → slice_index b end ≡ 0
 
--- Where a block begins, the end of the file where that is before.
+-- The place of a block, or the end of the file if that is before it.
 abbrev pub block_start : List ℕ → ℕ → ℕ
 block_start b block = min (block * BLOCK) (length b)
 

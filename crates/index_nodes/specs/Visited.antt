@@ -1,4 +1,5 @@
 -- The places that were visited.
+-- It belongs to the code: no public meaning rests on it.
 use Rattle.std.specs.Prelude.{ℕ, ◌/◌, ◌%◌, ◌==◌, Bool, slice_index}
 use Rattle.std.specs.Int.{bit_at}
 use Rattle.index_nodes.specs.declared.place_set.PlaceSet.{PlaceSet}

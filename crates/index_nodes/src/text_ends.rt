@@ -1,4 +1,5 @@
 ghost use Rattle.std.specs.Prelude.{◌≡◌, ◌+◌, ◌/◌, ◌≤◌, length, IfOk};
+ghost use Rattle.memchr.specs.Find.{IsFirstByte, is_byte};
 ghost use Rattle.index_nodes.specs.TextEnds.{block_start, IsTextEnd, AreTextEnds};
 
 use memchr::memchr;
@@ -6,6 +7,9 @@ use std::alloc::{AllocError, Global};
 
 /// The bytes of one block.
 const BLOCK: usize = 256;
+
+/// How many bytes are looked at one by one before a wide search. Most texts are shorter.
+const FEW: usize = 16;
 
 /// Where the texts of a file end, each before its first NUL or at the end of the file: for every
 /// block of the file the end of the text that begins with it. So the end of any text is found
@@ -23,6 +27,18 @@ fn start_of(bytes: &[u8], block: usize) -> usize
     (block * BLOCK).min(bytes.len())
 }
 
+/// Where the first NUL stands.
+fn first_nul(bytes: &[u8]) -> Option<usize>
+    ensures { IsFirstByte (is_byte 0) bytes.now result }
+{
+    for place in 0..bytes.len().min(FEW) {
+        if bytes[place] == 0 {
+            return Some(place);
+        }
+    }
+    memchr(0, bytes)
+}
+
 /// Where the text from `start` on ends, by the end of that from a later place on.
 fn earlier_end(bytes: &[u8], start: usize, later: usize, later_end: usize) -> usize
     requires order { start ≤ later }
@@ -30,7 +46,7 @@ fn earlier_end(bytes: &[u8], start: usize, later: usize, later_end: usize) -> us
     requires end { IsTextEnd bytes.now later later_end }
     ensures { IsTextEnd bytes.now start result }
 {
-    match memchr(0, &bytes[start..later]) {
+    match first_nul(&bytes[start..later]) {
         Some(place) => start + place,
         None => later_end,
     }

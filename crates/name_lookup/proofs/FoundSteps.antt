@@ -1,5 +1,5 @@
 -- Lists of names and rules, an item more at a time.
-use Rattle.std.proofs.Common.{◌≡◌, ℕ, ◌+◌, ◌<◌, ◌||◌, Bool, true, false, cond, List, [], ◌∷◌, ◌++◌, length, take, get_or, filter, filter_map, Option, Some, None, refl, sym, ap, ◌∙◌, append-nil, arith}
+use Rattle.std.proofs.Common.{◌≡◌, ℕ, ◌+◌, ◌<◌, ◌≤◌, ◌||◌, ◌&&◌, not, Bool, true, false, cond, List, [], ◌∷◌, ◌++◌, length, take, get_or, filter, filter_map, Option, Some, None, refl, sym, ap, ◌∙◌, append-nil, arith}
 use Rattle.std.specs.List.{cons_option, slice_get}
 use Rattle.std.specs.Option.{option_map_or}
 use Rattle.std.specs.Str.{bytes_eq}
@@ -11,6 +11,7 @@ use Rattle.std.proofs.lemmas.Option.{get_or_from_slice_get, slice_get_within, sl
 use Rattle.km_names.specs.AliasForm.{normal_alias}
 use Rattle.modprobe_conf.specs.declared.rule.Rule.{Rule}
 use Rattle.modprobe_conf.specs.declared.rule.Rule.TheVariants.{Alias, Blacklist, Options, Install, Remove, Softdep}
+use Rattle.name_table.specs.FirstSeen.{first_seen, is_among}
 use Rattle.name_lookup.specs.Maps.{Maps}
 use Rattle.name_lookup.specs.Found.{installs, has_install, blacklists, is_blacklisted, found, found_normal}
 use Rattle.name_lookup.specs.Tables.{installed_name}
@@ -88,3 +89,14 @@ filter_map-more f xs i x within here =
     ap (filter_map f) (take_more xs i x within)
     ∙ filter_map-append f (take i xs) (get_or xs i x ∷ [])
     ∙ ap (λ y. filter_map f (take i xs) ++ cons_option (f y) []) (sym here)
+
+-- Where there is one name at most and none is dropped, all stay.
+pub one-stays : (names dropped : List (List ℕ)) (drops : Bool) → length names ≤ 1 → (drops ≡ true → dropped ≡ [])
+    → filter (λ name. not (drops && is_among dropped name)) (first_seen names) ≡ names
+one-stays [] dropped drops few none = refl
+one-stays (name ∷ []) dropped drops few none = by drops none
+  where
+    by : (b : Bool) → (b ≡ true → dropped ≡ []) → filter (λ n. not (b && is_among dropped n)) (name ∷ []) ≡ name ∷ []
+    by true none = ap (λ ds. filter (λ n. not (is_among ds n)) (name ∷ [])) (none refl)
+    by false none = refl
+one-stays (x ∷ y ∷ names) dropped drops few none = absurd (omega (arith, few))

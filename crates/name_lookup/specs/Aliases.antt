@@ -1,5 +1,5 @@
--- The aliases of a configuration as the code keeps them, with their places among the rules. Only private contracts cite
--- this file. modprobe.d(5).
+-- The aliases of a configuration as the code keeps them, with their places among the rules.
+-- It belongs to the code: no public meaning rests on it. modprobe.d(5).
 use Rattle.std.specs.Prelude.{◌≡◌, ℕ, suc, ◌+◌, nat_lt, List, [], ◌∷◌, ◌++◌, map, take, Option, Some, None, if◌then◌else◌}
 use Rattle.std.specs.List.{list_any}
 use Rattle.std.specs.Option.{option_map_or}
@@ -26,12 +26,12 @@ shown_plain alias = (alias.place, alias.name.now)
 abbrev pub shown_wild : WildAlias → Wild
 shown_wild alias = (alias.place, alias.front.now ++ alias.rest.now, alias.name.now)
 
--- The alias at a place, where its pattern has no wildcard and is this name.
+-- The alias at a place, if its pattern has no wildcard and is this name.
 abbrev pub plain_alias : ℕ → List ℕ → List ℕ → List ℕ → List Plain
 plain_alias place pattern name x =
     if list_any is_wildcard pattern then [] else (if bytes_eq pattern x then (place, name) ∷ [] else [])
 
--- The alias at a place, where its pattern has a wildcard.
+-- The alias at a place, if its pattern has a wildcard.
 abbrev pub wild_alias : ℕ → List ℕ → List ℕ → List Wild
 wild_alias place pattern name = if list_any is_wildcard pattern then (place, pattern, name) ∷ [] else []
 
@@ -40,19 +40,20 @@ abbrev pub alias_parts : Rule → Option (List ℕ × List ℕ)
 alias_parts (Alias pattern name) = Some (pattern, name)
 alias_parts _ = None
 
--- The same of a rule at a place, where it is an alias.
+-- The alias of a rule at a place, if it is one: with no wildcard and this name, or with a wildcard.
 abbrev pub plain_here : ℕ → List ℕ → Rule → List Plain
 plain_here place x rule = option_map_or (λ parts. plain_alias place parts.0 parts.1 x) (alias_parts rule) []
 
 abbrev pub wild_here : ℕ → Rule → List Wild
 wild_here place rule = option_map_or (λ parts. wild_alias place parts.0 parts.1) (alias_parts rule) []
 
--- The aliases of rules, the first of which stands at a place, whose pattern has no wildcard and is this name.
+-- The aliases of rules whose pattern has no wildcard and is this name. The first rule is at a
+-- place.
 abbrev pub plain_from : ℕ → List ℕ → List Rule → List Plain
 plain_from place x [] = []
 plain_from place x (rule ∷ rules) = plain_here place x rule ++ plain_from (place + 1) x rules
 
--- The aliases of rules, the first of which stands at a place, whose pattern has a wildcard.
+-- The aliases of rules whose pattern has a wildcard. The first rule is at a place.
 abbrev pub wild_from : ℕ → List Rule → List Wild
 wild_from place [] = []
 wild_from place (rule ∷ rules) = wild_here place rule ++ wild_from (place + 1) rules
@@ -67,7 +68,7 @@ pub record HasMore (old new : AliasTable) (place : ℕ) (pattern name : List ℕ
   pub plain : (x : List ℕ) → map shown_plain (group_of new.plain x) ≡ map shown_plain (group_of old.plain x) ++ plain_alias place pattern name x
   pub wild : map shown_wild new.wild.items ≡ map shown_wild old.wild.items ++ wild_alias place pattern name
 
--- How many aliases stand before the first that stands at a place or behind it, and the names of those.
+-- The number of aliases before a place, and their names.
 abbrev pub count_before : ℕ → List Plain → ℕ
 count_before place [] = 0
 count_before place (p ∷ ps) = if nat_lt p.0 place then suc (count_before place ps) else 0

@@ -5,7 +5,7 @@ use Rattle.std.specs.Map.{lookup}
 use Rattle.std.specs.Str.{bytes_eq}
 use Rattle.std.specs.declared.alloc.Global.{Global}
 
--- The values of a name, none where it has none.
+-- The values of a name, and none if it has none.
 abbrev pub group_of : {X : Type 0} → List (List ℕ × List X) → List ℕ → List X
 group_of groups name = unwrap_or (lookup (bytes_eq name) groups) []
 

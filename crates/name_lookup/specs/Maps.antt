@@ -1,11 +1,11 @@
--- What the index files of a folder stand for: four maps. modules.dep(5), depmod(8).
+-- The four maps that the index files of a folder represent. modules.dep(5), depmod(8).
 use Rattle.std.specs.Prelude.{ℕ, ◌==◌, not, Bool, List, length, map}
 use Rattle.index_format.specs.Map.{Value, KeyValues, values_of}
 use Rattle.index_read.specs.Contents.{contents}
 use Rattle.name_lookup.specs.declared.indexes.Indexes.{Indexes}
 
--- From module names to dependency lines, from patterns of aliases and from names of symbols to module names, and from
--- names of built-in modules.
+-- The maps from module names to dependency lines, from patterns of aliases and from names of
+-- symbols to module names, and from names of built-in modules.
 pub record Maps : Type 0 where
   pub dep : KeyValues
   pub alias : KeyValues
@@ -21,7 +21,7 @@ maps_of i = record {
   builtin = contents i.builtin.nodes;
 }
 
--- A map has a value of the key.
+-- Whether a map has a value of the key.
 abbrev pub has_value : KeyValues → List ℕ → Bool
 has_value m key = not (length (values_of m key) == 0)
 

@@ -1,4 +1,4 @@
-ghost use Rattle.std.specs.Prelude.{◌≡◌, ◌&&◌, ◌∷◌, [], not, filter, IfOk};
+ghost use Rattle.std.specs.Prelude.{◌≡◌, ◌&&◌, ◌∷◌, [], true, not, filter, IfOk};
 ghost use Rattle.name_table.specs.FirstSeen.{first_seen, is_among};
 
 use km_names::{Name, Names};
@@ -33,8 +33,39 @@ pub(crate) fn itself(alloc: Global, list: u8, name: &[u8]) -> Result<Found, Allo
     Ok(Found { list, names })
 }
 
+/// What is left of names without repeats, the first of equal ones kept, and where `drops` says so without those of a
+/// set.
+pub(crate) fn names_left(
+    alloc: Global,
+    names: Names,
+    drops: bool,
+    dropped: &NameSet<'_>,
+) -> Result<Names, AllocError>
+    ensures { IfOk result (λ left. left ≡ filter (λ name. not (drops && is_among dropped.now name)) (first_seen names)) }
+{
+    if stays(&names, drops, dropped) {
+        return Ok(names);
+    }
+    let seen = distinct(alloc, &names)?;
+    names_but(alloc, &seen, drops, dropped)
+}
+
+/// Whether nothing of some names can go: there is one at most, and none is dropped. Most names that are looked up stand
+/// for one.
+fn stays(names: &Names, drops: bool, dropped: &NameSet<'_>) -> bool
+    ensures { result ≡ true → filter (λ name. not (drops && is_among dropped.now name)) (first_seen names.now) ≡ names.now }
+{
+    if names.len() > 1 {
+        return false;
+    }
+    if drops {
+        return dropped.len() == 0;
+    }
+    true
+}
+
 /// The names without repeats, the first of equal ones kept.
-pub(crate) fn distinct(alloc: Global, names: &Names) -> Result<NameSet<'_>, AllocError>
+fn distinct(alloc: Global, names: &Names) -> Result<NameSet<'_>, AllocError>
     ensures { IfOk result (λ seen. seen ≡ first_seen names.now) }
 {
     let mut seen = NameSet::new(alloc);
@@ -45,7 +76,7 @@ pub(crate) fn distinct(alloc: Global, names: &Names) -> Result<NameSet<'_>, Allo
 }
 
 /// The names of a set, where `drops` says so without those of another.
-pub(crate) fn names_but(
+fn names_but(
     alloc: Global,
     names: &NameSet<'_>,
     drops: bool,

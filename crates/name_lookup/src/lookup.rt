@@ -5,7 +5,7 @@ ghost use Rattle.name_lookup.specs.Maps.{maps_of, texts};
 ghost use Rattle.name_lookup.specs.Found.{found, asks_symbol, first_list, kept as kept_of, lists};
 
 use crate::aliases::AliasTable;
-use crate::found::{Found, distinct, itself, names_but, nothing};
+use crate::found::{Found, itself, names_left, nothing};
 use crate::index_names::{names_matching, names_under};
 use crate::indexes::Indexes;
 use crate::rules::{blacklisted_names, installed_names};
@@ -145,11 +145,10 @@ impl<'a> Lookup<'a> {
         ensures { IfOk result (λ f. f ≡ kept_of self.now.rules use_blacklist first) }
     {
         let Found { list, names } = first;
-        let seen = distinct(alloc, &names)?;
         let drops = use_blacklist || list == 5;
         Ok(Found {
             list,
-            names: names_but(alloc, &seen, drops, &self.blacklisted)?,
+            names: names_left(alloc, names, drops, &self.blacklisted)?,
         })
     }
 }

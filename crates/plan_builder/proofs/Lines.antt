@@ -3,6 +3,7 @@ use Rattle.std.proofs.Common.{◌≡◌, ℕ, suc, ◌+◌, ◌<◌, ◌≤◌, 
 use Rattle.std.specs.Prelude.{◌||◌, ◌==◌}
 use Rattle.std.specs.List.{slice_split, onto_first, before_first, after_first, position_or_len, list_any}
 use Rattle.std.proofs.lemmas.Bool.{true≢false}
+use Rattle.std.proofs.lemmas.List.{length-drop}
 use Rattle.std.proofs.lemmas.List.Splits.{slice_split-cons_no, slice_split-cons_yes}
 use Rattle.mod_tree.specs.DependencyLine.{needed_paths, line_needs, line_path, is_dependency_line, own_path}
 use Rattle.plan_builder.specs.Modules.{needed_names}
@@ -49,6 +50,11 @@ others-next p (x ∷ xs) h = by_test (p x) refl h (others-next p xs)
     by_test false e h ih =
         ap needed_paths (slice_split-cons_no p x xs e) ∙ others x (slice_split p xs) ∙ ih h
         ∙ ap (λ ys. before_first p ys ∷ needed_paths (slice_split p ys)) (sym (after-no p x xs e))
+
+-- what follows the first piece is shorter
+pub after-shorter : (p : ℕ → Bool) (xs : List ℕ) → list_any p xs ≡ true → length (after_first p xs) < length xs
+after-shorter p [] h = absurd (true≢false (sym h))
+after-shorter p (x ∷ xs) h = omega (arith, length-drop (position_or_len p (x ∷ xs) + 1) (x ∷ xs))
 
 pub others-none : (p : ℕ → Bool) (xs : List ℕ) → list_any p xs ≡ false → needed_paths (slice_split p xs) ≡ []
 others-none p [] h = refl

@@ -206,19 +206,13 @@ module _ (f : ℕ → Bool) (g : List ℕ → List ℕ) where
       found-more names name
       ∙ no-new (found_for names) (filter f (g name)) (λ y m. has-items [] (filter f (flat_map g names)) y ∙ stood names name h y m)
 
-  -- a name more among those that were looked up
-  pub looked-up-more : (names : List (List ℕ)) (name other : List ℕ) → (is_among names other || bytes_eq other name) ≡ is_among (names ++ name ∷ []) other
-  looked-up-more names name other =
-      ap (λ b. is_among names other || b) (sym (or-false (bytes_eq other name))) ∙ sym (among-more names name other)
+  -- what is among names is among them and one more
+  pub among-still : (names : List (List ℕ)) (name other : List ℕ) → is_among names other ≡ true → is_among (names ++ name ∷ []) other ≡ true
+  among-still names name other h = among-more names name other ∙ or_left _ _ h
 
-  pub looked-up-again : (names : List (List ℕ)) (name other : List ℕ) → is_among names name ≡ true → is_among names other ≡ is_among (names ++ name ∷ []) other
-  looked-up-again names name other h = by (is_among names other) refl (bytes_eq other name) refl ∙ sym (among-more names name other)
-    where
-      by : (b : Bool) → is_among names other ≡ b → (c : Bool) → bytes_eq other name ≡ c → is_among names other ≡ (is_among names other || (c || false))
-      by true e c same = e ∙ sym (ap (λ t. t || (c || false)) e)
-      by false e false same = e ∙ sym (ap (λ t. t || (false || false)) e)
-      by false e true same =
-          absurd (true≢false (sym h ∙ ap (is_among names) (sym ((bytes_eq-Decides other name).0 same)) ∙ e))
+  -- and so is that one
+  pub among-last : (names : List (List ℕ)) (name other : List ℕ) → (is_among names other || bytes_eq other name) ≡ true → is_among (names ++ name ∷ []) other ≡ true
+  among-last names name other h = among-more names name other ∙ ap (λ b. is_among names other || b) (or-false (bytes_eq other name)) ∙ h
 
 -- ---- what is known of whether modules can be loaded
 

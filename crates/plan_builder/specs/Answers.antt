@@ -1,4 +1,5 @@
--- What `plan` learns on its way. Only private contracts cite this file.
+-- What `plan` learns on its way.
+-- It belongs to the code: no public meaning rests on it.
 use Rattle.std.specs.Prelude.{◌≡◌, ◌<◌, ℕ, Bool, List, [], ◌∷◌, map, All, Option}
 use Rattle.index_format.specs.Listing.{KeyValue}
 use Rattle.symbol_binding.specs.declared.unbound.Unbound.{Unbound}
@@ -24,7 +25,7 @@ abbrev pub ShortCycle : ℕ → PlanOrCycle → Type 0
 ShortCycle n (answers.Plan order) = Unit {0}
 ShortCycle n (answers.Cycle found) = All (λ y. y < n) found.items
 
--- The answer is a cycle, of which the obstacle has the names.
+-- The answer is a cycle, and the obstacle has its names.
 abbrev pub IsCycleOf : List KeyValue → PlanOrCycle → Obstacle → Type 0
 IsCycleOf ms (answers.Plan order) o = ⊥
 IsCycleOf ms (answers.Cycle found) o = o ≡ Cycle (map (name_at ms) found.items)

@@ -1,4 +1,4 @@
--- What the names of a request stand for. modprobe(8).
+-- What the names of a request are resolved to. modprobe(8).
 use Rattle.std.specs.Prelude.{ℕ, Bool, List, map, Option, Some, None, if◌then◌else◌}
 use Rattle.std.specs.List.{list_any}
 use Rattle.std.specs.Str.{bytes_eq}
@@ -31,29 +31,29 @@ asked s founds = map (λ f. places_of (modules s) f.names) founds
 abbrev pub planned : Sources → List Found → List ℕ
 planned s founds = planned_for (among (before s)) (unloaded s) (after s) (asked s founds)
 
--- One of what was found has this name.
+-- Whether one of the lists that were found has this name.
 abbrev pub is_member_of : List Found → List ℕ → Bool
 is_member_of founds name = list_any (λ f. is_among f.names name) founds
 
--- A requested name stands for this one.
+-- Whether a requested name is resolved to this one.
 abbrev pub is_member : Sources → Request → List ℕ → Bool
 is_member s request name = is_member_of (found_for s request) name
 
--- The command that a rule has for loading the module of this name.
+-- The command of a rule for loading the module of this name.
 abbrev pub command_of : List ℕ → Rule → Option (List ℕ)
 command_of name (Install owner command) = if bytes_eq owner name then Some command else None
 command_of name _ = None
 
--- The first such command.
+-- The first command for loading the module of this name.
 abbrev pub install_command : List Rule → List ℕ → Option (List ℕ)
 install_command rules name = first (map (command_of name) rules)
 
--- The command that is run in place of loading the module of this name, unless commands are ignored.
+-- The command that is run instead of loading the module of this name, unless commands are ignored.
 abbrev pub chosen_command : List Rule → Bool → List ℕ → Option (List ℕ)
 chosen_command rules ignored name = if ignored then None else install_command rules name
 
--- What a member of what was found for a requested name is: a module, a name for which a command is run, a built-in
--- module, or nothing that is known.
+-- The kind of a name that a requested name is resolved to: a module, a name that a command is run
+-- for, a built-in module, or an unknown name.
 pub data Kind : Type 0 where
   loadable : ℕ → Kind
   installed : List ℕ → Kind

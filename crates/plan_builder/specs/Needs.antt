@@ -1,5 +1,5 @@
--- What each module needs: the modules of its dependency line, and those that its soft dependencies name, where they can
--- be loaded. modules.dep(5), modprobe.d(5), "softdep".
+-- What each module needs: the modules of its dependency line, and those that its soft dependencies
+-- name, if they can be loaded. modules.dep(5), modprobe.d(5), "softdep".
 use Rattle.std.specs.Prelude.{ℕ, ◌==◌, ◌&&◌, not, Bool, List, [], ◌++◌, filter, length, if◌then◌else◌}
 use Rattle.std.specs.List.{list_any, flat_map}
 use Rattle.std.specs.Str.{bytes_eq}
@@ -14,8 +14,9 @@ use Rattle.name_lookup.specs.Maps.{Maps}
 use Rattle.name_lookup.specs.Found.{found}
 use Rattle.plan_builder.specs.Modules.{modules_of, name_at, line_at, path_at, places_of, needed_names}
 
--- What plans are made from: the rules of the configuration, the maps of the index files, the lines of modules.unmet, the
--- names of loaded modules, and whether blacklisted names are dropped everywhere.
+-- What plans are made from: the rules of the configuration, the maps of the index files, the lines
+-- of modules.unmet, the names of loaded modules, and whether blacklisted names are dropped
+-- everywhere.
 pub record Sources : Type 0 where
   pub rules : List Rule
   pub maps : Maps
@@ -31,16 +32,16 @@ modules s = modules_of s.maps.dep
 abbrev pub line_places : List KeyValue → ℕ → List ℕ
 line_places ms x = places_of ms (needed_names (line_at ms x))
 
--- A line on a need of the module at this path.
+-- Whether a line is on a need of the module at this path.
 abbrev pub is_troubled : List Unbound → List ℕ → Bool
 is_troubled unmet path = list_any (belongs path) unmet
 
--- A module can be loaded: no line is on a need of it or of a module of its dependency line.
+-- Whether a module can be loaded: no line is on a need of it or of a module of its dependency line.
 abbrev pub is_available : List KeyValue → List Unbound → ℕ → Bool
 is_available ms unmet x =
     not (is_troubled unmet (path_at ms x)) && not (list_any (λ y. is_troubled unmet (path_at ms y)) (line_places ms x))
 
--- The names that a rule has before and after a module.
+-- The names that a rule has before a module. modprobe.d(5), "softdep".
 abbrev pub names_before : List ℕ → Rule → List (List ℕ)
 names_before name (Softdep owner pre post) = if bytes_eq owner name then pre else []
 names_before name _ = []
@@ -50,11 +51,12 @@ abbrev pub names_after : List ℕ → Rule → List (List ℕ)
 names_after name (Softdep owner pre post) = if bytes_eq owner name then post else []
 names_after name _ = []
 
--- What a name is found to stand for.
+-- The names that a name is resolved to.
 abbrev pub found_names : Sources → List ℕ → List (List ℕ)
 found_names s name = (found s.rules s.maps s.use_blacklist name).names
 
--- The modules that some names stand for, but those that can't be loaded and the module itself.
+-- The modules that some names are resolved to, without those that can't be loaded and the module
+-- itself.
 abbrev pub soft_places : Sources → ℕ → List (List ℕ) → List ℕ
 soft_places s x names =
     filter (λ y. not (y == x) && is_available (modules s) s.unmet y) (flat_map (λ name. places_of (modules s) (found_names s name)) names)
@@ -64,7 +66,7 @@ abbrev pub before : Sources → ℕ → List ℕ
 before s x =
     line_places (modules s) x ++ soft_places s x (flat_map (names_before (name_at (modules s) x)) s.rules)
 
--- What is wanted after it.
+-- What is asked for after a module.
 abbrev pub after : Sources → ℕ → List ℕ
 after s x = soft_places s x (flat_map (names_after (name_at (modules s) x)) s.rules)
 

@@ -1,5 +1,5 @@
--- What keeps a request from having a plan: the first test that fails. The first line of modules.unmet of each kind
--- counts, those on missing symbols first. modprobe(8).
+-- Why a request has no plan: the first test that fails. The first line of modules.unmet of each
+-- kind counts, with lines on missing symbols first. modprobe(8).
 use Rattle.std.specs.Prelude.{ℕ, ◌==◌, ◌&&◌, ◌||◌, Bool, true, false, List, [], ◌∷◌, map, Option, Some, None, unwrap_or, option_map}
 use Rattle.std.specs.List.{find, list_any, flat_map}
 use Rattle.std.specs.Str.{bytes_eq}
@@ -22,7 +22,7 @@ use Rattle.plan_builder.specs.Modules.{bad_name, name_at, path_at, places_of}
 use Rattle.plan_builder.specs.Needs.{Sources, modules, before}
 use Rattle.plan_builder.specs.Members.{found_for, planned, Kind, loadable, installed, inside, unknown, kind_of}
 
--- A name in its normal form, where it has one.
+-- A name in its normal form, or the name itself if it has none.
 abbrev pub shown_name : List ℕ → List ℕ
 shown_name name = unwrap_or (normal_alias name) name
 
@@ -30,18 +30,18 @@ shown_name name = unwrap_or (normal_alias name) name
 abbrev pub not_found : List ℕ → Obstacle
 not_found name = NotFound (shown_name name)
 
--- All lists of a name are empty.
+-- Whether all lists of a name are empty.
 abbrev pub is_unfound : Sources → List ℕ → Bool
 is_unfound s name = (found s.rules s.maps s.use_blacklist name).list == 0
 
--- A member is nothing that is known.
+-- Whether a kind is the unknown one.
 abbrev pub is_unknown_kind : Kind → Bool
 is_unknown_kind (loadable place) = false
 is_unknown_kind (installed command) = false
 is_unknown_kind inside = false
 is_unknown_kind unknown = true
 
--- The member of this name is nothing that is known.
+-- Whether the name is unknown.
 abbrev pub is_unknown : Sources → Bool → List ℕ → Bool
 is_unknown s ignored name = is_unknown_kind (kind_of s ignored name)
 
@@ -49,19 +49,20 @@ is_unknown s ignored name = is_unknown_kind (kind_of s ignored name)
 abbrev pub all_names : List Found → List (List ℕ)
 all_names founds = flat_map (λ f. f.names) founds
 
--- One of some modules has this path.
+-- Whether one of some modules has this path.
 abbrev pub is_path_of : List KeyValue → List ℕ → List ℕ → Bool
 is_path_of ms places path = list_any (λ x. bytes_eq (path_at ms x) path) places
 
--- A side of a double line is there before the plan: the kernel, or a loaded module.
+-- Whether a side of a double line is present before the plan: the kernel, or a loaded module.
 abbrev pub stands : Sources → List ℕ → Bool
 stands s path = bytes_eq path vmlinux || is_path_of (modules s) (places_of (modules s) s.loaded) path
 
--- Both sides of a double line are planned or there before, and one at least is planned.
+-- Whether both sides of a double line are planned or present before, and at least one is planned.
 abbrev pub is_met : (List ℕ → Bool) → (List ℕ → Bool) → List ℕ → List ℕ → Bool
 is_met in_plan there a b = (in_plan a && (in_plan b || there b)) || (there a && in_plan b)
 
--- A line is an obstacle of a kind: it is on a need of a planned module, or it is a double line that is met.
+-- Whether a line is an obstacle of a kind: it is on a need of a planned module, or it is a double
+-- line that is met.
 abbrev pub is_obstacle : LineKind → (List ℕ → Bool) → (List ℕ → Bool) → Unbound → Bool
 is_obstacle kinds.Missing in_plan there (lines.Missing path symbol) = in_plan path
 is_obstacle kinds.Gpl in_plan there (lines.Gpl path symbol by) = in_plan path
@@ -86,7 +87,7 @@ first_line kind in_plan there unmet = option_map as_obstacle (find (is_obstacle 
 abbrev pub line_of : Sources → List Found → LineKind → Option Obstacle
 line_of s founds kind = first_line kind (is_path_of (modules s) (planned s founds)) (stands s) s.unmet
 
--- The cycle of some modules, where there is any.
+-- The cycle of some modules, if there are any.
 abbrev pub cycle_obstacle : List (List ℕ) → Option Obstacle
 cycle_obstacle [] = None
 cycle_obstacle (name ∷ names) = Some (Cycle (name ∷ names))

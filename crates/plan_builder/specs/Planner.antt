@@ -1,4 +1,5 @@
--- What the code keeps of the sources of plans. Only private contracts cite this file.
+-- What the code keeps of the sources of plans.
+-- It belongs to the code: no public meaning rests on it.
 use Rattle.std.specs.Prelude.{◌≡◌, ℕ, Bool, List, map}
 use Rattle.std.specs.Borrow.{Bor}
 use Rattle.index_format.specs.Listing.{KeyValue}
@@ -20,7 +21,7 @@ pub record Held : Type 0 where
   pub loaded : List (List ℕ)
   pub use_blacklist : Bool
 
--- The sources that they are.
+-- The sources of a plan, from what is kept.
 abbrev pub sources_of : Held → Sources
 sources_of h = record {
   rules = h.rules;
@@ -30,8 +31,8 @@ sources_of h = record {
   use_blacklist = h.use_blacklist;
 }
 
--- The modules are those of the index, exactly the paths of lines on needs are kept, and names are
--- looked up by the rules.
+-- The modules are the index's, exactly the paths of lines on needs are kept, and names are looked
+-- up by the rules.
 pub record IsPlanner (own : List KeyValue) (paths : List (List ℕ)) (rules : List Rule) (h : Held) : Type 0 where
   pub own_modules : own ≡ modules (sources_of h)
   pub own_rules : rules ≡ h.rules

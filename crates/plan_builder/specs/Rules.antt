@@ -1,5 +1,5 @@
--- The rules of a configuration by the modules that they are on. Only private contracts cite this
--- file. modprobe.d(5).
+-- The rules of a configuration by the modules that they are on.
+-- It belongs to the code: no public meaning rests on it. modprobe.d(5).
 use Rattle.std.specs.Prelude.{◌≡◌, ℕ, Bool, false, List, map, filter, Option, Some, None}
 use Rattle.std.specs.Borrow.{Bor}
 use Rattle.std.specs.Option.{option_map_or}
@@ -8,8 +8,8 @@ use Rattle.modprobe_conf.specs.declared.rule.Rule.{Rule}
 use Rattle.modprobe_conf.specs.declared.rule.Rule.TheVariants.{Alias, Blacklist, Options, Install, Remove, Softdep}
 use Rattle.name_lookup.specs.Groups.{group_of}
 
--- The module that a rule is on, where plans ask for rules on it: parameters, a command for loading
--- it, soft dependencies.
+-- The module that a rule is on, for the rules that plans ask for: parameters, commands for loading,
+-- and soft dependencies.
 abbrev pub owner : Rule → Option (List ℕ)
 owner (Alias pattern name) = None
 owner (Blacklist name) = None
@@ -18,7 +18,7 @@ owner (Install name command) = Some name
 owner (Remove name command) = None
 owner (Softdep name pre post) = Some name
 
--- A rule is on the module of this name.
+-- Whether a rule is on the module of this name.
 abbrev pub is_on : List ℕ → Rule → Bool
 is_on name rule = option_map_or (λ own. bytes_eq own name) (owner rule) false
 

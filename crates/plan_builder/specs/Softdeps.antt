@@ -1,5 +1,5 @@
--- The modules that names of soft dependencies stand for, as the code keeps them. Only private
--- contracts cite this file.
+-- The modules that names of soft dependencies are resolved to, as the code keeps them.
+-- It belongs to the code: no public meaning rests on it.
 use Rattle.std.specs.Prelude.{◌≡◌, ℕ, Bool, List, [], ◌∷◌, ◌++◌, map, filter, length, slice_index_or, Option, Some, None, option_map, Vec, if◌then◌else◌}
 use Rattle.std.specs.Borrow.{Bor}
 use Rattle.std.specs.List.{flat_map}
@@ -22,7 +22,7 @@ soft_names_in _ = []
 abbrev pub all_soft_names : List Rule → List (List ℕ)
 all_soft_names rules = flat_map soft_names_in rules
 
--- The modules that a name stands for and that can be loaded.
+-- The modules that a name is resolved to and that can be loaded.
 abbrev pub loadable_places : Sources → List ℕ → List ℕ
 loadable_places s name = filter (is_available (modules s) s.unmet) (places_of (modules s) (found_names s name))
 
@@ -30,30 +30,30 @@ loadable_places s name = filter (is_available (modules s) s.unmet) (places_of (m
 abbrev pub PlaceLists : Type 0
 PlaceLists = List (Bor (List ℕ) × Vec ℕ Global)
 
--- The modules that stand under a name.
+-- The modules that are kept under a name.
 abbrev pub kept_places : PlaceLists → List ℕ → Option (List ℕ)
 kept_places lists name = option_map (λ (v : Vec ℕ Global). v.items) (lookup (λ (k : Bor (List ℕ)). bytes_eq name k.now) lists)
 
--- Exactly these names have modules that stand under them: those which they stand for and which can
+-- Exactly these names have modules kept under them: the ones that they are resolved to and that can
 -- be loaded.
 abbrev pub IsSoftTable : Sources → List (List ℕ) → PlaceLists → Type 0
 IsSoftTable s names lists =
     (name : List ℕ) → kept_places lists name ≡ (if is_among names name then Some (loadable_places s name) else None)
 
--- What is known of whether modules can be loaded is so.
+-- What is kept of whether modules can be loaded is right.
 pub record KnowsAvailable (s : Sources) (known : List (Option Bool)) : Type 0 where
   pub long : length known ≡ length (modules s)
   pub right : (x : ℕ) (loadable : Bool) → slice_index_or known x None ≡ Some loadable → loadable ≡ is_available (modules s) s.unmet x
 
--- Modules without repeats, the first of equal ones kept.
+-- Modules without repeats: of equal ones the first is kept.
 abbrev pub once : List ℕ → List ℕ
 once xs = with_items [] xs
 
--- What comes before a module, where each module that its soft dependencies name stands once.
+-- What comes before a module, with each module of its soft dependencies once.
 abbrev pub before_once : Sources → ℕ → List ℕ
 before_once s x =
     line_places (modules s) x ++ once (soft_places s x (flat_map (names_before (name_at (modules s) x)) s.rules))
 
--- What is wanted after it, each module once.
+-- What is asked for after a module, each module once.
 abbrev pub after_once : Sources → ℕ → List ℕ
 after_once s x = once (soft_places s x (flat_map (names_after (name_at (modules s) x)) s.rules))

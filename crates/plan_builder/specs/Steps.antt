@@ -24,16 +24,16 @@ abbrev pub rule_options : List ℕ → Rule → List (List ℕ)
 rule_options name (Options owner text) = if bytes_eq owner name then text ∷ [] else []
 rule_options name _ = []
 
--- The request's own parameters, where there are any and a requested name stands for the module.
+-- The request's own parameters, if there are any and a requested name is resolved to the module.
 abbrev pub own_options : Sources → Request → List ℕ → List (List ℕ)
 own_options s request name =
     if not (length request.options == 0) && is_member s request name then request.options ∷ [] else []
 
--- The parameters that a module is loaded with: those of its rules, and then the request's.
+-- The parameters that a module is loaded with: the ones of its rules, and then the request's.
 abbrev pub options_of : Sources → Request → List ℕ → List ℕ
 options_of s request name = spaced (flat_map (rule_options name) s.rules ++ own_options s request name)
 
--- The step of a module: its command, where it has one that isn't ignored, or else loading it.
+-- The step of a module: its command, if it has one that isn't ignored, and else loading it.
 abbrev pub step_unless : Option (List ℕ) → List ℕ → List ℕ → List ℕ → PlanStep
 step_unless (Some command) name path options = Install name command
 step_unless None name path options = Insert name path options
@@ -53,15 +53,16 @@ step_of_kind unknown name = []
 abbrev pub own_step : Sources → Request → List ℕ → List PlanStep
 own_step s request name = step_of_kind (kind_of s request.ignore_install name) name
 
--- The steps of those members of a list that are no modules and aren't among earlier names.
+-- The steps of the names of a list that are no modules and aren't among earlier names.
 abbrev pub own_step_unless : Sources → Request → List (List ℕ) → List ℕ → List PlanStep
 own_step_unless s request earlier name = if is_among earlier name then [] else own_step s request name
 
 abbrev pub own_steps : Sources → Request → List (List ℕ) → List (List ℕ) → List PlanStep
 own_steps s request earlier names = flat_map (own_step_unless s request earlier) names
 
--- The steps of some requested names, after the names and modules of those before them: for each the members that are no
--- modules, in the order in which they were found, and then the modules of its group.
+-- The steps of some requested names, after the names and modules of the names before them. Each has
+-- the names found that are no modules, in the order they were found in, and then the modules of its
+-- group.
 abbrev pub steps_from : Sources → Request → List (List ℕ) → List ℕ → List Found → List PlanStep
 steps_from s request earlier done [] = []
 steps_from s request earlier done (f ∷ more) =
@@ -69,13 +70,15 @@ steps_from s request earlier done (f ∷ more) =
     ++ (map (module_step s request) (group (among (before s)) (unloaded s) done (places_of (modules s) f.names))
     ++ steps_from s request (earlier ++ f.names) (with_group (among (before s)) (unloaded s) done (places_of (modules s) f.names)) more)
 
--- The modules that are planned after the groups of the requested names: what is wanted after other modules.
+-- The modules that are planned after the groups of the requested names: what is asked for after
+-- other modules.
 abbrev pub later : Sources → List Found → List ℕ
 later s founds =
     drop (length (with_groups (among (before s)) (unloaded s) [] (asked s founds)))
     (plan_for (among (before s)) (unloaded s) (after s) (asked s founds))
 
--- The plan: the steps of the requested names, and then those of what is wanted after modules of the plan.
+-- The plan: the steps of the requested names, and then the steps of what is asked for after modules
+-- of the plan.
 unfoldable pub plan_steps : Sources → Request → List PlanStep
 plan_steps s request =
     steps_from s request [] [] (found_for s request) ++ map (module_step s request) (later s (found_for s request))

@@ -1,4 +1,5 @@
--- Modules as the code keeps them. Only private contracts cite this file.
+-- Modules as the code keeps them.
+-- It belongs to the code: no public meaning rests on it.
 use Rattle.std.specs.Prelude.{ℕ, List, map, Some}
 use Rattle.index_format.specs.Listing.{KeyValue}
 use Rattle.index_read.specs.declared.value.Pair.{Pair}

@@ -1,4 +1,5 @@
--- The text of an obstacle, as it stands in a line on standard error. That of a line of modules.unmet is the line.
+-- The text of an obstacle, as it is in a line on standard error. For a line of modules.unmet it is
+-- the line.
 use Rattle.std.specs.Prelude.{ℕ, List, [], ◌∷◌, ◌++◌, codes, take}
 use Rattle.std.specs.List.{flat_map}
 use Rattle.symbol_binding.specs.declared.unbound.Unbound.TheVariants as lines
@@ -11,7 +12,7 @@ use Rattle.plan_builder.specs.Steps.{spaced}
 abbrev pub round : List (List ℕ) → List (List ℕ)
 round names = flat_map (λ name. name ∷ codes "->" ∷ []) names ++ take 1 names
 
--- The text of an obstacle, as it stands on err.
+-- The text of an obstacle, as it is on err.
 abbrev pub obstacle_text : Obstacle → List ℕ
 obstacle_text (BadDepLine name) = spaced (codes "bad dependency line" ∷ name ∷ [])
 obstacle_text (NotFound name) = spaced (codes "not found" ∷ name ∷ [])

@@ -9,7 +9,7 @@ ghost use Rattle.plan_builder.specs.Pairs.{IsAfterSpace};
 
 use crate::path_name::{is_plain, stem, write_name};
 use index_read::{Index, plain};
-use km_names::{Name, Names, split_at_byte};
+use km_names::{Name, split_at_byte};
 use mod_tree::line_path;
 use name_lookup::Indexes;
 use std::alloc::{AllocError, Global};
@@ -109,30 +109,8 @@ fn all_known<K: Known>(buffer: &mut Vec<u8>, known: &K, line: &[u8]) -> Result<b
     Ok(true)
 }
 
-/// The names of the modules that a dependency line needs.
-pub(crate) fn needed_names(alloc: Global, line: &[u8]) -> Result<Names, AllocError>
-    ensures { IfOk result (λ names. names ≡ needed_names_of line.now) }
-{
-    let mut names = Names::new(alloc);
-    let mut rest = split_at_byte(line, b':').1;
-    while let Some(after) = after_space(rest) {
-        names.push(name_of(alloc, split_at_byte(after, b' ').0)?)?;
-        rest = after;
-    }
-    Ok(names)
-}
-
-/// The name of the module at a path.
-fn name_of(alloc: Global, path: &[u8]) -> Result<Name, AllocError>
-    ensures { IfOk result (λ name. name ≡ module_name_of path.now) }
-{
-    let mut name = Vec::new(alloc);
-    write_name(&mut name, path)?;
-    Ok(Name::from_vec(name))
-}
-
 /// What follows the first space of a text, where there is one.
-fn after_space(text: &[u8]) -> Option<&[u8]>
+pub(crate) fn after_space(text: &[u8]) -> Option<&[u8]>
     ensures { IsAfterSpace text.now (option_copied result) }
 {
     split_at_space(text).1

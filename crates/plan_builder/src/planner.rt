@@ -7,14 +7,16 @@ ghost use Rattle.symbol_binding.specs.Unmet.{belongs};
 ghost use Rattle.name_lookup.specs.Found.{found};
 ghost use Rattle.name_table.specs.FirstSeen.{is_among};
 ghost use Rattle.name_lookup.specs.Maps.{maps_of, has_value};
-ghost use Rattle.plan_builder.specs.Modules.{modules_of, place_of, places_of, path_at};
+ghost use Rattle.km_names.specs.Path.{module_name};
+ghost use Rattle.plan_builder.specs.Modules.{modules_of, needed_names, place_of, places_of, path_at};
 ghost use Rattle.plan_builder.specs.Needs.{modules as modules_in, is_troubled, is_available as can_load, line_places as places_in_line};
 ghost use Rattle.plan_builder.specs.Planner.{sources_of};
 
-use crate::line::{Known, needed_names};
+use crate::line::{Known, after_space};
 use crate::modules::Modules;
+use crate::path_name::{is_plain, stem, write_name};
 use crate::rule_table::RuleTable;
-use km_names::{Name, Names};
+use km_names::{Name, Names, split_at_byte};
 use modprobe_conf::Rules;
 use name_lookup::{Found, Indexes, Lookup};
 use name_table::NameSet;
@@ -98,6 +100,43 @@ pub(crate) fn push_place(
     Ok(())
 }
 
+/// Adds the places of the modules that a dependency line needs.
+fn push_needed(
+    alloc: Global,
+    places: &mut Vec<usize>,
+    modules: &Modules<'_>,
+    line: &[u8],
+) -> Result<(), AllocError>
+    ensures { OnOk result (places.new.items ≡ places.old.items ++ places_of modules.now (needed_names line.now)) }
+{
+    let mut buffer = Vec::new(alloc);
+    let mut rest = split_at_byte(line, b':').1;
+    while let Some(after) = after_space(rest) {
+        let path = split_at_byte(after, b' ').0;
+        push_at(&mut buffer, places, modules, path)?;
+        rest = after;
+    }
+    Ok(())
+}
+
+/// Adds the place of the module at a path, if there is one of its name. Most names are those that
+/// their paths have, and aren't copied.
+fn push_at(
+    buffer: &mut Vec<u8>,
+    places: &mut Vec<usize>,
+    modules: &Modules<'_>,
+    path: &[u8],
+) -> Result<(), AllocError>
+    ensures { OnOk result (places.new.items ≡ places.old.items ++ option_to_list (place_of modules.now (module_name path.now))) }
+{
+    let text = stem(path);
+    if is_plain(text) {
+        return push_place(places, modules, text);
+    }
+    write_name(buffer, path)?;
+    push_place(places, modules, buffer.as_slice())
+}
+
 impl<'a> Planner<'a> {
     /// What plans are made from.
     pub(crate) fn new(
@@ -173,9 +212,8 @@ impl<'a> Planner<'a> {
         requires { place < length (modules_in (sources_of self.now)) }
         ensures { IfOk result (λ places. places.items ≡ places_in_line (modules_in (sources_of self.now)) place) }
     {
-        let names = needed_names(alloc, self.modules.line(place))?;
         let mut places = Vec::new(alloc);
-        push_places(&mut places, &self.modules, &names)?;
+        push_needed(alloc, &mut places, &self.modules, self.modules.line(place))?;
         Ok(places)
     }
 

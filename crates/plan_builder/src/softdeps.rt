@@ -178,7 +178,7 @@ fn is_loadable(
 }
 
 /// Those of the modules that names stand for that aren't this one, each once. A name that stands
-/// again is passed over.
+/// again is passed over, unless it stands for so few modules that they are found again as fast.
 pub(crate) fn find_named(
     alloc: Global,
     table: &SoftTable<'_>,
@@ -191,27 +191,24 @@ pub(crate) fn find_named(
     let mut looked_up = NameSet::new(alloc);
     for name in names {
         let name = name.as_bytes();
-        if !looked_up.contains(name) {
+        let places = places_under(table, name);
+        if places.len() < 2 {
+            find_others(&mut found, place, places)?;
+        } else if !looked_up.contains(name) {
             looked_up.insert(name)?;
-            find_under(table, place, name, &mut found)?;
+            find_others(&mut found, place, places)?;
         }
     }
     Vec::from_slice(alloc, found.as_slice())
 }
 
-/// Finds those of the modules that a name stands for that aren't this one, unless they were found
-/// before.
-fn find_under(
-    table: &SoftTable<'_>,
-    place: usize,
-    name: &[u8],
-    found: &mut PlaceSet,
-) -> Result<(), AllocError>
-    ensures { OnOk result (found.new.keys ≡ with_items found.old.keys (filter (λ y. not (y == place)) (unwrap_or (kept_places table.now.entries name.now) []))) }
+/// The modules that stand under a name, none if it isn't there.
+fn places_under<'t>(table: &'t SoftTable<'_>, name: &[u8]) -> &'t [usize]
+    ensures { result.now ≡ unwrap_or (kept_places table.now.entries name.now) [] }
 {
     match table.get(name) {
-        Some(places) => find_others(found, place, places),
-        None => Ok(()),
+        Some(places) => places.as_slice(),
+        None => &[],
     }
 }
 

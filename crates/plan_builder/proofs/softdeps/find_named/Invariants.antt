@@ -1,4 +1,4 @@
-use Rattle.std.proofs.Common.{◌≡◌, ◌==◌, ℕ, List, [], take, filter, not}
+use Rattle.std.proofs.Common.{◌≡◌, ◌==◌, ℕ, List, [], true, take, filter, not}
 use Rattle.std.specs.List.{flat_map}
 use Rattle.std.specs.Option.{unwrap_or}
 use Rattle.name_table.specs.FirstSeen.{is_among}
@@ -10,6 +10,6 @@ use Rattle.plan_builder.proofs.softdeps.find_named.Given as goal
 abbrev pub invariant-loop-name : goal.invariant-loop-name
 invariant-loop-name l =
     record {
-      looked_up : (other : List ℕ) → is_among l.looked_up other ≡ is_among (texts (take l.name-index l.names)) other;
+      looked_up : (other : List ℕ) → is_among l.looked_up other ≡ true → is_among (texts (take l.name-index l.names)) other ≡ true;
       found : l.found.keys ≡ with_items [] (filter (λ y. not (y == l.place)) (flat_map (λ name. unwrap_or (kept_places l.table.entries name) []) (texts (take l.name-index l.names))));
     }

@@ -1,6 +1,6 @@
-use Rattle.std.proofs.Common.{◌≡◌, ap, sym, ◌∙◌, not, filter, eqb, true, false}
+use Rattle.std.proofs.Common.{◌≡◌, ap, sym, ◌∙◌, not, eqb, true, false}
 use Rattle.std.specs.Prelude.{◌&&◌, ◌||◌}
-use Rattle.name_table.specs.FirstSeen.{is_among}
+use Rattle.name_table.specs.FirstSeen.{first_seen, is_among}
 use Rattle.name_lookup.specs.Found.{is_blacklisted, is_dropped}
 use Rattle.name_lookup.proofs.FoundSteps.{filter-same}
 use Rattle.name_lookup.proofs.lookup.Lookup.kept.Goals as goal
@@ -18,4 +18,4 @@ returns c =
     let same = filter-same (λ name. not (c.if-use_blacklist.drops && is_among listed name)) (λ name. not (is_dropped rules c.args.use_blacklist c.args.first.list name))
     (λ name i. not (drops i && (c.self.invariant.are_blacklisted name ∙ ap (λ v. is_blacklisted v.rules name) c.self.view_is) i)) in
     ap (λ names. record { list = c.args.first.list; names = names })
-    (c.in_ok-names_but.ensures ∙ same c.in_ok-seen.seen ∙ ap (filter (λ name. not (is_dropped rules c.args.use_blacklist c.args.first.list name))) c.in_ok-seen.ensures)
+    (c.in_ok-names_left.ensures ∙ same (first_seen c.args.first.names))
