@@ -1,4 +1,4 @@
--- The files of a tool's configuration: which there are, and in which order they count. depmod.d(5), modprobe.d(5). The
+-- The files of a tool's configuration, and the order they count in. depmod.d(5), modprobe.d(5). The
 -- list of folders is this project's own.
 use Rattle.std.specs.Prelude.{ℕ, nat_eq, List, [], ◌∷◌, ◌++◌, map, codes, Option, Some, None, Result, Ok, Err}
 use Rattle.std.specs.List.{ends_with}
@@ -24,7 +24,7 @@ abbrev pub folder_name : Tool → List ℕ
 folder_name Depmod = codes "depmod.d"
 folder_name Modprobe = codes "modprobe.d"
 
--- Where these folders stand, the first before the others.
+-- The places of these folders, the first before the others.
 abbrev pub roots : List (List ℕ)
 roots = codes "/etc" ∷ codes "/run" ∷ codes "/usr/local/lib" ∷ codes "/usr/lib" ∷ codes "/lib" ∷ []
 
@@ -32,12 +32,12 @@ roots = codes "/etc" ∷ codes "/run" ∷ codes "/usr/local/lib" ∷ codes "/usr
 abbrev pub Named : Type 0
 Named = fin.FinMap by_bytes (List ℕ)
 
--- the files, with those of these names in a folder in place of others of the same names
+-- The files, with the files of these names in a folder in place of others of the same names.
 abbrev pub with_names : List ℕ → List (List ℕ) → Named → Named
 with_names folder [] files = files
 with_names folder (name ∷ names) files = with_names folder names (fin.insert files name (path_below folder name))
 
--- The files of folders by their base names: of equal names that of the earlier folder.
+-- The files of folders by their base names. Of equal names the file of the earlier folder counts.
 unfoldable pub by_name : List ListedFolder → Named
 by_name [] = fin.empty
 by_name (folder ∷ folders) = with_names folder.path folder.names (by_name folders)
@@ -46,31 +46,33 @@ by_name (folder ∷ folders) = with_names folder.path folder.names (by_name fold
 unfoldable pub paths_of : List ListedFolder → List (List ℕ)
 paths_of folders = map (λ file. file.1) (fin.entries (by_name folders))
 
--- the folders that were listed, and the one of this name below a root, which is empty where nothing is there
+-- The folders that were listed, and the one of this name below a root, which is empty if nothing is
+-- there.
 abbrev pub lists_folder : List ℕ → List ListedFolder → List ℕ → Stage (List ListedFolder)
 lists_folder name listed root = do
   names ← lists_any_conf (path_below root name)
   gives (listed ++ record { path = path_below root name; names = names } ∷ [])
 
--- The folders of this name below the roots are listed, one after the other.
+-- The folders of this name below the roots, listed one after the other.
 abbrev pub lists_folders : List ℕ → List (List ℕ) → Stage (List ListedFolder)
 lists_folders name places = each_from (lists_folder name) [] places
 
--- the files that were read, and the one at the path, which is needed
+-- The files that were read, and the one at the path, which is needed.
 abbrev pub reads_file : List ConfFile → List ℕ → Stage (List ConfFile)
 reads_file files path = do
   bytes ← reads path
   gives (files ++ record { path = path; bytes = bytes } ∷ [])
 
--- The files at the paths are read, one after the other.
+-- The files at the paths, read one after the other.
 abbrev pub reads_files : List (List ℕ) → Stage (List ConfFile)
 reads_files paths = each_from reads_file [] paths
 
--- The files that count of folders are read.
+-- The files that count among those of the folders, read one after the other.
 abbrev pub reads_listed : List ListedFolder → Stage (List ConfFile)
 reads_listed folders = reads_files (paths_of folders)
 
--- The configuration at a path that was given: one file where the path ends in `.conf`, else one folder.
+-- The configuration at a path that was given: one file if the path ends in `.conf`, and else one
+-- folder.
 abbrev pub reads_given : List ℕ → Stage (List ConfFile)
 reads_given path =
     when ends_with nat_eq path (codes ".conf") then reads_files (path ∷ []) else (do
@@ -84,18 +86,18 @@ reads_configuration tool None = do
   folders ← lists_folders (folder_name tool) roots
   reads_listed folders
 
--- What files that state this come to: what they state, or the refusal of the first line that isn't understood. No files
--- state that memory is wanting.
+-- The outcome of reading files that state this: the statements, or the refusal of the first line
+-- that isn't understood. Files never state the fault of memory.
 abbrev pub stated_outcome : {X : Type 0} → Result X ConfFault → Outcome X
 stated_outcome (Ok stated) = value stated
 stated_outcome (Err (faults.BadLine file number)) = end (Refused (BadLine file number))
 stated_outcome (Err faults.Memory) = end NotUnderstood
 
--- How a fault of configuration files stops a command.
+-- The stop of a command for a fault of configuration files.
 abbrev pub stop_of : ConfFault → Stop
 stop_of (faults.BadLine file number) = Ended (Refused (BadLine file number))
 stop_of faults.Memory = Memory
 
--- the entries of an ordered map from names to paths
+-- The entries of an ordered map from names to paths, as bytes.
 abbrev pub entries_in_bytes : List (Vec ℕ × List ℕ) → List (List ℕ × List ℕ)
 entries_in_bytes entries = map (λ e. (e.0.items, e.1)) entries

@@ -1,4 +1,5 @@
--- An index as the commands read it: its file, and the first value of a key. kmod's index format 2.1.
+-- An index as the commands read it: its file, and the first value of a key. kmod's index format
+-- 2.1.
 use Rattle.std.specs.Prelude.{ℕ, List, [], ◌∷◌, Option, Some, None}
 use Rattle.index_format.specs.Map.{Value}
 use Rattle.index_format.specs.Node.{root}
@@ -13,18 +14,18 @@ use Rattle.km_course.specs.Course.Outcome.{value, end}
 use Rattle.km_course.specs.declared.end.End.TheVariants.{Refused}
 use Rattle.km_course.specs.declared.refusal.Refusal.TheVariants.{BadIndex}
 
--- a fault of the format, as it is told
+-- A fault of the format, as the refusal states it.
 abbrev pub told_fault : Fault → IndexFault
 told_fault NoMagic = BadMagic
 told_fault NoVersion = BadVersion
 told_fault (NodeFault offset) = BadNode offset
 told_fault (SecondVisit offset) = Revisited offset
 
--- the index of these bytes
+-- The index of these bytes.
 abbrev pub index_of : List ℕ → Index
 index_of bytes = record { nodes = bytes }
 
--- what a file with this first fault comes to: its index, or the refusal of the file
+-- The outcome of a file with this first fault: its index, or the refusal of the file.
 unfoldable pub index_outcome : List ℕ → List ℕ → Option Fault → Outcome Index
 index_outcome file bytes None = value (index_of bytes)
 index_outcome file bytes (Some fault) = end (Refused (BadIndex file (index_fault_text (told_fault fault))))
@@ -35,7 +36,7 @@ reads_index file = do
   bytes ← reads file
   given (index_outcome file bytes (index_fault bytes))
 
--- the text of the first of some values
+-- The text of the first of some values.
 abbrev pub text_of_first : List Value → Option (List ℕ)
 text_of_first [] = None
 text_of_first (first ∷ others) = Some first.1

@@ -1,4 +1,4 @@
--- The modules of a kernel: where they stand, and where one of a name does. modules.dep(5), modprobe(8).
+-- The modules of a kernel: their folder, and the path of a name. modules.dep(5), modprobe(8).
 use Rattle.std.specs.Prelude.{ℕ, List, codes, Option, Some, None, option_and_then}
 use Rattle.index_read.specs.declared.index.Index.{Index}
 use Rattle.km_names.specs.Path.{path_below}
@@ -20,12 +20,12 @@ reads_modules folder = do
   index ← reads_index (path_below folder (codes "modules.dep.bin"))
   gives (record { folder = folder; index = index })
 
--- The path of the module of this name, below the folder: the first one of its dependency line. There is none where
--- the name has no value, or its value is no dependency line.
+-- The path of the module of this name, below the folder: the first one of its dependency line. It
+-- is None if the name has no value, or its value is no dependency line.
 abbrev pub path_listed : Index → List ℕ → Option (List ℕ)
 path_listed index name = option_and_then line_path (first_text index.nodes name)
 
--- what this path in the folder comes to; where there is none, the name is not found
+-- The outcome of this path in the folder. If there is none, the name is not found.
 abbrev pub listed_outcome : List ℕ → List ℕ → Option (List ℕ) → Outcome (List ℕ)
 listed_outcome folder name None = end (Refused (NotFound name))
 listed_outcome folder name (Some path) = value (path_below folder path)

@@ -1,5 +1,5 @@
--- The table of a kernel's exports, as the commands read it from a System.map or a Module.symvers. depmod(8), `-F` and
--- `-E`.
+-- The table of a kernel's exports, as the commands read it from a System.map or a Module.symvers.
+-- depmod(8), `-F` and `-E`.
 use Rattle.std.specs.Prelude.{ℕ, true, false, Bool, List, [], map, Option, Some, None, Result, Ok, Err}
 use Rattle.symbol_binding.specs.Symbols.{Kernel as SeenKernel}
 use Rattle.provider_rel.specs.declared.fault.KernelFault.{KernelFault}
@@ -15,34 +15,35 @@ use Rattle.km_course.specs.declared.stop.Stop.TheVariants.{Ended, Memory as Want
 use Rattle.km_course.specs.declared.refusal.Refusal.{Refusal}
 use Rattle.km_course.specs.declared.refusal.Refusal.TheVariants.{BadLine}
 
--- A kernel's table: whether its exports are known, and which they are.
+-- A kernel's table: whether its exports are known, and the exports.
 pub record Table : Type 0 where
   pub known : Bool
   pub exports : List KernelExport
 
--- the table of a kernel
+-- The table of a kernel.
 abbrev pub table_of : Kernel → Table
 table_of kernel = record { known = kernel.known; exports = kernel.exports }
 
--- The kernel of a table, as those who bind symbols see it.
+-- The kernel of a table, as symbol binding sees it.
 abbrev pub seen_kernel : Table → SeenKernel
 seen_kernel table = record { known = table.known; exports = map seen_export table.exports }
 
--- the table of a kernel of which nothing is known
+-- The table of a kernel that isn't known.
 abbrev pub unknown_table : Table
 unknown_table = record { known = false; exports = [] }
 
--- what a line of a table that isn't understood refuses; no table comes to want of memory
+-- The refusal of a line of a table that isn't understood. No table has the fault of memory.
 abbrev pub line_refusal : List ℕ → KernelFault → Refusal
 line_refusal file (BadKernelLine number) = BadLine file number
 line_refusal file Memory = BadLine file 0
 
--- What a file that states these exports comes to: its table, or the refusal of its first line that isn't understood.
+-- The outcome of a file that states these exports: its table, or the refusal of its first line that
+-- isn't understood.
 unfoldable pub table_outcome : List ℕ → Result (List KernelExport) KernelFault → Outcome Table
 table_outcome file (Ok exports) = value (record { known = true; exports = exports })
 table_outcome file (Err fault) = end (Refused (line_refusal file fault))
 
--- how a fault of a file's table stops a command
+-- The stop of a command for a fault of a file's table.
 abbrev pub table_stop : List ℕ → KernelFault → Stop
 table_stop file (BadKernelLine number) = Ended (Refused (BadLine file number))
 table_stop file Memory = Wanting
@@ -59,7 +60,8 @@ reads_symvers file = do
   bytes ← reads file
   given (table_outcome file (exports_of_symvers bytes))
 
--- The table of a System.map or of a Module.symvers, where one of them is named; else nothing is known of the kernel.
+-- The table of a System.map or of a Module.symvers, if one of them is named. Otherwise the kernel
+-- isn't known.
 abbrev pub reads_kernel : Option (List ℕ) → Option (List ℕ) → Stage Table
 reads_kernel (Some file) symvers = reads_map file
 reads_kernel None (Some file) = reads_symvers file

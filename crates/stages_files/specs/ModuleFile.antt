@@ -10,12 +10,12 @@ use Rattle.km_course.specs.Course.Outcome.{value, end}
 use Rattle.km_course.specs.declared.end.End.TheVariants.{Refused}
 use Rattle.km_course.specs.declared.refusal.Refusal.TheVariants.{BadModule, Compressed}
 
--- what a file with this first failing test comes to: its sections, or the refusal of the module
+-- The outcome of a file with this first failing test: its sections, or the refusal of the module.
 unfoldable pub sections_outcome : List ℕ → List ℕ → Option SectionFault → Outcome FileSections
 sections_outcome path bytes None = value (file_sections bytes)
 sections_outcome path bytes (Some fault) = end (Refused (BadModule path (section_fault_text fault)))
 
--- The sections of the module at the path. A compressed one is refused unread.
+-- The sections of the module at the path. A compressed module is refused unread.
 abbrev pub reads_sections : List ℕ → Stage FileSections
 reads_sections path =
     when is_compressed path then ends (Refused (Compressed path)) else (do

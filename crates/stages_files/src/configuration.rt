@@ -31,7 +31,7 @@ pub struct ListedFolder {
     pub names: Names,
 }
 
-/// Reads the files of a tool's configuration, in the order in which they count.
+/// Reads the files of a tool's configuration, in the order they count in.
 ///
 /// Without `config` they are in the folders `/etc/X`, `/run/X`, `/usr/local/lib/X`, `/usr/lib/X`
 /// and `/lib/X`, with X `depmod.d` or `modprobe.d`. A missing folder counts as empty. Of equal base
@@ -60,7 +60,7 @@ pub fn read_configuration<F: Reads>(
     }
 }
 
-/// Returns how a fault of configuration files stops a command.
+/// Returns the stop of a command for a fault of configuration files.
 pub fn stop_of_fault(fault: ConfFault) -> Stop
     ensures { result ≡ stop_of fault }
 {
@@ -70,7 +70,7 @@ pub fn stop_of_fault(fault: ConfFault) -> Stop
     }
 }
 
-/// Returns where the folders of a tool's configuration are.
+/// Returns the places of the folders of a tool's configuration.
 fn roots(alloc: Global) -> Result<Paths, AllocError>
     ensures { IfOk result (λ paths. paths ≡ roots_in_order) }
 {
@@ -163,7 +163,7 @@ fn with_folder<F: Reads>(
     Ok(listed)
 }
 
-/// Reads the files that folders list, as they count.
+/// Reads the files that count among those of the folders.
 fn read_listed<F: Reads>(
     alloc: Global,
     folders: &Items<ListedFolder>,
@@ -190,7 +190,7 @@ fn chosen_paths(alloc: Global, folders: &[ListedFolder]) -> Result<Paths, AllocE
     in_order(alloc, found)
 }
 
-/// Puts the files of a folder in place of those of the same names.
+/// Puts the files of a folder in place of files of the same names.
 fn put_names(
     alloc: Global,
     found: &mut BTreeMap<Vec<u8>, PathText>,

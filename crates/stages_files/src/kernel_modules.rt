@@ -49,8 +49,8 @@ pub fn read_modules<F: Reads>(
     Ok(KernelModules { folder, index })
 }
 
-/// Returns the path of the module of this name, whose `-` is read as `_`. A name that isn't listed,
-/// or whose value is no dependency line, is not found.
+/// Returns the path of the module of this name, with each `-` replaced by `_`. A name that isn't
+/// listed, or whose value is no dependency line, is not found.
 pub fn path_of_name(alloc: Global, modules: &KernelModules, name: &[u8]) -> Result<PathText, Stop>
     ensures { Answers (λ x. x) (path_outcome modules.now (underscored name.now)) result }
 {
@@ -61,8 +61,8 @@ pub fn path_of_name(alloc: Global, modules: &KernelModules, name: &[u8]) -> Resu
     }
 }
 
-/// Returns the path in the folder of the module of this name, by its dependency line. There is none
-/// if the name isn't listed, or its value is no dependency line. modules.dep(5).
+/// Returns the path in the folder of the module of this name, by its dependency line. The result is
+/// `None` if the name isn't listed, or its value is no dependency line. modules.dep(5).
 pub fn path_listed<'a>(index: &'a Index, name: &[u8]) -> Option<&'a [u8]>
     ensures { option_copied result ≡ path_listed index.now name.now }
 {

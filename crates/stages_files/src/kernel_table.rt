@@ -13,7 +13,7 @@ use provider_rel::{Kernel, KernelFault};
 use std::alloc::Global;
 
 /// Reads the table of the kernel from a System.map or a Module.symvers, if one of them is named.
-/// Otherwise nothing is known of the kernel. depmod(8), `-F` and `-E`.
+/// Otherwise the kernel isn't known. depmod(8), `-F` and `-E`.
 pub fn read_kernel<F: Reads>(
     alloc: Global,
     map: Option<PathText>,
@@ -74,7 +74,7 @@ fn symvers_table(alloc: Global, bytes: Blob, file: PathText) -> Result<Kernel, S
     }
 }
 
-/// Returns how a fault of the kernel's table in the file at the path stops a command.
+/// Returns the stop of a command for a fault of the kernel's table in the file at the path.
 pub fn stop_of_table(fault: KernelFault, file: PathText) -> Stop
     ensures { result ≡ table_stop file fault }
 {

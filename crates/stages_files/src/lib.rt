@@ -1,6 +1,7 @@
 //! The stages that the commands share: the file of a module, an index, the modules of a kernel, the
-//! kernel's table, and the files of a tool's configuration. Each stage gives what it read, and
-//! checks a single file at once. Or it ends the command with the line of its refusal.
+//! kernel's table, and the files of a tool's configuration. The value of each stage is what it
+//! read, and a single file is checked as soon as it is read. Otherwise the stage ends the command
+//! with the line of its refusal.
 //!
 //! It builds on `km_course` for the relation between a call and its stage, and on the readers of
 //! the formats.

@@ -10,7 +10,7 @@ use km_names::{Blob, PathText, is_compressed};
 use km_outside::Reads;
 use std::alloc::Global;
 
-/// Reads the sections of the module at the path. A compressed one is refused unread.
+/// Reads the sections of the module at the path. A compressed module is refused unread.
 pub fn read_sections<F: Reads>(
     alloc: Global,
     path: PathText,

@@ -33,15 +33,15 @@ abbrev pub listed_others : List ℕ → Index → List (List ℕ) → Machine �
 listed_others folder index names machine = loads_listed folder index machine names
 
 -- what leads on from the first names leads on from the oldest of them and the newer ones
-pub leads-oldest : (folder : List ℕ) (index : Index) (whole : Stage Machine) (began now : World) (machine : Machine) (names : List (List ℕ)) (left : ℕ) (name : List ℕ) → 0 < left → left ≤ length names → name ≡ get_or names (left - 1) name → LeadsTo (λ (x : Machine). x) whole began (loads_listed folder index machine (take left names)) now → LeadsTo (λ (x : Machine). x) whole began (each_from (loads_listed_one folder index) machine (name ∷ reverse (take (left - 1) names))) now
-leads-oldest folder index whole began now machine names left name some within is leads =
+pub leads-oldest : (step : Machine → List ℕ → Stage Machine) (whole : Stage Machine) (began now : World) (machine : Machine) (names : List (List ℕ)) (left : ℕ) (name : List ℕ) → 0 < left → left ≤ length names → name ≡ get_or names (left - 1) name → LeadsTo (λ (x : Machine). x) whole began (each_from step machine (reverse (take left names))) now → LeadsTo (λ (x : Machine). x) whole began (each_from step machine (name ∷ reverse (take (left - 1) names))) now
+leads-oldest step whole began now machine names left name some within is leads =
     let more : left - 1 + 1 ≡ left = omega arith in
-    subst (λ rest. LeadsTo (λ (x : Machine). x) whole began (each_from (loads_listed_one folder index) machine rest) now)
+    subst (λ rest. LeadsTo (λ (x : Machine). x) whole began (each_from step machine rest) now)
     (ap (λ k. reverse (take k names)) (sym more) ∙ oldest-first names (left - 1) name (omega arith) is) leads
 
 -- no module is left
-pub leads-none : (folder : List ℕ) (index : Index) (whole : Stage Machine) (began now : World) (machine : Machine) (names : List (List ℕ)) (left : ℕ) → left ≤ 0 → LeadsTo (λ (x : Machine). x) whole began (loads_listed folder index machine (take left names)) now → Follows (λ (x : Machine). x) whole began now (Ok machine)
-leads-none folder index whole began now machine names left done leads =
+pub leads-none : (step : Machine → List ℕ → Stage Machine) (whole : Stage Machine) (began now : World) (machine : Machine) (names : List (List ℕ)) (left : ℕ) → left ≤ 0 → LeadsTo (λ (x : Machine). x) whole began (each_from step machine (reverse (take left names))) now → Follows (λ (x : Machine). x) whole began now (Ok machine)
+leads-none step whole began now machine names left done leads =
     let none : left ≡ 0 = omega arith in
-    leads-end (λ (x : Machine). x) whole began now (loads_listed_one folder index) machine
-    (subst (λ k. LeadsTo (λ (x : Machine). x) whole began (loads_listed folder index machine (take k names)) now) none leads)
+    leads-end (λ (x : Machine). x) whole began now step machine
+    (subst (λ k. LeadsTo (λ (x : Machine). x) whole began (each_from step machine (reverse (take k names))) now) none leads)

@@ -14,36 +14,54 @@ use Rattle.model_loader.specs.declared.fault.LoadFault.{LoadFault}
 use Rattle.model_loader.specs.declared.fault.LoadFault.TheVariants.{AlreadyLoaded, Memory}
 use Rattle.model_loader.specs.FaultText.{load_fault_text}
 use Rattle.model_loader.specs.Machine.{Machine, faces}
-use Rattle.model_loader.specs.Step.{entry_at, fault_if, refusal, step, with_entry}
+use Rattle.image_layout.specs.Offsets.{image_size}
+use Rattle.model_loader.specs.Step.{entry_at, fault_if, module_base, refusal, step, symbol_addresses, with_entry}
+use Rattle.model_loader.proofs.KeptLemmas.{length-laid}
 use Rattle.model_loader.proofs.NameLemmas.{named-is}
 use Rattle.model_loader.proofs.StepLemmas.{refusal-split}
-use Rattle.km_course.specs.Course.{Stage, ◌>>=◌, gives, says}
+use Rattle.param_apply.specs.declared.apply.Params.{Params}
+use Rattle.param_apply.specs.declared.fault.ParamFault.{ParamFault}
+use Rattle.param_apply.specs.declared.fault.ParamFault.TheVariants.{Memory as NoMemory}
+use Rattle.param_apply.specs.Applied.{count_of, finished, param_fault}
+use Rattle.param_apply.specs.FaultText.{param_fault_text}
+use Rattle.km_course.specs.Course.{Stage, ◌>>=◌, gives, says, when◌then◌else◌}
 use Rattle.km_course.specs.Course.Outcome.{value, end}
 use Rattle.km_course.specs.declared.end.End.TheVariants.{Refused}
 use Rattle.km_course.specs.declared.refusal.Refusal.{Refusal}
+use Rattle.km_course.specs.declared.refusal.Refusal.TheVariants.{ParamsRefused}
 use Rattle.stages_loads.specs.declared.load.Cause.{Cause}
 use Rattle.stages_loads.specs.declared.load.Cause.TheVariants.{Planned}
-use Rattle.stages_loads.specs.Loads.{IsNewest, entered, load_outcome, load_refusal, loaded_line, loads, loads_all, shows_load}
+use Rattle.stages_loads.specs.declared.load.Insertion.{Insertion}
+use Rattle.stages_loads.specs.declared.shown.Images.{Images}
+use Rattle.stages_loads.specs.Loads.{IsNewest, ShownImage, entered, finished_params, load_outcome, load_refusal, loads, loads_all, params_image, params_outcome, params_unless, shows_image, shows_load, shows_params}
 
 -- the stage after a load was shown
 abbrev pub one_shown : Machine → ⊤ → Stage Machine
 one_shown after _ = gives after
 
 -- the stage after a module was loaded
-abbrev pub one_loaded : Option (List ℕ) → Machine → Module → Machine → Stage Machine
-one_loaded images machine m after = shows_load images (entered machine m) >>= one_shown after
+abbrev pub one_loaded : Images → List ℕ → Machine → Module → Machine → Stage Machine
+one_loaded images options machine m after = shows_load images m options (entered machine m) >>= one_shown after
 
 -- the stage after a module was read
-abbrev pub one_read : Option (List ℕ) → Machine → Module → Stage Machine
-one_read images machine m = loads Planned machine m >>= one_loaded images machine m
+abbrev pub one_read : Images → List ℕ → Machine → Module → Stage Machine
+one_read images options machine m = loads Planned machine m >>= one_loaded images options machine m
 
 -- the stage of the other modules
-abbrev pub loads_others : List ℕ → Option (List ℕ) → List (List ℕ) → Machine → Stage Machine
-loads_others folder images paths machine = loads_all folder images machine paths
+abbrev pub loads_others : List ℕ → Images → List Insertion → Machine → Stage Machine
+loads_others folder images inserts machine = loads_all folder images machine inserts
 
 -- the stage after an image was put
-abbrev pub line_said : Entry → ⊤ → Stage ⊤
-line_said e _ = says (loaded_line e.loaded e.image)
+abbrev pub line_said : List ℕ → ⊤ → Stage ⊤
+line_said line _ = says line
+
+-- the stage after the image of a load was shown
+abbrev pub params_shown : Images → Module → List ℕ → Entry → ⊤ → Stage ⊤
+params_shown images m options e _ = when images.params then shows_params images.folder m options e.loaded e.image else gives tt
+
+-- the stage after the parameters were written
+abbrev pub finished_shown : Option (List ℕ) → List ℕ → Params → Stage ⊤
+finished_shown folder name p = shows_image folder (params_image name p)
 
 pub loaded_ok : (cause : Cause) (name : List ℕ) (r : Result Machine LoadFault) (after : Machine) → r ≡ Ok after → load_outcome cause name r ≡ value after
 unfolding load_outcome
@@ -120,6 +138,41 @@ newest cause name machine after m is =
     subst (λ x. IsNewest x (entered machine m)) w.1
     (entered-newest machine (entered machine m)
     (subst (λ n. list_any (λ (e : Entry). bytes_eq e.loaded.name n) machine.entries ≡ false) (sym (entered-name machine m)) (unnamed machine m w.0)))
+
+-- the image of a load is as long as the layout of the module
+pub entered-long : (machine : Machine) (m : Module) → length (entered machine m).image ≡ image_size m.object.sections
+unfolding entry_at
+entered-long machine m = length-laid m.object (module_base machine m) (symbol_addresses machine m (module_base machine m))
+
+-- images that are shown
+abbrev shown_as : List ℕ → List ℕ → List ℕ → ShownImage
+shown_as name image line = record { name = name; image = image; line = line }
+
+pub same-shown : {a b image same line one : List ℕ} → a ≡ b → image ≡ same → line ≡ one → ◌≡◌ {A = ShownImage} (record { name = a; image = image; line = line }) (record { name = b; image = same; line = one })
+same-shown {b = b} {image = image} {same = same} {line = line} name bytes text =
+    ap (λ n. shown_as n image line) name ∙ ap (λ i. shown_as b i line) bytes ∙ ap (shown_as b same) text
+
+-- parameters that were written
+abbrev params_as : List ℕ → ℕ → Params
+params_as image count = record { image = image; count = count }
+
+same-params : (p q : Params) → p.image ≡ q.image → p.count ≡ q.count → p ≡ q
+same-params p q image count = ap (λ i. params_as i p.count) image ∙ ap (params_as q.image) count
+
+pub params_ok : (m : Module) (options : List ℕ) (loaded : LoadedModule) (image : List ℕ) (p : Params) → p.image ≡ finished m.object loaded.base image options → p.count ≡ count_of m.object loaded.base image options → param_fault m.object loaded.base image options ≡ None → params_outcome m options loaded image ≡ value p
+unfolding params_outcome
+params_ok m options loaded image p bytes count passed =
+    ap (λ f. params_unless loaded.name f (finished_params m options loaded image)) passed
+    ∙ ap value (sym (same-params p (finished_params m options loaded image) bytes count))
+
+-- a fault that isn't want of memory is that of the options
+pub params_not : (m : Module) (options : List ℕ) (loaded : LoadedModule) (image named text : List ℕ) (fault : ParamFault) → (fault ≡ NoMemory) ⊎ (param_fault m.object loaded.base image options ≡ Some fault) → (fault ≡ NoMemory → ⊥) → text ≡ param_fault_text fault → named ≡ loaded.name → params_outcome m options loaded image ≡ end (Refused (ParamsRefused named text))
+unfolding params_outcome
+params_not m options loaded image named text fault (inl memory) wanting is same = absurd (wanting memory)
+params_not m options loaded image named text fault (inr f) wanting is same =
+    ap (λ o. params_unless loaded.name o (finished_params m options loaded image)) f
+    ∙ ap (λ t. end (Refused (ParamsRefused loaded.name t))) (sym is)
+    ∙ ap (λ n. end (Refused (ParamsRefused n text))) (sym same)
 
 -- what the newest entry of a machine has, by the calls of the machine
 pub last-loaded : (machine : Machine) (e : Entry) (loaded : LoadedModule) (i : ℕ) → IsNewest machine e → i ≡ length machine.entries - 1 → option_map (λ (x : Entry). x.loaded) (slice_get machine.entries i) ≡ Some loaded → loaded ≡ e.loaded

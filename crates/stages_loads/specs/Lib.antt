@@ -2,3 +2,4 @@ pub mod Tables
 pub mod Modules
 pub mod Loads
 pub mod Listed
+pub mod Region

@@ -17,12 +17,16 @@ abbrev pub listed_outcome : List ℕ → Option (List ℕ) → Outcome (List ℕ
 listed_outcome name None = end (Refused (ListedNotFound name))
 listed_outcome name (Some path) = value path
 
--- The listed module of a name is looked up, read, and goes into the machine.
-abbrev pub loads_listed_one : List ℕ → Index → Machine → List ℕ → Stage Machine
-loads_listed_one folder index machine name = do
-  path ← given (listed_outcome name (path_listed index name))
+-- The listed module of a name that has this path, if it has one, is read, and goes into the machine.
+abbrev pub loads_listed_at : List ℕ → Machine → List ℕ → Option (List ℕ) → Stage Machine
+loads_listed_at folder machine name found = do
+  path ← given (listed_outcome name found)
   m ← reads_module folder path
   loads Listed machine m
+
+-- The listed module of a name is looked up, read, and goes into the machine.
+abbrev pub loads_listed_one : List ℕ → Index → Machine → List ℕ → Stage Machine
+loads_listed_one folder index machine name = loads_listed_at folder machine name (path_listed index name)
 
 -- The listed modules, the oldest first; the list has the newest first.
 abbrev pub loads_listed : List ℕ → Index → Machine → List (List ℕ) → Stage Machine

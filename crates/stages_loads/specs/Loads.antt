@@ -1,5 +1,5 @@
 -- Loads into a machine, each with what is said of it. modprobe(8).
-use Rattle.std.specs.Prelude.{◌≡◌, ℕ, ◌<◌, ◌-◌, List, [], ◌∷◌, length, find, slice_get, ◌++◌, codes, Option, Some, None, Result, Ok, Err, ⊤}
+use Rattle.std.specs.Prelude.{◌≡◌, ℕ, ◌<◌, ◌-◌, List, [], ◌∷◌, length, map, find, slice_get, ◌++◌, codes, Option, Some, None, Result, Ok, Err, ⊤}
 use Rattle.std.specs.Fmt.{decimal}
 use Rattle.std.specs.Int.{w64, to_be_bytes}
 use Rattle.std.specs.Str.{bytes_eq}
@@ -13,13 +13,19 @@ use Rattle.model_loader.specs.declared.fault.LoadFault.{LoadFault}
 use Rattle.model_loader.specs.FaultText.{load_fault_text}
 use Rattle.model_loader.specs.Machine.{Machine}
 use Rattle.model_loader.specs.Step.{entry_at, module_base, step}
-use Rattle.km_course.specs.Course.{Outcome, Stage, ◌>>=◌, given, gives, each_from, puts, says}
+use Rattle.param_apply.specs.declared.apply.Params.{Params}
+use Rattle.param_apply.specs.declared.fault.ParamFault.{ParamFault}
+use Rattle.param_apply.specs.Applied.{count_of, finished, param_fault}
+use Rattle.param_apply.specs.FaultText.{param_fault_text}
+use Rattle.km_course.specs.Course.{Outcome, Stage, ◌>>=◌, given, gives, each_from, puts, says, when◌then◌else◌}
 use Rattle.km_course.specs.Course.Outcome.{value, end}
 use Rattle.km_course.specs.declared.end.End.TheVariants.{Refused}
 use Rattle.km_course.specs.declared.refusal.Refusal.{Refusal}
-use Rattle.km_course.specs.declared.refusal.Refusal.TheVariants.{ListedRefused, LoadRefused}
+use Rattle.km_course.specs.declared.refusal.Refusal.TheVariants.{ListedRefused, LoadRefused, ParamsRefused}
 use Rattle.stages_loads.specs.declared.load.Cause.{Cause}
 use Rattle.stages_loads.specs.declared.load.Cause.TheVariants.{Listed, Planned}
+use Rattle.stages_loads.specs.declared.load.Insertion.{Insertion}
+use Rattle.stages_loads.specs.declared.shown.Images.{Images}
 use Rattle.stages_loads.specs.Modules.{reads_module}
 
 -- the refusal of a load of the module of this name, with the text of its fault
@@ -40,36 +46,95 @@ loads cause machine m = given (load_outcome cause m.facts.name (step machine m))
 abbrev pub entered : Machine → Module → Entry
 entered machine m = entry_at machine m (module_base machine m)
 
--- What is said of a module that was loaded and of its image: the name of the module, the address of the image in 16
+-- The line of a module of the machine and of its image: a word, the name of the module, the address of the image in 16
 -- hexadecimal digits, its size in decimal, and its digest in hexadecimal digits. SHA-256 is that of FIPS 180-4.
-unfoldable pub loaded_line : LoadedModule → List ℕ → List ℕ
-loaded_line loaded image =
-    codes "loaded " ++ (loaded.name ++ (codes " " ++ (encode_lower (to_be_bytes w64 loaded.base)
-    ++ (codes " " ++ (decimal loaded.size ++ (codes " " ++ (encode_lower (sha256 image) ++ 10 ∷ [])))))))
+unfoldable pub entry_line : List ℕ → LoadedModule → List ℕ → List ℕ
+entry_line word loaded image =
+    word ++ (codes " " ++ (loaded.name ++ (codes " " ++ (encode_lower (to_be_bytes w64 loaded.base)
+    ++ (codes " " ++ (decimal loaded.size ++ (codes " " ++ (encode_lower (sha256 image) ++ 10 ∷ []))))))))
 
--- The image of a module is put into the folder for images, where there is one, under the name of the module.
+-- What is said of a module that was loaded.
+abbrev pub loaded_line : LoadedModule → List ℕ → List ℕ
+loaded_line loaded image = entry_line (codes "loaded") loaded image
+
+-- What is said of a module whose parameters were written: its name, how many parameters the options name, and the digest
+-- of the finished image.
+unfoldable pub params_line : List ℕ → ℕ → List ℕ → List ℕ
+params_line name count image =
+    codes "params " ++ (name ++ (codes " " ++ (decimal count ++ (codes " " ++ (encode_lower (sha256 image) ++ 10 ∷ [])))))
+
+-- An image that is shown: it is put into the folder for images, where there is one, under a name with `.img` after it;
+-- and then a line is said.
+pub record ShownImage : Type 0 where
+  pub name : List ℕ
+  pub image : List ℕ
+  pub line : List ℕ
+
+-- The image of a module in the machine, under the name of the module.
+abbrev pub machine_image : LoadedModule → List ℕ → ShownImage
+machine_image loaded image = record { name = loaded.name; image = image; line = loaded_line loaded image }
+
+-- The image with the parameters in it, under the name of the module and `.params`.
+abbrev pub params_image : List ℕ → Params → ShownImage
+params_image name p = record { name = name ++ codes ".params"; image = p.image; line = params_line name p.count p.image }
+
+-- The image of a module, as it is in the machine, with the options written into a copy of it.
+abbrev pub finished_params : Module → List ℕ → LoadedModule → List ℕ → Params
+finished_params m options loaded image = record {
+  image = finished m.object loaded.base image options;
+  count = count_of m.object loaded.base image options;
+}
+
+-- what options with this first fault come to
+abbrev pub params_unless : List ℕ → Option ParamFault → Params → Outcome Params
+params_unless name None p = value p
+params_unless name (Some fault) p = end (Refused (ParamsRefused name (param_fault_text fault)))
+
+-- What the options of a module come to: they are written into a copy of its image, or the first fault of them is told.
+unfoldable pub params_outcome : Module → List ℕ → LoadedModule → List ℕ → Outcome Params
+params_outcome m options loaded image =
+    params_unless loaded.name (param_fault m.object loaded.base image options) (finished_params m options loaded image)
+
+-- An image is put into the folder for images, where there is one, under a name.
 abbrev pub puts_image : Option (List ℕ) → List ℕ → List ℕ → Stage ⊤
 puts_image None name image = gives tt
 puts_image (Some folder) name image = puts (path_below folder (name ++ codes ".img")) image
 
--- What becomes of a load: the image is put, and then the line is said.
-abbrev pub shows_load : Option (List ℕ) → Entry → Stage ⊤
-shows_load images e = do
-  put ← puts_image images e.loaded.name e.image
-  says (loaded_line e.loaded e.image)
+-- An image is put, and then its line is said.
+abbrev pub shows_image : Option (List ℕ) → ShownImage → Stage ⊤
+shows_image folder shown = do
+  put ← puts_image folder shown.name shown.image
+  says shown.line
 
--- The module at a path of the tree in the folder is read, and goes into the machine; its image is put, and the line of
--- the load is said. What it gives is the machine after it.
-abbrev pub loads_one : List ℕ → Option (List ℕ) → Machine → List ℕ → Stage Machine
-loads_one folder images machine path = do
-  m ← reads_module folder path
+-- The options of a module are written into a copy of its image, which is shown.
+abbrev pub shows_params : Option (List ℕ) → Module → List ℕ → LoadedModule → List ℕ → Stage ⊤
+shows_params folder m options loaded image = do
+  p ← given (params_outcome m options loaded image)
+  shows_image folder (params_image loaded.name p)
+
+-- What becomes of a load with these options: the image is shown; and so is the one with the parameters in it, where those
+-- are asked for.
+abbrev pub shows_load : Images → Module → List ℕ → Entry → Stage ⊤
+shows_load images m options e = do
+  shown ← shows_image images.folder (machine_image e.loaded e.image)
+  when images.params then shows_params images.folder m options e.loaded e.image else gives tt
+
+-- The module at a path of the tree in the folder is read, and goes into the machine; then its images are shown. What it
+-- gives is the machine after it.
+abbrev pub loads_one : List ℕ → Images → Machine → Insertion → Stage Machine
+loads_one folder images machine one = do
+  m ← reads_module folder one.path
   after ← loads Planned machine m
-  shown ← shows_load images (entered machine m)
+  shown ← shows_load images m one.options (entered machine m)
   gives after
 
--- The modules at the paths, one after the other.
-abbrev pub loads_all : List ℕ → Option (List ℕ) → Machine → List (List ℕ) → Stage Machine
-loads_all folder images machine paths = each_from (loads_one folder images) machine paths
+-- The modules that are to be loaded, one after the other.
+abbrev pub loads_all : List ℕ → Images → Machine → List Insertion → Stage Machine
+loads_all folder images machine inserts = each_from (loads_one folder images) machine inserts
+
+-- the paths at which they are
+abbrev pub paths_of : List Insertion → List (List ℕ)
+paths_of inserts = map (λ (one : Insertion). one.path) inserts
 
 -- The entry that was made last, which is the only one of its name.
 pub record IsNewest (machine : Machine) (e : Entry) : Type 0 where

@@ -1,9 +1,9 @@
 // The modules that are listed as loaded.
+ghost use Rattle.std.specs.Prelude.{option_copied};
 ghost use Rattle.km_outside.specs.OutSeen.{OutSeen};
 ghost use Rattle.km_course.specs.World.{world};
 ghost use Rattle.km_course.specs.Follows.{Answers, Follows};
-ghost use Rattle.stages_files.specs.KernelModules.{path_listed};
-ghost use Rattle.stages_loads.specs.Listed.{listed_outcome, loads_listed, loads_listed_one};
+ghost use Rattle.stages_loads.specs.Listed.{listed_outcome, loads_listed, loads_listed_at, loads_listed_one};
 
 use crate::load::{Cause, load};
 use crate::module::read_module_in;
@@ -50,16 +50,34 @@ fn load_listed_one<F: Reads>(
     ensures { (out err : OutSeen) → Follows (λ x. x) (loads_listed_one folder.now index.now machine name.now)
         (world (F.seen files.old) out err) (world (F.seen files.new) out err) result }
 {
-    let path = path_of_listed(alloc, index, name)?;
+    let found = path_listed(index, name.as_bytes());
+    load_listed_at(alloc, folder, machine, name, found, files)
+}
+
+/// Loads the listed module of a name that has this path in the folder, if it has one. A name
+/// without a path ends the command with a line of its own, and so does a module whose load is
+/// refused. modprobe(8).
+pub fn load_listed_at<F: Reads>(
+    alloc: Global,
+    folder: &PathText,
+    machine: Machine,
+    name: &Name,
+    found: Option<&[u8]>,
+    files: &mut F,
+) -> Result<Machine, Stop>
+    ensures { (out err : OutSeen) → Follows (λ x. x) (loads_listed_at folder.now machine name.now (option_copied found.entry))
+        (world (F.seen files.old) out err) (world (F.seen files.new) out err) result }
+{
+    let path = path_of_listed(alloc, name, found)?;
     let module = read_module_in(alloc, folder, &path, files)?;
     load(alloc, Cause::Listed, machine, &module)
 }
 
 /// Returns the path in the folder of the listed module of a name, or its refusal.
-fn path_of_listed(alloc: Global, index: &Index, name: &Name) -> Result<PathText, Stop>
-    ensures { Answers (λ x. x) (listed_outcome name.now (path_listed index.now name.now)) result }
+fn path_of_listed(alloc: Global, name: &Name, found: Option<&[u8]>) -> Result<PathText, Stop>
+    ensures { Answers (λ x. x) (listed_outcome name.now (option_copied found.entry)) result }
 {
-    match path_listed(index, name.as_bytes()) {
+    match found {
         Some(path) => Ok(PathText::from_slice(alloc, path)?),
         None => {
             let name = Name::from_slice(alloc, name.as_bytes())?;

@@ -1,5 +1,5 @@
 // Loads of the modules of a plan.
-ghost use Rattle.std.specs.Prelude.{◌≡◌, option_copied};
+ghost use Rattle.std.specs.Prelude.{◌≡◌};
 ghost use Rattle.km_outside.specs.OutSeen.{OutSeen};
 ghost use Rattle.km_course.specs.World.{world};
 ghost use Rattle.km_course.specs.Follows.{Answers, Follows};
@@ -7,9 +7,9 @@ ghost use Rattle.model_loader.specs.Step.{step};
 ghost use Rattle.stages_loads.specs.Loads.{load_outcome, load_refusal, loads_all, loads_one};
 
 use crate::module::read_module_in;
-use crate::shown::show_load;
+use crate::shown::{Images, show_load};
 use km_course::{Refusal, Stop};
-use km_names::{Blob, Name, PathText};
+use km_names::{Blob, List, Name, PathText};
 use km_outside::{Out, Writes};
 use model_loader::{LoadFault, Machine};
 use module_facts::Module;
@@ -24,44 +24,56 @@ pub enum Cause {
     Planned,
 }
 
-/// Loads the modules at these paths of the tree in the folder, one after the other. Each is read
-/// and checked and goes into the machine. Then its image is put into the folder for images, if
-/// there is one, and the line of the load is written. The first refusal ends the command, and what
-/// was loaded before it stays. modprobe(8).
+/// A module that is to be loaded.
+#[derive(Drop)]
+pub struct Insertion {
+    /// Its path in the tree of the folder.
+    pub path: PathText,
+    /// Its options.
+    pub options: Blob,
+}
+
+/// Modules that are to be loaded, in order.
+pub type Insertions = List<Insertion>;
+
+/// Loads modules of the tree in the folder, one after the other. Each is read and checked and goes
+/// into the machine. Then its image is shown, and the one with its parameters if those are asked
+/// for. The first refusal ends the command, and what was loaded and shown before it stays.
+/// modprobe(8).
 pub fn load_all<F: Writes, O: Out>(
     alloc: Global,
     folder: &PathText,
-    images: Option<&PathText>,
+    images: &Images,
     mut machine: Machine,
-    paths: &[PathText],
+    inserts: &[Insertion],
     files: &mut F,
     out: &mut O,
 ) -> Result<Machine, Stop>
-    ensures { (err : OutSeen) → Follows (λ x. x) (loads_all folder.now (option_copied images.entry) machine paths.now)
+    ensures { (err : OutSeen) → Follows (λ x. x) (loads_all folder.now images.now machine inserts.now)
         (world (F.seen files.old) (O.seen out.old) err) (world (F.seen files.new) (O.seen out.new) err) result }
 {
-    for path in paths {
-        machine = load_one(alloc, folder, images, machine, path, files, out)?;
+    for insert in inserts {
+        machine = load_one(alloc, folder, images, machine, insert, files, out)?;
     }
     Ok(machine)
 }
 
-/// Loads the module at a path of the tree in the folder, and gives the machine after it.
+/// Loads a module of the tree in the folder, and gives the machine after it.
 fn load_one<F: Writes, O: Out>(
     alloc: Global,
     folder: &PathText,
-    images: Option<&PathText>,
+    images: &Images,
     machine: Machine,
-    path: &PathText,
+    insert: &Insertion,
     files: &mut F,
     out: &mut O,
 ) -> Result<Machine, Stop>
-    ensures { (err : OutSeen) → Follows (λ x. x) (loads_one folder.now (option_copied images.entry) machine path.now)
+    ensures { (err : OutSeen) → Follows (λ x. x) (loads_one folder.now images.now machine insert.now)
         (world (F.seen files.old) (O.seen out.old) err) (world (F.seen files.new) (O.seen out.new) err) result }
 {
-    let module = read_module_in(alloc, folder, path, files)?;
+    let module = read_module_in(alloc, folder, &insert.path, files)?;
     let after = load(alloc, Cause::Planned, machine, &module)?;
-    show_load(alloc, images, &after, files, out)?;
+    show_load(alloc, images, &after, &module, &insert.options, files, out)?;
     Ok(after)
 }
 

@@ -24,7 +24,7 @@ returns-in_err-machine g c = λ out err.
     let folder = c.args.folder.now in
     let index = c.args.index.now in
     let names = c.args.names.now in
-    leads-oldest folder index _ _ _ c.loop-left.machine names c.loop-left.left c.index-names-left.result c.loop-left-test.true c.loop-left.invariant.within c.index-names-left.is (c.loop-left.invariant.leads out err) _ _
+    leads-oldest (loads_listed_one folder index) _ _ _ c.loop-left.machine names c.loop-left.left c.index-names-left.result c.loop-left-test.true c.loop-left.invariant.within c.index-names-left.is (c.loop-left.invariant.leads out err) _ _
     (exits _ _ (listed_others folder index (take (c.loop-left.left - 1) names)) p.1 p.2 (c.in_err-machine.ensures out err))
 
 pub loop-left-preserved : goal.loop-left-preserved
@@ -35,11 +35,11 @@ loop-left-preserved g c =
     record {
       leads = λ out err.
           leads-on (λ (x : Machine). x) _ _ _ _ (loads_listed_one folder index) c.loop-left.machine c.index-names-left.result (reverse (take (c.loop-left.left - 1) names)) c.in_ok-machine.machine
-          (leads-oldest folder index _ _ _ c.loop-left.machine names c.loop-left.left c.index-names-left.result c.loop-left-test.true c.loop-left.invariant.within c.index-names-left.is (c.loop-left.invariant.leads out err))
+          (leads-oldest (loads_listed_one folder index) _ _ _ c.loop-left.machine names c.loop-left.left c.index-names-left.result c.loop-left-test.true c.loop-left.invariant.within c.index-names-left.is (c.loop-left.invariant.leads out err))
           (c.in_ok-machine.ensures out err);
       within = omega (arith, c.loop-left.invariant.within);
     }
 
 pub returns : goal.returns
 returns g c = λ out err.
-    leads-none c.args.folder.now c.args.index.now _ _ _ c.loop-left.machine c.args.names.now c.loop-left.left c.loop-left-test.false (c.loop-left.invariant.leads out err)
+    leads-none (loads_listed_one c.args.folder.now c.args.index.now) _ _ _ c.loop-left.machine c.args.names.now c.loop-left.left c.loop-left-test.false (c.loop-left.invariant.leads out err)

@@ -1,33 +1,11 @@
-use Rattle.std.proofs.Common.{ℕ, List}
-use Rattle.std.specs.Prelude.{Ok, Err}
-use Rattle.std.proofs.lemmas.Result.{err_from_is_err_and}
-use Rattle.model_loader.specs.Machine.{Machine}
-use Rattle.model_loader.specs.Step.{step}
-use Rattle.km_course.proofs.Steps.{next, exits, answered}
+use Rattle.std.proofs.Common.{ap, ◌∙◌}
+use Rattle.km_course.proofs.Following.{along}
 use Rattle.stages_files.specs.KernelModules.{path_listed}
-use Rattle.stages_loads.specs.declared.load.Cause.TheVariants.{Listed}
-use Rattle.stages_loads.specs.Listed.{listed_outcome}
-use Rattle.stages_loads.specs.Loads.{load_outcome}
-use Rattle.stages_loads.proofs.ListedSteps.{listed_found, listed_read}
+use Rattle.stages_loads.specs.Listed.{loads_listed_at}
 use Rattle.stages_loads.proofs.listed.load_listed_one.Goals as goal
-
-pub returns-in_err-path : goal.returns-in_err-path
-returns-in_err-path g c = λ out err.
-    let p = err_from_is_err_and c.from_residual.result c.from_residual.ensures.1 in
-    exits _ _ (listed_found c.args.folder.now c.args.machine) p.1 p.2
-    (answered (λ (x : List ℕ). x) (listed_outcome c.args.name.now (path_listed c.args.index.now c.args.name.now)) _ (Err _) c.in_err-path.ensures)
-
-pub returns-in_err-module : goal.returns-in_err-module
-returns-in_err-module g c = λ out err.
-    let p = err_from_is_err_and c.from_residual-in_err-module.result c.from_residual-in_err-module.ensures.1 in
-    next (listed_found c.args.folder.now c.args.machine)
-    (answered (λ (x : List ℕ). x) (listed_outcome c.args.name.now (path_listed c.args.index.now c.args.name.now)) _ (Ok c.in_ok-path.path) c.in_ok-path.ensures)
-    (exits _ _ (listed_read c.args.machine) p.1 p.2 (c.in_err-module.ensures out err))
 
 pub returns : goal.returns
 returns g c = λ out err.
-    let m = c.in_ok-module.module in
-    next (listed_found c.args.folder.now c.args.machine)
-    (answered (λ (x : List ℕ). x) (listed_outcome c.args.name.now (path_listed c.args.index.now c.args.name.now)) _ (Ok c.in_ok-path.path) c.in_ok-path.ensures)
-    (next (listed_read c.args.machine) (c.in_ok-module.ensures out err)
-    (answered (λ (x : Machine). x) (load_outcome Listed m.facts.name (step c.args.machine m)) _ c.load.result c.load.ensures))
+    along (loads_listed_at c.args.folder.now c.args.machine c.args.name.now) _ _
+    (c.path_listed-found.ensures ∙ ap (path_listed c.args.index.now) c.as_bytes.ensures)
+    (c.load_listed_at.ensures out err)

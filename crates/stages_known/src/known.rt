@@ -1,0 +1,187 @@
+// What modprobe knows before it looks a name up.
+ghost use Rattle.std.specs.Prelude.{◌≡◌, ◌≤◌, ◌∷◌, ◌++◌, [], length, All, IfOk};
+ghost use Rattle.km_names.specs.Limit.{file_limit};
+ghost use Rattle.km_outside.specs.OutSeen.{OutSeen};
+ghost use Rattle.km_course.specs.World.{world};
+ghost use Rattle.km_course.specs.Follows.{Answers, Follows};
+ghost use Rattle.modprobe_conf.specs.Rules.{rules_of};
+ghost use Rattle.unmet_file.specs.Unmet.{unmet_of};
+ghost use Rattle.stages_files.specs.Configuration.{stated_outcome};
+ghost use Rattle.stages_known.specs.Known.{reads_index_in, reads_indexes, reads_rules, reads_unmet, reads_loaded, reads_lists, reads_known};
+
+use index_read::Index;
+use km_course::{Stop, read_needed, read_optional};
+use km_names::{Blob, ConfFile, ConfFiles, PathText, join};
+use km_outside::Reads;
+use loaded_list::Loaded;
+use modprobe_conf::{Rules, parse};
+use name_lookup::Indexes;
+use stages_files::{Tool, read_configuration, read_index, stop_of_fault};
+use std::alloc::{AllocError, Global};
+use unmet_file::Unmet;
+
+/// What modprobe knows before it looks a name up.
+#[derive(Drop)]
+pub struct Known {
+    /// The rules of the configuration and of modules.softdep.
+    pub rules: Rules,
+    /// The indexes in which names are looked up.
+    pub indexes: Indexes,
+    /// The obstacles to loading modules.
+    pub unmet: Unmet,
+    /// The modules that are loaded, the newest first.
+    pub loaded: Loaded,
+}
+
+/// Reads what modprobe has to know. That is the configuration, which is understood before another
+/// file is read, the index files of the folder, its modules.softdep and modules.unmet, and the list
+/// of loaded modules. modprobe(8), modules.dep(5).
+pub fn read_known<F: Reads>(
+    alloc: Global,
+    config: Option<PathText>,
+    folder: &PathText,
+    loaded: Option<PathText>,
+    files: &mut F,
+) -> Result<Known, Stop>
+    ensures { (out err : OutSeen) → Follows (λ x. x) (reads_known config folder.now loaded)
+        (world (F.seen files.old) out err) (world (F.seen files.new) out err) result }
+{
+    let configuration = read_configuration(alloc, Tool::Modprobe, config, files)?;
+    rules_in(alloc, &configuration)?;
+    let indexes = read_indexes(alloc, folder, files)?;
+    read_lists(alloc, configuration, folder, indexes, loaded, files)
+}
+
+/// Returns the rules that configuration files state.
+fn rules_in(alloc: Global, files: &ConfFiles) -> Result<Rules, Stop>
+    requires { All (λ file. length file.bytes ≤ file_limit) files.now }
+    ensures { Answers (λ x. x) (stated_outcome (rules_of files.now)) result }
+{
+    match parse(alloc, files) {
+        Ok(rules) => Ok(rules),
+        Err(fault) => Err(stop_of_fault(fault)),
+    }
+}
+
+/// Reads the four index files of a folder, each checked before the next is read.
+fn read_indexes<F: Reads>(alloc: Global, folder: &PathText, files: &mut F) -> Result<Indexes, Stop>
+    ensures { (out err : OutSeen) → Follows (λ x. x) (reads_indexes folder.now)
+        (world (F.seen files.old) out err) (world (F.seen files.new) out err) result }
+{
+    let dep = read_index_in(alloc, folder, b"modules.dep.bin", files)?;
+    let alias = read_index_in(alloc, folder, b"modules.alias.bin", files)?;
+    let symbols = read_index_in(alloc, folder, b"modules.symbols.bin", files)?;
+    let builtin = read_index_in(alloc, folder, b"modules.builtin.bin", files)?;
+    Ok(Indexes {
+        dep,
+        alias,
+        symbols,
+        builtin,
+    })
+}
+
+/// Reads the index in the file of this name in a folder.
+fn read_index_in<F: Reads>(
+    alloc: Global,
+    folder: &PathText,
+    name: &[u8],
+    files: &mut F,
+) -> Result<Index, Stop>
+    ensures { (out err : OutSeen) → Follows (λ x. x) (reads_index_in folder.now name.now)
+        (world (F.seen files.old) out err) (world (F.seen files.new) out err) result }
+{
+    let path = join(alloc, folder, name)?;
+    read_index(alloc, path, files)
+}
+
+/// Reads what modprobe knows, after the configuration and the indexes were read.
+fn read_lists<F: Reads>(
+    alloc: Global,
+    configuration: ConfFiles,
+    folder: &PathText,
+    indexes: Indexes,
+    loaded: Option<PathText>,
+    files: &mut F,
+) -> Result<Known, Stop>
+    requires { All (λ file. length file.bytes ≤ file_limit) configuration }
+    ensures { (out err : OutSeen) → Follows (λ x. x) (reads_lists configuration folder.now indexes loaded)
+        (world (F.seen files.old) out err) (world (F.seen files.new) out err) result }
+{
+    let rules = read_rules(alloc, configuration, folder, files)?;
+    let unmet = read_unmet(alloc, folder, files)?;
+    let listed = read_loaded(alloc, loaded, files)?;
+    Ok(Known {
+        rules,
+        indexes,
+        unmet,
+        loaded: listed,
+    })
+}
+
+/// Reads the rules of the configuration, with modules.softdep as one more file.
+fn read_rules<F: Reads>(
+    alloc: Global,
+    configuration: ConfFiles,
+    folder: &PathText,
+    files: &mut F,
+) -> Result<Rules, Stop>
+    requires { All (λ file. length file.bytes ≤ file_limit) configuration }
+    ensures { (out err : OutSeen) → Follows (λ x. x) (reads_rules configuration folder.now)
+        (world (F.seen files.old) out err) (world (F.seen files.new) out err) result }
+{
+    let path = join(alloc, folder, b"modules.softdep")?;
+    let softdep = read_optional(alloc, files, &path)?;
+    let all = with_file(configuration, path, softdep)?;
+    rules_in(alloc, &all)
+}
+
+/// Adds one more file to the files.
+fn with_file(mut files: ConfFiles, path: PathText, bytes: Blob) -> Result<ConfFiles, AllocError>
+    requires all { All (λ file. length file.bytes ≤ file_limit) files }
+    requires one { length bytes ≤ file_limit }
+    ensures files { IfOk result (λ more. more ≡ files ++ record { path = path; bytes = bytes } ∷ []) }
+    ensures limit { IfOk result (λ more. All (λ file. length file.bytes ≤ file_limit) more) }
+{
+    files.push(ConfFile { path, bytes })?;
+    Ok(files)
+}
+
+/// Reads the lines of the folder's modules.unmet.
+fn read_unmet<F: Reads>(alloc: Global, folder: &PathText, files: &mut F) -> Result<Unmet, Stop>
+    ensures { (out err : OutSeen) → Follows (λ x. x) (reads_unmet folder.now)
+        (world (F.seen files.old) out err) (world (F.seen files.new) out err) result }
+{
+    let path = join(alloc, folder, b"modules.unmet")?;
+    let bytes = read_optional(alloc, files, &path)?;
+    unmet_in(alloc, &path, bytes.as_bytes())
+}
+
+/// Returns the lines that a modules.unmet states.
+fn unmet_in(alloc: Global, file: &PathText, bytes: &[u8]) -> Result<Unmet, Stop>
+    requires { length bytes.now ≤ file_limit }
+    ensures { Answers (λ x. x) (stated_outcome (unmet_of file.now bytes.now)) result }
+{
+    match Unmet::read(alloc, file, bytes) {
+        Ok(unmet) => Ok(unmet),
+        Err(fault) => Err(stop_of_fault(fault)),
+    }
+}
+
+/// Reads the loaded modules that the file at the path lists, or none without a path.
+fn read_loaded<F: Reads>(
+    alloc: Global,
+    path: Option<PathText>,
+    files: &mut F,
+) -> Result<Loaded, Stop>
+    ensures { (out err : OutSeen) → Follows (λ x. x) (reads_loaded path)
+        (world (F.seen files.old) out err) (world (F.seen files.new) out err) result }
+{
+    match path {
+        Some(path) => {
+            let bytes = read_needed(alloc, files, &path)?;
+            let loaded = Loaded::read(alloc, bytes.as_bytes())?;
+            Ok(loaded)
+        }
+        None => Ok(Loaded::new(alloc)),
+    }
+}

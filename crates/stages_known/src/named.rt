@@ -1,0 +1,64 @@
+// What the names of a request stand for.
+ghost use Rattle.std.specs.Prelude.{◌≡◌, ◌++◌, IfOk, OnOk};
+ghost use Rattle.km_course.specs.Follows.{Answers};
+ghost use Rattle.km_course.specs.declared.end.End.TheVariants.{Refused};
+ghost use Rattle.km_course.specs.declared.refusal.Refusal.TheVariants.{NotFound};
+ghost use Rattle.km_course.specs.declared.stop.Stop.TheVariants.{Ended};
+ghost use Rattle.stages_known.specs.Named.{names_outcome, normal_or_itself};
+
+use crate::known::Known;
+use km_course::{Refusal, Stop};
+use km_names::{Name, Names, normal_alias};
+use name_lookup::Lookup;
+use std::alloc::{AllocError, Global};
+
+/// Returns the names that the names of a request stand for, in their order. If one stands for
+/// nothing, the first such name is refused. modprobe(8), modprobe.d(5).
+pub fn names_found(
+    alloc: Global,
+    known: &Known,
+    use_blacklist: bool,
+    names: &[Name],
+) -> Result<Names, Stop>
+    ensures { Answers (λ x. x) (names_outcome known.now use_blacklist names.now) result }
+{
+    let lookup = Lookup::new(alloc, &known.rules, &known.indexes)?;
+    let mut all = Names::new(alloc);
+    for name in names {
+        let found = lookup.find(alloc, name, use_blacklist)?;
+        if found.list == 0 {
+            let unknown = not_found(alloc, name)?;
+            return Err(unknown);
+        }
+        push_names(alloc, &mut all, &found.names)?;
+    }
+    Ok(all)
+}
+
+/// Returns the refusal of a name that stands for nothing, in its normal form if it has one.
+fn not_found(alloc: Global, name: &Name) -> Result<Stop, AllocError>
+    ensures { IfOk result (λ stop. stop ≡ Ended (Refused (NotFound (normal_or_itself name.now)))) }
+{
+    let name = normal_name(alloc, name.as_bytes())?;
+    Ok(Stop::from(Refusal::NotFound { name }))
+}
+
+/// Returns a name in its normal form, or as it is if it has none.
+fn normal_name(alloc: Global, name: &[u8]) -> Result<Name, AllocError>
+    ensures { IfOk result (λ normal. normal ≡ normal_or_itself name.now) }
+{
+    match normal_alias(alloc, name)? {
+        Some(normal) => Name::from_slice(alloc, normal.as_bytes()),
+        None => Name::from_slice(alloc, name),
+    }
+}
+
+/// Puts copies of names at the end.
+fn push_names(alloc: Global, all: &mut Names, names: &Names) -> Result<(), AllocError>
+    ensures { OnOk result (all.new ≡ all.old ++ names.now) }
+{
+    for name in names.as_slice() {
+        all.push(Name::from_slice(alloc, name.as_bytes())?)?;
+    }
+    Ok(())
+}
