@@ -1,4 +1,3 @@
-pub mod KnownSteps
 pub mod ResolvedSteps
 pub mod PlanSteps
 pub mod LoadSteps

@@ -21,8 +21,8 @@ use Rattle.km_course.specs.declared.stop.Stop.{Stop}
 use Rattle.km_course.specs.declared.stop.Stop.TheVariants.{Ended, Memory}
 use Rattle.km_course.proofs.Following.{along}
 use Rattle.stages_files.specs.KernelModules.{modules_folder}
-use Rattle.command_modprobe.specs.declared.known.Known.{Known}
-use Rattle.command_modprobe.specs.Known.{reads_known}
+use Rattle.stages_known.specs.declared.known.Known.{Known}
+use Rattle.stages_known.specs.Known.{reads_known}
 use Rattle.command_modprobe.specs.Resolved.{names_asked}
 use Rattle.command_modprobe.specs.Planned.{loaded_in, plan_lines, plan_outcome, plan_unless, request_of, shows_plan, sources_with}
 

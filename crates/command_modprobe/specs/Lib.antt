@@ -1,4 +1,3 @@
-pub mod Known
 pub mod Resolved
 pub mod Planned
 pub mod Loaded

@@ -3,7 +3,7 @@ use Rattle.std.specs.Prelude.{ℕ, List, [], ◌∷◌, ◌++◌, drop, codes, O
 use Rattle.std.specs.List.{flat_map}
 use Rattle.km_names.specs.Path.{path_below}
 use Rattle.kmod_words.specs.declared.modprobe.Mode.{Mode}
-use Rattle.kmod_words.specs.declared.modprobe.Mode.TheVariants.{Load, DryRun, ShowDepends, ResolveAlias}
+use Rattle.kmod_words.specs.declared.modprobe.Mode.TheVariants.{Load, DryRun, ShowDepends, ResolveAlias, Remove}
 use Rattle.kmod_words.specs.declared.modprobe.ModprobeWords.{ModprobeWords}
 use Rattle.plan_builder.specs.declared.obstacle.Obstacle.{Obstacle}
 use Rattle.plan_builder.specs.declared.request.Request.{Request}
@@ -19,8 +19,8 @@ use Rattle.km_course.specs.Course.Outcome.{value, end}
 use Rattle.km_course.specs.declared.end.End.TheVariants.{Refused}
 use Rattle.km_course.specs.declared.refusal.Refusal.TheVariants.{Obstacle as Unplanned}
 use Rattle.stages_files.specs.KernelModules.{modules_folder}
-use Rattle.command_modprobe.specs.declared.known.Known.{Known}
-use Rattle.command_modprobe.specs.Known.{reads_known}
+use Rattle.stages_known.specs.declared.known.Known.{Known}
+use Rattle.stages_known.specs.Known.{reads_known}
 use Rattle.command_modprobe.specs.Resolved.{names_asked}
 
 -- Parameters for the module of the first word: the words after it with a space between each and the next; none where all
@@ -76,6 +76,7 @@ loaded_in ShowDepends loaded = []
 loaded_in DryRun loaded = loaded
 loaded_in Load loaded = loaded
 loaded_in ResolveAlias loaded = loaded
+loaded_in (Remove dry_run) loaded = loaded
 
 -- The course of `modprobe -n` and of `modprobe -D`.
 abbrev pub shows_plan : ModprobeWords → Stage ⊤

@@ -7,6 +7,7 @@ ghost use Rattle.command_modprobe.specs.Modprobe.{modprobe_course, modprobe_in_m
 use crate::load::load_plan;
 use crate::plan::show_plan;
 use crate::resolve_alias::resolve_alias;
+use command_remove::remove;
 use km_course::{End, Stop};
 use km_names::Word;
 use km_outside::{Out, Writes};
@@ -45,5 +46,6 @@ fn in_mode<F: Writes, O: Out>(
         Mode::Load => load_plan(alloc, asked, files, out),
         Mode::DryRun => show_plan(alloc, asked, files, out),
         Mode::ShowDepends => show_plan(alloc, asked, files, out),
+        Mode::Remove { dry_run } => remove(alloc, dry_run, asked, files, out),
     }
 }

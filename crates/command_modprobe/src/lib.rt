@@ -2,15 +2,13 @@
 //!
 //! It builds on `kmod_words` for what the words ask for, on `stages_files` for the files that it
 //! reads, and on `modprobe_conf`, `unmet_file` and `loaded_list` for what they state. It builds on
-//! `name_lookup` for the modules that a name stands for, on `plan_builder` for plans, and on
-//! `stages_loads` for loads.
+//! `stages_known` for the modules that a name stands for, on `plan_builder` for plans, on
+//! `stages_loads` for loads, and on `command_remove` for removals.
 #![tactic(auto)]
 
 mod course;
-mod known;
 mod load;
 mod plan;
 mod resolve_alias;
 
 pub use course::modprobe;
-pub use known::Known;

@@ -3,18 +3,18 @@ ghost use Rattle.std.specs.Prelude.{◌≡◌, ◌⊎◌, ◌++◌, OnOk, IfErr,
 ghost use Rattle.km_outside.specs.OutSeen.{OutSeen};
 ghost use Rattle.km_course.specs.World.{world};
 ghost use Rattle.km_course.specs.Follows.{Answers, Follows};
-ghost use Rattle.command_modprobe.specs.Loaded.{command_owner, install_stop, loaded_path, loads_into, loads_plan, loads_request, loads_steps, paths_outcome, region_at};
+ghost use Rattle.command_modprobe.specs.Loaded.{command_owner, inserted, inserts_outcome, install_stop, loads_into, loads_plan, loads_request, loads_steps};
 
-use crate::known::{Known, read_known};
 use crate::plan::{plan_in, plan_text, request_of};
 use km_course::{End, Refusal, Stop, say_any};
-use km_names::{Name, PathText, Paths};
+use km_names::{Blob, Name, PathText};
 use km_outside::{Out, Writes};
 use kmod_words::{Mode, ModprobeWords};
 use model_loader::{Machine, Region};
 use plan_builder::{PlanStep, PlanSteps, Request};
 use stages_files::modules_folder;
-use stages_loads::{load_all, load_listed, read_machine};
+use stages_known::{Known, read_known};
+use stages_loads::{Images, Insertion, Insertions, load_all, load_listed, read_machine, region_at};
 use std::alloc::Global;
 
 /// Prints the plan for the requested names. It loads the plan's modules into the modelled machine,
@@ -32,13 +32,6 @@ pub(crate) fn load_plan<F: Writes, O: Out>(
         Some(region) => load_into(alloc, asked, region, files, out),
         None => Err(Stop::from(End::NotUnderstood)),
     }
-}
-
-/// Returns the region of a base and a size.
-fn region_at(base: u64, size: u64) -> Option<Region>
-    ensures { result ≡ region_at base size }
-{
-    Region::new(base, size)
 }
 
 /// Loads the plan for the requested names into a machine with this region.
@@ -60,13 +53,20 @@ fn load_into<F: Writes, O: Out>(
         system_map,
         symvers,
         image,
+        params,
         ..
     } = asked;
+    let images = Images {
+        folder: image,
+        params,
+    };
     match system_map {
         Some(system_map) => {
             let known = read_known(alloc, config, &folder, loaded, files)?;
             let machine = read_machine(alloc, system_map, symvers, region, files)?;
-            load_request(alloc, &folder, image, &request, known, machine, files, out)
+            load_request(
+                alloc, &folder, &images, &request, known, machine, files, out,
+            )
         }
         None => Err(Stop::from(End::NotUnderstood)),
     }
@@ -76,36 +76,36 @@ fn load_into<F: Writes, O: Out>(
 fn load_request<F: Writes, O: Out>(
     alloc: Global,
     folder: &PathText,
-    images: Option<PathText>,
+    images: &Images,
     request: &Request,
     known: Known,
     machine: Machine,
     files: &mut F,
     out: &mut O,
 ) -> Result<(), Stop>
-    ensures { (err : OutSeen) → Follows (λ x. x) (loads_request folder.now images request.now known machine)
+    ensures { (err : OutSeen) → Follows (λ x. x) (loads_request folder.now images.now request.now known machine)
         (world (F.seen files.old) (O.seen out.old) err) (world (F.seen files.new) (O.seen out.new) err) result }
 {
     let steps = plan_in(alloc, Mode::Load, &known, request)?;
-    let paths = loaded_paths(alloc, &steps)?;
+    let inserts = inserts_of(alloc, &steps)?;
     load_steps(
-        alloc, folder, images, known, machine, &steps, &paths, files, out,
+        alloc, folder, images, known, machine, &steps, &inserts, files, out,
     )
 }
 
-/// Loads the listed modules, prints the lines of a plan, and loads the modules at its paths.
+/// Loads the listed modules, prints the lines of a plan, and loads its modules.
 fn load_steps<F: Writes, O: Out>(
     alloc: Global,
     folder: &PathText,
-    images: Option<PathText>,
+    images: &Images,
     known: Known,
     machine: Machine,
     steps: &PlanSteps,
-    paths: &Paths,
+    inserts: &Insertions,
     files: &mut F,
     out: &mut O,
 ) -> Result<(), Stop>
-    ensures { (err : OutSeen) → Follows (λ x. x) (loads_steps folder.now images known machine steps.now paths.now)
+    ensures { (err : OutSeen) → Follows (λ x. x) (loads_steps folder.now images.now known machine steps.now inserts.now)
         (world (F.seen files.old) (O.seen out.old) err) (world (F.seen files.new) (O.seen out.new) err) result }
 {
     let listed = load_listed(
@@ -121,37 +121,37 @@ fn load_steps<F: Writes, O: Out>(
     load_all(
         alloc,
         folder,
-        images.as_ref(),
+        images,
         listed,
-        paths.as_slice(),
+        inserts.as_slice(),
         files,
         out,
     )?;
     Ok(())
 }
 
-/// Returns the paths of the modules that a plan loads, or the refusal of its first step that runs a
-/// command.
-fn loaded_paths(alloc: Global, steps: &PlanSteps) -> Result<Paths, Stop>
-    ensures { Answers (λ x. x) (paths_outcome steps.now) result }
+/// Returns the modules that a plan loads, or the refusal of its first step that runs a command.
+fn inserts_of(alloc: Global, steps: &PlanSteps) -> Result<Insertions, Stop>
+    ensures { Answers (λ x. x) (inserts_outcome steps.now) result }
 {
-    let mut paths = Paths::new(alloc);
+    let mut inserts = Insertions::new(alloc);
     for step in steps.as_slice() {
-        push_path(alloc, &mut paths, step)?;
+        push_insert(alloc, &mut inserts, step)?;
     }
-    Ok(paths)
+    Ok(inserts)
 }
 
-/// Adds the path of the module that a step loads, if it loads one. A step that runs a command is
-/// refused.
-fn push_path(alloc: Global, paths: &mut Paths, step: &PlanStep) -> Result<(), Stop>
+/// Adds the module that a step loads, if it loads one. A step that runs a command is refused.
+fn push_insert(alloc: Global, inserts: &mut Insertions, step: &PlanStep) -> Result<(), Stop>
     ensures passed { OnOk result (command_owner step.now ≡ None) }
-    ensures paths { OnOk result (paths.new ≡ paths.old ++ loaded_path step.now) }
+    ensures inserts { OnOk result (inserts.new ≡ inserts.old ++ inserted step.now) }
     ensures err { IfErr result (λ stop. (stop ≡ Stop.Memory) ⊎ (option_map install_stop (command_owner step.now) ≡ Some stop)) }
 {
     match step {
-        PlanStep::Insert { path, .. } => {
-            paths.push(PathText::from_slice(alloc, path.as_bytes())?)?;
+        PlanStep::Insert { path, options, .. } => {
+            let path = PathText::from_slice(alloc, path.as_bytes())?;
+            let options = Blob::from_slice(alloc, options.as_bytes())?;
+            inserts.push(Insertion { path, options })?;
             Ok(())
         }
         PlanStep::Install { name, .. } => {

@@ -11,7 +11,6 @@ ghost use Rattle.plan_builder.specs.Steps.{spaced};
 ghost use Rattle.plan_builder.specs.Text.{obstacle_text};
 ghost use Rattle.command_modprobe.specs.Planned.{insert_line, loaded_in, plan_lines, plan_outcome, request_of, shows_plan, step_line};
 
-use crate::known::{Known, read_known};
 use crate::resolve_alias::names_asked;
 use km_course::{Refusal, Stop, say_any};
 use km_names::{Blob, Name, Names, PathText, join};
@@ -20,6 +19,7 @@ use kmod_words::{Mode, ModprobeWords};
 use loaded_list::Loaded;
 use plan_builder::{Obstacle, PlanStep, PlanSteps, Request, plan};
 use stages_files::modules_folder;
+use stages_known::{Known, read_known};
 use std::alloc::{AllocError, Global};
 
 /// Prints the plan for the requested names, one step a line. modprobe(8), `--dry-run` and

@@ -1,20 +1,16 @@
 // What names stand for: `modprobe -R`.
-ghost use Rattle.std.specs.Prelude.{◌≡◌, ◌++◌, ⊤, IfOk, OnOk};
+ghost use Rattle.std.specs.Prelude.{◌≡◌, ⊤, IfOk};
 ghost use Rattle.km_outside.specs.OutSeen.{OutSeen};
 ghost use Rattle.km_course.specs.World.{world};
-ghost use Rattle.km_course.specs.Follows.{Answers, Follows};
-ghost use Rattle.km_course.specs.declared.stop.Stop.TheVariants.{Ended};
-ghost use Rattle.km_course.specs.declared.end.End.TheVariants.{Refused};
-ghost use Rattle.km_course.specs.declared.refusal.Refusal.TheVariants.{NotFound};
-ghost use Rattle.command_modprobe.specs.Resolved.{names_asked, lines_of_names, normal_or_itself, resolved, resolves_alias};
+ghost use Rattle.km_course.specs.Follows.{Follows};
+ghost use Rattle.command_modprobe.specs.Resolved.{names_asked, lines_of_names, resolves_alias};
 
-use crate::known::{Known, read_known};
-use km_course::{Refusal, Stop, say_any};
-use km_names::{Blob, Name, Names, normal_alias};
+use km_course::{Stop, say_any};
+use km_names::{Blob, Name, Names};
 use km_outside::{Out, Reads};
 use kmod_words::ModprobeWords;
-use name_lookup::resolve;
 use stages_files::modules_folder;
+use stages_known::{names_found, read_known};
 use std::alloc::{AllocError, Global};
 
 /// Prints the names of what each requested name stands for, one a line. Nothing is printed if a
@@ -38,8 +34,9 @@ pub(crate) fn resolve_alias<F: Reads, O: Out>(
         ..
     } = asked;
     let known = read_known(alloc, config, &folder, loaded, files)?;
-    let names = names_asked(all, words.as_slice());
-    let text = resolved_text(alloc, &known, use_blacklist, names)?;
+    let asked_for = names_asked(all, words.as_slice());
+    let names = names_found(alloc, &known, use_blacklist, asked_for)?;
+    let text = lines_of_names(alloc, &names)?;
     say_any(out, text.as_bytes())
 }
 
@@ -54,52 +51,14 @@ pub(crate) fn names_asked(all: bool, words: &[Name]) -> &[Name]
     }
 }
 
-/// Returns the lines of what the names stand for, unless one stands for nothing.
-fn resolved_text(
-    alloc: Global,
-    known: &Known,
-    use_blacklist: bool,
-    names: &[Name],
-) -> Result<Blob, Stop>
-    ensures { Answers (λ x. x) (resolved known.now use_blacklist names.now) result }
+/// Returns a line for each name.
+fn lines_of_names(alloc: Global, names: &Names) -> Result<Blob, AllocError>
+    ensures { IfOk result (λ text. text ≡ lines_of_names names.now) }
 {
     let mut text = Blob::new(alloc);
-    for name in names {
-        let found = resolve(alloc, name, use_blacklist, &known.rules, &known.indexes)?;
-        if found.list == 0 {
-            let unknown = not_found(alloc, name)?;
-            return Err(unknown);
-        }
-        push_lines(&mut text, &found.names)?;
-    }
-    Ok(text)
-}
-
-/// Returns the refusal of a name that stands for nothing, in its normal form if it has one.
-fn not_found(alloc: Global, name: &Name) -> Result<Stop, AllocError>
-    ensures { IfOk result (λ stop. stop ≡ Ended (Refused (NotFound (normal_or_itself name.now)))) }
-{
-    let name = normal_name(alloc, name.as_bytes())?;
-    Ok(Stop::from(Refusal::NotFound { name }))
-}
-
-/// Returns a name in its normal form, or as it is if it has none.
-fn normal_name(alloc: Global, name: &[u8]) -> Result<Name, AllocError>
-    ensures { IfOk result (λ normal. normal ≡ normal_or_itself name.now) }
-{
-    match normal_alias(alloc, name)? {
-        Some(normal) => Name::from_slice(alloc, normal.as_bytes()),
-        None => Name::from_slice(alloc, name),
-    }
-}
-
-/// Puts a line for each name at the end.
-fn push_lines(text: &mut Blob, names: &Names) -> Result<(), AllocError>
-    ensures { OnOk result (text.new ≡ text.old ++ lines_of_names names.now) }
-{
     for name in names.as_slice() {
         text.extend(name.as_bytes())?;
         text.push(b'\n')?;
     }
-    Ok(())
+    Ok(text)
 }

@@ -18,3 +18,7 @@ returns-in-DryRun g c = λ err.
 pub returns-in-ShowDepends : goal.returns-in-ShowDepends
 returns-in-ShowDepends g c = λ err.
     along (λ mode. modprobe_in_mode mode c.args.asked) _ c.args.mode (sym c.in-ShowDepends.is) (c.show_plan-in-ShowDepends.ensures err)
+
+pub returns-in-Remove : goal.returns-in-Remove
+returns-in-Remove g c = λ err.
+    along (λ mode. modprobe_in_mode mode c.args.asked) _ c.args.mode (sym c.in-Remove.is) (c.remove.ensures err)

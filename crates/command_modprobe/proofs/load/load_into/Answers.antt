@@ -2,7 +2,7 @@ use Rattle.std.proofs.Common.{sym, ap}
 use Rattle.std.specs.Prelude.{Some}
 use Rattle.std.proofs.lemmas.Result.{err_from_is_err_and}
 use Rattle.km_course.proofs.Steps.{next, exits, wants}
-use Rattle.command_modprobe.specs.Loaded.{loads_into}
+use Rattle.command_modprobe.specs.Loaded.{images_asked, loads_into}
 use Rattle.command_modprobe.proofs.LoadSteps.{after_machine, loads_known, loads-asked, misunderstood}
 use Rattle.command_modprobe.proofs.load.load_into.Goals as goal
 
@@ -24,7 +24,7 @@ returns-in_err-known-in-Some g c = λ err.
     let folder = c.in_ok-folder.folder in
     let request = c.in_ok-request.request in
     loads-asked asked folder request map c.args.region _ _ _ c.in_ok-folder.ensures c.in_ok-request.ensures c.in-Some.is
-    (exits _ _ (loads_known folder asked.image request map asked.symvers c.args.region) p.1 p.2
+    (exits _ _ (loads_known folder (images_asked asked) request map asked.symvers c.args.region) p.1 p.2
     (c.in_err-known-in-Some.ensures (g.O.Out.seen c.args.out.now) err))
 
 pub returns-in_err-machine-in-Some : goal.returns-in_err-machine-in-Some
@@ -35,9 +35,9 @@ returns-in_err-machine-in-Some g c = λ err.
     let folder = c.in_ok-folder.folder in
     let request = c.in_ok-request.request in
     loads-asked asked folder request map c.args.region _ _ _ c.in_ok-folder.ensures c.in_ok-request.ensures c.in-Some.is
-    (next (loads_known folder asked.image request map asked.symvers c.args.region)
+    (next (loads_known folder (images_asked asked) request map asked.symvers c.args.region)
     (c.in_ok-known-in-Some.ensures (g.O.Out.seen c.args.out.now) err)
-    (exits _ _ (after_machine folder asked.image request c.in_ok-known-in-Some.known) p.1 p.2
+    (exits _ _ (after_machine folder (images_asked asked) request c.in_ok-known-in-Some.known) p.1 p.2
     (c.in_err-machine-in-Some.ensures (g.O.Out.seen c.args.out.now) err)))
 
 pub returns-in-Some : goal.returns-in-Some
@@ -47,9 +47,9 @@ returns-in-Some g c = λ err.
     let folder = c.in_ok-folder.folder in
     let request = c.in_ok-request.request in
     loads-asked asked folder request map c.args.region _ _ _ c.in_ok-folder.ensures c.in_ok-request.ensures c.in-Some.is
-    (next (loads_known folder asked.image request map asked.symvers c.args.region)
+    (next (loads_known folder (images_asked asked) request map asked.symvers c.args.region)
     (c.in_ok-known-in-Some.ensures (g.O.Out.seen c.args.out.now) err)
-    (next (after_machine folder asked.image request c.in_ok-known-in-Some.known)
+    (next (after_machine folder (images_asked asked) request c.in_ok-known-in-Some.known)
     (c.in_ok-machine-in-Some.ensures (g.O.Out.seen c.args.out.now) err)
     (c.load_request.ensures err)))
 

@@ -13,7 +13,7 @@ pub returns-in_err-listed : goal.returns-in_err-listed
 returns-in_err-listed g c = λ err.
     let p = err_from_is_err_and c.from_residual.result c.from_residual.ensures.1 in
     let known = c.args.known in
-    exits _ _ (after_listed c.args.folder.now c.args.images c.args.steps.now c.args.paths.now) p.1 p.2
+    exits _ _ (after_listed c.args.folder.now c.args.images.now c.args.steps.now c.args.inserts.now) p.1 p.2
     (along (loads_listed c.args.folder.now known.indexes.dep c.args.machine) _ known.loaded c.as_slice.ensures
     (c.in_err-listed.ensures (g.O.Out.seen c.args.out.now) err))
 
@@ -21,7 +21,7 @@ pub returns-in_err-text : goal.returns-in_err-text
 returns-in_err-text g c = λ err.
     let p = err_from_is_err_and c.from_residual-in_err-text.result c.from_residual-in_err-text.ensures.1 in
     let known = c.args.known in
-    next (after_listed c.args.folder.now c.args.images c.args.steps.now c.args.paths.now)
+    next (after_listed c.args.folder.now c.args.images.now c.args.steps.now c.args.inserts.now)
     (along (loads_listed c.args.folder.now known.indexes.dep c.args.machine) _ known.loaded c.as_slice.ensures
     (c.in_ok-listed.ensures (g.O.Out.seen c.args.out.now) err))
     (wants _ _ _ _ p.1 p.2)
@@ -31,10 +31,10 @@ returns-in_err-say_any g c = λ err.
     let p = err_from_is_err_and c.from_residual-in_err-say_any.result c.from_residual-in_err-say_any.ensures.1 in
     let known = c.args.known in
     let listed = c.in_ok-listed.listed in
-    next (after_listed c.args.folder.now c.args.images c.args.steps.now c.args.paths.now)
+    next (after_listed c.args.folder.now c.args.images.now c.args.steps.now c.args.inserts.now)
     (along (loads_listed c.args.folder.now known.indexes.dep c.args.machine) _ known.loaded c.as_slice.ensures
     (c.in_ok-listed.ensures (g.O.Out.seen c.args.out.now) err))
-    (exits _ _ (after_lines c.args.folder.now c.args.images listed c.args.paths.now) p.1 p.2
+    (exits _ _ (after_lines c.args.folder.now c.args.images.now listed c.args.inserts.now) p.1 p.2
     (along says_any _ _ (c.as_bytes.ensures ∙ c.in_ok-text.ensures)
     (c.in_err-say_any.ensures (g.F.Reads.seen c.load_listed.new.files) err)))
 
@@ -43,29 +43,27 @@ returns-in_err-load_all g c = λ err.
     let p = err_from_is_err_and c.from_residual-in_err-load_all.result c.from_residual-in_err-load_all.ensures.1 in
     let known = c.args.known in
     let listed = c.in_ok-listed.listed in
-    next (after_listed c.args.folder.now c.args.images c.args.steps.now c.args.paths.now)
+    next (after_listed c.args.folder.now c.args.images.now c.args.steps.now c.args.inserts.now)
     (along (loads_listed c.args.folder.now known.indexes.dep c.args.machine) _ known.loaded c.as_slice.ensures
     (c.in_ok-listed.ensures (g.O.Out.seen c.args.out.now) err))
-    (next (after_lines c.args.folder.now c.args.images listed c.args.paths.now)
+    (next (after_lines c.args.folder.now c.args.images.now listed c.args.inserts.now)
     (along says_any _ _ (c.as_bytes.ensures ∙ c.in_ok-text.ensures)
     (c.in_ok-say_any.ensures (g.F.Reads.seen c.load_listed.new.files) err))
     (exits _ _ after_loads p.1 p.2
-    (along (λ images. loads_all c.args.folder.now images listed c.args.paths.now) _ c.args.images c.as_ref.ensures.value
-    (along (loads_all c.args.folder.now _ listed) _ c.args.paths.now c.as_slice-2.ensures
-    (c.in_err-load_all.ensures err)))))
+    (along (loads_all c.args.folder.now c.args.images.now listed) _ c.args.inserts.now c.as_slice-2.ensures
+    (c.in_err-load_all.ensures err))))
 
 pub returns : goal.returns
 returns g c = λ err.
     let known = c.args.known in
     let listed = c.in_ok-listed.listed in
-    next (after_listed c.args.folder.now c.args.images c.args.steps.now c.args.paths.now)
+    next (after_listed c.args.folder.now c.args.images.now c.args.steps.now c.args.inserts.now)
     (along (loads_listed c.args.folder.now known.indexes.dep c.args.machine) _ known.loaded c.as_slice.ensures
     (c.in_ok-listed.ensures (g.O.Out.seen c.args.out.now) err))
-    (next (after_lines c.args.folder.now c.args.images listed c.args.paths.now)
+    (next (after_lines c.args.folder.now c.args.images.now listed c.args.inserts.now)
     (along says_any _ _ (c.as_bytes.ensures ∙ c.in_ok-text.ensures)
     (c.in_ok-say_any.ensures (g.F.Reads.seen c.load_listed.new.files) err))
     (next after_loads
-    (along (λ images. loads_all c.args.folder.now images listed c.args.paths.now) _ c.args.images c.as_ref.ensures.value
-    (along (loads_all c.args.folder.now _ listed) _ c.args.paths.now c.as_slice-2.ensures
-    (c.in_ok-load_all.ensures err)))
+    (along (loads_all c.args.folder.now c.args.images.now listed) _ c.args.inserts.now c.as_slice-2.ensures
+    (c.in_ok-load_all.ensures err))
     (gave (λ (x : ⊤). x) _ tt)))

@@ -1,6 +1,0 @@
-use Rattle.std.proofs.Common.{◌≡◌, ◌++◌, drop}
-use Rattle.command_modprobe.specs.Resolved.{lines_of_names}
-use Rattle.command_modprobe.proofs.resolve_alias.push_lines.Given as goal
-
-abbrev pub invariant-loop-name : goal.invariant-loop-name
-invariant-loop-name l = l.text ++ lines_of_names (drop l.name-index l.names) ≡ l.fn.text ++ lines_of_names l.names

@@ -1,0 +1,3 @@
+pub mod TakenLemmas
+pub mod LineLemmas
+pub mod RemoveSteps

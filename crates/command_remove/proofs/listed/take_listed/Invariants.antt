@@ -1,0 +1,20 @@
+use Rattle.std.proofs.Common.{◌≤◌, take, length}
+use Rattle.km_outside.specs.OutSeen.{OutSeen}
+use Rattle.model_loader.specs.Machine.{Machine}
+use Rattle.km_course.specs.World.{world}
+use Rattle.km_course.proofs.Steps.{LeadsTo}
+use Rattle.command_remove.specs.Listed.{takes_listed}
+use Rattle.command_remove.proofs.listed.take_listed.Given as goal
+
+-- Whatever loads the newer modules from here loads all from the start.
+abbrev pub invariant-loop-left : goal.invariant-loop-left
+invariant-loop-left g l = record {
+  leads : (out err : OutSeen) → LeadsTo (λ (x : Machine). x) (takes_listed l.folder l.indexes l.fn.machine l.names)
+      (world (g.F.Reads.seen l.fn.files) out err)
+      (takes_listed l.folder l.indexes l.machine (take l.left l.names))
+      (world (g.F.Reads.seen l.files) out err);
+  within : l.left ≤ length l.names;
+}
+
+abbrev pub decreases-loop-left : goal.decreases-loop-left
+decreases-loop-left g l = l.left

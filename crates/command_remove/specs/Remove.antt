@@ -1,0 +1,140 @@
+-- The course of `modprobe -r`: modules are taken out of the modelled machine. modprobe(8), modprobe.d(5), -r.
+use Rattle.std.specs.Prelude.{◌≡◌, ℕ, Bool, true, false, List, map, Option, Some, None, Result, Ok, Err, ⊤, if◌then◌else◌}
+use Rattle.std.specs.List.{IsDistinct}
+use Rattle.std.specs.Str.{bytes_eq}
+use Rattle.km_names.specs.First.{first}
+use Rattle.kmod_words.specs.declared.modprobe.ModprobeWords.{ModprobeWords}
+use Rattle.modprobe_conf.specs.declared.rule.Rule.{Rule}
+use Rattle.model_loader.specs.declared.region.Region.{Region}
+use Rattle.model_loader.specs.Machine.{Machine}
+use Rattle.model_loader.specs.Sound.{entry_names}
+use Rattle.model_loader.specs.Use.{name_at}
+use Rattle.model_unload.specs.declared.UnloadFault.{UnloadFault}
+use Rattle.model_unload.specs.Unload.{unload_all, unloaded}
+use Rattle.remove_plan.specs.declared.step.RemoveStep.{RemoveStep}
+use Rattle.remove_plan.specs.declared.step.RemoveStep.TheVariants.{Rmmod, Command}
+use Rattle.remove_plan.specs.Removal.{in_use, is_asked}
+use Rattle.remove_plan.specs.Steps.{removal_steps}
+use Rattle.km_course.specs.Course.{Outcome, Stage, ◌>>=◌, each_from, ends, given, gives, says, says_any}
+use Rattle.km_course.specs.Course.Outcome.{value, end}
+use Rattle.km_course.specs.declared.end.End.TheVariants.{NotUnderstood, Refused}
+use Rattle.km_course.specs.declared.refusal.Refusal.TheVariants.{InUse, RemoveChosen}
+use Rattle.stages_files.specs.KernelModules.{modules_folder}
+use Rattle.stages_known.specs.declared.known.Known.{Known}
+use Rattle.stages_known.specs.Known.{reads_known}
+use Rattle.stages_known.specs.Named.{names_outcome}
+use Rattle.stages_loads.specs.Region.{region_at}
+use Rattle.stages_loads.specs.Tables.{reads_machine}
+use Rattle.command_remove.specs.declared.course.Removal.{Removal}
+use Rattle.command_remove.specs.Listed.{takes_listed}
+use Rattle.command_remove.specs.Lines.{left_lines, step_lines, unloaded_line}
+
+-- ---- the steps
+
+-- What a removal with these steps comes to, where one of what is asked for is in use by another, by their places, or none is.
+abbrev pub steps_unless : Machine → Option (ℕ × ℕ) → List RemoveStep → Outcome (List RemoveStep)
+steps_unless machine None steps = value steps
+steps_unless machine (Some used) steps = end (Refused (InUse (name_at machine used.0) (name_at machine used.1)))
+
+-- What the names of modules come to: the steps that take them out, or the refusal of the oldest that is in use, with its
+-- oldest user.
+unfoldable pub steps_outcome : Machine → List Rule → Bool → List (List ℕ) → Outcome (List RemoveStep)
+steps_outcome machine rules ignored names =
+    steps_unless machine (in_use machine (is_asked machine names)) (removal_steps machine rules ignored names)
+
+-- The module that a step is for, and the one for which it runs a command.
+abbrev pub step_name : RemoveStep → List ℕ
+step_name (Rmmod name) = name
+step_name (Command name command) = name
+
+abbrev pub command_owner : RemoveStep → Option (List ℕ)
+command_owner (Rmmod name) = None
+command_owner (Command name command) = Some name
+
+-- The first module for which a command is run.
+abbrev pub first_owner : List RemoveStep → Option (List ℕ)
+first_owner steps = first (map command_owner steps)
+
+-- what steps come to, where a command is run for a module of this name, or for none
+abbrev pub unless_owner : Option (List ℕ) → Outcome ⊤
+unless_owner None = value tt
+unless_owner (Some name) = end (Refused (RemoveChosen name))
+
+-- Whether steps are carried out: with `-n` they are only printed, and else the first that runs a command is refused.
+unfoldable pub chosen_outcome : Bool → List RemoveStep → Outcome ⊤
+chosen_outcome dry_run steps = if dry_run then value tt else unless_owner (first_owner steps)
+
+-- ---- what is taken out
+
+-- The machine after a module was taken out; a refusal leaves it as it was.
+abbrev pub machine_after : Machine → Result Machine UnloadFault → Machine
+machine_after machine (Ok after) = after
+machine_after machine (Err fault) = machine
+
+-- The module of a step is taken out, and that is said. What it gives is the machine after it.
+abbrev pub unloads_one : Machine → RemoveStep → Stage Machine
+unloads_one machine step = do
+  said ← says (unloaded_line (step_name step))
+  gives (machine_after machine (unloaded machine (step_name step)))
+
+-- The modules of the steps are taken out, one after the other, and then what is left is said, the oldest first.
+abbrev pub unloads_all : Machine → List RemoveStep → Stage ⊤
+unloads_all machine steps = do
+  left ← each_from unloads_one machine steps
+  says_any (left_lines left.entries)
+
+-- With `-n` nothing is taken out.
+abbrev pub unloads_unless : Bool → Machine → List RemoveStep → Stage ⊤
+unloads_unless true machine steps = gives tt
+unloads_unless false machine steps = unloads_all machine steps
+
+-- No step of a removal is refused: the modules of the steps can be taken out one after the other, and in the machine that
+-- is left no two modules have one name.
+pub record CanBeTakenOut (machine : Machine) (steps : List RemoveStep) : Type 0 where
+  pub left : Machine
+  pub unloads : unload_all machine (map step_name steps) ≡ Ok left
+  pub names : IsDistinct bytes_eq (entry_names left)
+
+-- ---- the course
+
+-- What is to be removed: every word is a name.
+abbrev pub removal_of : Bool → ModprobeWords → Removal
+removal_of dry_run asked = record {
+  names = asked.words;
+  use_blacklist = asked.use_blacklist;
+  ignore_remove = asked.ignore_install;
+  dry_run = dry_run;
+}
+
+-- The steps are said, unless one runs a command that is chosen, and carried out.
+abbrev pub carries_out : Bool → Machine → List RemoveStep → Stage ⊤
+carries_out dry_run machine steps = do
+  passed ← given (chosen_outcome dry_run steps)
+  said ← says_any (step_lines steps)
+  unloads_unless dry_run machine steps
+
+-- The names are looked up, and the modules that they stand for are removed from the machine of the listed modules.
+abbrev pub removes_names : Removal → Known → Machine → Stage ⊤
+removes_names removal known listed = do
+  names ← given (names_outcome known removal.use_blacklist removal.names)
+  steps ← given (steps_outcome listed known.rules removal.ignore_remove names)
+  carries_out removal.dry_run listed steps
+
+-- The listed modules go into the machine, and then the modules of the names are removed.
+abbrev pub removes_listed : List ℕ → Removal → Known → Machine → Stage ⊤
+removes_listed folder removal known machine = do
+  listed ← takes_listed folder known.indexes machine known.loaded
+  removes_names removal known listed
+
+-- The course of a removal from the machine of a System.map and a region, where there are both.
+abbrev pub removes_from : Bool → ModprobeWords → Option (List ℕ) → Option Region → Stage ⊤
+removes_from dry_run asked None region = ends NotUnderstood
+removes_from dry_run asked (Some system_map) None = ends NotUnderstood
+removes_from dry_run asked (Some system_map) (Some region) = do
+  known ← reads_known asked.config (modules_folder asked.dirname asked.version) asked.loaded
+  machine ← reads_machine system_map asked.symvers region
+  removes_listed (modules_folder asked.dirname asked.version) (removal_of dry_run asked) known machine
+
+-- The course of `modprobe -r`, with `-n` or without.
+abbrev pub removes : Bool → ModprobeWords → Stage ⊤
+removes dry_run asked = removes_from dry_run asked asked.system_map (region_at asked.region_base asked.region_size)

@@ -1,0 +1,162 @@
+ghost use Rattle.std.specs.Prelude.{◌≡◌, ℕ, List};
+ghost use Rattle.km_outside.specs.FilesSeen.{FilesSeen};
+ghost use Rattle.km_outside.specs.OutSeen.{OutSeen};
+ghost use Rattle.km_course.specs.World.{world};
+ghost use Rattle.km_course.specs.Follows.{Follows};
+ghost use Rattle.module_facts.specs.declared.module.Module.{Module};
+ghost use Rattle.provider_rel.specs.declared.kernel.Kernel.{Kernel};
+ghost use Rattle.model_loader.specs.declared.region.Region.{Region as Placing};
+ghost use Rattle.model_loader.specs.Machine.{new_machine};
+ghost use Rattle.laws_closed_plans.specs.Binding.{IsLoaded};
+ghost use Rattle.command_remove.specs.Remove.{CanBeTakenOut, carries_out, removes, removes_from, removes_listed, removes_names};
+
+use crate::lines::step_lines;
+use crate::listed::take_listed;
+use crate::plan::{check_chosen, steps_in};
+use crate::unloads::unload_unless;
+use km_course::{End, Stop, say_any};
+use km_names::{Names, PathText};
+use km_outside::{Out, Reads};
+use kmod_words::ModprobeWords;
+use model_loader::{Machine, Region};
+use remove_plan::RemovePlan;
+use stages_files::modules_folder;
+use stages_known::{Known, names_found, read_known};
+use stages_loads::{read_machine, region_at};
+use std::alloc::Global;
+
+/// What is to be removed.
+#[derive(Drop)]
+pub struct Removal {
+    /// The names that are asked for.
+    pub names: Names,
+    /// Whether the blacklist applies to names too.
+    pub use_blacklist: bool,
+    /// Whether remove commands of the requested modules are ignored.
+    pub ignore_remove: bool,
+    /// Whether the steps are only printed.
+    pub dry_run: bool,
+}
+
+/// Prints the steps that take the modules of the requested names out of the modelled machine of the
+/// modules that are listed as loaded, and takes them out, unless it is a dry run. Then it prints a
+/// line for each module that is left. A removal that runs a command is refused. modprobe(8), `-r`.
+pub fn remove<F: Reads, O: Out>(
+    alloc: Global,
+    dry_run: bool,
+    asked: ModprobeWords,
+    files: &mut F,
+    out: &mut O,
+) -> Result<(), Stop>
+    ensures { (err : OutSeen) → Follows (λ x. x) (removes dry_run asked)
+        (world (F.seen files.old) (O.seen out.old) err) (world (F.seen files.new) (O.seen out.new) err) result }
+{
+    match region_at(asked.region_base, asked.region_size) {
+        Some(region) => remove_from(alloc, dry_run, asked, region, files, out),
+        None => Err(Stop::from(End::NotUnderstood)),
+    }
+}
+
+/// Removes modules from a machine with this region.
+fn remove_from<F: Reads, O: Out>(
+    alloc: Global,
+    dry_run: bool,
+    asked: ModprobeWords,
+    region: Region,
+    files: &mut F,
+    out: &mut O,
+) -> Result<(), Stop>
+    ensures { (err : OutSeen) → Follows (λ x. x) (removes_from dry_run asked asked.system_map (Some region))
+        (world (F.seen files.old) (O.seen out.old) err) (world (F.seen files.new) (O.seen out.new) err) result }
+{
+    let folder = modules_folder(alloc, &asked.dirname, &asked.version)?;
+    let ModprobeWords {
+        use_blacklist,
+        ignore_install,
+        config,
+        loaded,
+        system_map,
+        symvers,
+        words,
+        ..
+    } = asked;
+    let removal = Removal {
+        names: words,
+        use_blacklist,
+        ignore_remove: ignore_install,
+        dry_run,
+    };
+    match system_map {
+        Some(system_map) => {
+            let known = read_known(alloc, config, &folder, loaded, files)?;
+            let machine = read_machine(alloc, system_map, symvers, region, files)?;
+            remove_listed(alloc, &folder, &removal, &known, machine, files, out)
+        }
+        None => Err(Stop::from(End::NotUnderstood)),
+    }
+}
+
+/// Loads the listed modules, and removes those of the names.
+fn remove_listed<F: Reads, O: Out>(
+    alloc: Global,
+    folder: &PathText,
+    removal: &Removal,
+    known: &Known,
+    machine: Machine,
+    files: &mut F,
+    out: &mut O,
+) -> Result<(), Stop>
+    requires { (kernel : Kernel) × (region : Placing) × (machine ≡ new_machine kernel region) }
+    ensures { (err : OutSeen) → Follows (λ x. x) (removes_listed folder.now removal.now known.now machine)
+        (world (F.seen files.old) (O.seen out.old) err) (world (F.seen files.new) (O.seen out.new) err) result }
+{
+    let listed = take_listed(
+        alloc,
+        folder,
+        &known.indexes,
+        machine,
+        known.loaded.as_slice(),
+        files,
+    )?;
+    remove_names(alloc, removal, known, listed, out)
+}
+
+/// Looks the names up, and removes the modules that they stand for.
+fn remove_names<O: Out>(
+    alloc: Global,
+    removal: &Removal,
+    known: &Known,
+    listed: Machine,
+    out: &mut O,
+) -> Result<(), Stop>
+    requires { (kernel : Kernel) × (region : Placing) × (ms : List Module) × IsLoaded kernel region ms listed }
+    ensures { (files : FilesSeen) (err : OutSeen) → Follows (λ x. x) (removes_names removal.now known.now listed)
+        (world files (O.seen out.old) err) (world files (O.seen out.new) err) result }
+{
+    let names = names_found(
+        alloc,
+        known,
+        removal.use_blacklist,
+        removal.names.as_slice(),
+    )?;
+    let steps = steps_in(alloc, &names, removal.ignore_remove, &known.rules, &listed)?;
+    carry_out(alloc, removal.dry_run, listed, &steps, out)
+}
+
+/// Prints the steps, and carries them out unless they are only printed.
+fn carry_out<O: Out>(
+    alloc: Global,
+    dry_run: bool,
+    machine: Machine,
+    steps: &RemovePlan,
+    out: &mut O,
+) -> Result<(), Stop>
+    requires { CanBeTakenOut machine steps.now }
+    ensures { (files : FilesSeen) (err : OutSeen) → Follows (λ x. x) (carries_out dry_run machine steps.now)
+        (world files (O.seen out.old) err) (world files (O.seen out.new) err) result }
+{
+    check_chosen(alloc, dry_run, steps)?;
+    let text = step_lines(alloc, steps)?;
+    say_any(out, text.as_bytes())?;
+    unload_unless(alloc, dry_run, machine, steps, out)
+}
