@@ -56,9 +56,11 @@ use Rattle.laws_indexed_folder.proofs.StepLemmas.{plans-closed}
 use Rattle.stages_files.specs.IndexFile.{first_text, text_of_first}
 use Rattle.stages_files.specs.KernelModules.{path_listed}
 use Rattle.stages_loads.specs.Modules.{module_at}
-use Rattle.command_modprobe.specs.declared.known.Known.{Known}
+use Rattle.stages_known.specs.declared.known.Known.{Known}
 use Rattle.command_modprobe.specs.Planned.{plan_outcome, plan_unless, sources_with}
-use Rattle.command_modprobe.specs.Loaded.{command_owner, loaded_path, paths_outcome, unless_install}
+use Rattle.stages_loads.specs.declared.load.Insertion.{Insertion}
+use Rattle.stages_loads.specs.Loads.{paths_of}
+use Rattle.command_modprobe.specs.Loaded.{command_owner, inserted, inserts_outcome, unless_install}
 use Rattle.laws_planned_loads.specs.Files.{AreFileModules, IsFileModule}
 use Rattle.laws_planned_loads.specs.Listed.{AreListedPaths}
 use Rattle.laws_planned_loads.specs.Courses.{CoursesBind, known_lines}
@@ -139,13 +141,13 @@ unfolding plan_outcome
 was-planned known request steps is =
     planned (obstacle_of (sources_with known known.loaded request) request) (plan_steps (sources_with known known.loaded request) request) steps is
 
-installed : (o : Option (List ℕ)) (made paths : List (List ℕ)) → unless_install o made ≡ value paths → (o ≡ None) × (made ≡ paths)
-installed None made paths is = (refl, cc)
-installed (Some name) made paths is = cc
+installed : (o : Option (List ℕ)) (made inserts : List Insertion) → unless_install o made ≡ value inserts → (o ≡ None) × (made ≡ inserts)
+installed None made inserts is = (refl, cc)
+installed (Some name) made inserts is = cc
 
-were-given : (steps : List PlanStep) (paths : List (List ℕ)) → paths_outcome steps ≡ value paths → (first (map command_owner steps) ≡ None) × (flat_map loaded_path steps ≡ paths)
-unfolding paths_outcome
-were-given steps paths is = installed (first (map command_owner steps)) (flat_map loaded_path steps) paths is
+were-given : (steps : List PlanStep) (inserts : List Insertion) → inserts_outcome steps ≡ value inserts → (first (map command_owner steps) ≡ None) × (flat_map inserted steps ≡ inserts)
+unfolding inserts_outcome
+were-given steps inserts is = installed (first (map command_owner steps)) (flat_map inserted steps) inserts is
 
 owner-none : (step : PlanStep) → command_owner step ≡ None → runs_command step ≡ false
 owner-none (Insert name path options) is = refl
@@ -164,7 +166,7 @@ none-runs (step ∷ steps) is =
 pub record ArePlanned (held : Contents) (folder : List ℕ) (dep : KeyValues) (steps : List PlanStep) : Type 0 where
   pub plan : List Module
   pub of_names : AreModulesOf held folder dep (inserted_names steps) plan
-  pub of_files : AreFileModules held folder (flat_map loaded_path steps) plan
+  pub of_files : AreFileModules held folder (paths_of (flat_map inserted steps)) plan
 
 module _ (held : Contents) (folder : List ℕ) (tree : List Facts) (kernel : Kernel) (builtin : List ℕ) (indexed : Indexed held folder tree kernel builtin) (known : Known) (knows : KnowsFolder held folder known) where
   abbrev dep : KeyValues
@@ -244,7 +246,7 @@ loaded-ok (Ok other) machine is = refl
 loaded-ok (Err fault) machine is = cc
 
 pub courses-bind : CoursesBind
-courses-bind held folder tree kernel builtin addressed as_indexed config listing request region known machine steps paths came =
+courses-bind held folder tree kernel builtin addressed as_indexed config listing request region known machine steps inserts came =
     let indexed = as_indexed.indexed in
     let knows = knows-folder held config listing folder known came.knows in
     let lines = known_lines known in
@@ -255,7 +257,7 @@ courses-bind held folder tree kernel builtin addressed as_indexed config listing
     let of_listed : AreModulesOf held folder lines (reverse known.loaded) listed =
     listed-modules held folder known.indexes.dep lines holding (reverse known.loaded) loads.paths listed loads.found loads.files in
     let made = was-planned known request steps came.planned in
-    let given' = were-given steps paths came.runs_none in
+    let given' = were-given steps inserts came.runs_none in
     let s = sources_with known known.loaded request in
     let valued : (name : List ℕ) → is_among known.loaded name ≡ true → has_value lines name ≡ true = λ name in'.
     have-values held folder known.indexes.dep lines holding (reverse known.loaded) loads.paths loads.found name (among-reversed known.loaded name ∙ in') in
@@ -270,7 +272,7 @@ courses-bind held folder tree kernel builtin addressed as_indexed config listing
       listed_paths = loads.paths;
       listed_lines = loads.found;
       listed_files = loads.files;
-      plan_files = subst (λ ps. AreFileModules held folder ps modules.plan) given'.1 modules.of_files;
+      plan_files = subst (λ is. AreFileModules held folder (paths_of is) modules.plan) given'.1 modules.of_files;
       listed_load = loads.loaded;
       binds =
           folders-bind held folder tree kernel builtin lines known.unmet indexed (is-read held folder tree kernel builtin indexed known knows) addressed region (reverse known.loaded) (inserted_names steps) listed modules.plan as_indexed.same_table of_listed modules.of_names

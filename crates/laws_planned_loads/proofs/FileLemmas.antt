@@ -1,6 +1,6 @@
 -- Files of modules: what reading one comes to, and that images leave them as they were.
 use Rattle.std.proofs.Common.{◌≡◌, ◌∙◌, ◌-◌, ◌≤◌, ◌==◌, ℕ, Bool, true, false, ◌||◌, cond, List, [], ◌∷◌, ◌++◌, length, take, reverse, None, refl, sym, ap, subst, arith, append_assoc}
-use Rattle.std.specs.Prelude.{Option, Some, codes, nat_eq, nat_lt}
+use Rattle.std.specs.Prelude.{Option, Some, codes, flat_map, nat_eq, nat_lt}
 use Rattle.std.specs.List.{ends_with, list_any}
 use Rattle.std.specs.FinMap.{get, insert, get-insert}
 use Rattle.std.specs.Str.{bytes_eq}
@@ -26,12 +26,12 @@ use Rattle.km_course.specs.Course.Outcome.{value, end}
 use Rattle.km_course.specs.declared.end.End.{End}
 use Rattle.km_course.specs.declared.end.End.TheVariants.{NoFile, Refused, TooLarge}
 use Rattle.km_course.specs.declared.refusal.Refusal.TheVariants.{Compressed}
-use Rattle.model_loader.specs.declared.entry.Entry.{Entry}
 use Rattle.laws_closed_plans.proofs.ListLemmas.{first-none}
 use Rattle.stages_loads.specs.Modules.{file_outcome, module_at, module_outcome, reads_module}
 use Rattle.stages_loads.proofs.ModuleSteps.{checked, module_at-same}
 use Rattle.laws_planned_loads.specs.Files.{AreFileModules, IsFileModule}
-use Rattle.laws_planned_loads.specs.Loads.{load_acts}
+use Rattle.stages_loads.specs.Loads.{ShownImage}
+use Rattle.laws_planned_loads.specs.Loads.{image_acts}
 use Rattle.laws_planned_loads.proofs.RunLemmas.{goes-on, joined, run-given, run-read, run-then, run_of}
 
 -- ---- paths
@@ -93,27 +93,29 @@ other-file files path place image differ =
 
 -- ---- files after a load
 
-pub there-still : (files : Contents) (folder path : List ℕ) (images : Option (List ℕ)) (loaded : List ℕ) (e : Entry) → is_module_path path ≡ true → is_compressed path ≡ false → get (after (load_acts folder images loaded e) files) (path_below folder path) ≡ get files (path_below folder path)
-there-still files folder path None loaded e kind plain = refl
-there-still files folder path (Some images) loaded e kind plain =
-    other-file files (path_below folder path) (path_below images (e.loaded.name ++ codes ".img")) e.image (apart folder path images e.loaded.name kind plain)
+images-leave : (files : Contents) (folder path : List ℕ) (images : Option (List ℕ)) (ss : List ShownImage) → is_module_path path ≡ true → is_compressed path ≡ false → get (after (flat_map (image_acts images) ss) files) (path_below folder path) ≡ get files (path_below folder path)
+images-leave files folder path images [] kind plain = refl
+images-leave files folder path None (s ∷ ss) kind plain = images-leave files folder path None ss kind plain
+images-leave files folder path (Some images) (s ∷ ss) kind plain =
+    images-leave (insert files (path_below images (s.name ++ codes ".img")) s.image) folder path (Some images) ss kind plain
+    ∙ other-file files (path_below folder path) (path_below images (s.name ++ codes ".img")) s.image (apart folder path images s.name kind plain)
 
-still-file : (files : Contents) (folder path : List ℕ) (m : Module) (images : Option (List ℕ)) (loaded : List ℕ) (e : Entry) → IsFileModule files folder path m → IsFileModule (after (load_acts folder images loaded e) files) folder path m
-still-file files folder path m images loaded e is = record {
+still-file : (files : Contents) (folder path : List ℕ) (m : Module) (images : Option (List ℕ)) (ss : List ShownImage) → IsFileModule files folder path m → IsFileModule (after (flat_map (image_acts images) ss) files) folder path m
+still-file files folder path m images ss is = record {
   kind = is.kind;
   bytes = is.bytes;
-  there = there-still files folder path images loaded e is.kind (plain-path path is.bytes is.passed) ∙ is.there;
+  there = images-leave files folder path images ss is.kind (plain-path path is.bytes is.passed) ∙ is.there;
   small = is.small;
   passed = is.passed;
   read = is.read;
 }
 
-pub still-files : (files : Contents) (folder : List ℕ) (paths : List (List ℕ)) (ms : List Module) (images : Option (List ℕ)) (loaded : List ℕ) (e : Entry) → AreFileModules files folder paths ms → AreFileModules (after (load_acts folder images loaded e) files) folder paths ms
-still-files files folder [] [] images loaded e are = tt
-still-files files folder [] (m ∷ ms) images loaded e are = absurd are
-still-files files folder (path ∷ paths) [] images loaded e are = absurd are
-still-files files folder (path ∷ paths) (m ∷ ms) images loaded e are =
-    (still-file files folder path m images loaded e are.0, still-files files folder paths ms images loaded e are.1)
+pub still-files : (files : Contents) (folder : List ℕ) (paths : List (List ℕ)) (ms : List Module) (images : Option (List ℕ)) (ss : List ShownImage) → AreFileModules files folder paths ms → AreFileModules (after (flat_map (image_acts images) ss) files) folder paths ms
+still-files files folder [] [] images ss are = tt
+still-files files folder [] (m ∷ ms) images ss are = absurd are
+still-files files folder (path ∷ paths) [] images ss are = absurd are
+still-files files folder (path ∷ paths) (m ∷ ms) images ss are =
+    (still-file files folder path m images ss are.0, still-files files folder paths ms images ss are.1)
 
 -- ---- a module that is read
 

@@ -24,9 +24,9 @@ use Rattle.stages_files.specs.declared.configuration.ListedFolder.{ListedFolder}
 use Rattle.stages_files.specs.declared.configuration.Tool.{Tool}
 use Rattle.stages_files.specs.declared.configuration.Tool.TheVariants.{Modprobe}
 use Rattle.stages_files.specs.IndexFile.{index_of, index_outcome}
-use Rattle.command_modprobe.specs.declared.known.Known.{Known}
-use Rattle.command_modprobe.specs.Known.{reads_index_in, reads_indexes, reads_known, reads_lists, reads_loaded, reads_rules, reads_unmet}
-use Rattle.command_modprobe.proofs.KnownSteps.{after_alias, after_builtin, after_configuration, after_dep, after_indexes, after_loaded, after_rules, after_softdep, after_symbols, after_unmet, loaded_stated, softdep_stated, unmet_stated}
+use Rattle.stages_known.specs.declared.known.Known.{Known}
+use Rattle.stages_known.specs.Known.{reads_index_in, reads_indexes, reads_known, reads_lists, reads_loaded, reads_rules, reads_unmet}
+use Rattle.stages_known.proofs.KnownSteps.{after_alias, after_builtin, after_configuration, after_dep, after_indexes, after_loaded, after_rules, after_softdep, after_symbols, after_unmet, loaded_stated, softdep_stated, unmet_stated}
 use Rattle.laws_planned_loads.proofs.RunLemmas.{OnlyReads, given-on, reads-each, reads-given, reads-names, reads-on, reads-file, reads-then, reads-when, run-read, run-given}
 
 -- ---- the reading only reads

@@ -1,5 +1,5 @@
 -- The courses of modprobe over a folder that stands as it was indexed end for no file that depmod wrote.
-use Rattle.std.proofs.Common.{◌≡◌, ◌∙◌, ℕ, Bool, List, [], ◌∷◌, ◌++◌, find, get_or, map, reverse, flat_map, take, None, refl, sym, ap, subst, arith}
+use Rattle.std.proofs.Common.{◌≡◌, ◌∙◌, ℕ, Bool, true, false, List, [], ◌∷◌, ◌++◌, find, get_or, map, reverse, flat_map, take, None, refl, sym, ap, subst, arith}
 use Rattle.std.specs.Prelude.{Option, Some, Result, Ok, Err, codes, nat_eq, ⊤}
 use Rattle.std.specs.List.{ends_with}
 use Rattle.km_names.specs.First.{first}
@@ -9,13 +9,13 @@ use Rattle.km_names.specs.declared.conf.ConfFault.{ConfFault}
 use Rattle.km_names.specs.declared.conf.ConfFault.TheVariants as faults
 use Rattle.km_outside.specs.Contents.{Contents}
 use Rattle.kmod_words.specs.declared.modprobe.Mode.{Mode}
-use Rattle.kmod_words.specs.declared.modprobe.Mode.TheVariants.{Load, DryRun, ShowDepends, ResolveAlias}
+use Rattle.kmod_words.specs.declared.modprobe.Mode.TheVariants.{Load, DryRun, ShowDepends, ResolveAlias, Remove}
 use Rattle.kmod_words.specs.declared.modprobe.ModprobeWords.{ModprobeWords}
-use Rattle.km_course.specs.Course.{Outcome, Stage, ◌>>=◌, ends, given, lists_any_conf, lists_conf, reads, says_any}
+use Rattle.km_course.specs.Course.{Outcome, Stage, ◌>>=◌, each_from, ends, given, lists_any_conf, lists_conf, reads, says, says_any}
 use Rattle.km_course.specs.Course.Outcome.{value, end}
 use Rattle.km_course.specs.declared.end.End.{End}
 use Rattle.km_course.specs.declared.end.End.TheVariants.{NoFile, NotUnderstood, Refused}
-use Rattle.km_course.specs.declared.refusal.Refusal.TheVariants.{BadLine, BadModule, Compressed, InstallChosen, KernelWithoutAddress, InnerOutputFull, ListedNotFound, ListedRefused, LoadRefused, NotFound}
+use Rattle.km_course.specs.declared.refusal.Refusal.TheVariants.{BadLine, BadModule, Compressed, InstallChosen, KernelWithoutAddress, InnerOutputFull, ListedNotFound, ListedRefused, LoadRefused, NotFound, ParamsRefused, InUse, RemoveChosen}
 use Rattle.km_course.specs.declared.refusal.Refusal.TheVariants.{Obstacle as Unplanned}
 use Rattle.index_read.specs.Contents.{contents}
 use Rattle.index_read.specs.declared.index.Index.{Index}
@@ -40,6 +40,7 @@ use Rattle.model_loader.specs.declared.region.Region.{Region}
 use Rattle.model_loader.specs.FaultText.{load_fault_text}
 use Rattle.model_loader.specs.Machine.{Machine, kernel_fault}
 use Rattle.model_loader.specs.Step.{step}
+use Rattle.model_loader.specs.Use.{name_at}
 use Rattle.name_lookup.specs.declared.indexes.Indexes.{Indexes}
 use Rattle.plan_builder.specs.declared.obstacle.Obstacle.{Obstacle}
 use Rattle.unmet_file.specs.Line.{line_text}
@@ -62,23 +63,41 @@ use Rattle.stages_files.specs.KernelTable.{Table, reads_map, reads_symvers, tabl
 use Rattle.stages_files.proofs.TableSteps.{map_read, symvers_read}
 use Rattle.stages_loads.specs.declared.load.Cause.{Cause}
 use Rattle.stages_loads.specs.declared.load.Cause.TheVariants.{Listed, Planned}
-use Rattle.stages_loads.specs.Listed.{listed_outcome, loads_listed, loads_listed_one}
-use Rattle.stages_loads.specs.Loads.{entered, load_outcome, loads, loads_all, loads_one, puts_image, shows_load}
+use Rattle.stages_loads.specs.Listed.{listed_outcome, loads_listed, loads_listed_one, loads_listed_at}
+use Rattle.model_loader.specs.declared.entry.LoadedModule.{LoadedModule}
+use Rattle.param_apply.specs.declared.apply.Params.{Params}
+use Rattle.param_apply.specs.declared.fault.ParamFault.{ParamFault}
+use Rattle.param_apply.specs.Applied.{param_fault}
+use Rattle.param_apply.specs.FaultText.{param_fault_text}
+use Rattle.stages_loads.specs.declared.load.Insertion.{Insertion}
+use Rattle.stages_loads.specs.declared.shown.Images.{Images}
+use Rattle.stages_loads.specs.Loads.{ShownImage, entered, finished_params, load_outcome, loads, loads_all, loads_one, machine_image, params_image, params_outcome, params_unless, puts_image, shows_image, shows_load, shows_params}
 use Rattle.stages_loads.specs.Modules.{file_outcome, module_outcome, reads_module}
 use Rattle.stages_loads.specs.Tables.{addressed_outcome, machine_outcome, reads_addressed, reads_machine}
 use Rattle.stages_loads.proofs.ListedSteps.{listed_found, listed_read}
-use Rattle.stages_loads.proofs.LoadSteps.{line_said, one_loaded, one_read, one_shown}
+use Rattle.stages_loads.proofs.LoadSteps.{finished_shown, line_said, one_loaded, one_read, one_shown, params_shown}
 use Rattle.stages_loads.proofs.ModuleSteps.{checked}
 use Rattle.stages_loads.proofs.TableSteps.{both_added, both_read, both_understood, made}
 use Rattle.model_loader.specs.declared.entry.Entry.{Entry}
-use Rattle.command_modprobe.specs.declared.known.Known.{Known}
-use Rattle.command_modprobe.specs.Known.{reads_known, reads_loaded}
-use Rattle.command_modprobe.specs.Loaded.{command_owner, loaded_path, loads_into, loads_steps, paths_outcome, region_at, unless_install}
+use Rattle.stages_known.specs.declared.known.Known.{Known}
+use Rattle.stages_known.specs.Known.{reads_known, reads_loaded}
+use Rattle.stages_loads.specs.Region.{region_at}
+use Rattle.command_modprobe.specs.Loaded.{command_owner, images_asked, inserted, inserts_outcome, loads_into, loads_steps, unless_install}
+use Rattle.remove_plan.specs.declared.step.RemoveStep.{RemoveStep}
+use Rattle.remove_plan.specs.Removal.{in_use, is_asked}
+use Rattle.remove_plan.specs.Steps.{removal_steps}
+use Rattle.command_remove.specs.declared.course.Removal.{Removal}
+use Rattle.command_remove.specs.Listed.{takes_listed, takes_listed_one, well_formed_path}
+use Rattle.command_remove.specs.Lines.{left_lines, step_lines, unloaded_line}
+use Rattle.command_remove.specs.Remove.{chosen_outcome, first_owner, removal_of, removes_from, removes_listed, step_name, steps_outcome, steps_unless, unless_owner, unloads_one, unloads_unless}
+use Rattle.command_remove.proofs.RemoveSteps as removals
+use Rattle.command_remove.proofs.RemoveSteps.{after_left, one_unloaded}
 use Rattle.command_modprobe.specs.Modprobe.{modprobe_in_mode}
 use Rattle.command_modprobe.specs.Planned.{loaded_in, plan_lines, plan_outcome, plan_unless, request_of, sources_with}
-use Rattle.command_modprobe.specs.Resolved.{found_lines, is_unknown, names_asked, normal_or_itself, resolved, unless_unknown}
-use Rattle.command_modprobe.proofs.KnownSteps.{loaded_stated}
-use Rattle.command_modprobe.proofs.LoadSteps.{after_lines, after_listed, after_loads, after_machine, after_paths, after_steps, loads_known}
+use Rattle.command_modprobe.specs.Resolved.{lines_of_names, names_asked}
+use Rattle.stages_known.specs.Named.{found_names, is_unknown, names_outcome, normal_or_itself, unless_unknown}
+use Rattle.stages_known.proofs.KnownSteps.{loaded_stated}
+use Rattle.command_modprobe.proofs.LoadSteps.{after_lines, after_listed, after_loads, after_machine, after_inserts, after_steps, loads_known}
 use Rattle.laws_planned_loads.specs.Reading.{CoursesPass, IsOtherEnd, IsReading, bad_configuration, indexes_of, is_known, known_of, no_configuration, no_list, of_configuration, of_map, of_symvers}
 use Rattle.laws_planned_loads.proofs.EndsLemmas.{EndsIn, ends-each, ends-given, ends-gives, ends-names, ends-puts, ends-read, ends-says, ends-says_any, ends-then, ends-when, no-end, on-end, on-value, so-ends}
 use Rattle.laws_planned_loads.proofs.KnownLemmas.{of_folder, one_more_file, one_more_folder, only-known}
@@ -202,32 +221,53 @@ module _ (held : Contents) (asked : ModprobeWords) where
   other-found name None e is = so-ends Other (Refused (ListedNotFound name)) e tt is
   other-found name (Some path) e is = absurd (no-end path e is)
 
-  other-listed_one : (folder : List ℕ) (index : Index) (machine : Machine) (name : List ℕ) → EndsIn Other (loads_listed_one folder index machine name)
-  other-listed_one folder index machine name =
-      ends-then Other (given (listed_outcome name (path_listed index name))) (listed_found folder machine)
-      (ends-given Other (listed_outcome name (path_listed index name)) (other-found name (path_listed index name)))
+  other-listed_at : (folder : List ℕ) (machine : Machine) (name : List ℕ) (found : Option (List ℕ)) → EndsIn Other (loads_listed_at folder machine name found)
+  other-listed_at folder machine name found =
+      ends-then Other (given (listed_outcome name found)) (listed_found folder machine)
+      (ends-given Other (listed_outcome name found) (other-found name found))
       (λ path. ends-then Other (reads_module folder path) (listed_read machine) (other-module folder path) (λ m. other-load Listed machine m))
 
   other-listed : (folder : List ℕ) (index : Index) (machine : Machine) (names : List (List ℕ)) → EndsIn Other (loads_listed folder index machine names)
   other-listed folder index machine names =
-      ends-each Other (loads_listed_one folder index) (other-listed_one folder index) machine (reverse names)
+      ends-each Other (loads_listed_one folder index) (λ before name. other-listed_at folder before name (path_listed index name)) machine (reverse names)
 
   other-image : (images : Option (List ℕ)) (name image : List ℕ) → EndsIn Other (puts_image images name image)
   other-image None name image = ends-gives Other tt
   other-image (Some folder) name image = ends-puts Other (path_below folder (name ++ codes ".img")) image
 
-  other-shown : (images : Option (List ℕ)) (e : Entry) → EndsIn Other (shows_load images e)
-  other-shown images e =
-      ends-then Other (puts_image images e.loaded.name e.image) (line_said e) (other-image images e.loaded.name e.image) (λ put. ends-says Other _)
+  other-shown : (folder : Option (List ℕ)) (s : ShownImage) → EndsIn Other (shows_image folder s)
+  other-shown folder s =
+      ends-then Other (puts_image folder s.name s.image) (line_said s.line) (other-image folder s.name s.image) (λ put. ends-says Other s.line)
 
-  other-one : (folder : List ℕ) (images : Option (List ℕ)) (machine : Machine) (path : List ℕ) → EndsIn Other (loads_one folder images machine path)
-  other-one folder images machine path =
-      ends-then Other (reads_module folder path) (one_read images machine) (other-module folder path) (λ m.
-      ends-then Other (loads Planned machine m) (one_loaded images machine m) (other-load Planned machine m) (λ after.
-      ends-then Other (shows_load images (entered machine m)) (one_shown after) (other-shown images (entered machine m)) (λ shown. ends-gives Other after)))
+  other-unless : (name : List ℕ) (o : Option ParamFault) (p : Params) (e : End) → params_unless name o p ≡ end e → Other e
+  other-unless name None p e is = absurd (no-end p e is)
+  other-unless name (Some fault) p e is = so-ends Other (Refused (ParamsRefused name (param_fault_text fault))) e tt is
 
-  other-all : (folder : List ℕ) (images : Option (List ℕ)) (machine : Machine) (paths : List (List ℕ)) → EndsIn Other (loads_all folder images machine paths)
-  other-all folder images machine paths = ends-each Other (loads_one folder images) (other-one folder images) machine paths
+  other-outcome : (m : Module) (options : List ℕ) (loaded : LoadedModule) (image : List ℕ) (e : End) → params_outcome m options loaded image ≡ end e → Other e
+  unfolding params_outcome
+  other-outcome m options loaded image e is =
+      other-unless loaded.name (param_fault m.object loaded.base image options) (finished_params m options loaded image) e is
+
+  other-params : (folder : Option (List ℕ)) (m : Module) (options : List ℕ) (loaded : LoadedModule) (image : List ℕ) → EndsIn Other (shows_params folder m options loaded image)
+  other-params folder m options loaded image =
+      ends-then Other (given (params_outcome m options loaded image)) (finished_shown folder loaded.name)
+      (ends-given Other (params_outcome m options loaded image) (other-outcome m options loaded image))
+      (λ p. other-shown folder (params_image loaded.name p))
+
+  other-follows : (images : Images) (m : Module) (options : List ℕ) (e : Entry) → EndsIn Other (shows_load images m options e)
+  other-follows images m options e =
+      ends-then Other (shows_image images.folder (machine_image e.loaded e.image)) (params_shown images m options e)
+      (other-shown images.folder (machine_image e.loaded e.image))
+      (λ shown. ends-when Other images.params _ _ (other-params images.folder m options e.loaded e.image) (ends-gives Other tt))
+
+  other-one : (folder : List ℕ) (images : Images) (machine : Machine) (one : Insertion) → EndsIn Other (loads_one folder images machine one)
+  other-one folder images machine one =
+      ends-then Other (reads_module folder one.path) (one_read images one.options machine) (other-module folder one.path) (λ m.
+      ends-then Other (loads Planned machine m) (one_loaded images one.options machine m) (other-load Planned machine m) (λ after.
+      ends-then Other (shows_load images m one.options (entered machine m)) (one_shown after) (other-follows images m one.options (entered machine m)) (λ shown. ends-gives Other after)))
+
+  other-all : (folder : List ℕ) (images : Images) (machine : Machine) (inserts : List Insertion) → EndsIn Other (loads_all folder images machine inserts)
+  other-all folder images machine inserts = ends-each Other (loads_one folder images) (other-one folder images) machine inserts
 
   -- ---- plans
 
@@ -261,39 +301,39 @@ module _ (held : Contents) (asked : ModprobeWords) where
       ends-given Other (plan_outcome known loaded request)
       (other-obstacle (obstacle_of (sources_with known loaded request) request) (plan_steps (sources_with known loaded request) request) (fine loaded request))
 
-  other-paths : (owner : Option (List ℕ)) (paths : List (List ℕ)) (e : End) → unless_install owner paths ≡ end e → Other e
-  other-paths None paths e is = absurd (no-end paths e is)
-  other-paths (Some name) paths e is = so-ends Other (Refused (InstallChosen name)) e tt is
+  other-inserts : (owner : Option (List ℕ)) (inserts : List Insertion) (e : End) → unless_install owner inserts ≡ end e → Other e
+  other-inserts None inserts e is = absurd (no-end inserts e is)
+  other-inserts (Some name) inserts e is = so-ends Other (Refused (InstallChosen name)) e tt is
 
-  other-chosen : (steps : List PlanStep) → EndsIn Other (given (paths_outcome steps))
-  unfolding paths_outcome
+  other-chosen : (steps : List PlanStep) → EndsIn Other (given (inserts_outcome steps))
+  unfolding inserts_outcome
   other-chosen steps =
-      ends-given Other (paths_outcome steps) (other-paths (first (map command_owner steps)) (flat_map loaded_path steps))
+      ends-given Other (inserts_outcome steps) (other-inserts (first (map command_owner steps)) (flat_map inserted steps))
 
-  other-names : (name : Option (List ℕ)) (lines : List ℕ) (e : End) → unless_unknown name lines ≡ end e → Other e
-  other-names None lines e is = absurd (no-end lines e is)
-  other-names (Some name) lines e is = so-ends Other (Refused (NotFound (normal_or_itself name))) e tt is
+  other-names : (name : Option (List ℕ)) (names : List (List ℕ)) (e : End) → unless_unknown name names ≡ end e → Other e
+  other-names None names e is = absurd (no-end names e is)
+  other-names (Some name) names e is = so-ends Other (Refused (NotFound (normal_or_itself name))) e tt is
 
-  other-resolved : (known : Known) (everywhere : Bool) (names : List (List ℕ)) → EndsIn Other (given (resolved known everywhere names))
-  unfolding resolved
-  other-resolved known everywhere names =
-      ends-given Other (resolved known everywhere names) (other-names (find (is_unknown known everywhere) names) (found_lines known everywhere names))
+  other-looked_up : (known : Known) (everywhere : Bool) (names : List (List ℕ)) → EndsIn Other (given (names_outcome known everywhere names))
+  unfolding names_outcome
+  other-looked_up known everywhere names =
+      ends-given Other (names_outcome known everywhere names) (other-names (find (is_unknown known everywhere) names) (found_names known everywhere names))
 
   -- ---- what follows the reading
 
   abbrev folder : List ℕ
   folder = modules_folder asked.dirname asked.version
 
-  abbrev says_text : List ℕ → Stage ⊤
-  says_text text = says_any text
+  abbrev says_names : List (List ℕ) → Stage ⊤
+  says_names names = says_any (lines_of_names names)
 
   abbrev resolves : Known → Stage ⊤
-  resolves known = given (resolved known asked.use_blacklist (names_asked asked.all asked.words)) >>= says_text
+  resolves known = given (names_outcome known asked.use_blacklist (names_asked asked.all asked.words)) >>= says_names
 
   other-resolves : (known : Known) → EndsIn Other (resolves known)
   other-resolves known =
-      ends-then Other (given (resolved known asked.use_blacklist (names_asked asked.all asked.words))) says_text
-      (other-resolved known asked.use_blacklist (names_asked asked.all asked.words)) (λ text. ends-says_any Other text)
+      ends-then Other (given (names_outcome known asked.use_blacklist (names_asked asked.all asked.words))) says_names
+      (other-looked_up known asked.use_blacklist (names_asked asked.all asked.words)) (λ names. ends-says_any Other (lines_of_names names))
 
   abbrev says_plan : List PlanStep → Stage ⊤
   says_plan steps = says_any (plan_lines folder steps)
@@ -306,20 +346,70 @@ module _ (held : Contents) (asked : ModprobeWords) where
       ends-then Other (given (plan_outcome known (loaded_in asked.mode known.loaded) (request_of asked))) says_plan
       (other-plan known (loaded_in asked.mode known.loaded) (request_of asked) fine) (λ steps. ends-says_any Other (plan_lines folder steps))
 
-  other-steps : (known : Known) (machine : Machine) (steps : List PlanStep) (paths : List (List ℕ)) → EndsIn Other (loads_steps folder asked.image known machine steps paths)
-  other-steps known machine steps paths =
-      ends-then Other (loads_listed folder known.indexes.dep machine known.loaded) (after_listed folder asked.image steps paths) (other-listed folder known.indexes.dep machine known.loaded) (λ listed.
-      ends-then Other (says_any (plan_lines folder steps)) (after_lines folder asked.image listed paths) (ends-says_any Other (plan_lines folder steps)) (λ said.
-      ends-then Other (loads_all folder asked.image listed paths) after_loads (other-all folder asked.image listed paths) (λ loaded. ends-gives Other tt)))
+  other-steps : (known : Known) (machine : Machine) (steps : List PlanStep) (inserts : List Insertion) → EndsIn Other (loads_steps folder (images_asked asked) known machine steps inserts)
+  other-steps known machine steps inserts =
+      ends-then Other (loads_listed folder known.indexes.dep machine known.loaded) (after_listed folder (images_asked asked) steps inserts) (other-listed folder known.indexes.dep machine known.loaded) (λ listed.
+      ends-then Other (says_any (plan_lines folder steps)) (after_lines folder (images_asked asked) listed inserts) (ends-says_any Other (plan_lines folder steps)) (λ said.
+      ends-then Other (loads_all folder (images_asked asked) listed inserts) after_loads (other-all folder (images_asked asked) listed inserts) (λ loaded. ends-gives Other tt)))
 
   abbrev loads_after : List ℕ → Region → Known → Stage ⊤
-  loads_after map region known = loads_known folder asked.image (request_of asked) map asked.symvers region known
+  loads_after map region known = loads_known folder (images_asked asked) (request_of asked) map asked.symvers region known
 
   other-loads : (map : List ℕ) (region : Region) → asked.system_map ≡ Some map → (known : Known) → Fine known → EndsIn Other (loads_after map region known)
   other-loads map region mapped known fine =
-      ends-then Other (reads_machine map asked.symvers region) (after_machine folder asked.image (request_of asked) known) (other-machine map region mapped) (λ machine.
-      ends-then Other (given (plan_outcome known known.loaded (request_of asked))) (after_steps folder asked.image known machine) (other-plan known known.loaded (request_of asked) fine) (λ steps.
-      ends-then Other (given (paths_outcome steps)) (after_paths folder asked.image known machine steps) (other-chosen steps) (λ paths. other-steps known machine steps paths)))
+      ends-then Other (reads_machine map asked.symvers region) (after_machine folder (images_asked asked) (request_of asked) known) (other-machine map region mapped) (λ machine.
+      ends-then Other (given (plan_outcome known known.loaded (request_of asked))) (after_steps folder (images_asked asked) known machine) (other-plan known known.loaded (request_of asked) fine) (λ steps.
+      ends-then Other (given (inserts_outcome steps)) (after_inserts folder (images_asked asked) known machine steps) (other-chosen steps) (λ inserts. other-steps known machine steps inserts)))
+
+  -- ---- removals
+
+  other-taken : (indexes : Indexes) (machine : Machine) (names : List (List ℕ)) → EndsIn Other (takes_listed folder indexes machine names)
+  other-taken indexes machine names =
+      ends-each Other (takes_listed_one folder indexes) (λ before name. other-listed_at folder before name (well_formed_path indexes name)) machine (reverse names)
+
+  other-in_use : (machine : Machine) (used : Option (ℕ × ℕ)) (steps : List RemoveStep) (e : End) → steps_unless machine used steps ≡ end e → Other e
+  other-in_use machine None steps e is = absurd (no-end steps e is)
+  other-in_use machine (Some used) steps e is = so-ends Other (Refused (InUse (name_at machine used.0) (name_at machine used.1))) e tt is
+
+  other-removed : (machine : Machine) (rules : List Rule) (ignored : Bool) (names : List (List ℕ)) → EndsIn Other (given (steps_outcome machine rules ignored names))
+  unfolding steps_outcome
+  other-removed machine rules ignored names =
+      ends-given Other (steps_outcome machine rules ignored names) (other-in_use machine (in_use machine (is_asked machine names)) (removal_steps machine rules ignored names))
+
+  other-owner : (name : Option (List ℕ)) (e : End) → unless_owner name ≡ end e → Other e
+  other-owner None e is = absurd (no-end tt e is)
+  other-owner (Some name) e is = so-ends Other (Refused (RemoveChosen name)) e tt is
+
+  other-run : (dry_run : Bool) (steps : List RemoveStep) (e : End) → chosen_outcome dry_run steps ≡ end e → Other e
+  unfolding chosen_outcome
+  other-run true steps e is = absurd (no-end tt e is)
+  other-run false steps e is = other-owner (first_owner steps) e is
+
+  other-unloaded : (machine : Machine) (step : RemoveStep) → EndsIn Other (unloads_one machine step)
+  other-unloaded machine step =
+      ends-then Other (says (unloaded_line (step_name step))) (one_unloaded machine step) (ends-says Other (unloaded_line (step_name step))) (λ said. ends-gives Other _)
+
+  other-carried : (dry_run : Bool) (machine : Machine) (steps : List RemoveStep) → EndsIn Other (unloads_unless dry_run machine steps)
+  other-carried true machine steps = ends-gives Other tt
+  other-carried false machine steps =
+      ends-then Other (each_from unloads_one machine steps) after_left (ends-each Other unloads_one other-unloaded machine steps) (λ left. ends-says_any Other (left_lines left.entries))
+
+  other-removes : (removal : Removal) (known : Known) (machine : Machine) → EndsIn Other (removes_listed folder removal known machine)
+  other-removes removal known machine =
+      ends-then Other (takes_listed folder known.indexes machine known.loaded) (removals.after_listed removal known) (other-taken known.indexes machine known.loaded) (λ listed.
+      ends-then Other (given (names_outcome known removal.use_blacklist removal.names)) (removals.after_names removal known listed) (other-looked_up known removal.use_blacklist removal.names) (λ names.
+      ends-then Other (given (steps_outcome listed known.rules removal.ignore_remove names)) (removals.after_steps removal.dry_run listed) (other-removed listed known.rules removal.ignore_remove names) (λ steps.
+      ends-then Other (given (chosen_outcome removal.dry_run steps)) (removals.after_check removal.dry_run listed steps) (ends-given Other (chosen_outcome removal.dry_run steps) (other-run removal.dry_run steps)) (λ passed.
+      ends-then Other (says_any (step_lines steps)) (removals.after_lines removal.dry_run listed steps) (ends-says_any Other (step_lines steps)) (λ said.
+      other-carried removal.dry_run listed steps)))))
+
+  abbrev removes_after : Bool → List ℕ → Region → Known → Stage ⊤
+  removes_after dry_run map region known = removals.after_known folder (removal_of dry_run asked) map asked.symvers region known
+
+  other-removal : (dry_run : Bool) (map : List ℕ) (region : Region) → asked.system_map ≡ Some map → (known : Known) → EndsIn Other (removes_after dry_run map region known)
+  other-removal dry_run map region mapped known =
+      ends-then Other (reads_machine map asked.symvers region) (removals.after_machine folder (removal_of dry_run asked) known) (other-machine map region mapped) (λ machine.
+      other-removes (removal_of dry_run asked) known machine)
 
   -- ---- the whole courses
 
@@ -368,11 +458,17 @@ module _ (held : Contents) (asked : ModprobeWords) where
     loading (Some map) None mapped e at = not-understood e at
     loading (Some map) (Some region) mapped e at = pass (loads_after map region) (other-loads map region mapped) e at
 
+    removing : (dry_run : Bool) (map : Option (List ℕ)) (region : Option Region) → asked.system_map ≡ map → (e : End) → ((removes_from dry_run asked map region).run held).outcome ≡ end e → Other e
+    removing dry_run None region mapped e at = not-understood e at
+    removing dry_run (Some map) None mapped e at = not-understood e at
+    removing dry_run (Some map) (Some region) mapped e at = pass (removes_after dry_run map region) (λ known fine. other-removal dry_run map region mapped known) e at
+
     in-mode : (mode : Mode) (e : End) → ((modprobe_in_mode mode asked).run held).outcome ≡ end e → Other e
     in-mode ResolveAlias e at = pass resolves (λ known fine. other-resolves known) e at
     in-mode Load e at = loading asked.system_map (region_at asked.region_base asked.region_size) refl e at
     in-mode DryRun e at = pass plans other-plans e at
     in-mode ShowDepends e at = pass plans other-plans e at
+    in-mode (Remove dry_run) e at = removing dry_run asked.system_map (region_at asked.region_base asked.region_size) refl e at
 
 pub courses-pass : CoursesPass
 courses-pass held asked tree kernel builtin indexed mode e at = in-mode held asked tree kernel builtin indexed mode e at

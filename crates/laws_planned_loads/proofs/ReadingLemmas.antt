@@ -29,9 +29,9 @@ use Rattle.laws_indexed_folder.proofs.StandingLemmas.{file-within, files-stand}
 use Rattle.stages_files.specs.Configuration.{reads_configuration, stated_outcome}
 use Rattle.stages_files.specs.declared.configuration.Tool.TheVariants.{Modprobe}
 use Rattle.stages_files.specs.IndexFile.{index_of, index_outcome}
-use Rattle.command_modprobe.specs.declared.known.Known.{Known}
-use Rattle.command_modprobe.specs.Known.{reads_index_in, reads_indexes, reads_known, reads_lists, reads_loaded, reads_rules, reads_unmet}
-use Rattle.command_modprobe.proofs.KnownSteps.{after_alias, after_builtin, after_configuration, after_dep, after_indexes, after_loaded, after_rules, after_softdep, after_symbols, after_unmet, softdep_stated, unmet_stated}
+use Rattle.stages_known.specs.declared.known.Known.{Known}
+use Rattle.stages_known.specs.Known.{reads_index_in, reads_indexes, reads_known, reads_lists, reads_loaded, reads_rules, reads_unmet}
+use Rattle.stages_known.proofs.KnownSteps.{after_alias, after_builtin, after_configuration, after_dep, after_indexes, after_loaded, after_rules, after_softdep, after_symbols, after_unmet, softdep_stated, unmet_stated}
 use Rattle.laws_planned_loads.specs.Reading.{FoldersAreRead, IsFolderRead, IsReading, ReadingsEnd, bad_configuration, indexes_of, is_known, known_of, no_configuration, no_list, softdep_rules}
 use Rattle.laws_planned_loads.proofs.EndsLemmas.{given-comes, on-end, on-value}
 use Rattle.laws_planned_loads.proofs.KnownLemmas.{index_read, only-configuration, only-index, only-indexes, only-loaded, only-rules, only-unmet, was-stated}

@@ -18,14 +18,17 @@ use Rattle.stages_files.specs.KernelModules.{modules_folder}
 use Rattle.stages_files.specs.KernelTable.{reads_map, reads_symvers, table_outcome}
 use Rattle.stages_files.proofs.TableSteps.{map_read, symvers_read}
 use Rattle.stages_loads.specs.Listed.{loads_listed}
+use Rattle.stages_loads.specs.declared.load.Insertion.{Insertion}
+use Rattle.stages_loads.specs.declared.shown.Images.{Images}
 use Rattle.stages_loads.specs.Loads.{loads_all}
 use Rattle.stages_loads.specs.Tables.{machine_outcome, reads_addressed, reads_machine}
 use Rattle.stages_loads.proofs.TableSteps.{both_added, both_read, both_understood, made}
-use Rattle.command_modprobe.specs.declared.known.Known.{Known}
-use Rattle.command_modprobe.specs.Known.{reads_known}
+use Rattle.stages_known.specs.declared.known.Known.{Known}
+use Rattle.stages_known.specs.Known.{reads_known}
 use Rattle.command_modprobe.specs.Planned.{plan_lines, plan_outcome, request_of}
-use Rattle.command_modprobe.specs.Loaded.{loads_into, loads_plan, paths_outcome, region_at}
-use Rattle.command_modprobe.proofs.LoadSteps.{after_lines, after_listed, after_loads, after_machine, after_paths, after_steps, loads_known}
+use Rattle.stages_loads.specs.Region.{region_at}
+use Rattle.command_modprobe.specs.Loaded.{images_asked, inserts_outcome, loads_into, loads_plan}
+use Rattle.command_modprobe.proofs.LoadSteps.{after_lines, after_listed, after_loads, after_machine, after_inserts, after_steps, loads_known}
 use Rattle.laws_planned_loads.specs.Acts.{is_reading, said}
 use Rattle.laws_planned_loads.specs.Courses.{CoursesLoad, HasMachine, IsLoadingCourse, CameToLoads, ended}
 use Rattle.laws_planned_loads.proofs.KnownLemmas.{only-known}
@@ -71,13 +74,13 @@ unfolding continued given
 last-continued acts (value machine) files = ap (λ done. run_of done (value tt)) (append-nil acts)
 last-continued acts (end e) files = refl
 
-loads-last : (folder : List ℕ) (images : Option (List ℕ)) (machine : Machine) (paths : List (List ℕ)) (files : Contents) → (loads_all folder images machine paths >>= after_loads).run files ≡ run_of ((loads_all folder images machine paths).run files).acts (ended ((loads_all folder images machine paths).run files).outcome)
+loads-last : (folder : List ℕ) (images : Images) (machine : Machine) (inserts : List Insertion) (files : Contents) → (loads_all folder images machine inserts >>= after_loads).run files ≡ run_of ((loads_all folder images machine inserts).run files).acts (ended ((loads_all folder images machine inserts).run files).outcome)
 unfolding ◌>>=◌
-loads-last folder images machine paths files = last-continued ((loads_all folder images machine paths).run files).acts ((loads_all folder images machine paths).run files).outcome files
+loads-last folder images machine inserts files = last-continued ((loads_all folder images machine inserts).run files).acts ((loads_all folder images machine inserts).run files).outcome files
 
 -- ---- the whole
 
-module _ (held : Contents) (asked : ModprobeWords) (addressed : Kernel) (region : Region) (known : Known) (machine : Machine) (steps : List PlanStep) (paths : List (List ℕ)) (has : HasMachine held asked addressed region) (came : CameToLoads held (modules_folder asked.dirname asked.version) asked.config asked.loaded (request_of asked) addressed region known machine steps paths) where
+module _ (held : Contents) (asked : ModprobeWords) (addressed : Kernel) (region : Region) (known : Known) (machine : Machine) (steps : List PlanStep) (inserts : List Insertion) (has : HasMachine held asked addressed region) (came : CameToLoads held (modules_folder asked.dirname asked.version) asked.config asked.loaded (request_of asked) addressed region known machine steps inserts) where
   abbrev folder : List ℕ
   folder = modules_folder asked.dirname asked.version
 
@@ -94,43 +97,43 @@ module _ (held : Contents) (asked : ModprobeWords) (addressed : Kernel) (region 
   listing = loads_listed folder known.indexes.dep start known.loaded
 
   abbrev loading : Run Machine
-  loading = (loads_all folder asked.image machine paths).run held
+  loading = (loads_all folder (images_asked asked) machine inserts).run held
 
   abbrev rest : Run ⊤
   rest = run_of (said (plan_lines folder steps) ++ loading.acts) (ended loading.outcome)
 
-  from-lines : (after_listed folder asked.image steps paths machine).run held ≡ rest
+  from-lines : (after_listed folder (images_asked asked) steps inserts machine).run held ≡ rest
   from-lines =
       let lines = plan_lines folder steps in
-      run-then (says_any lines) (after_lines folder asked.image machine paths) held (said lines) tt (lines-said lines held)
-      ∙ ap (λ fs. joined (said lines) ((loads_all folder asked.image machine paths >>= after_loads).run fs)) (said-leaves lines held)
-      ∙ ap (joined (said lines)) (loads-last folder asked.image machine paths held)
+      run-then (says_any lines) (after_lines folder (images_asked asked) machine inserts) held (said lines) tt (lines-said lines held)
+      ∙ ap (λ fs. joined (said lines) ((loads_all folder (images_asked asked) machine inserts >>= after_loads).run fs)) (said-leaves lines held)
+      ∙ ap (joined (said lines)) (loads-last folder (images_asked asked) machine inserts held)
 
   listing-reads : list_all is_reading (listing.run held).acts ≡ true
   listing-reads =
       let h = listed-are-of-machine held folder known.indexes.dep start known.loaded machine came.listed in
       ap (list_all is_reading) h.acts ∙ all-read folder h.paths
 
-  from-steps : (after_machine folder asked.image (request_of asked) known start).run held ≡ joined (listing.run held).acts rest
+  from-steps : (after_machine folder (images_asked asked) (request_of asked) known start).run held ≡ joined (listing.run held).acts rest
   from-steps =
-      run-then (given (plan_outcome known known.loaded (request_of asked))) (after_steps folder asked.image known start) held [] steps (run-given _ held ∙ ap (run_of []) came.planned)
-      ∙ run-then (given (paths_outcome steps)) (after_paths folder asked.image known start steps) held [] paths (run-given _ held ∙ ap (run_of []) came.runs_none)
-      ∙ run-on listing (after_listed folder asked.image steps paths) held machine listing-reads came.listed
+      run-then (given (plan_outcome known known.loaded (request_of asked))) (after_steps folder (images_asked asked) known start) held [] steps (run-given _ held ∙ ap (run_of []) came.planned)
+      ∙ run-then (given (inserts_outcome steps)) (after_inserts folder (images_asked asked) known start steps) held [] inserts (run-given _ held ∙ ap (run_of []) came.runs_none)
+      ∙ run-on listing (after_listed folder (images_asked asked) steps inserts) held machine listing-reads came.listed
       ∙ ap (joined (listing.run held).acts) from-lines
 
-  from-machine : (loads_known folder asked.image (request_of asked) has.map asked.symvers region known).run held ≡ joined (making.run held).acts (joined (listing.run held).acts rest)
+  from-machine : (loads_known folder (images_asked asked) (request_of asked) has.map asked.symvers region known).run held ≡ joined (making.run held).acts (joined (listing.run held).acts rest)
   from-machine =
-      run-on making (after_machine folder asked.image (request_of asked) known) held start (only-machine has.map asked.symvers region held) has.made
+      run-on making (after_machine folder (images_asked asked) (request_of asked) known) held start (only-machine has.map asked.symvers region held) has.made
       ∙ ap (joined (making.run held).acts) from-steps
 
   whole : (loads_plan asked).run held ≡ joined (knowing.run held).acts (joined (making.run held).acts (joined (listing.run held).acts rest))
   whole =
       ap (λ o. (loads_into asked o (region_at asked.region_base asked.region_size)).run held) has.mapped
       ∙ ap (λ r. (loads_into asked (Some has.map) r).run held) has.in_region
-      ∙ run-on knowing (loads_known folder asked.image (request_of asked) has.map asked.symvers region) held known (only-known asked.config folder asked.loaded held) came.knows
+      ∙ run-on knowing (loads_known folder (images_asked asked) (request_of asked) has.map asked.symvers region) held known (only-known asked.config folder asked.loaded held) came.knows
       ∙ ap (joined (knowing.run held).acts) from-machine
 
-  pub is-loading : IsLoadingCourse held folder asked.image machine steps paths ((loads_plan asked).run held)
+  pub is-loading : IsLoadingCourse held folder (images_asked asked) machine steps inserts ((loads_plan asked).run held)
   is-loading =
       let a = (knowing.run held).acts in
       let b = (making.run held).acts in
@@ -146,4 +149,4 @@ module _ (held : Contents) (asked : ModprobeWords) (addressed : Kernel) (region 
       }
 
 pub courses-load : CoursesLoad
-courses-load held asked addressed region known machine steps paths has came = is-loading held asked addressed region known machine steps paths has came
+courses-load held asked addressed region known machine steps inserts has came = is-loading held asked addressed region known machine steps inserts has came

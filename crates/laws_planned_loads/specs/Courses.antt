@@ -1,12 +1,12 @@
 -- What the course of a modprobe that loads comes to over a folder that stands as depmod indexed it. modprobe(8).
-use Rattle.std.specs.Prelude.{◌≡◌, ℕ, true, List, ◌++◌, reverse, Option, Some, ⊤}
+use Rattle.std.specs.Prelude.{◌≡◌, ℕ, Bool, true, List, ◌++◌, reverse, Option, Some, ⊤}
 use Rattle.std.specs.List.{list_all}
 use Rattle.km_outside.specs.Contents.{Contents}
 use Rattle.kmod_words.specs.declared.modprobe.ModprobeWords.{ModprobeWords}
 use Rattle.km_course.specs.Course.{Act, Outcome, Run}
 use Rattle.km_course.specs.Course.Outcome.{value, end}
 use Rattle.km_course.specs.declared.end.End.TheVariants.{Refused}
-use Rattle.km_course.specs.declared.refusal.Refusal.TheVariants.{LoadRefused}
+use Rattle.km_course.specs.declared.refusal.Refusal.TheVariants.{LoadRefused, ParamsRefused}
 use Rattle.index_format.specs.Map.{KeyValues}
 use Rattle.index_read.specs.Contents.{contents}
 use Rattle.module_facts.specs.declared.facts.Facts.{Facts}
@@ -17,6 +17,8 @@ use Rattle.model_loader.specs.declared.region.Region.{Region}
 use Rattle.model_loader.specs.declared.fault.LoadFault.{LoadFault}
 use Rattle.model_loader.specs.FaultText.{load_fault_text}
 use Rattle.model_loader.specs.Machine.{Machine, new_machine}
+use Rattle.param_apply.specs.declared.fault.ParamFault.{ParamFault}
+use Rattle.param_apply.specs.FaultText.{param_fault_text}
 use Rattle.plan_builder.specs.declared.request.Request.{Request}
 use Rattle.plan_builder.specs.declared.step.PlanStep.{PlanStep}
 use Rattle.laws_closed_plans.specs.Loads.{IsPlaceFault}
@@ -26,15 +28,19 @@ use Rattle.laws_indexed_folder.specs.Folder.{AreModulesOf}
 use Rattle.laws_indexed_folder.specs.Steps.{inserted_names}
 use Rattle.stages_files.specs.KernelModules.{modules_folder}
 use Rattle.stages_loads.specs.Listed.{loads_listed}
-use Rattle.stages_loads.specs.Loads.{loads_all}
+use Rattle.stages_loads.specs.declared.load.Insertion.{Insertion}
+use Rattle.stages_loads.specs.declared.shown.Images.{Images}
+use Rattle.stages_loads.specs.Loads.{loads_all, paths_of}
 use Rattle.stages_loads.specs.Tables.{reads_machine}
-use Rattle.command_modprobe.specs.declared.known.Known.{Known}
-use Rattle.command_modprobe.specs.Known.{reads_known}
+use Rattle.stages_known.specs.declared.known.Known.{Known}
+use Rattle.stages_known.specs.Known.{reads_known}
 use Rattle.command_modprobe.specs.Planned.{plan_lines, plan_outcome, request_of}
-use Rattle.command_modprobe.specs.Loaded.{loads_plan, paths_outcome, region_at}
+use Rattle.stages_loads.specs.Region.{region_at}
+use Rattle.command_modprobe.specs.Loaded.{images_asked, inserts_outcome, loads_plan}
 use Rattle.laws_planned_loads.specs.Acts.{is_reading, said}
 use Rattle.laws_planned_loads.specs.Files.{AreFileModules}
 use Rattle.laws_planned_loads.specs.Listed.{AreListedPaths}
+use Rattle.laws_planned_loads.specs.Loads.{WentIn, fault_of}
 
 -- The map of the modules.dep.bin that was read.
 abbrev pub known_lines : Known → KeyValues
@@ -46,26 +52,25 @@ pub record IsIndexedFor (held : Contents) (folder : List ℕ) (tree : List Facts
   pub same_table : kernel_of addressed ≡ kernel_of kernel
 
 -- A course came past its reading, over these files: this is known, and this is the machine of the kernel after the listed
--- modules were loaded; the request has a plan, of which no step runs a command, and the modules of its steps are at these
--- paths.
-pub record CameToLoads (held : Contents) (folder : List ℕ) (config listing : Option (List ℕ)) (request : Request) (addressed : Kernel) (region : Region) (known : Known) (machine : Machine) (steps : List PlanStep) (paths : List (List ℕ)) : Type 0 where
+-- modules were loaded; the request has a plan, of which no step runs a command, and this is what its steps load.
+pub record CameToLoads (held : Contents) (folder : List ℕ) (config listing : Option (List ℕ)) (request : Request) (addressed : Kernel) (region : Region) (known : Known) (machine : Machine) (steps : List PlanStep) (inserts : List Insertion) : Type 0 where
   pub knows : ((reads_known config folder listing).run held).outcome ≡ value known
   pub listed : ((loads_listed folder known.indexes.dep (new_machine addressed region) known.loaded).run held).outcome ≡ value machine
   pub planned : plan_outcome known known.loaded request ≡ value steps
-  pub runs_none : paths_outcome steps ≡ value paths
+  pub runs_none : inserts_outcome steps ≡ value inserts
 
 -- what loads come to, as the end of a course
 abbrev pub ended : Outcome Machine → Outcome ⊤
 ended (value machine) = value tt
 ended (end e) = end e
 
--- A course is one of loads: files are read, the lines of the plan are said, and then the modules at the paths are loaded
--- into the machine, and nothing more is done.
-pub record IsLoadingCourse (held : Contents) (folder : List ℕ) (images : Option (List ℕ)) (machine : Machine) (steps : List PlanStep) (paths : List (List ℕ)) (run : Run ⊤) : Type 0 where
+-- A course is one of loads: files are read, the lines of the plan are said, and then what its steps load goes into the
+-- machine, and nothing more is done.
+pub record IsLoadingCourse (held : Contents) (folder : List ℕ) (images : Images) (machine : Machine) (steps : List PlanStep) (inserts : List Insertion) (run : Run ⊤) : Type 0 where
   pub before : List Act
   pub reads : list_all is_reading before ≡ true
-  pub acts : run.acts ≡ before ++ (said (plan_lines folder steps) ++ ((loads_all folder images machine paths).run held).acts)
-  pub outcome : run.outcome ≡ ended ((loads_all folder images machine paths).run held).outcome
+  pub acts : run.acts ≡ before ++ (said (plan_lines folder steps) ++ ((loads_all folder images machine inserts).run held).acts)
+  pub outcome : run.outcome ≡ ended ((loads_all folder images machine inserts).run held).outcome
 
 -- What is asked for has a System.map and a region, and from these came the machine of the kernel.
 pub record HasMachine (held : Contents) (asked : ModprobeWords) (addressed : Kernel) (region : Region) : Type 0 where
@@ -77,10 +82,10 @@ pub record HasMachine (held : Contents) (asked : ModprobeWords) (addressed : Ker
 -- A course that came past its reading is one of loads, over any files.
 abbrev pub CoursesLoad : Type 0
 CoursesLoad =
-    (held : Contents) (asked : ModprobeWords) (addressed : Kernel) (region : Region) (known : Known) (machine : Machine) (steps : List PlanStep) (paths : List (List ℕ))
+    (held : Contents) (asked : ModprobeWords) (addressed : Kernel) (region : Region) (known : Known) (machine : Machine) (steps : List PlanStep) (inserts : List Insertion)
     → HasMachine held asked addressed region
-    → CameToLoads held (modules_folder asked.dirname asked.version) asked.config asked.loaded (request_of asked) addressed region known machine steps paths
-    → IsLoadingCourse held (modules_folder asked.dirname asked.version) asked.image machine steps paths ((loads_plan asked).run held)
+    → CameToLoads held (modules_folder asked.dirname asked.version) asked.config asked.loaded (request_of asked) addressed region known machine steps inserts
+    → IsLoadingCourse held (modules_folder asked.dirname asked.version) (images_asked asked) machine steps inserts ((loads_plan asked).run held)
 
 -- The loads of such a course bind.
 pub record CourseBinds (held : Contents) (folder : List ℕ) (addressed : Kernel) (region : Region) (known : Known) (machine : Machine) (steps : List PlanStep) (paths : List (List ℕ)) : Type 0 where
@@ -107,22 +112,23 @@ abbrev pub CoursesBind : Type 0
 CoursesBind =
     (held : Contents) (folder : List ℕ) (tree : List Facts) (kernel : Kernel) (builtin : List ℕ) (addressed : Kernel)
     → IsIndexedFor held folder tree kernel builtin addressed
-    → (config listing : Option (List ℕ)) (request : Request) (region : Region) (known : Known) (machine : Machine) (steps : List PlanStep) (paths : List (List ℕ))
-    → CameToLoads held folder config listing request addressed region known machine steps paths
-    → CourseBinds held folder addressed region known machine steps paths
+    → (config listing : Option (List ℕ)) (request : Request) (region : Region) (known : Known) (machine : Machine) (steps : List PlanStep) (inserts : List Insertion)
+    → CameToLoads held folder config listing request addressed region known machine steps inserts
+    → CourseBinds held folder addressed region known machine steps (paths_of inserts)
 
 -- A course of loads came to its end: all modules of the plan were loaded, or one of them found no room in the region, or a
--- word of it didn't fit there.
-pub data IsEndOfLoads : Outcome ⊤ → Type 0 where
-  all_loaded : IsEndOfLoads (value tt)
-  no_place : (name : List ℕ) (fault : LoadFault) → IsPlaceFault fault → IsEndOfLoads (end (Refused (LoadRefused name (load_fault_text fault))))
+-- word of it didn't fit there; or, where parameters are written, the options of one couldn't be.
+pub data IsEndOfLoads (params : Bool) : Outcome ⊤ → Type 0 where
+  all_loaded : IsEndOfLoads params (value tt)
+  no_place : (name : List ℕ) (fault : LoadFault) → IsPlaceFault fault → IsEndOfLoads params (end (Refused (LoadRefused name (load_fault_text fault))))
+  unwritten : (w : WentIn) (fault : ParamFault) → params ≡ true → fault_of w ≡ Some fault → IsEndOfLoads params (end (Refused (ParamsRefused w.entry.loaded.name (param_fault_text fault))))
 
 -- So the whole course of such a modprobe ends for nothing else.
 abbrev pub CoursesEnd : Type 0
 CoursesEnd =
     (held : Contents) (asked : ModprobeWords) (tree : List Facts) (kernel : Kernel) (builtin : List ℕ) (addressed : Kernel)
     → IsIndexedFor held (modules_folder asked.dirname asked.version) tree kernel builtin addressed
-    → (region : Region) (known : Known) (machine : Machine) (steps : List PlanStep) (paths : List (List ℕ))
+    → (region : Region) (known : Known) (machine : Machine) (steps : List PlanStep) (inserts : List Insertion)
     → HasMachine held asked addressed region
-    → CameToLoads held (modules_folder asked.dirname asked.version) asked.config asked.loaded (request_of asked) addressed region known machine steps paths
-    → IsEndOfLoads ((loads_plan asked).run held).outcome
+    → CameToLoads held (modules_folder asked.dirname asked.version) asked.config asked.loaded (request_of asked) addressed region known machine steps inserts
+    → IsEndOfLoads asked.params ((loads_plan asked).run held).outcome

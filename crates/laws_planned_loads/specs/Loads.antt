@@ -1,47 +1,100 @@
 -- What the course of some loads is, by the machines of these loads. modprobe(8).
-use Rattle.std.specs.Prelude.{◌≡◌, ℕ, List, [], ◌∷◌, ◌++◌, length, codes, Option, Some, None, Ok, Err}
+use Rattle.std.specs.Prelude.{◌≡◌, ◌&&◌, ℕ, Bool, true, All, List, [], ◌∷◌, ◌++◌, map, flat_map, codes, Option, Some, None, Ok, Err, is_none, if◌then◌else◌}
 use Rattle.km_names.specs.Path.{path_below}
 use Rattle.km_outside.specs.Contents.{Contents}
-use Rattle.km_course.specs.Course.{Act, Run}
+use Rattle.km_course.specs.Course.{Act, Outcome, Run}
 use Rattle.km_course.specs.Course.Act.{read, say, put}
 use Rattle.km_course.specs.Course.Outcome.{value, end}
 use Rattle.km_course.specs.declared.end.End.TheVariants.{Refused}
-use Rattle.km_course.specs.declared.refusal.Refusal.TheVariants.{LoadRefused}
+use Rattle.km_course.specs.declared.refusal.Refusal.TheVariants.{LoadRefused, ParamsRefused}
 use Rattle.module_facts.specs.declared.module.Module.{Module}
 use Rattle.model_loader.specs.declared.entry.Entry.{Entry}
 use Rattle.model_loader.specs.declared.fault.LoadFault.{LoadFault}
 use Rattle.model_loader.specs.FaultText.{load_fault_text}
 use Rattle.model_loader.specs.Machine.{Machine}
 use Rattle.model_loader.specs.Step.{step}
+use Rattle.param_apply.specs.declared.fault.ParamFault.{ParamFault}
+use Rattle.param_apply.specs.Applied.{param_fault}
+use Rattle.param_apply.specs.FaultText.{param_fault_text}
 use Rattle.laws_closed_plans.specs.Loads.{load_all}
-use Rattle.stages_loads.specs.Loads.{loaded_line, loads_all}
+use Rattle.stages_loads.specs.declared.load.Insertion.{Insertion}
+use Rattle.stages_loads.specs.declared.shown.Images.{Images}
+use Rattle.stages_loads.specs.Loads.{ShownImage, finished_params, loads_all, machine_image, params_image, paths_of}
 use Rattle.laws_planned_loads.specs.Files.{AreFileModules}
 
--- The image of an entry is put into the folder for images, where there is one, under the name of its module.
-abbrev pub image_acts : Option (List ℕ) → Entry → List Act
-image_acts None e = []
-image_acts (Some images) e = put (path_below images (e.loaded.name ++ codes ".img")) e.image ∷ []
+-- A module that went into a machine: what was to be loaded, the module that it is, and its entry.
+pub record WentIn : Type 0 where
+  pub insert : Insertion
+  pub m : Module
+  pub entry : Entry
 
--- What is done for the module at a path of the tree in a folder that goes into a machine with this entry: it is read, its
--- image is put, and the line of the load is said, which has the digest of the image.
-abbrev pub load_acts : List ℕ → Option (List ℕ) → List ℕ → Entry → List Act
-load_acts folder images path e =
-    read (path_below folder path) ∷ (image_acts images e ++ say (loaded_line e.loaded e.image) ∷ [])
+-- what was to be loaded, of each; the modules; and their entries
+abbrev pub inserts_of : List WentIn → List Insertion
+inserts_of ws = map (λ (w : WentIn). w.insert) ws
 
--- The same of some modules, one after the other.
-abbrev pub loads_acts : List ℕ → Option (List ℕ) → List (List ℕ) → List Entry → List Act
-loads_acts folder images [] es = []
-loads_acts folder images (path ∷ paths) [] = []
-loads_acts folder images (path ∷ paths) (e ∷ es) = load_acts folder images path e ++ loads_acts folder images paths es
+abbrev pub modules_of : List WentIn → List Module
+modules_of ws = map (λ (w : WentIn). w.m) ws
 
--- All modules at some paths went into a machine, which now has one entry more for each: these are the entries whose
--- images are put and whose lines are said.
-pub record AllGoIn (folder : List ℕ) (images : Option (List ℕ)) (machine after : Machine) (paths : List (List ℕ)) (run : Run Machine) : Type 0 where
-  pub gives : run.outcome ≡ value after
-  pub entries : List Entry
-  pub one_each : length entries ≡ length paths
-  pub newer : after.entries ≡ machine.entries ++ entries
-  pub acts : run.acts ≡ loads_acts folder images paths entries
+abbrev pub entries_of : List WentIn → List Entry
+entries_of ws = map (λ (w : WentIn). w.entry) ws
+
+-- Why the options of a module can't be written into a copy of its image.
+abbrev pub fault_of : WentIn → Option ParamFault
+fault_of w = param_fault w.m.object w.entry.loaded.base w.entry.image w.insert.options
+
+-- The options of a module can be written, or aren't to be.
+abbrev pub AreWritable : Bool → WentIn → Type 0
+AreWritable params w = params ≡ true → fault_of w ≡ None
+
+-- The image with the options of a module in it.
+abbrev pub finished_image : WentIn → ShownImage
+finished_image w = params_image w.entry.loaded.name (finished_params w.m w.insert.options w.entry.loaded w.entry.image)
+
+-- What is shown of a module that went in: its image in the machine; and, where options are written and these can be, the
+-- finished one.
+abbrev pub images_of : Bool → WentIn → List ShownImage
+images_of params w =
+    machine_image w.entry.loaded w.entry.image ∷ (if params && is_none (fault_of w) then finished_image w ∷ [] else [])
+
+-- The same of some modules, in order.
+abbrev pub all_images : Bool → List WentIn → List ShownImage
+all_images params ws = flat_map (images_of params) ws
+
+-- An image is put into the folder for images, where there is one, and its line is said.
+abbrev pub image_acts : Option (List ℕ) → ShownImage → List Act
+image_acts None s = say s.line ∷ []
+image_acts (Some folder) s = put (path_below folder (s.name ++ codes ".img")) s.image ∷ say s.line ∷ []
+
+-- What is done for a module that went in: it is read from the tree in a folder, and then its images are shown.
+abbrev pub load_acts : List ℕ → Images → WentIn → List Act
+load_acts folder images w =
+    read (path_below folder w.insert.path) ∷ flat_map (image_acts images.folder) (images_of images.params w)
+
+-- Why no more modules go into a machine, where these went in and these are left of what was to be loaded: with what is
+-- still done, and how the loads end.
+pub data IsEndOf (folder : List ℕ) (params : Bool) (machine : Machine) : List WentIn → List Insertion → List Module → List Act → Outcome Machine → Type 0 where
+  -- all are loaded
+  all_in : (went : List WentIn) → All (AreWritable params) went → IsEndOf folder params machine went [] [] [] (value machine)
+  -- the next one is read, and the machine refuses it: that is told, and nothing more is done
+  refused : (went : List WentIn) → All (AreWritable params) went → (one : Insertion) (inserts : List Insertion) (m : Module) (ms : List Module) (fault : LoadFault) → step machine m ≡ Err fault → IsEndOf folder params machine went (one ∷ inserts) (m ∷ ms) (read (path_below folder one.path) ∷ []) (end (Refused (LoadRefused m.facts.name (load_fault_text fault))))
+  -- the options of the last one can't be written, though they are to be: that is told, and nothing more is done
+  unwritable : (went : List WentIn) → All (AreWritable params) went → (last : WentIn) → params ≡ true → (inserts : List Insertion) (ms : List Module) (fault : ParamFault) → fault_of last ≡ Some fault → IsEndOf folder params machine (went ++ last ∷ []) inserts ms [] (end (Refused (ParamsRefused last.entry.loaded.name (param_fault_text fault))))
+
+-- Loads of modules are those of a machine: the first ones go in, one after the other, each is read and its images are
+-- shown; and why no more go in.
+pub record AreMachineLoads (folder : List ℕ) (images : Images) (machine : Machine) (inserts : List Insertion) (ms : List Module) (run : Run Machine) : Type 0 where
+  pub went : List WentIn
+  pub later : List Insertion
+  pub left : List Module
+  pub inserts_are : inserts ≡ inserts_of went ++ later
+  pub modules_are : ms ≡ modules_of went ++ left
+  -- the machine after those that went in, which has one entry more for each
+  pub middle : Machine
+  pub loaded : load_all machine (modules_of went) ≡ Ok middle
+  pub newer : middle.entries ≡ machine.entries ++ entries_of went
+  pub rest : List Act
+  pub ends : IsEndOf folder images.params middle went later left rest run.outcome
+  pub acts : run.acts ≡ flat_map (load_acts folder images) went ++ rest
 
 -- Of some modules that are loaded one after the other, the first that is refused: the machine after those before it refuses
 -- it for this fault.
@@ -54,32 +107,9 @@ pub record IsFirstRefused (machine : Machine) (ms : List Module) (fault : LoadFa
   pub loaded : load_all machine before ≡ Ok middle
   pub refused : step middle m ≡ Err fault
 
--- The modules before one went into a machine so, and that one was refused: it is read, that is told, and nothing more is
--- done.
-pub record OneIsRefused (folder : List ℕ) (images : Option (List ℕ)) (machine : Machine) (paths : List (List ℕ)) (ms : List Module) (fault : LoadFault) (run : Run Machine) : Type 0 where
-  pub first : IsFirstRefused machine ms fault
-  pub tells : run.outcome ≡ end (Refused (LoadRefused first.m.facts.name (load_fault_text fault)))
-  -- its path, those of the modules before it, and those of the modules after it
-  pub earlier : List (List ℕ)
-  pub path : List ℕ
-  pub later : List (List ℕ)
-  pub all : paths ≡ earlier ++ path ∷ later
-  pub in_step : length earlier ≡ length first.before
-  -- the entries of those before it
-  pub entries : List Entry
-  pub one_each : length entries ≡ length earlier
-  pub newer : first.middle.entries ≡ machine.entries ++ entries
-  pub acts : run.acts ≡ loads_acts folder images earlier entries ++ read (path_below folder path) ∷ []
-
--- Loads of modules at paths are those of the machine: all modules go in where they can be loaded one after the other,
--- else the first refusal is told.
-pub record AreMachineLoads (folder : List ℕ) (images : Option (List ℕ)) (machine : Machine) (paths : List (List ℕ)) (ms : List Module) (run : Run Machine) : Type 0 where
-  pub loaded : (after : Machine) → load_all machine ms ≡ Ok after → AllGoIn folder images machine after paths run
-  pub stopped : (fault : LoadFault) → load_all machine ms ≡ Err fault → OneIsRefused folder images machine paths ms fault run
-
 -- Over files of valid modules a course of loads is that of the machine's loads.
 abbrev pub LoadsAreOfMachine : Type 0
 LoadsAreOfMachine =
-    (held : Contents) (folder : List ℕ) (images : Option (List ℕ)) (machine : Machine) (paths : List (List ℕ)) (ms : List Module)
-    → AreFileModules held folder paths ms
-    → AreMachineLoads folder images machine paths ms ((loads_all folder images machine paths).run held)
+    (held : Contents) (folder : List ℕ) (images : Images) (machine : Machine) (inserts : List Insertion) (ms : List Module)
+    → AreFileModules held folder (paths_of inserts) ms
+    → AreMachineLoads folder images machine inserts ms ((loads_all folder images machine inserts).run held)

@@ -30,8 +30,8 @@ use Rattle.stages_files.specs.Configuration.{reads_configuration, stated_outcome
 use Rattle.stages_files.specs.declared.configuration.Tool.TheVariants.{Modprobe}
 use Rattle.stages_files.specs.IndexFile.{index_of}
 use Rattle.stages_files.specs.KernelModules.{modules_folder}
-use Rattle.command_modprobe.specs.declared.known.Known.{Known}
-use Rattle.command_modprobe.specs.Known.{reads_indexes, reads_known, reads_loaded, reads_rules, reads_unmet}
+use Rattle.stages_known.specs.declared.known.Known.{Known}
+use Rattle.stages_known.specs.Known.{reads_indexes, reads_known, reads_loaded, reads_rules, reads_unmet}
 use Rattle.command_modprobe.specs.Modprobe.{modprobe_in_mode}
 
 -- The indexes in files of depmod's.

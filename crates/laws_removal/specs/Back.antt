@@ -1,4 +1,5 @@
--- A removal takes back what was loaded last, and the machine from before is left. modprobe(8), -r.
+-- A removal takes back the modules that were loaded last, and the machine from before is left.
+-- modprobe(8), `-r`.
 use Rattle.std.specs.Prelude.{◌≡◌, ℕ, List, ◌++◌, map, reverse, None, Ok}
 use Rattle.std.specs.List.{IsDistinct}
 use Rattle.std.specs.Str.{bytes_eq}
@@ -17,8 +18,8 @@ use Rattle.laws_closed_plans.specs.Loads.{load_all}
 abbrev pub AreRemovedModules : Machine → List (List ℕ) → List Module → Type 0
 AreRemovedModules machine names ms = map (name_at machine) (removed_by machine names) ≡ reverse (names_of ms)
 
--- For every split of modules that were loaded into older and newer ones: where the removed ones are the newer ones, the
--- machine of the older ones alone is left.
+-- For every split of loaded modules into older and newer ones: if the removed ones are the newer
+-- ones, the machine of only the older ones is left.
 abbrev pub OlderAreLeft : Type 0
 OlderAreLeft =
     (machine after : Machine) (older newer : List Module) (names : List (List ℕ))
@@ -27,14 +28,15 @@ OlderAreLeft =
     → AreRemovedModules after names newer
     → load_all machine older ≡ Ok (left_after after names)
 
--- The machine that is left after a removal is that of the older modules alone, and sound. None of the newer ones is refused
--- when it is taken out.
+-- The machine that is left after a removal is the one of only the older modules, and sound. None of
+-- the newer ones is refused when it is removed.
 pub record AreTakenBack (kernel : Kernel) (region : Region) (older newer : List Module) (after : Machine) (names : List (List ℕ)) : Type 0 where
   pub loaded : IsLoaded kernel region older (left_after after names)
   pub unloaded : unload_all after (reverse (names_of newer)) ≡ Ok (left_after after names)
   pub sound : IsSound (left_after after names) older
 
--- The same of modules that were loaded into a new machine, unless one that is asked for is in use.
+-- Removals take back modules that were loaded into a new machine, unless one that is asked for is
+-- in use.
 abbrev pub RemovalsTakeBack : Type 0
 RemovalsTakeBack =
     (kernel : Kernel) (region : Region) (older newer : List Module) (after : Machine) (names : List (List ℕ))

@@ -16,7 +16,8 @@ entry_of name exports needs = record {
   needs = map (λ x. record { name = x; weak = false; crc = None }) needs;
 }
 
--- `a` exports `fa`, which `b` and `d` need; `b` exports `fb`, which `c` needs; `e` exports and needs nothing.
+-- `a` exports `fa`, which `b` and `d` need; `b` exports `fb`, which `c` needs; `e` exports and
+-- needs nothing.
 abbrev pub a : Entry
 a = entry_of (codes "a") (codes "fa" ∷ []) []
 

@@ -12,29 +12,32 @@ ghost use Rattle.laws_removal.specs.Back.{OlderAreLeft, RemovalsTakeBack};
 ghost use Rattle.laws_removal.specs.Loads.{LoadsAreUndone, LoadsAreUnloaded};
 ghost use Rattle.laws_removal.specs.Removals.{RemovalsAreUnloaded, RemovalsPass, RemovalsStaySound};
 
-/// Loads are undone by taking out the modules that were loaded, youngest first: by their places, and by their names.
+/// States that loads are undone by removing the modules that were loaded, youngest first: by their
+/// places, and by their names.
 pub fn loads_are_undone()
     ensures places { LoadsAreUndone }
     ensures names { LoadsAreUnloaded }
 {}
 
-/// Unless a module that is asked for is in use, the removed modules are taken out one after the other, and the others are
-/// left: by their places, and by their names. What was sound stays sound.
+/// States that the modules of a removal are removed one after the other, and the others are left,
+/// unless a module that is asked for is in use. It holds by places and by names. A sound machine
+/// stays sound.
 pub fn removals_pass()
     ensures places { RemovalsPass }
     ensures names { RemovalsAreUnloaded }
     ensures sound { RemovalsStaySound }
 {}
 
-/// For every split of modules that were loaded into older and newer ones: where the removed ones are the newer ones, the
-/// machine of the older ones alone is left.
+/// States that removals take loads back. For every split of loaded modules into older and newer
+/// ones, if the removed ones are the newer ones, the machine of only the older ones is left.
 pub fn removals_take_back()
     ensures older { OlderAreLeft }
     ensures back { RemovalsTakeBack }
 {}
 
-/// Where `b` uses `a`, both are removed for `b`, and `e` is left; `a` alone is in use. A name that stands twice asks once, and
-/// one that isn't loaded asks for nothing.
+/// States removals of modules that become unused. As `b` uses `a`, both are removed for `b`, and
+/// `e` is left; asked for without `b`, `a` is in use. A name that occurs twice counts once, and one
+/// that isn't loaded is skipped.
 #[tactic(auto, unfolding(remove_plan::specs::Removal::removed))]
 pub fn unused_modules_go_too()
     ensures both { (kernel : Kernel) (region : Region)
@@ -49,7 +52,7 @@ pub fn unused_modules_go_too()
         → removal_steps (machine_of kernel region (e ∷ a ∷ b ∷ [])) [] false (codes "a" ∷ codes "b" ∷ []) ≡ Rmmod (codes "b") ∷ Rmmod (codes "a") ∷ [] }
 {}
 
-/// A module that two use is removed only with both.
+/// States that a module with two users is removed only with both.
 #[tactic(auto, unfolding(remove_plan::specs::Removal::removed))]
 pub fn used_modules_stay()
     ensures one { (kernel : Kernel) (region : Region)
@@ -60,7 +63,7 @@ pub fn used_modules_stay()
         → removal_fault (machine_of kernel region (a ∷ b ∷ d ∷ [])) (codes "a" ∷ codes "b" ∷ []) ≡ Some (InUse (codes "a") (codes "d")) }
 {}
 
-/// A chain is removed from its youngest module down.
+/// States that a chain is removed from its youngest module down.
 #[tactic(auto, unfolding(remove_plan::specs::Removal::removed))]
 pub fn chains_go()
     ensures all { (kernel : Kernel) (region : Region)
@@ -69,7 +72,8 @@ pub fn chains_go()
         → removal_fault (machine_of kernel region (a ∷ b ∷ c ∷ [])) (codes "b" ∷ []) ≡ Some (InUse (codes "b") (codes "c")) }
 {}
 
-/// A command is run in place of removing a module, unless the module is asked for and commands are ignored.
+/// States that a command is run instead of removing a module, unless the module is asked for and
+/// commands are ignored.
 #[tactic(auto, unfolding(remove_plan::specs::Removal::removed))]
 pub fn commands_are_chosen()
     ensures chosen { (kernel : Kernel) (region : Region)

@@ -1,11 +1,12 @@
-//! What taking modules out of the modelled machine results in: laws alone.
+//! What removing modules from the modelled machine results in: only laws.
 //!
-//! Modules that were loaded are taken out youngest first without a refusal, and the machine from before the loads is left.
-//! What a removal takes out is taken out without a refusal, and the machine with all other modules is left. Where those are
-//! the modules that were loaded last, it is the machine of the others loaded alone.
+//! Modules that were loaded are removed youngest first without a refusal, and the machine from
+//! before the loads is left. The modules of a removal are removed without a refusal, and the
+//! machine with all other modules is left. If they are the modules that were loaded last, it is the
+//! machine with only the others loaded.
 //!
-//! The crate stands on `laws_closed_plans` for loads one after the other, and on `model_unload` and `remove_plan` for what is
-//! taken out.
+//! The crate uses `laws_closed_plans` for loads one after the other, and `model_unload` and
+//! `remove_plan` for removals.
 #![tactic(auto)]
 
 mod laws;

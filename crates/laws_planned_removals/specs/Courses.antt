@@ -1,0 +1,89 @@
+-- What the course of a modprobe that removes comes to. modprobe(8), -r.
+use Rattle.std.specs.Prelude.{◌≡◌, ℕ, Bool, true, false, List, [], ◌∷◌, ◌++◌, flat_map, map, codes, Some, None, ⊤}
+use Rattle.std.specs.List.{list_all}
+use Rattle.km_outside.specs.Contents.{Contents}
+use Rattle.kmod_words.specs.declared.modprobe.ModprobeWords.{ModprobeWords}
+use Rattle.km_course.specs.Course.{Act, Outcome, Run}
+use Rattle.km_course.specs.Course.Act.{read, list, say, warn, put}
+use Rattle.km_course.specs.Course.Outcome.{value, end}
+use Rattle.km_course.specs.declared.end.End.TheVariants.{Refused}
+use Rattle.km_course.specs.declared.refusal.Refusal.TheVariants.{InUse, RemoveChosen}
+use Rattle.provider_rel.specs.declared.kernel.Kernel.{Kernel}
+use Rattle.model_loader.specs.declared.region.Region.{Region}
+use Rattle.model_loader.specs.Machine.{Machine, new_machine}
+use Rattle.model_loader.specs.Use.{name_at}
+use Rattle.remove_plan.specs.declared.step.RemoveStep.{RemoveStep}
+use Rattle.remove_plan.specs.Removal.{in_use, is_asked, left_after, removed_by}
+use Rattle.remove_plan.specs.Steps.{removal_steps}
+use Rattle.stages_files.specs.KernelModules.{modules_folder}
+use Rattle.stages_known.specs.declared.known.Known.{Known}
+use Rattle.stages_known.specs.Known.{reads_known}
+use Rattle.stages_known.specs.Named.{names_outcome}
+use Rattle.laws_planned_loads.specs.Acts.{is_reading}
+use Rattle.laws_planned_loads.specs.Courses.{HasMachine}
+use Rattle.command_remove.specs.Listed.{takes_listed}
+use Rattle.command_remove.specs.Lines.{left_lines, line_of_two, step_lines, unloaded_line}
+use Rattle.command_remove.specs.Remove.{first_owner, removes}
+
+-- A course of a removal came past its lookups, over these files: this is known, this is the machine of the kernel after the
+-- listed modules were loaded, and these are the modules that the names stand for.
+pub record CameToRemoval (held : Contents) (asked : ModprobeWords) (kernel : Kernel) (region : Region) (known : Known) (machine : Machine) (names : List (List ℕ)) : Type 0 where
+  pub tables : HasMachine held asked kernel region
+  pub knows : ((reads_known asked.config (modules_folder asked.dirname asked.version) asked.loaded).run held).outcome ≡ value known
+  pub listed : ((takes_listed (modules_folder asked.dirname asked.version) known.indexes (new_machine kernel region) known.loaded).run held).outcome ≡ value machine
+  pub found : names_outcome known asked.use_blacklist asked.words ≡ value names
+
+-- Acts say these lines, and do nothing else.
+abbrev pub AreSaying : List Act → List ℕ → Type 0
+AreSaying [] lines = lines ≡ []
+AreSaying (read path ∷ acts) lines = ⊥
+AreSaying (list path ∷ acts) lines = ⊥
+AreSaying (say bytes ∷ acts) lines = (rest : List ℕ) × (lines ≡ bytes ++ rest) × AreSaying acts rest
+AreSaying (warn bytes ∷ acts) lines = ⊥
+AreSaying (put path bytes ∷ acts) lines = ⊥
+
+-- A course says lines: files are read, the lines are said, and this is the outcome.
+pub record SaysLines (lines : List ℕ) (outcome : Outcome ⊤) (run : Run ⊤) : Type 0 where
+  pub before : List Act
+  pub reads : list_all is_reading before ≡ true
+  pub saying : List Act
+  pub says : AreSaying saying lines
+  pub acts : run.acts ≡ before ++ saying
+  pub ends : run.outcome ≡ outcome
+
+-- The steps of the removal, and the names of the modules that are removed, the youngest first.
+abbrev pub steps_asked : ModprobeWords → Known → Machine → List (List ℕ) → List RemoveStep
+steps_asked asked known machine names = removal_steps machine known.rules asked.ignore_install names
+
+abbrev pub removed_names : Machine → List (List ℕ) → List (List ℕ)
+removed_names machine names = map (name_at machine) (removed_by machine names)
+
+-- The lines of modules that are taken out, those of the modules that were, and those of what is left, the oldest first.
+abbrev pub taken_out_lines : Machine → List (List ℕ) → List ℕ
+taken_out_lines machine names =
+    flat_map (line_of_two (codes "rmmod ")) (removed_names machine names)
+    ++ (flat_map unloaded_line (removed_names machine names) ++ left_lines (left_after machine names).entries)
+
+-- What such a course comes to, by its machine alone.
+pub record IsRemovalCourse (dry_run : Bool) (asked : ModprobeWords) (known : Known) (machine : Machine) (names : List (List ℕ)) (run : Run ⊤) : Type 0 where
+  -- a module that is asked for is used by one that isn't: the oldest such module and its oldest such user are named
+  pub used : (j k : ℕ) → in_use machine (is_asked machine names) ≡ Some (j, k)
+      → SaysLines [] (end (Refused (InUse (name_at machine j) (name_at machine k)))) run
+  -- a command is run, which isn't a dry run: the first module with one is named
+  pub chosen : in_use machine (is_asked machine names) ≡ None → dry_run ≡ false
+      → (name : List ℕ) → first_owner (steps_asked asked known machine names) ≡ Some name
+      → SaysLines [] (end (Refused (RemoveChosen name))) run
+  -- in a dry run the steps are printed
+  pub printed : in_use machine (is_asked machine names) ≡ None → dry_run ≡ true
+      → SaysLines (step_lines (steps_asked asked known machine names)) (value tt) run
+  -- else all of it is done
+  pub done : in_use machine (is_asked machine names) ≡ None → dry_run ≡ false
+      → first_owner (steps_asked asked known machine names) ≡ None
+      → SaysLines (taken_out_lines machine names) (value tt) run
+
+-- A course that came past its lookups is so, over any files.
+abbrev pub CoursesRemove : Type 0
+CoursesRemove =
+    (held : Contents) (dry_run : Bool) (asked : ModprobeWords) (kernel : Kernel) (region : Region) (known : Known) (machine : Machine) (names : List (List ℕ))
+    → CameToRemoval held asked kernel region known machine names
+    → IsRemovalCourse dry_run asked known machine names ((removes dry_run asked).run held)
