@@ -2,7 +2,7 @@
 use Rattle.std.proofs.Common.{ℕ, List}
 use Rattle.std.specs.Prelude.{Option, ⊤}
 use Rattle.module_facts.specs.declared.facts.Facts.{Facts}
-use Rattle.depmod_core.specs.declared.files.OutputFiles.{OutputFiles}
+use Rattle.command_depmod.specs.declared.files.DepmodFiles.{DepmodFiles}
 use Rattle.km_course.specs.Course.{Stage, ◌>>=◌, given}
 use Rattle.stages_files.specs.KernelTable.{Table, reads_kernel, seen_kernel}
 use Rattle.command_depmod.specs.Tree.{reads_tree}
@@ -26,10 +26,10 @@ abbrev pub with_search : List ℕ → Option (List ℕ) → Option (List ℕ) �
 with_search folder map symvers search = reads_tree folder search >>= λ paths. with_paths folder map symvers paths
 
 -- the stages after the warnings, the files and the tree
-abbrev pub warned : Wanted → List ℕ → OutputFiles → ⊤ → Stage ⊤
-warned wanted target made _ = hands_out wanted.dry_run target made
+abbrev pub warned : Wanted → List ℕ → DepmodFiles → ⊤ → Stage ⊤
+warned wanted target made _ = hands_out wanted.extra wanted.dry_run target made
 
-abbrev pub made : Wanted → List ℕ → Tree → OutputFiles → Stage ⊤
+abbrev pub made : Wanted → List ℕ → Tree → DepmodFiles → Stage ⊤
 made wanted target tree files = warns_of_tree wanted tree >>= λ w. warned wanted target files w
 
 abbrev pub indexed : Wanted → List ℕ → List ℕ → Tree → Stage ⊤

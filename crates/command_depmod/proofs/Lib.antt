@@ -3,6 +3,7 @@ pub mod TreeSteps
 pub mod TreeLaw
 pub mod ModuleSteps
 pub mod RelationSteps
+pub mod ExtraSteps
 pub mod OutputSteps
 pub mod WarningSteps
 pub mod IndexSteps

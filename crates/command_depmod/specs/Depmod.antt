@@ -13,7 +13,7 @@ use Rattle.command_depmod.specs.Search.{reads_search}
 use Rattle.command_depmod.specs.Tree.{reads_tree}
 use Rattle.command_depmod.specs.Modules.{reads_modules_facts}
 use Rattle.command_depmod.specs.Relation.{Tree, relation_outcome}
-use Rattle.command_depmod.specs.Outputs.{makes_outputs, hands_out}
+use Rattle.command_depmod.specs.Outputs.{makes_files, hands_out}
 use Rattle.command_depmod.specs.Warnings.{warns_unmet}
 
 -- the folder in which the modules stand, and the one into which files are put
@@ -36,7 +36,7 @@ reads_related folder config map symvers = do
 
 -- what a request wants besides the index itself
 abbrev pub wanted_of : DepmodWords → Wanted
-wanted_of asked = record { dry_run = asked.dry_run; errsyms = asked.errsyms; versions = is_some asked.symvers }
+wanted_of asked = record { dry_run = asked.dry_run; errsyms = asked.errsyms; extra = asked.extra; versions = is_some asked.symvers }
 
 -- The warnings of a tree, where they are wanted.
 abbrev pub warns_of_tree : Wanted → Tree → Stage ⊤
@@ -46,9 +46,9 @@ warns_of_tree wanted tree = warns_unmet wanted.errsyms wanted.versions (unmet (m
 -- first, and then the files into the target.
 abbrev pub indexes_tree : Wanted → List ℕ → List ℕ → Tree → Stage ⊤
 indexes_tree wanted folder target tree = do
-  made ← makes_outputs folder tree
+  made ← makes_files wanted.extra folder tree
   warned ← warns_of_tree wanted tree
-  hands_out wanted.dry_run target made
+  hands_out wanted.extra wanted.dry_run target made
 
 -- The course of a request: the tree is read, and then it is indexed.
 abbrev pub indexes : DepmodWords → Stage ⊤

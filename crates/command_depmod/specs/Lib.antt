@@ -3,6 +3,8 @@ pub mod Tree
 pub mod Modules
 pub mod Relation
 pub mod Related
+pub mod Files
+pub mod Extra
 pub mod Outputs
 pub mod Warnings
 pub mod Depmod

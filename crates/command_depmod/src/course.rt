@@ -8,7 +8,7 @@ ghost use Rattle.command_depmod.specs.Related.{IsRelated, seen_tree};
 ghost use Rattle.command_depmod.specs.Depmod.{depmod_course, indexes, indexes_tree, reads_related, warns_of_tree};
 
 use crate::modules::read_modules_facts;
-use crate::outputs::{hand_out, make_outputs};
+use crate::outputs::{hand_out, make_files};
 use crate::relation::{RelatedTree, relate};
 use crate::search::read_search;
 use crate::tree::read_tree;
@@ -27,6 +27,8 @@ pub(crate) struct Wanted {
     dry_run: bool,
     /// Whether to warn of obstacles.
     errsyms: bool,
+    /// Whether the index of built-in aliases and the list of device nodes are wanted too.
+    extra: bool,
     /// Whether the kernel's versions are known, so that differing ones are warned of.
     versions: bool,
 }
@@ -64,6 +66,7 @@ fn index<F: Files, O: Out, E: Out>(
     let DepmodWords {
         dry_run,
         errsyms,
+        extra,
         basedir,
         outdir,
         config,
@@ -74,6 +77,7 @@ fn index<F: Files, O: Out, E: Out>(
     let wanted = Wanted {
         dry_run,
         errsyms,
+        extra,
         versions: symvers.is_some(),
     };
     let folder = modules_folder(alloc, &basedir, &version)?;
@@ -99,9 +103,17 @@ fn index_tree<F: Files, O: Out, E: Out>(
         (world (F.seen files.old) (O.seen out.old) (E.seen err.old))
         (world (F.seen files.new) (O.seen out.new) (E.seen err.new)) result }
 {
-    let made = make_outputs(alloc, folder, tree, files)?;
+    let made = make_files(alloc, wanted.extra, folder, tree, files)?;
     warn_of_tree(alloc, wanted, tree, err)?;
-    hand_out(alloc, wanted.dry_run, target, &made, files, out)
+    hand_out(
+        alloc,
+        wanted.extra,
+        wanted.dry_run,
+        target,
+        &made,
+        files,
+        out,
+    )
 }
 
 /// Writes the warnings of a tree, if they are asked for.

@@ -4,10 +4,13 @@
 //! kernel's table and each module in turn, relates them, and makes depmod's files. Nothing is
 //! written before the last check. It builds on `kmod_words` for what the words ask for, and on
 //! `stages_files` for the files that commands share. It builds on `mod_tree`, `module_facts` and
-//! `provider_rel` for the tree, and on `depmod_core` for the files.
+//! `provider_rel` for the tree, and on `depmod_core` for its nine files. The two that `--extra` adds
+//! are made by `builtin_index` and `devname_nodes`.
 #![tactic(auto)]
 
 mod course;
+mod extra;
+mod files;
 mod modules;
 mod outputs;
 mod relation;
@@ -16,3 +19,4 @@ mod tree;
 mod warnings;
 
 pub use course::depmod;
+pub use files::{DepmodFile, DepmodFiles, ExtraFiles};

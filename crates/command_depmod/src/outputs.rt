@@ -6,8 +6,11 @@ ghost use Rattle.km_course.specs.Follows.{Answers, Follows};
 ghost use Rattle.depmod_core.specs.Files.{outputs_of};
 ghost use Rattle.provider_rel.specs.Faces.{kernel_of};
 ghost use Rattle.command_depmod.specs.Related.{IsRelated, seen_tree};
-ghost use Rattle.command_depmod.specs.Outputs.{hands_out, makes_outputs, outputs_outcome, puts_each, puts_file, says_each, says_file};
+ghost use Rattle.command_depmod.specs.Files.{all_files, text_files};
+ghost use Rattle.command_depmod.specs.Outputs.{hands_out, makes_files, outputs_outcome, puts_each, puts_file, says_each, says_file};
 
+use crate::extra::{make_extra, read_info};
+use crate::files::{DepmodFile, DepmodFiles};
 use crate::relation::RelatedTree;
 use depmod_core::{OutputFault, OutputFile, OutputFiles, outputs};
 use km_course::{Refusal, Stop, put, read_optional, say_any};
@@ -15,43 +18,50 @@ use km_names::{Blob, PathText, join};
 use km_outside::{Out, Reads, Writes};
 use std::alloc::Global;
 
-/// All files, in the order in which they are replaced.
-const ALL_FILES: [OutputFile; 9] = [
-    OutputFile::Dep,
-    OutputFile::DepBin,
-    OutputFile::Alias,
-    OutputFile::AliasBin,
-    OutputFile::Softdep,
-    OutputFile::Symbols,
-    OutputFile::SymbolsBin,
-    OutputFile::BuiltinBin,
-    OutputFile::Unmet,
+/// All files, in the order in which they are replaced. The last two are those that `--extra` adds.
+const ALL_FILES: [DepmodFile; 11] = [
+    DepmodFile::Usual(OutputFile::Dep),
+    DepmodFile::Usual(OutputFile::DepBin),
+    DepmodFile::Usual(OutputFile::Alias),
+    DepmodFile::Usual(OutputFile::AliasBin),
+    DepmodFile::Usual(OutputFile::Softdep),
+    DepmodFile::Usual(OutputFile::Symbols),
+    DepmodFile::Usual(OutputFile::SymbolsBin),
+    DepmodFile::Usual(OutputFile::BuiltinBin),
+    DepmodFile::Usual(OutputFile::Unmet),
+    DepmodFile::BuiltinAliasBin,
+    DepmodFile::Devname,
 ];
 
-/// The text files among them.
-const TEXT_FILES: [OutputFile; 5] = [
-    OutputFile::Dep,
-    OutputFile::Alias,
-    OutputFile::Softdep,
-    OutputFile::Symbols,
-    OutputFile::Unmet,
+/// The text files among them. The last one is one that `--extra` adds.
+const TEXT_FILES: [DepmodFile; 6] = [
+    DepmodFile::Usual(OutputFile::Dep),
+    DepmodFile::Usual(OutputFile::Alias),
+    DepmodFile::Usual(OutputFile::Softdep),
+    DepmodFile::Usual(OutputFile::Symbols),
+    DepmodFile::Usual(OutputFile::Unmet),
+    DepmodFile::Devname,
 ];
 
 /// Makes the files of a tree whose modules are in the folder. A missing modules.builtin counts as
-/// empty.
-pub(crate) fn make_outputs<F: Reads>(
+/// empty, and so does a missing modules.builtin.modinfo, which is read only with `--extra`.
+pub(crate) fn make_files<F: Reads>(
     alloc: Global,
+    extra: bool,
     folder: &PathText,
     tree: &RelatedTree,
     files: &mut F,
-) -> Result<OutputFiles, Stop>
+) -> Result<DepmodFiles, Stop>
     requires { IsRelated tree.now }
-    ensures { (out err : OutSeen) → Follows (λ x. x) (makes_outputs folder.now (seen_tree tree.now))
+    ensures { (out err : OutSeen) → Follows (λ x. x) (makes_files extra folder.now (seen_tree tree.now))
         (world (F.seen files.old) out err) (world (F.seen files.new) out err) result }
 {
     let file = join(alloc, folder, b"modules.builtin")?;
     let builtin = read_optional(alloc, files, &file)?;
-    check_outputs(alloc, tree, &builtin)
+    let info = read_info(alloc, extra, folder, files)?;
+    let usual = check_outputs(alloc, tree, &builtin)?;
+    let extra = make_extra(alloc, &tree.facts, info)?;
+    Ok(DepmodFiles { usual, extra })
 }
 
 /// Returns the files of a tree for what modules.builtin has, or the refusal of the first that is
@@ -72,23 +82,52 @@ fn check_outputs(alloc: Global, tree: &RelatedTree, builtin: &Blob) -> Result<Ou
 /// Writes the text files to the output for a dry run, or else puts all files into the folder.
 pub(crate) fn hand_out<F: Writes, O: Out>(
     alloc: Global,
+    extra: bool,
     dry_run: bool,
     folder: &PathText,
-    made: &OutputFiles,
+    made: &DepmodFiles,
     files: &mut F,
     out: &mut O,
 ) -> Result<(), Stop>
-    ensures { (err : OutSeen) → Follows (λ x. x) (hands_out dry_run folder.now made.now)
+    ensures { (err : OutSeen) → Follows (λ x. x) (hands_out extra dry_run folder.now made.now)
         (world (F.seen files.old) (O.seen out.old) err) (world (F.seen files.new) (O.seen out.new) err) result }
 {
     if dry_run {
+        return say_texts(extra, made, out);
+    }
+    put_all(alloc, extra, folder, made, files)
+}
+
+/// Writes the text files to the output.
+fn say_texts<O: Out>(extra: bool, made: &DepmodFiles, out: &mut O) -> Result<(), Stop>
+    ensures { (files : FilesSeen) (err : OutSeen) → Follows (λ x. x) (says_each made.now (text_files extra))
+        (world files (O.seen out.old) err) (world files (O.seen out.new) err) result }
+{
+    if extra {
         return say_each(made, &TEXT_FILES, out);
     }
-    put_each(alloc, folder, made, &ALL_FILES, files)
+    say_each(made, &TEXT_FILES[..5], out)
+}
+
+/// Puts all files into the folder.
+fn put_all<F: Writes>(
+    alloc: Global,
+    extra: bool,
+    folder: &PathText,
+    made: &DepmodFiles,
+    files: &mut F,
+) -> Result<(), Stop>
+    ensures { (out err : OutSeen) → Follows (λ x. x) (puts_each folder.now made.now (all_files extra))
+        (world (F.seen files.old) out err) (world (F.seen files.new) out err) result }
+{
+    if extra {
+        return put_each(alloc, folder, made, &ALL_FILES, files);
+    }
+    put_each(alloc, folder, made, &ALL_FILES[..9], files)
 }
 
 /// Writes some of the files to the output, one after the other.
-fn say_each<O: Out>(made: &OutputFiles, which: &[OutputFile], out: &mut O) -> Result<(), Stop>
+fn say_each<O: Out>(made: &DepmodFiles, which: &[DepmodFile], out: &mut O) -> Result<(), Stop>
     ensures { (files : FilesSeen) (err : OutSeen) → Follows (λ x. x) (says_each made.now which.now)
         (world files (O.seen out.old) err) (world files (O.seen out.new) err) result }
 {
@@ -99,7 +138,7 @@ fn say_each<O: Out>(made: &OutputFiles, which: &[OutputFile], out: &mut O) -> Re
 }
 
 /// Writes a file to the output, if it has any bytes.
-fn say_file<O: Out>(made: &OutputFiles, file: OutputFile, out: &mut O) -> Result<(), Stop>
+fn say_file<O: Out>(made: &DepmodFiles, file: DepmodFile, out: &mut O) -> Result<(), Stop>
     ensures { (files : FilesSeen) (err : OutSeen) → Follows (λ x. x) (says_file made.now file)
         (world files (O.seen out.old) err) (world files (O.seen out.new) err) result }
 {
@@ -110,8 +149,8 @@ fn say_file<O: Out>(made: &OutputFiles, file: OutputFile, out: &mut O) -> Result
 fn put_each<F: Writes>(
     alloc: Global,
     folder: &PathText,
-    made: &OutputFiles,
-    which: &[OutputFile],
+    made: &DepmodFiles,
+    which: &[DepmodFile],
     files: &mut F,
 ) -> Result<(), Stop>
     ensures { (out err : OutSeen) → Follows (λ x. x) (puts_each folder.now made.now which.now)
@@ -127,8 +166,8 @@ fn put_each<F: Writes>(
 fn put_file<F: Writes>(
     alloc: Global,
     folder: &PathText,
-    made: &OutputFiles,
-    file: OutputFile,
+    made: &DepmodFiles,
+    file: DepmodFile,
     files: &mut F,
 ) -> Result<(), Stop>
     ensures { (out err : OutSeen) → Follows (λ x. x) (puts_file folder.now made.now file)

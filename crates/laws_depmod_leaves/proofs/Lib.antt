@@ -1,4 +1,5 @@
 pub mod ReadLemmas
+pub mod ExtraLemmas
 pub mod CourseLemmas
 pub mod PutLemmas
 pub mod LeftLemmas

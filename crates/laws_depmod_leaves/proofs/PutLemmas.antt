@@ -1,5 +1,5 @@
--- What is in a folder after depmod's nine files were put there.
-use Rattle.std.proofs.Common.{◌≡◌, ◌∙◌, ◌-◌, ℕ, Bool, true, false, cond, List, [], ◌∷◌, ◌++◌, length, take, refl, sym, ap, arith}
+-- What is in a folder after depmod's files were put there.
+use Rattle.std.proofs.Common.{◌≡◌, ◌∙◌, ◌-◌, ℕ, Bool, true, false, cond, List, [], ◌∷◌, ◌++◌, length, take, drop, refl, sym, ap, arith}
 use Rattle.std.specs.Prelude.{Some}
 use Rattle.std.specs.FinMap.{get, insert, get-insert}
 use Rattle.std.specs.List.{list_any}
@@ -12,11 +12,11 @@ use Rattle.km_names.specs.Path.{is_compressed, path_below, without_end_slashes}
 use Rattle.km_outside.specs.Contents.{Contents}
 use Rattle.mod_tree.specs.Tree.{is_module_path}
 use Rattle.module_facts.specs.declared.facts.Facts.{Facts}
-use Rattle.depmod_core.specs.declared.file.OutputFile.{OutputFile}
 use Rattle.depmod_core.specs.declared.file.OutputFile.TheVariants.{Dep, DepBin, Alias, AliasBin, Softdep, Symbols, SymbolsBin, BuiltinBin, Unmet}
-use Rattle.depmod_core.specs.declared.files.OutputFiles.{OutputFiles}
-use Rattle.depmod_core.specs.Files.{content, file_name}
-use Rattle.command_depmod.specs.Outputs.{all_files}
+use Rattle.command_depmod.specs.declared.files.DepmodFile.{DepmodFile}
+use Rattle.command_depmod.specs.declared.files.DepmodFile.TheVariants.{Usual, BuiltinAliasBin, Devname}
+use Rattle.command_depmod.specs.declared.files.DepmodFiles.{DepmodFiles}
+use Rattle.command_depmod.specs.Files.{all_files, content, file_name}
 use Rattle.laws_indexed_folder.specs.Indexed.{AreIn, HasFile, IsModuleFile}
 use Rattle.laws_depmod_leaves.specs.Left.{with_files}
 use Rattle.laws_planned_loads.proofs.FileLemmas.{ends-ko, false-unless, last-ko, last_of, other-file, plain-path}
@@ -37,20 +37,20 @@ true-false : (b : Bool) → b ≡ true → b ≡ false → ⊥
 true-false b holds fails = let wrong : true ≡ false = sym holds ∙ fails in cc
 
 -- the name is that of none of the files
-abbrev IsNone : List ℕ → List OutputFile → Type 0
+abbrev IsNone : List ℕ → List DepmodFile → Type 0
 IsNone name files = list_any (λ file. bytes_eq name (file_name file)) files ≡ false
 
-none-parts : (name : List ℕ) (file : OutputFile) (files : List OutputFile) → IsNone name (file ∷ files) → (bytes_eq name (file_name file) ≡ false) × IsNone name files
+none-parts : (name : List ℕ) (file : DepmodFile) (files : List DepmodFile) → IsNone name (file ∷ files) → (bytes_eq name (file_name file) ≡ false) × IsNone name files
 none-parts name file files none = or_parts (bytes_eq name (file_name file)) (list_any (λ other. bytes_eq name (file_name other)) files) none
 
-other-path : (folder name : List ℕ) (file : OutputFile) → bytes_eq name (file_name file) ≡ false → path_below folder name ≡ path_below folder (file_name file) → ⊥
+other-path : (folder name : List ℕ) (file : DepmodFile) → bytes_eq name (file_name file) ≡ false → path_below folder name ≡ path_below folder (file_name file) → ⊥
 other-path folder name file other is =
     true-false (bytes_eq name (file_name file)) ((bytes_eq-Decides name (file_name file)).1 (below-same folder name (file_name file) is)) other
 
 -- ---- files that are put
 
 -- what is there below another name stays as it was
-kept : (folder : List ℕ) (made : OutputFiles) (files : List OutputFile) (held : Contents) (name : List ℕ) → IsNone name files → get (with_files folder made files held) (path_below folder name) ≡ get held (path_below folder name)
+kept : (folder : List ℕ) (made : DepmodFiles) (files : List DepmodFile) (held : Contents) (name : List ℕ) → IsNone name files → get (with_files folder made files held) (path_below folder name) ≡ get held (path_below folder name)
 kept folder made [] held name none = refl
 kept folder made (file ∷ files) held name none =
     let apart = none-parts name file files none in
@@ -63,7 +63,7 @@ own-file held path bytes =
     ∙ ap (λ b. cond b (Some bytes) (get held path)) (is_eq-slice_cmp path path ∙ (bytes_eq-Decides path path).1 refl)
 
 -- a file that was put is there, where none of the later ones has its name
-put-there : (folder : List ℕ) (made : OutputFiles) (before : List OutputFile) (file : OutputFile) (later : List OutputFile) (held : Contents) → IsNone (file_name file) later → HasFile (with_files folder made (before ++ file ∷ later) held) (path_below folder (file_name file)) (content made file)
+put-there : (folder : List ℕ) (made : DepmodFiles) (before : List DepmodFile) (file : DepmodFile) (later : List DepmodFile) (held : Contents) → IsNone (file_name file) later → HasFile (with_files folder made (before ++ file ∷ later) held) (path_below folder (file_name file)) (content made file)
 put-there folder made [] file later held none =
     let path = path_below folder (file_name file) in
     kept folder made later (insert held path (content made file)) (file_name file) none ∙ own-file held path (content made file)
@@ -71,34 +71,51 @@ put-there folder made (first ∷ before) file later held none =
     put-there folder made before file later (insert held (path_below folder (file_name first)) (content made first)) none
 
 -- so all that modprobe reads are there
-pub all-there : (folder : List ℕ) (made : OutputFiles) (held : Contents) → AreIn (with_files folder made all_files held) folder made
-all-there folder made held = record {
-  dep = put-there folder made (Dep ∷ []) DepBin (Alias ∷ AliasBin ∷ Softdep ∷ Symbols ∷ SymbolsBin ∷ BuiltinBin ∷ Unmet ∷ []) held refl;
-  alias = put-there folder made (Dep ∷ DepBin ∷ Alias ∷ []) AliasBin (Softdep ∷ Symbols ∷ SymbolsBin ∷ BuiltinBin ∷ Unmet ∷ []) held refl;
-  softdep = put-there folder made (Dep ∷ DepBin ∷ Alias ∷ AliasBin ∷ []) Softdep (Symbols ∷ SymbolsBin ∷ BuiltinBin ∷ Unmet ∷ []) held refl;
-  symbols = put-there folder made (Dep ∷ DepBin ∷ Alias ∷ AliasBin ∷ Softdep ∷ Symbols ∷ []) SymbolsBin (BuiltinBin ∷ Unmet ∷ []) held refl;
-  built_in = put-there folder made (Dep ∷ DepBin ∷ Alias ∷ AliasBin ∷ Softdep ∷ Symbols ∷ SymbolsBin ∷ []) BuiltinBin (Unmet ∷ []) held refl;
-  unmet = put-there folder made (Dep ∷ DepBin ∷ Alias ∷ AliasBin ∷ Softdep ∷ Symbols ∷ SymbolsBin ∷ BuiltinBin ∷ []) Unmet [] held refl;
+pub all-there : (folder : List ℕ) (extra : Bool) (made : DepmodFiles) (held : Contents) → AreIn (with_files folder made (all_files extra) held) folder made.usual
+all-there folder true made held = record {
+  dep = put-there folder made (take 1 (all_files true)) (Usual DepBin) (drop 2 (all_files true)) held refl;
+  alias = put-there folder made (take 3 (all_files true)) (Usual AliasBin) (drop 4 (all_files true)) held refl;
+  softdep = put-there folder made (take 4 (all_files true)) (Usual Softdep) (drop 5 (all_files true)) held refl;
+  symbols = put-there folder made (take 6 (all_files true)) (Usual SymbolsBin) (drop 7 (all_files true)) held refl;
+  built_in = put-there folder made (take 7 (all_files true)) (Usual BuiltinBin) (drop 8 (all_files true)) held refl;
+  unmet = put-there folder made (take 8 (all_files true)) (Usual Unmet) (drop 9 (all_files true)) held refl;
 }
+all-there folder false made held = record {
+  dep = put-there folder made (take 1 (all_files false)) (Usual DepBin) (drop 2 (all_files false)) held refl;
+  alias = put-there folder made (take 3 (all_files false)) (Usual AliasBin) (drop 4 (all_files false)) held refl;
+  softdep = put-there folder made (take 4 (all_files false)) (Usual Softdep) (drop 5 (all_files false)) held refl;
+  symbols = put-there folder made (take 6 (all_files false)) (Usual SymbolsBin) (drop 7 (all_files false)) held refl;
+  built_in = put-there folder made (take 7 (all_files false)) (Usual BuiltinBin) (drop 8 (all_files false)) held refl;
+  unmet = put-there folder made (take 8 (all_files false)) (Usual Unmet) (drop 9 (all_files false)) held refl;
+}
+
+-- and so are the two of `--extra`
+pub aliases-there : (folder : List ℕ) (made : DepmodFiles) (held : Contents) → HasFile (with_files folder made (all_files true) held) (path_below folder (file_name BuiltinAliasBin)) (content made BuiltinAliasBin)
+aliases-there folder made held = put-there folder made (take 9 (all_files true)) BuiltinAliasBin (Devname ∷ []) held refl
+
+pub nodes-there : (folder : List ℕ) (made : DepmodFiles) (held : Contents) → HasFile (with_files folder made (all_files true) held) (path_below folder (file_name Devname)) (content made Devname)
+nodes-there folder made held = put-there folder made (take 10 (all_files true)) Devname [] held refl
 
 -- ---- modules
 
 -- the name of no such file ends as the path of a module does
-last-other : (file : OutputFile) → last_of (file_name file) ≡ 111 → ⊥
-last-other Dep is = absurd (omega (arith, is))
-last-other DepBin is = absurd (omega (arith, is))
-last-other Alias is = absurd (omega (arith, is))
-last-other AliasBin is = absurd (omega (arith, is))
-last-other Softdep is = absurd (omega (arith, is))
-last-other Symbols is = absurd (omega (arith, is))
-last-other SymbolsBin is = absurd (omega (arith, is))
-last-other BuiltinBin is = absurd (omega (arith, is))
-last-other Unmet is = absurd (omega (arith, is))
+last-other : (file : DepmodFile) → last_of (file_name file) ≡ 111 → ⊥
+last-other (Usual Dep) is = absurd (omega (arith, is))
+last-other (Usual DepBin) is = absurd (omega (arith, is))
+last-other (Usual Alias) is = absurd (omega (arith, is))
+last-other (Usual AliasBin) is = absurd (omega (arith, is))
+last-other (Usual Softdep) is = absurd (omega (arith, is))
+last-other (Usual Symbols) is = absurd (omega (arith, is))
+last-other (Usual SymbolsBin) is = absurd (omega (arith, is))
+last-other (Usual BuiltinBin) is = absurd (omega (arith, is))
+last-other (Usual Unmet) is = absurd (omega (arith, is))
+last-other BuiltinAliasBin is = absurd (omega (arith, is))
+last-other Devname is = absurd (omega (arith, is))
 
 module-last : (path : List ℕ) → is_module_path path ≡ true → is_compressed path ≡ false → last_of path ≡ 111
 module-last path kind plain = ap last_of (ends-ko path kind plain) ∙ last-ko (take (length path - 3) path)
 
-module-none : (path : List ℕ) (files : List OutputFile) → last_of path ≡ 111 → IsNone path files
+module-none : (path : List ℕ) (files : List DepmodFile) → last_of path ≡ 111 → IsNone path files
 module-none path [] last = refl
 module-none path (file ∷ files) last =
     or_from (bytes_eq path (file_name file)) (list_any (λ other. bytes_eq path (file_name other)) files)
@@ -106,13 +123,13 @@ module-none path (file ∷ files) last =
     (module-none path files last)
 
 -- the file of a module stays as it was
-pub still-module : (folder : List ℕ) (made : OutputFiles) (held : Contents) (f : Facts) → IsModuleFile held folder f → IsModuleFile (with_files folder made all_files held) folder f
-still-module folder made held f is =
-    let none = module-none f.path all_files (module-last f.path is.kind (plain-path f.path is.bytes is.passed)) in
+pub still-module : (folder : List ℕ) (extra : Bool) (made : DepmodFiles) (held : Contents) (f : Facts) → IsModuleFile held folder f → IsModuleFile (with_files folder made (all_files extra) held) folder f
+still-module folder extra made held f is =
+    let none = module-none f.path (all_files extra) (module-last f.path is.kind (plain-path f.path is.bytes is.passed)) in
     record {
       kind = is.kind;
       bytes = is.bytes;
-      there = kept folder made all_files held f.path none ∙ is.there;
+      there = kept folder made (all_files extra) held f.path none ∙ is.there;
       small = is.small;
       passed = is.passed;
       facts = is.facts;

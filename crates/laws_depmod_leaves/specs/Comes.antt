@@ -1,14 +1,19 @@
 -- How far a depmod comes, by the files that it finds: it indexes the tree in a folder, or something ends it. depmod(8),
 -- modules.dep(5).
-use Rattle.std.specs.Prelude.{◌≡◌, ℕ, true, false, List, [], ◌∷◌, ◌++◌, length, map, codes, Some, None}
+use Rattle.std.specs.Prelude.{◌≡◌, ℕ, true, false, List, [], ◌∷◌, ◌++◌, length, map, codes, Option, Some, None, Ok}
 use Rattle.km_names.specs.Path.{is_compressed, path_below}
 use Rattle.km_outside.specs.Contents.{Contents}
 use Rattle.km_course.specs.Course.{Outcome, reads, reads_any}
 use Rattle.km_course.specs.Course.Outcome.{value, end}
 use Rattle.km_course.specs.declared.end.End.{End}
 use Rattle.km_course.specs.declared.end.End.TheVariants.{Refused}
+use Rattle.km_course.specs.declared.refusal.Refusal.{Refusal}
 use Rattle.km_course.specs.declared.refusal.Refusal.TheVariants.{BadModule, Compressed, Cycle}
 use Rattle.kmod_words.specs.declared.depmod.DepmodWords.{DepmodWords}
+use Rattle.index_format.specs.Holds.{Holds}
+use Rattle.builtin_index.specs.Aliases.{alias_map}
+use Rattle.devname_nodes.specs.File.{read_of}
+use Rattle.devname_nodes.specs.Nodes.{nodes_of}
 use Rattle.relation_order.specs.Cycle.{cycle}
 use Rattle.relation_order.specs.Sets.{below}
 use Rattle.module_facts.specs.declared.facts.Facts.{Facts}
@@ -22,7 +27,10 @@ use Rattle.depmod_core.specs.declared.fault.OutputFault.{OutputFault}
 use Rattle.depmod_core.specs.declared.files.OutputFiles.{OutputFiles}
 use Rattle.depmod_core.specs.Files.{StandFor, files, output_fault}
 use Rattle.stages_files.specs.KernelTable.{Table, reads_kernel, seen_kernel}
+use Rattle.command_depmod.specs.declared.files.DepmodFiles.{DepmodFiles}
+use Rattle.command_depmod.specs.declared.files.ExtraFiles.{ExtraFiles}
 use Rattle.command_depmod.specs.Depmod.{modules_of_request}
+use Rattle.command_depmod.specs.Extra.{extra_files, extra_made, extra_refusal, reads_info}
 use Rattle.command_depmod.specs.Outputs.{output_refusal}
 use Rattle.command_depmod.specs.Relation.{relation_refusal}
 use Rattle.command_depmod.specs.Search.{reads_search}
@@ -32,15 +40,21 @@ use Rattle.laws_indexed_folder.specs.Indexed.{IsModuleFile}
 
 -- ---- what is indexed
 
--- What is indexed: the modules of a tree, the kernel's table, and the bytes of modules.builtin.
+-- What is indexed: the modules of a tree, the kernel's table, the bytes of modules.builtin, and with `--extra` those of
+-- modules.builtin.modinfo.
 pub record IndexedTree : Type 0 where
   pub tree : List Facts
   pub table : Table
   pub builtin : List ℕ
+  pub info : Option (List ℕ)
 
--- The files that are made of it.
+-- The nine files that are always made of it.
 abbrev pub files_of : IndexedTree → OutputFiles
 files_of i = files i.tree (seen_kernel i.table) i.builtin
+
+-- All files that are made of it.
+abbrev pub made_of : IndexedTree → DepmodFiles
+made_of i = record { usual = files_of i; extra = extra_made i.tree i.info }
 
 -- In the folder that is asked for there is a tree of modules at these paths, in this order, as it is chosen from the listing
 -- of the folder; and the kernel has the table that is named, or one of which nothing is known.
@@ -65,15 +79,30 @@ pub record IsRead (held : Contents) (asked : DepmodWords) (tree : List Facts) (t
 abbrev pub built_in : Contents → DepmodWords → Outcome (List ℕ)
 built_in held asked = ((reads_any (path_below (modules_of_request asked) (codes "modules.builtin"))).run held).outcome
 
+-- The bytes of modules.builtin.modinfo, where they are asked for, or the end that it comes to. It counts as empty where there
+-- is none.
+abbrev pub built_in_info : Contents → DepmodWords → Outcome (Option (List ℕ))
+built_in_info held asked = ((reads_info asked.extra (modules_of_request asked)).run held).outcome
+
+-- The two files of `--extra` stand for what they are made of: the index holds the map of the built-in aliases, and from
+-- modules.devname the nodes of the tree are read back, at whatever path.
+pub record ExtraStand (tree : List Facts) (info : List ℕ) (made : ExtraFiles) : Type 0 where
+  pub aliases : Holds made.builtin_alias_bin (alias_map info)
+  pub nodes : (path : List ℕ) → read_of path made.devname ≡ Ok (nodes_of tree)
+
 -- Nothing is in the way of an index, and its files stand for what they are made of.
 pub record IsIndexed (held : Contents) (asked : DepmodWords) (i : IndexedTree) : Type 0 where
   pub read : IsRead held asked i.tree i.table
   -- no walk from a module to one that it uses leads back, and no limit is passed
   pub related : relation_fault (modules_of i.tree) (seen_kernel i.table) ≡ None
   pub builtin : built_in held asked ≡ value i.builtin
+  pub info : built_in_info held asked ≡ value i.info
   pub small : output_fault (files_of i) ≡ None
+  pub small_extra : extra_refusal (extra_made i.tree i.info) ≡ None
   -- each index holds its map, and modules.unmet is read back as what stands in the way of loading modules
   pub stand : StandFor i.tree (seen_kernel i.table) i.builtin (files_of i)
+  -- and so do the two more of `--extra`
+  pub stand_extra : (info : List ℕ) → i.info ≡ Some info → ExtraStand i.tree info (extra_files i.tree info)
 
 -- ---- what ends it
 
@@ -107,8 +136,12 @@ pub data IsEnded (held : Contents) (asked : DepmodWords) : End → Type 0 where
   too_many : (tree : List Facts) (table : Table) → IsRead held asked tree table → cycle_in tree table ≡ [] → (fault : RelationFault) → relation_fault (modules_of tree) (seen_kernel table) ≡ Some fault → IsEnded held asked (Refused (relation_refusal fault))
   -- modules.builtin
   no_builtin : (tree : List Facts) (table : Table) → IsRead held asked tree table → relation_fault (modules_of tree) (seen_kernel table) ≡ None → (e : End) → built_in held asked ≡ end e → IsEnded held asked e
-  -- the first file that is too large
-  too_large : (i : IndexedTree) → IsRead held asked i.tree i.table → relation_fault (modules_of i.tree) (seen_kernel i.table) ≡ None → built_in held asked ≡ value i.builtin → (fault : OutputFault) → output_fault (files_of i) ≡ Some fault → IsEnded held asked (Refused (output_refusal fault))
+  -- modules.builtin.modinfo
+  no_info : (tree : List Facts) (table : Table) → IsRead held asked tree table → relation_fault (modules_of tree) (seen_kernel table) ≡ None → (builtin : List ℕ) → built_in held asked ≡ value builtin → (e : End) → built_in_info held asked ≡ end e → IsEnded held asked e
+  -- the first of the nine files that is too large
+  too_large : (i : IndexedTree) → IsRead held asked i.tree i.table → relation_fault (modules_of i.tree) (seen_kernel i.table) ≡ None → built_in held asked ≡ value i.builtin → built_in_info held asked ≡ value i.info → (fault : OutputFault) → output_fault (files_of i) ≡ Some fault → IsEnded held asked (Refused (output_refusal fault))
+  -- where none of them is, the first of the two others
+  extra_too_large : (i : IndexedTree) → IsRead held asked i.tree i.table → relation_fault (modules_of i.tree) (seen_kernel i.table) ≡ None → built_in held asked ≡ value i.builtin → built_in_info held asked ≡ value i.info → output_fault (files_of i) ≡ None → (refusal : Refusal) → extra_refusal (extra_made i.tree i.info) ≡ Some refusal → IsEnded held asked (Refused refusal)
 
 -- What a depmod comes to over the files that it finds.
 abbrev pub ComesTo : Contents → DepmodWords → Outcome IndexedTree → Type 0

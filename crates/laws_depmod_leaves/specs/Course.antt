@@ -10,15 +10,14 @@ use Rattle.kmod_words.specs.declared.depmod.DepmodWords.{DepmodWords}
 use Rattle.symbol_binding.specs.Unmet.{unmet}
 use Rattle.symbol_binding.specs.declared.unbound.Unbound.{Unbound}
 use Rattle.provider_rel.specs.Faces.{modules_of}
-use Rattle.depmod_core.specs.declared.file.OutputFile.{OutputFile}
-use Rattle.depmod_core.specs.declared.files.OutputFiles.{OutputFiles}
-use Rattle.depmod_core.specs.Files.{content, file_name}
 use Rattle.stages_files.specs.KernelTable.{seen_kernel}
+use Rattle.command_depmod.specs.declared.files.DepmodFile.{DepmodFile}
+use Rattle.command_depmod.specs.declared.files.DepmodFiles.{DepmodFiles}
 use Rattle.command_depmod.specs.Depmod.{indexes, target_of_request}
-use Rattle.command_depmod.specs.Outputs.{all_files, text_files}
+use Rattle.command_depmod.specs.Files.{all_files, content, file_name, text_files}
 use Rattle.command_depmod.specs.Warnings.{warning_line}
 use Rattle.laws_planned_loads.specs.Acts.{is_reading, said}
-use Rattle.laws_depmod_leaves.specs.Comes.{ComesTo, IndexedTree, files_of}
+use Rattle.laws_depmod_leaves.specs.Comes.{ComesTo, IndexedTree, made_of}
 
 -- A line is written to err, if there is one.
 abbrev pub warned : Option (List ℕ) → List Act
@@ -30,18 +29,18 @@ abbrev pub warn_acts : Bool → List Unbound → List Act
 warn_acts versions obstacles = flat_map (λ obstacle. warned (warning_line versions obstacle)) obstacles
 
 -- Some files are put into a folder, one after the other.
-abbrev pub put_acts : List ℕ → OutputFiles → List OutputFile → List Act
+abbrev pub put_acts : List ℕ → DepmodFiles → List DepmodFile → List Act
 put_acts folder made names = map (λ name. put (path_below folder (file_name name)) (content made name)) names
 
 -- Some files are written to the output, one after the other.
-abbrev pub say_acts : OutputFiles → List OutputFile → List Act
+abbrev pub say_acts : DepmodFiles → List DepmodFile → List Act
 say_acts made names = flat_map (λ name. said (content made name)) names
 
 -- What is written of an index: the warnings, where they are wanted, and then the files.
 abbrev pub index_acts : DepmodWords → IndexedTree → List Act
 index_acts asked i =
     (if asked.errsyms then warn_acts (is_some asked.symvers) (unmet (modules_of i.tree) (seen_kernel i.table)) else [])
-    ++ (if asked.dry_run then say_acts (files_of i) text_files else put_acts (target_of_request asked) (files_of i) all_files)
+    ++ (if asked.dry_run then say_acts (made_of i) (text_files asked.extra) else put_acts (target_of_request asked) (made_of i) (all_files asked.extra))
 
 -- What is written, and the end of the course.
 abbrev pub writes : DepmodWords → Outcome IndexedTree → List Act

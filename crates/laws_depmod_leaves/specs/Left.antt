@@ -5,17 +5,16 @@ use Rattle.km_names.specs.Path.{path_below}
 use Rattle.km_outside.specs.Contents.{Contents}
 use Rattle.kmod_words.specs.declared.depmod.DepmodWords.{DepmodWords}
 use Rattle.provider_rel.specs.declared.kernel.Kernel.{Kernel}
-use Rattle.depmod_core.specs.declared.file.OutputFile.{OutputFile}
-use Rattle.depmod_core.specs.declared.files.OutputFiles.{OutputFiles}
-use Rattle.depmod_core.specs.Files.{content, file_name}
 use Rattle.stages_files.specs.KernelTable.{table_of}
+use Rattle.command_depmod.specs.declared.files.DepmodFile.{DepmodFile}
+use Rattle.command_depmod.specs.declared.files.DepmodFiles.{DepmodFiles}
 use Rattle.command_depmod.specs.Depmod.{modules_of_request, target_of_request}
-use Rattle.command_depmod.specs.Outputs.{all_files}
+use Rattle.command_depmod.specs.Files.{all_files, content, file_name}
 use Rattle.laws_indexed_folder.specs.Indexed.{Indexed}
-use Rattle.laws_depmod_leaves.specs.Comes.{IndexedTree, IsIndexed, files_of}
+use Rattle.laws_depmod_leaves.specs.Comes.{IndexedTree, IsIndexed, made_of}
 
 -- The files, with some of those that were made in a folder, each whole.
-abbrev pub with_files : List ℕ → OutputFiles → List OutputFile → Contents → Contents
+abbrev pub with_files : List ℕ → DepmodFiles → List DepmodFile → Contents → Contents
 with_files folder made [] held = held
 with_files folder made (name ∷ names) held =
     with_files folder made names (insert held (path_below folder (file_name name)) (content made name))
@@ -42,4 +41,4 @@ DepmodLeavesIndexed =
     (held : Contents) (asked : DepmodWords) (i : IndexedTree)
     → IsInPlace asked
     → IsIndexed held asked i
-    → LeftIndexed asked i (with_files (target_of_request asked) (files_of i) all_files held)
+    → LeftIndexed asked i (with_files (target_of_request asked) (made_of i) (all_files asked.extra) held)

@@ -37,5 +37,5 @@ returns g c =
     (along (λ folder. indexes_tree (wanted_of asked) folder (target_of_request asked) tree) _ _ c.in_ok-folder.ensures
     (along (λ target. indexes_tree (wanted_of asked) c.in_ok-folder.folder target tree) _ _ c.in_ok-target.ensures
     (along (λ (wanted : Wanted). indexes_tree wanted c.in_ok-folder.folder c.in_ok-target.target tree) _ _
-    (ap (λ versions. record { dry_run = asked.dry_run; errsyms = asked.errsyms; versions = versions }) c.is_some.ensures)
+    (ap (λ versions. record { dry_run = asked.dry_run; errsyms = asked.errsyms; extra = asked.extra; versions = versions }) c.is_some.ensures)
     c.index_tree.ensures)))

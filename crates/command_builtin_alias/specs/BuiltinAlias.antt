@@ -1,0 +1,51 @@
+-- The course of `builtin-alias`, this project's own command. modprobe.d(5), "alias".
+use Rattle.std.specs.Prelude.{ℕ, List, [], ◌∷◌, ◌++◌, map, Option, Some, None, unwrap_or, ⊤, codes}
+use Rattle.std.specs.List.{flat_map}
+use Rattle.km_names.specs.AliasForm.{normal_alias}
+use Rattle.km_names.specs.Path.{path_below}
+use Rattle.index_read.specs.declared.index.Index.{Index}
+use Rattle.index_read.specs.Contents.{contents, wild_values}
+use Rattle.name_table.specs.FirstSeen.{first_seen}
+use Rattle.kmod_words.specs.declared.builtin_alias.BuiltinAliasWords.{BuiltinAliasWords}
+use Rattle.kmod_words.specs.BuiltinAlias.{builtin_alias_request}
+use Rattle.km_course.specs.Course.{Outcome, Stage, ◌>>=◌, given, ends, says_any}
+use Rattle.km_course.specs.Course.Outcome.{value, end}
+use Rattle.km_course.specs.declared.end.End.TheVariants.{NotUnderstood, Refused}
+use Rattle.km_course.specs.declared.refusal.Refusal.TheVariants.{NotFound}
+use Rattle.stages_files.specs.IndexFile.{reads_index}
+use Rattle.stages_files.specs.KernelModules.{modules_folder}
+
+-- The names of the modules that a name in its normal form stands for by an index, each once: the texts of the values of
+-- all keys that match it.
+abbrev pub names_found : Index → Option (List ℕ) → List (List ℕ)
+names_found index None = []
+names_found index (Some normal) = first_seen (map (λ v. v.1) (wild_values (contents index.nodes) normal))
+
+-- A line for each name.
+abbrev pub lines_of_names : List (List ℕ) → List ℕ
+lines_of_names names = flat_map (λ name. name ++ 10 ∷ []) names
+
+-- what names come to: their lines, and where there are none, that the name that stands for them isn't found
+abbrev pub unless_none : List ℕ → List (List ℕ) → Outcome (List ℕ)
+unless_none asked [] = end (Refused (NotFound asked))
+unless_none asked (name ∷ names) = value (lines_of_names (name ∷ names))
+
+-- What a name comes to. One that isn't found is told in its normal form, where it has one.
+abbrev pub found_outcome : Index → List ℕ → Outcome (List ℕ)
+found_outcome index name = unless_none (unwrap_or (normal_alias name) name) (names_found index (normal_alias name))
+
+-- The course of a request: the names are one writing.
+abbrev pub shows_names : BuiltinAliasWords → Stage ⊤
+shows_names asked = do
+  index ← reads_index (path_below (modules_folder asked.dirname asked.version) (codes "modules.builtin.alias.bin"))
+  text ← given (found_outcome index asked.name)
+  says_any text
+
+-- the course of what the words ask for
+abbrev pub builtin_alias_asked_for : Option BuiltinAliasWords → Stage ⊤
+builtin_alias_asked_for None = ends NotUnderstood
+builtin_alias_asked_for (Some asked) = shows_names asked
+
+-- The course of `builtin-alias` with these words after it.
+abbrev pub builtin_alias_course : List (List ℕ) → Stage ⊤
+builtin_alias_course words = builtin_alias_asked_for (builtin_alias_request words)

@@ -1,0 +1,95 @@
+ghost use Rattle.std.specs.Prelude.{◌≡◌, ◌++◌, IfOk, OnOk, map};
+ghost use Rattle.km_outside.specs.OutSeen.{OutSeen};
+ghost use Rattle.km_course.specs.World.{world};
+ghost use Rattle.km_course.specs.Follows.{Answers, Follows};
+ghost use Rattle.name_table.specs.FirstSeen.{first_seen};
+ghost use Rattle.index_read.specs.Values.{shown};
+ghost use Rattle.command_builtin_alias.specs.BuiltinAlias.{builtin_alias_course, found_outcome, lines_of_names, shows_names};
+
+use index_read::{Index, Values, plain};
+use km_course::{End, Refusal, Stop, say_any};
+use km_names::{Blob, Name, Word, join, normal_alias};
+use km_outside::{Out, Reads};
+use kmod_words::{BuiltinAliasWords, read_builtin_alias};
+use name_table::NameSet;
+use stages_files::{modules_folder, read_index};
+use std::alloc::{AllocError, Global};
+
+/// Does what the words after `builtin-alias` ask for: it prints the names of the built-in modules that a name stands for.
+pub fn builtin_alias<F: Reads, O: Out>(
+    alloc: Global,
+    words: &[Word],
+    files: &mut F,
+    out: &mut O,
+) -> Result<(), Stop>
+    ensures { (err : OutSeen) → Follows (λ x. x) (builtin_alias_course words.now)
+        (world (F.seen files.old) (O.seen out.old) err) (world (F.seen files.new) (O.seen out.new) err) result }
+{
+    match read_builtin_alias(alloc, words)? {
+        Some(asked) => show_names(alloc, asked, files, out),
+        None => Err(Stop::from(End::NotUnderstood)),
+    }
+}
+
+/// Prints the names that are asked for.
+fn show_names<F: Reads, O: Out>(
+    alloc: Global,
+    asked: BuiltinAliasWords,
+    files: &mut F,
+    out: &mut O,
+) -> Result<(), Stop>
+    ensures { (err : OutSeen) → Follows (λ x. x) (shows_names asked)
+        (world (F.seen files.old) (O.seen out.old) err) (world (F.seen files.new) (O.seen out.new) err) result }
+{
+    let folder = modules_folder(alloc, &asked.dirname, &asked.version)?;
+    let file = join(alloc, &folder, b"modules.builtin.alias.bin")?;
+    let index = read_index(alloc, file, files)?;
+    let text = found_text(alloc, &index, &asked.name)?;
+    say_any(out, text.as_bytes())
+}
+
+/// Returns the lines of the modules that a name stands for, unless it stands for none.
+fn found_text(alloc: Global, index: &Index, name: &Name) -> Result<Blob, Stop>
+    ensures { Answers (λ x. x) (found_outcome index.now name.now) result }
+{
+    match normal_alias(alloc, name.as_bytes())? {
+        Some(normal) => {
+            let values = plain::matching(alloc, index, normal.as_bytes())?;
+            let names = distinct(alloc, &values)?;
+            if names.len() == 0 {
+                let name = Name::from_vec(normal.into_vec());
+                return Err(Stop::from(Refusal::NotFound { name }));
+            }
+            Ok(lines_of(alloc, &names)?)
+        }
+        None => {
+            let name = Name::from_slice(alloc, name.as_bytes())?;
+            Err(Stop::from(Refusal::NotFound { name }))
+        }
+    }
+}
+
+/// Collects the texts of values without repeats.
+fn distinct<'a>(alloc: Global, values: &'a Values) -> Result<NameSet<'a>, AllocError>
+    ensures { IfOk result (λ set. set ≡ first_seen (map (λ v. v.1) (shown values.now))) }
+{
+    let mut set = NameSet::new(alloc);
+    for value in values.as_slice() {
+        set.insert(value.text.as_bytes())?;
+    }
+    Ok(set)
+}
+
+/// Writes a line for each name.
+fn lines_of(alloc: Global, names: &NameSet) -> Result<Blob, AllocError>
+    ensures { IfOk result (λ text. text ≡ lines_of_names names.now) }
+{
+    let mut text = Blob::new(alloc);
+    for place in 0..names.len() {
+        if let Some(name) = names.get(place) {
+            text.extend(name)?;
+            text.push(b'\n')?;
+        }
+    }
+    Ok(text)
+}

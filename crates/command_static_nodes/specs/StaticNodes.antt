@@ -1,0 +1,32 @@
+-- The course of `static-nodes`. kmod(8), "static-nodes".
+use Rattle.std.specs.Prelude.{ℕ, List, Option, Some, None, ⊤, codes}
+use Rattle.km_names.specs.Path.{path_below}
+use Rattle.kmod_words.specs.declared.static_nodes.StaticNodesWords.{StaticNodesWords}
+use Rattle.kmod_words.specs.StaticNodes.{static_nodes_request}
+use Rattle.devname_nodes.specs.declared.node.Node.{Node}
+use Rattle.devname_nodes.specs.File.{lines_text, read_of}
+use Rattle.km_course.specs.Course.{Stage, ◌>>=◌, given, reads, ends, says_any}
+use Rattle.km_course.specs.declared.end.End.TheVariants.{NotUnderstood}
+use Rattle.stages_files.specs.Configuration.{stated_outcome}
+use Rattle.stages_files.specs.KernelModules.{modules_folder}
+
+-- The nodes of the modules.devname at a path, which is needed. The first refused line is told.
+abbrev pub reads_nodes : List ℕ → Stage (List Node)
+reads_nodes file = do
+  bytes ← reads file
+  given (stated_outcome (read_of file bytes))
+
+-- The course of a request: the lines of the nodes of a kernel's modules.devname are one writing.
+abbrev pub shows_nodes : StaticNodesWords → Stage ⊤
+shows_nodes asked = do
+  nodes ← reads_nodes (path_below (modules_folder asked.dirname asked.version) (codes "modules.devname"))
+  says_any (lines_text nodes)
+
+-- the course of what the words ask for
+abbrev pub static_nodes_asked_for : Option StaticNodesWords → Stage ⊤
+static_nodes_asked_for None = ends NotUnderstood
+static_nodes_asked_for (Some asked) = shows_nodes asked
+
+-- The course of `static-nodes` with these words after it.
+abbrev pub static_nodes_course : List (List ℕ) → Stage ⊤
+static_nodes_course words = static_nodes_asked_for (static_nodes_request words)
