@@ -1,5 +1,5 @@
 -- What a call came to that carried out a course over files and outputs that are told.
-use Rattle.std.proofs.Common.{◌≡◌, ◌∙◌, ℕ, ◌≤◌, true, length, ap, subst, sym, inl, inr, arith}
+use Rattle.std.proofs.Common.{◌≡◌, ◌∙◌, ℕ, ◌≤◌, length, ap, subst, sym, inl, inr, arith}
 use Rattle.std.specs.Prelude.{Some, IsSomeAnd, ⊤}
 use Rattle.std.proofs.lemmas.Bool.{cases_eq, cases_lt}
 use Rattle.km_course.specs.Carries.{Carries, HasRoomFor, outcome_status, whole_acts}

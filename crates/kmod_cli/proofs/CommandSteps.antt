@@ -3,10 +3,12 @@ use Rattle.std.proofs.Common.{◌≡◌, ℕ, ◌<◌, ◌≤◌, List, [], ◌�
 use Rattle.std.specs.Prelude.{codes}
 use Rattle.km_course.specs.World.{World}
 use Rattle.km_course.specs.Carries.{Carries}
+use Rattle.kmod_cli.specs.Extra.{Extra}
 use Rattle.kmod_cli.specs.Headline.{Headline}
 use Rattle.kmod_cli.specs.Indexes.{Indexes}
 use Rattle.kmod_cli.specs.Plans.{Plans}
 use Rattle.kmod_cli.specs.Program.{command_named, course}
+use Rattle.kmod_cli.proofs.ExtraLaw.{extra-law}
 use Rattle.kmod_cli.proofs.HeadlineLaw.{headline}
 use Rattle.kmod_cli.proofs.IndexesLaw.{indexes-law}
 use Rattle.kmod_cli.proofs.PlansLaw.{plans}
@@ -24,6 +26,10 @@ pub depmod-indexes : (words : List (List ℕ)) (old new : World) (status : ℕ) 
 unfolding command_named
 depmod-indexes words old new status c rest is =
     indexes-law rest old new status (subst (λ w. Carries (course w) old new status) is c)
+
+-- and what it left with `--extra`
+pub depmod-extra : (words : List (List ℕ)) (old new : World) (status : ℕ) → Carries (course words) old new status → (rest : List (List ℕ)) → words ≡ codes "depmod" ∷ rest → Extra rest old new status
+depmod-extra words old new status c rest is = extra-law rest old new status (depmod-indexes words old new status c rest is)
 
 -- what a load did where the first word is `modprobe`
 pub modprobe-loads : (words : List (List ℕ)) (old new : World) (status : ℕ) → Carries (course words) old new status → (rest : List (List ℕ)) → words ≡ codes "modprobe" ∷ rest → Headline rest old new status

@@ -16,15 +16,14 @@ use Rattle.kmod_words.specs.declared.depmod.DepmodWords.{DepmodWords}
 use Rattle.symbol_binding.specs.Unmet.{unmet}
 use Rattle.symbol_binding.specs.declared.unbound.Unbound.{Unbound}
 use Rattle.provider_rel.specs.Faces.{modules_of}
-use Rattle.depmod_core.specs.declared.file.OutputFile.{OutputFile}
-use Rattle.depmod_core.specs.declared.files.OutputFiles.{OutputFiles}
-use Rattle.depmod_core.specs.Files.{content, file_name}
 use Rattle.stages_files.specs.KernelTable.{seen_kernel}
+use Rattle.command_depmod.specs.declared.files.DepmodFile.{DepmodFile}
+use Rattle.command_depmod.specs.declared.files.DepmodFiles.{DepmodFiles}
 use Rattle.command_depmod.specs.Depmod.{target_of_request}
-use Rattle.command_depmod.specs.Outputs.{all_files, text_files}
+use Rattle.command_depmod.specs.Files.{all_files, content, file_name, text_files}
 use Rattle.command_depmod.specs.Warnings.{warning_line}
 use Rattle.laws_planned_loads.specs.Acts.{is_reading, said}
-use Rattle.laws_depmod_leaves.specs.Comes.{IndexedTree, files_of}
+use Rattle.laws_depmod_leaves.specs.Comes.{IndexedTree, made_of}
 use Rattle.laws_depmod_leaves.specs.Course.{closes, index_acts, put_acts, say_acts, warn_acts, warned, writes}
 use Rattle.laws_depmod_leaves.specs.Left.{with_files}
 use Rattle.kmod_cli.specs.Indexes.{IsPartOf, files_printed, files_replaced, printed, told_of, warnings}
@@ -67,12 +66,12 @@ after-wanted : (errsyms versions : Bool) (obstacles : List Unbound) (shown : Sho
 after-wanted true versions obstacles shown = after-warnings versions obstacles shown
 after-wanted false versions obstacles shown = record { files = refl; out = refl; err = sym (append-nil shown.err) }
 
-after-puts : (folder : List ℕ) (made : OutputFiles) (names : List OutputFile) (shown : Shown) → Shows (done (put_acts folder made names) shown) (with_files folder made names shown.files) shown.out shown.err
+after-puts : (folder : List ℕ) (made : DepmodFiles) (names : List DepmodFile) (shown : Shown) → Shows (done (put_acts folder made names) shown) (with_files folder made names shown.files) shown.out shown.err
 after-puts folder made [] shown = record { files = refl; out = refl; err = refl }
 after-puts folder made (name ∷ names) shown =
     after-puts folder made names (act_done (put (path_below folder (file_name name)) (content made name)) shown)
 
-after-says : (made : OutputFiles) (names : List OutputFile) (shown : Shown) → Shows (done (say_acts made names) shown) shown.files (shown.out ++ flat_map (content made) names) shown.err
+after-says : (made : DepmodFiles) (names : List DepmodFile) (shown : Shown) → Shows (done (say_acts made names) shown) shown.files (shown.out ++ flat_map (content made) names) shown.err
 after-says made [] shown = record { files = refl; out = sym (append-nil shown.out); err = refl }
 after-says made (name ∷ names) shown =
     let bytes = content made name in
@@ -87,13 +86,13 @@ after-says made (name ∷ names) shown =
     })
 
 -- what is handed out
-abbrev handed : Bool → List ℕ → OutputFiles → List Act
-handed dry_run folder made = if dry_run then say_acts made text_files else put_acts folder made all_files
+abbrev handed : Bool → Bool → List ℕ → DepmodFiles → List Act
+handed extra dry_run folder made = if dry_run then say_acts made (text_files extra) else put_acts folder made (all_files extra)
 
-after-handed : (dry_run : Bool) (folder : List ℕ) (made : OutputFiles) (shown : Shown) → Shows (done (handed dry_run folder made) shown) (with_files folder made (if dry_run then [] else all_files) shown.files) (shown.out ++ flat_map (content made) (if dry_run then text_files else [])) shown.err
-after-handed true folder made shown = after-says made text_files shown
-after-handed false folder made shown =
-    let h = after-puts folder made all_files shown in
+after-handed : (extra dry_run : Bool) (folder : List ℕ) (made : DepmodFiles) (shown : Shown) → Shows (done (handed extra dry_run folder made) shown) (with_files folder made (if dry_run then [] else all_files extra) shown.files) (shown.out ++ flat_map (content made) (if dry_run then text_files extra else [])) shown.err
+after-handed extra true folder made shown = after-says made (text_files extra) shown
+after-handed extra false folder made shown =
+    let h = after-puts folder made (all_files extra) shown in
     record { files = h.files; out = h.out ∙ sym (append-nil shown.out); err = h.err }
 
 after-writes : (asked : DepmodWords) (o : Outcome IndexedTree) (shown : Shown) → Shows (done (writes asked o ++ closing_acts (closes o)) shown) (told_of asked o shown).files (told_of asked o shown).out (told_of asked o shown).err
@@ -103,11 +102,11 @@ after-writes asked (value i) shown =
     let versions = is_some asked.symvers in
     let warns : List Act = if asked.errsyms then warn_acts versions obstacles else [] in
     let target = target_of_request asked in
-    let fs = files_of i in
+    let fs = made_of i in
     let first = after-wanted asked.errsyms versions obstacles shown in
-    let rest = after-handed asked.dry_run target fs (done warns shown) in
+    let rest = after-handed asked.extra asked.dry_run target fs (done warns shown) in
     let whole : Shows (done (index_acts asked i) shown) (told_of asked (value i) shown).files (told_of asked (value i) shown).out (told_of asked (value i) shown).err =
-    shows-on warns (handed asked.dry_run target fs) shown _ _ _ (record {
+    shows-on warns (handed asked.extra asked.dry_run target fs) shown _ _ _ (record {
       files = rest.files ∙ ap (with_files target fs (files_replaced asked)) first.files;
       out = rest.out ∙ ap (λ out. out ++ printed asked i) first.out;
       err = rest.err ∙ first.err;
@@ -117,7 +116,7 @@ after-writes asked (value i) shown =
 -- what is told of files and outputs that hold the same is the same
 told-same : (asked : DepmodWords) (o : Outcome IndexedTree) (s shown left : Shown) → Shows s shown.files shown.out shown.err → Shows left (told_of asked o s).files (told_of asked o s).out (told_of asked o s).err → Shows left (told_of asked o shown).files (told_of asked o shown).out (told_of asked o shown).err
 told-same asked (value i) s shown left same h = record {
-  files = h.files ∙ ap (with_files (target_of_request asked) (files_of i) (files_replaced asked)) same.files;
+  files = h.files ∙ ap (with_files (target_of_request asked) (made_of i) (files_replaced asked)) same.files;
   out = h.out ∙ ap (λ out. out ++ printed asked i) same.out;
   err = h.err ∙ ap (λ err. err ++ warnings asked i) same.err;
 }
@@ -140,24 +139,24 @@ index-left asked o before acts ends shown only are is =
 -- ---- a first part
 
 -- So many files were replaced, and so many bytes printed.
-record IndexPart (folder : List ℕ) (made : OutputFiles) (names : List OutputFile) (text : List ℕ) (shown : Shown) (held : Contents) (out : List ℕ) : Type 0 where
+record IndexPart (folder : List ℕ) (made : DepmodFiles) (names : List DepmodFile) (text : List ℕ) (shown : Shown) (held : Contents) (out : List ℕ) : Type 0 where
   count : ℕ
   bytes : ℕ
   files : held ≡ with_files folder made (take count names) shown.files
   said : out ≡ shown.out ++ take bytes text
 
-nothing-yet : (folder : List ℕ) (made : OutputFiles) (names : List OutputFile) (text : List ℕ) (shown : Shown) (held : Contents) (out : List ℕ) → (shown.files ≡ held) × (shown.out ≡ out) → IndexPart folder made names text shown held out
+nothing-yet : (folder : List ℕ) (made : DepmodFiles) (names : List DepmodFile) (text : List ℕ) (shown : Shown) (held : Contents) (out : List ℕ) → (shown.files ≡ held) × (shown.out ≡ out) → IndexPart folder made names text shown held out
 nothing-yet folder made names text shown held out same =
     record { count = 0; bytes = 0; files = sym same.0; said = sym same.1 ∙ sym (append-nil shown.out) }
 
-part-puts : (folder : List ℕ) (made : OutputFiles) (names : List OutputFile) (shown : Shown) (held : Contents) (out : List ℕ) → Part (put_acts folder made names) shown held out → IndexPart folder made names [] shown held out
+part-puts : (folder : List ℕ) (made : DepmodFiles) (names : List DepmodFile) (shown : Shown) (held : Contents) (out : List ℕ) → Part (put_acts folder made names) shown held out → IndexPart folder made names [] shown held out
 part-puts folder made [] shown held out p = nothing-yet folder made [] [] shown held out p
 part-puts folder made (name ∷ names) shown held out (inl p) = nothing-yet folder made (name ∷ names) [] shown held out (p.0, p.1.1)
 part-puts folder made (name ∷ names) shown held out (inr p) =
     let h = part-puts folder made names (act_done (put (path_below folder (file_name name)) (content made name)) shown) held out p in
     record { count = suc h.count; bytes = h.bytes; files = h.files; said = h.said }
 
-part-says : (folder : List ℕ) (made : OutputFiles) (names : List OutputFile) (shown : Shown) (held : Contents) (out : List ℕ) → Part (say_acts made names) shown held out → IndexPart folder made [] (flat_map (content made) names) shown held out
+part-says : (folder : List ℕ) (made : DepmodFiles) (names : List DepmodFile) (shown : Shown) (held : Contents) (out : List ℕ) → Part (say_acts made names) shown held out → IndexPart folder made [] (flat_map (content made) names) shown held out
 part-says folder made [] shown held out p = nothing-yet folder made [] [] shown held out p
 part-says folder made (name ∷ names) shown held out p =
     let bytes = content made name in
@@ -189,9 +188,9 @@ part-says folder made (name ∷ names) shown held out p =
     with-none zero files = refl
     with-none (suc n) files = refl
 
-part-handed : (dry_run : Bool) (folder : List ℕ) (made : OutputFiles) (shown : Shown) (held : Contents) (out : List ℕ) → Part (handed dry_run folder made) shown held out → IndexPart folder made (if dry_run then [] else all_files) (flat_map (content made) (if dry_run then text_files else [])) shown held out
-part-handed true folder made shown held out p = part-says folder made text_files shown held out p
-part-handed false folder made shown held out p = part-puts folder made all_files shown held out p
+part-handed : (extra dry_run : Bool) (folder : List ℕ) (made : DepmodFiles) (shown : Shown) (held : Contents) (out : List ℕ) → Part (handed extra dry_run folder made) shown held out → IndexPart folder made (if dry_run then [] else all_files extra) (flat_map (content made) (if dry_run then text_files extra else [])) shown held out
+part-handed extra true folder made shown held out p = part-says folder made (text_files extra) shown held out p
+part-handed extra false folder made shown held out p = part-puts folder made (all_files extra) shown held out p
 
 warnings-silent : (versions : Bool) (obstacles : List Unbound) → AreSilent (warn_acts versions obstacles)
 warnings-silent versions [] = tt
@@ -206,7 +205,7 @@ wanted-silent true versions obstacles = warnings-silent versions obstacles
 wanted-silent false versions obstacles = tt
 
 -- files and outputs that hold the same
-part-same : (folder : List ℕ) (made : OutputFiles) (names : List OutputFile) (text : List ℕ) (s shown : Shown) (held : Contents) (out : List ℕ) → s.files ≡ shown.files → s.out ≡ shown.out → IndexPart folder made names text s held out → IndexPart folder made names text shown held out
+part-same : (folder : List ℕ) (made : DepmodFiles) (names : List DepmodFile) (text : List ℕ) (s shown : Shown) (held : Contents) (out : List ℕ) → s.files ≡ shown.files → s.out ≡ shown.out → IndexPart folder made names text s held out → IndexPart folder made names text shown held out
 part-same folder made names text s shown held out files printed p = record {
   count = p.count;
   bytes = p.bytes;
@@ -214,24 +213,24 @@ part-same folder made names text s shown held out files printed p = record {
   said = p.said ∙ ap (λ x. x ++ take p.bytes text) printed;
 }
 
-part-index : (asked : DepmodWords) (i : IndexedTree) (shown : Shown) (held : Contents) (out : List ℕ) → Part (index_acts asked i) shown held out → IndexPart (target_of_request asked) (files_of i) (files_replaced asked) (printed asked i) shown held out
+part-index : (asked : DepmodWords) (i : IndexedTree) (shown : Shown) (held : Contents) (out : List ℕ) → Part (index_acts asked i) shown held out → IndexPart (target_of_request asked) (made_of i) (files_replaced asked) (printed asked i) shown held out
 part-index asked i shown held out p =
     let obstacles = unmet (modules_of i.tree) (seen_kernel i.table) in
     let versions = is_some asked.symvers in
     let warns : List Act = if asked.errsyms then warn_acts versions obstacles else [] in
     let target = target_of_request asked in
-    let fs = files_of i in
+    let fs = made_of i in
     let first = after-wanted asked.errsyms versions obstacles shown in
-    elim (part-append warns (handed asked.dry_run target fs) shown held out p) [
+    elim (part-append warns (handed asked.extra asked.dry_run target fs) shown held out p) [
       | inl q ↦ nothing-yet target fs (files_replaced asked) (printed asked i) shown held out (part-silent warns shown held out (wanted-silent asked.errsyms versions obstacles) q)
-      | inr q ↦ part-same target fs (files_replaced asked) (printed asked i) (done warns shown) shown held out first.files first.out (part-handed asked.dry_run target fs (done warns shown) held out q)
+      | inr q ↦ part-same target fs (files_replaced asked) (printed asked i) (done warns shown) shown held out first.files first.out (part-handed asked.extra asked.dry_run target fs (done warns shown) held out q)
     ]
 
 pub index-part : (asked : DepmodWords) (o : Outcome IndexedTree) (before acts : List Act) (shown : Shown) (new : World) → list_all is_reading before ≡ true → acts ≡ before ++ writes asked o → Cut acts shown new → IsPartOf asked o shown new
 index-part asked (value i) before acts shown new only are c =
     let read = after-reads before shown only in
     let target = target_of_request asked in
-    let fs = files_of i in
+    let fs = made_of i in
     let whole : IndexPart target fs (files_replaced asked) (printed asked i) shown c.held c.printed =
     elim (part-append before (index_acts asked i) shown c.held c.printed (subst (λ a. Part a shown c.held c.printed) are c.part)) [
       | inl q ↦ nothing-yet target fs (files_replaced asked) (printed asked i) shown c.held c.printed (part-reads before shown c.held c.printed only q)

@@ -21,7 +21,7 @@ use Rattle.kmod_cli.proofs.ActsLeft.{Cut, Shows}
 use Rattle.kmod_cli.proofs.CameLemmas.{came-to}
 use Rattle.kmod_cli.proofs.IndexLeft.{index-left, index-part}
 
-end-low : (e : End) → end_status e ≤ 2
+pub end-low : (e : End) → end_status e ≤ 2
 end-low (Refused refusal) = omega arith
 end-low NotUnderstood = omega arith
 end-low (NoFile path) = omega arith

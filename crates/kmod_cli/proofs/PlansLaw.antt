@@ -1,18 +1,18 @@
 -- That modprobe plans or names the first obstacle, by its course and what a call that carries a
 -- course did.
-use Rattle.std.proofs.Common.{◌≡◌, ◌∙◌, ℕ, ◌≤◌, true, List, [], ◌++◌, length, take, None, refl, sym, ap, subst, inl, inr, arith, append-nil}
+use Rattle.std.proofs.Common.{◌≡◌, ◌∙◌, ℕ, true, List, [], ◌++◌, take, None, refl, sym, ap, subst, arith, append-nil}
 use Rattle.std.specs.Prelude.{Option, Some, ⊤}
 use Rattle.std.specs.List.{list_all}
 use Rattle.km_outside.specs.Contents.{Contents}
-use Rattle.km_course.specs.Carries.{Carries, closing_acts, outcome_line, outcome_status, whole_acts}
-use Rattle.km_course.specs.Course.{Act, Outcome, Run, Stage, ◌>>=◌, given}
+use Rattle.km_course.specs.Carries.{Carries, outcome_line, outcome_status, whole_acts}
+use Rattle.km_course.specs.Course.{Act, Outcome, Run, Stage, given}
 use Rattle.km_course.specs.Course.Outcome.{value, end}
-use Rattle.km_course.specs.World.{World, Shown, Tells, done}
+use Rattle.km_course.specs.World.{World, Shown, done}
 use Rattle.km_course.specs.declared.end.End.{End}
 use Rattle.km_course.specs.declared.end.End.TheVariants.{Refused}
 use Rattle.km_course.specs.declared.refusal.Refusal.TheVariants.{Obstacle as Unplanned}
 use Rattle.kmod_words.specs.declared.modprobe.Mode.{Mode}
-use Rattle.kmod_words.specs.declared.modprobe.Mode.TheVariants.{Load, DryRun, ShowDepends, ResolveAlias}
+use Rattle.kmod_words.specs.declared.modprobe.Mode.TheVariants.{Load, DryRun, ShowDepends, ResolveAlias, Remove}
 use Rattle.kmod_words.specs.declared.modprobe.ModprobeWords.{ModprobeWords}
 use Rattle.kmod_words.specs.Modprobe.{modprobe_request}
 use Rattle.provider_rel.specs.declared.kernel.Kernel.{Kernel}
@@ -24,11 +24,12 @@ use Rattle.plan_builder.specs.Obstacles.{obstacle_of}
 use Rattle.plan_builder.specs.Steps.{plan_steps}
 use Rattle.plan_builder.specs.Text.{obstacle_text}
 use Rattle.stages_loads.specs.Tables.{reads_machine}
-use Rattle.command_modprobe.specs.declared.known.Known.{Known}
-use Rattle.command_modprobe.specs.Known.{reads_known}
-use Rattle.command_modprobe.specs.Loaded.{loads_into, loads_plan, region_at}
+use Rattle.stages_known.specs.declared.known.Known.{Known}
+use Rattle.stages_known.specs.Known.{reads_known}
+use Rattle.stages_loads.specs.Region.{region_at}
+use Rattle.command_modprobe.specs.Loaded.{images_asked, loads_into, loads_plan}
 use Rattle.command_modprobe.specs.Modprobe.{modprobe_asked_for, modprobe_course, modprobe_in_mode}
-use Rattle.command_modprobe.specs.Planned.{loaded_in, plan_lines, plan_outcome, plan_unless, request_of, shows_plan, sources_with}
+use Rattle.command_modprobe.specs.Planned.{loaded_in, plan_lines, plan_outcome, plan_unless, request_of, shows_plan}
 use Rattle.command_modprobe.proofs.LoadSteps.{after_machine, after_steps, loads_known}
 use Rattle.command_modprobe.proofs.PlanSteps.{after_plan, plans_known}
 use Rattle.laws_planned_loads.specs.Acts.{is_reading, said}
@@ -36,9 +37,8 @@ use Rattle.laws_planned_loads.specs.Courses.{HasMachine}
 use Rattle.laws_planned_loads.proofs.KnownLemmas.{only-known}
 use Rattle.laws_planned_loads.proofs.RunLemmas.{both-read, joined, run-ends, run-given, run-on, run-then, run_of}
 use Rattle.laws_planned_loads.proofs.WholeLemmas.{lines-said, only-machine}
-use Rattle.kmod_cli.specs.CameTo.{CameTo}
 use Rattle.kmod_cli.specs.Headline.{folder_asked}
-use Rattle.kmod_cli.specs.Plans.{CameToPlan, IsPlanned, IsPrintedPart, IsReady, Plans, lines_asked, sources_asked}
+use Rattle.kmod_cli.specs.Plans.{CameToPlan, IsPrintedPart, IsReady, Plans, lines_asked, sources_asked}
 use Rattle.kmod_cli.proofs.ActsLeft.{Cut, Shows}
 use Rattle.kmod_cli.proofs.CameLemmas.{came-to}
 use Rattle.kmod_cli.proofs.LoadsLeft.{AreOfLoads, loads-left, loads-part}
@@ -50,10 +50,10 @@ unfolding plan_outcome
 outcome-is known asked o is = ap (λ f. plan_unless f (plan_steps (sources_asked asked known) (request_of asked))) is
 
 -- Files are read, these lines are said, and this is the outcome.
-record Prints (lines : List ℕ) (outcome : Outcome ⊤) (run : Run ⊤) : Type 0 where
-  before : List Act
-  reads : list_all is_reading before ≡ true
-  is : run ≡ joined before (run_of (said lines) outcome)
+pub record Prints (lines : List ℕ) (outcome : Outcome ⊤) (run : Run ⊤) : Type 0 where
+  pub before : List Act
+  pub reads : list_all is_reading before ≡ true
+  pub is : run ≡ joined before (run_of (said lines) outcome)
 
 -- a plan is printed
 shown-so : (held : Contents) (asked : ModprobeWords) (known : Known) → ((reads_known asked.config (folder_asked asked) asked.loaded).run held).outcome ≡ value known → (steps : List PlanStep) → plan_outcome known (loaded_in asked.mode known.loaded) (request_of asked) ≡ value steps → Prints (plan_lines (folder_asked asked) steps) (value tt) ((shows_plan asked).run held)
@@ -106,10 +106,10 @@ loaded-not held asked known kernel region has knows e met =
       is =
           ap (λ o. (loads_into asked o (region_at asked.region_base asked.region_size)).run held) has.mapped
           ∙ ap (λ r. (loads_into asked (Some has.map) r).run held) has.in_region
-          ∙ run-on reading (loads_known folder asked.image request has.map asked.symvers region) held known only knows
+          ∙ run-on reading (loads_known folder (images_asked asked) request has.map asked.symvers region) held known only knows
           ∙ ap (joined a)
-          (run-on making (after_machine folder asked.image request known) held start only' has.made
-          ∙ ap (joined b) (run-ends (given (plan_outcome known known.loaded request)) (after_steps folder asked.image known start) held [] e (run-given _ held ∙ ap (run_of []) met)))
+          (run-on making (after_machine folder (images_asked asked) request known) held start only' has.made
+          ∙ ap (joined b) (run-ends (given (plan_outcome known known.loaded request)) (after_steps folder (images_asked asked) known start) held [] e (run-given _ held ∙ ap (run_of []) met)))
           ∙ ap (λ acts. run_of acts (end e)) (ap (λ x. a ++ x) (append-nil b) ∙ sym (append-nil (a ++ b)));
     }
 
@@ -130,6 +130,7 @@ module _ (held : Contents) (words : List (List ℕ)) (asked : ModprobeWords) (kn
       by_mode DryRun m ready = of-words DryRun m _ _ (shown-so held asked known came.knows _ (outcome-is known asked None none))
       by_mode ShowDepends m ready = of-words ShowDepends m _ _ (shown-so held asked known came.knows _ (outcome-is known asked None none))
       by_mode ResolveAlias m ready = absurd ready
+      by_mode (Remove dry_run) m ready = absurd ready
 
   plan-refused : (obstacle : Obstacle) → obstacle_of (sources_asked asked known) (request_of asked) ≡ Some obstacle → Prints [] (end (Refused (Unplanned (obstacle_text obstacle)))) ((modprobe_course words).run held)
   plan-refused obstacle some = by_mode asked.mode refl came.ready
@@ -145,15 +146,13 @@ module _ (held : Contents) (words : List (List ℕ)) (asked : ModprobeWords) (kn
       by_mode DryRun m ready = of-words DryRun m _ _ (shown-not held asked known came.knows _ met)
       by_mode ShowDepends m ready = of-words ShowDepends m _ _ (shown-not held asked known came.knows _ met)
       by_mode ResolveAlias m ready = absurd ready
+      by_mode (Remove dry_run) m ready = absurd ready
 
 -- ---- what is left
 
 -- acts that print are those of no loads
 no-loads : (lines : List ℕ) (outcome : Outcome ⊤) (run : Run ⊤) → Prints lines outcome run → AreOfLoads lines None [] run.acts
 no-loads lines outcome run p = record {
-  folder = [];
-  paths = [];
-  one_each = refl;
   before = p.before;
   rest = [];
   before_reads = p.reads;
@@ -161,7 +160,7 @@ no-loads lines outcome run p = record {
   are = ap (λ (r : Run ⊤). r.acts) p.is ∙ ap (λ x. p.before ++ x) (sym (append-nil (said lines)));
 }
 
-printed-told : (lines : List ℕ) (outcome : Outcome ⊤) (run : Run ⊤) (shown : Shown) → Prints lines outcome run → Shows (done (whole_acts run) shown) shown.files (shown.out ++ lines) (shown.err ++ outcome_line outcome)
+pub printed-told : (lines : List ℕ) (outcome : Outcome ⊤) (run : Run ⊤) (shown : Shown) → Prints lines outcome run → Shows (done (whole_acts run) shown) shown.files (shown.out ++ lines) (shown.err ++ outcome_line outcome)
 printed-told lines outcome run shown p =
     let h = loads-left lines None [] run.acts run.outcome shown (no-loads lines outcome run p) in
     record {
@@ -170,7 +169,7 @@ printed-told lines outcome run shown p =
       err = h.err ∙ ap (λ (r : Run ⊤). shown.err ++ outcome_line r.outcome) p.is;
     }
 
-printed-part : (lines : List ℕ) (outcome : Outcome ⊤) (run : Run ⊤) (shown : Shown) (new : World) → Prints lines outcome run → Cut run.acts shown new → IsPrintedPart lines shown new
+pub printed-part : (lines : List ℕ) (outcome : Outcome ⊤) (run : Run ⊤) (shown : Shown) (new : World) → Prints lines outcome run → Cut run.acts shown new → IsPrintedPart lines shown new
 printed-part lines outcome run shown new p c =
     let h = loads-part lines None [] run.acts shown c.held c.printed (no-loads lines outcome run p) c.part in
     record {

@@ -30,7 +30,7 @@ pub record IsLoadOver (held : Shown) (asked : DepmodWords) (words : List (List �
   pub words_ask : modprobe_request words ≡ Some loads
   pub mode : loads.mode ≡ Load
   pub after : IsLoadAfter held.files asked told.files loads l.kernel l.region
-  pub came : CameToLoads told.files (folder_asked loads) loads.config loads.loaded (request_of loads) l.kernel l.region l.known l.listed l.steps l.paths
+  pub came : CameToLoads told.files (folder_asked loads) loads.config loads.loaded (request_of loads) l.kernel l.region l.known l.listed l.steps l.inserts
   pub call : Headline words old new status
 
 -- Where the files of the second call are those that the first one left, what the modprobe loads binds, and what it prints and

@@ -1,7 +1,7 @@
 -- The headline: while tree and kernel stand as depmod indexed them, no install command is chosen
 -- and the listed modules load, the modules that modprobe plans, loaded, bind; and what it prints
 -- and writes is of these loads. modprobe(8), depmod(8).
-use Rattle.std.specs.Prelude.{◌≡◌, ◌<◌, ◌≤◌, ℕ, List, [], ◌∷◌, ◌++◌, length, take, reverse, flat_map, codes, Option, Some, None, Ok, Err}
+use Rattle.std.specs.Prelude.{◌≡◌, ◌<◌, ◌≤◌, ℕ, Bool, true, All, List, [], ◌∷◌, ◌++◌, length, take, reverse, flat_map, codes, Option, Some, None, Ok, Err}
 use Rattle.std.specs.FinMap.{insert}
 use Rattle.km_names.specs.Path.{path_below}
 use Rattle.km_outside.specs.Contents.{Contents}
@@ -13,23 +13,26 @@ use Rattle.kmod_words.specs.Modprobe.{modprobe_request}
 use Rattle.module_facts.specs.declared.facts.Facts.{Facts}
 use Rattle.module_facts.specs.declared.module.Module.{Module}
 use Rattle.provider_rel.specs.declared.kernel.Kernel.{Kernel}
-use Rattle.model_loader.specs.declared.entry.Entry.{Entry}
 use Rattle.model_loader.specs.declared.fault.LoadFault.{LoadFault}
 use Rattle.model_loader.specs.declared.region.Region.{Region}
 use Rattle.model_loader.specs.FaultText.{load_fault_text}
 use Rattle.model_loader.specs.Machine.{Machine}
 use Rattle.model_loader.specs.Sound.{IsSound}
 use Rattle.model_loader.specs.Step.{step}
+use Rattle.param_apply.specs.declared.fault.ParamFault.{ParamFault}
+use Rattle.param_apply.specs.FaultText.{param_fault_text}
 use Rattle.plan_builder.specs.declared.step.PlanStep.{PlanStep}
 use Rattle.laws_closed_plans.specs.Binding.{IsLoaded}
 use Rattle.laws_closed_plans.specs.Loads.{IsPlaceFault, load_all}
 use Rattle.stages_files.specs.KernelModules.{modules_folder}
-use Rattle.stages_loads.specs.Loads.{loaded_line}
-use Rattle.command_modprobe.specs.declared.known.Known.{Known}
+use Rattle.stages_loads.specs.declared.load.Insertion.{Insertion}
+use Rattle.stages_loads.specs.Loads.{ShownImage, paths_of}
+use Rattle.stages_known.specs.declared.known.Known.{Known}
 use Rattle.command_modprobe.specs.Planned.{plan_lines, request_of}
 use Rattle.laws_planned_loads.specs.Courses.{CameToLoads, HasMachine, IsIndexedFor}
 use Rattle.laws_planned_loads.specs.Files.{AreFileModules}
 use Rattle.laws_planned_loads.specs.Listed.{AreListedPaths}
+use Rattle.laws_planned_loads.specs.Loads.{AreWritable, WentIn, all_images, entries_of, fault_of, inserts_of, modules_of}
 use Rattle.kmod_cli.specs.CameTo.{CameTo}
 
 -- ---- where it applies
@@ -40,7 +43,7 @@ folder_asked asked = modules_folder asked.dirname asked.version
 
 -- What a load is about: the modules that were indexed, over which kernel and built-in modules; that
 -- kernel with addresses, and the region; what is known of the folder and the configuration; the
--- machine after the listed modules; the plan, and the paths of its modules.
+-- machine after the listed modules; the plan, and what its steps load.
 pub record Loading : Type 0 where
   pub tree : List Facts
   pub indexed : Kernel
@@ -50,7 +53,7 @@ pub record Loading : Type 0 where
   pub known : Known
   pub listed : Machine
   pub steps : List PlanStep
-  pub paths : List (List ℕ)
+  pub inserts : List Insertion
 
 -- Tree and kernel stand as indexed, no install command is chosen, and the listed modules load.
 pub record StandsAsIndexed (held : Contents) (asked : ModprobeWords) (l : Loading) : Type 0 where
@@ -62,71 +65,80 @@ pub record StandsAsIndexed (held : Contents) (asked : ModprobeWords) (l : Loadin
   pub machine : HasMachine held asked l.kernel l.region
   -- what is read is understood, the names have a plan, no step of it runs a command, and the listed
   -- modules load
-  pub came : CameToLoads held (folder_asked asked) asked.config asked.loaded (request_of asked) l.kernel l.region l.known l.listed l.steps l.paths
+  pub came : CameToLoads held (folder_asked asked) asked.config asked.loaded (request_of asked) l.kernel l.region l.known l.listed l.steps l.inserts
 
--- ---- how far the loads of a plan go, by the machine alone
+-- ---- how far the loads of a plan go, by the machine and the options alone
 
--- Why no more modules go into a machine, where these are left of the plan; with the status, and the
--- line on err.
-pub data IsEndOfPlan (machine : Machine) : List Module → ℕ → List ℕ → Type 0 where
+-- Why no more modules go into a machine, where these went in and these are left of the plan; with
+-- the status, and the line on err.
+pub data IsEndOfPlan (params : Bool) (machine : Machine) : List WentIn → List Module → ℕ → List ℕ → Type 0 where
   -- all are loaded
-  all_loaded : IsEndOfPlan machine [] 0 []
+  all_loaded : (went : List WentIn) → All (AreWritable params) went → IsEndOfPlan params machine went [] 0 []
   -- the next one finds no room in the region, or has a word that doesn't fit there
-  no_place : (m : Module) (ms : List Module) (fault : LoadFault) → step machine m ≡ Err fault → IsPlaceFault fault → IsEndOfPlan machine (m ∷ ms) 1 (line (m.facts.name ++ (codes ": " ++ load_fault_text fault)))
+  no_place : (went : List WentIn) → All (AreWritable params) went → (m : Module) (ms : List Module) (fault : LoadFault) → step machine m ≡ Err fault → IsPlaceFault fault → IsEndOfPlan params machine went (m ∷ ms) 1 (line (m.facts.name ++ (codes ": " ++ load_fault_text fault)))
+  -- with `--params` alone: the options of the last one that went in can't be written
+  unwritten : (went : List WentIn) → All (AreWritable params) went → (last : WentIn) → params ≡ true → (ms : List Module) (fault : ParamFault) → fault_of last ≡ Some fault → IsEndOfPlan params machine (went ++ last ∷ []) ms 1 (line (last.entry.loaded.name ++ (codes ": " ++ param_fault_text fault)))
 
--- What loading a plan comes to, after listed modules were loaded and this was the machine.
-pub record ComesTo (start : Machine) (listed plan : List Module) : Type 0 where
+-- What loading a plan comes to, whose steps load this, after listed modules were loaded and this was
+-- the machine; with `--params` or without.
+pub record ComesTo (params : Bool) (inserts : List Insertion) (start : Machine) (listed plan : List Module) : Type 0 where
   -- the first modules of the plan go in, one after the other, and the others are left
-  pub loaded : List Module
+  pub went : List WentIn
   pub left : List Module
-  pub modules : plan ≡ loaded ++ left
+  pub modules : plan ≡ modules_of went ++ left
+  -- each is what its step loads, with the options of the step
+  pub later : List Insertion
+  pub in_steps : inserts ≡ inserts_of went ++ later
   pub machine : Machine
-  pub loads : load_all start loaded ≡ Ok machine
+  pub loads : load_all start (modules_of went) ≡ Ok machine
   -- all that is loaded is bound: each strong need to an agreeing export that stands before it, and
   -- words have the values of the ABI; the images lie apart in the region
-  pub sound : IsSound machine (listed ++ loaded)
+  pub sound : IsSound machine (listed ++ modules_of went)
   -- each that goes in has one entry more, with its image
-  pub entries : List Entry
-  pub newer : machine.entries ≡ start.entries ++ entries
+  pub newer : machine.entries ≡ start.entries ++ entries_of went
   -- and why no more go in
   pub status : ℕ
   pub err_line : List ℕ
-  pub ends : IsEndOfPlan machine left status err_line
+  pub ends : IsEndOfPlan params machine went left status err_line
 
 -- ---- what is printed and written of them
 
--- The files with the image of each entry in the folder for images, where one is named, under the
--- name of its module.
-abbrev pub with_images : Option (List ℕ) → List Entry → Contents → Contents
-with_images None es files = files
+-- What is shown of the loads: the image of each entry; and with `--params`, after that of each, the
+-- finished image, in which options stand as they state their parameters, where they can be written.
+abbrev pub images_shown : ModprobeWords → List WentIn → List ShownImage
+images_shown asked went = all_images asked.params went
+
+-- The files with each of these images in the folder for images, where one is named: that of an entry
+-- under the name of its module, and the finished one with `.params` after the name.
+abbrev pub with_images : Option (List ℕ) → List ShownImage → Contents → Contents
+with_images None ss files = files
 with_images (Some images) [] files = files
-with_images (Some images) (e ∷ es) files =
-    with_images (Some images) es (insert files (path_below images (e.loaded.name ++ codes ".img")) e.image)
+with_images (Some images) (s ∷ ss) files =
+    with_images (Some images) ss (insert files (path_below images (s.name ++ codes ".img")) s.image)
 
--- The lines of the plan, and then a line for each entry, which has the digest of its image.
-abbrev pub printed : ModprobeWords → Loading → List Entry → List ℕ
-printed asked l es =
-    plan_lines (folder_asked asked) l.steps ++ flat_map (λ (e : Entry). loaded_line e.loaded e.image) es
+-- The lines of the plan, and then a line for each image, which has the digest of it.
+abbrev pub printed : ModprobeWords → Loading → List ShownImage → List ℕ
+printed asked l ss = plan_lines (folder_asked asked) l.steps ++ flat_map (λ (s : ShownImage). s.line) ss
 
--- What is told after the loads of these entries and this line on err, but for the count of calls on
--- files.
-abbrev pub told_after : ModprobeWords → Loading → List Entry → List ℕ → Shown → Shown
-told_after asked l es err_line shown = record {
-  files = with_images asked.image es shown.files;
+-- What is told after these images were shown and this line was written on err, but for the count of
+-- calls on files.
+abbrev pub told_after : ModprobeWords → Loading → List ShownImage → List ℕ → Shown → Shown
+told_after asked l ss err_line shown = record {
+  files = with_images asked.image ss shown.files;
   calls = shown.calls;
-  out = shown.out ++ printed asked l es;
+  out = shown.out ++ printed asked l ss;
   err = shown.err ++ err_line;
 }
 
--- A first part of this was done: so many images were put and so many bytes printed. The image of an
--- entry is put before any of its line is printed, and after all lines of the entries before it.
-pub record IsFirstPart (asked : ModprobeWords) (l : Loading) (entries : List Entry) (shown : Shown) (new : World) : Type 0 where
+-- A first part of this was done: so many images were put and so many bytes printed. An image is put
+-- before any of its line is printed, and after all lines of the images before it.
+pub record IsFirstPart (asked : ModprobeWords) (l : Loading) (ss : List ShownImage) (shown : Shown) (new : World) : Type 0 where
   pub images : ℕ
   pub bytes : ℕ
-  pub files : new.files.contents ≡ Some (with_images asked.image (take images entries) shown.files)
-  pub out : new.out.told ≡ Some (shown.out ++ take bytes (printed asked l entries))
-  pub image_before : bytes ≤ length (printed asked l (take images entries))
-  pub lines_before : (n : ℕ) → n < images → length (printed asked l (take n entries)) ≤ bytes
+  pub files : new.files.contents ≡ Some (with_images asked.image (take images ss) shown.files)
+  pub out : new.out.told ≡ Some (shown.out ++ take bytes (printed asked l ss))
+  pub image_before : bytes ≤ length (printed asked l (take images ss))
+  pub lines_before : (n : ℕ) → n < images → length (printed asked l (take n ss)) ≤ bytes
 
 -- ---- the headline
 
@@ -142,12 +154,12 @@ pub record LoadsBind (asked : ModprobeWords) (l : Loading) (shown : Shown) (old 
   -- each module of the plan is all of a valid file, that at the path of its step; and they bind, as
   -- far as they load
   pub plan : List Module
-  pub plan_files : AreFileModules shown.files (folder_asked asked) l.paths plan
-  pub loads : ComesTo l.listed listed plan
+  pub plan_files : AreFileModules shown.files (folder_asked asked) (paths_of l.inserts) plan
+  pub loads : ComesTo asked.params l.inserts l.listed listed plan
   -- the status is that of these loads, and never 2: their images are put, the lines of the plan
   -- and theirs are printed, a refusal has its line on err, and all else is as it was; or a first
   -- part of this was done, for a failed call on files or outputs, or for want of memory
-  pub call : CameTo loads.status (told_after asked l loads.entries loads.err_line shown) (IsFirstPart asked l loads.entries shown) old new status
+  pub call : CameTo loads.status (told_after asked l (images_shown asked loads.went) loads.err_line shown) (IsFirstPart asked l (images_shown asked loads.went) shown) old new status
 
 -- The headline, of modprobe with these words after its name, where files and outputs tell what they
 -- hold.

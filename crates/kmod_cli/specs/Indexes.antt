@@ -11,30 +11,29 @@ use Rattle.kmod_words.specs.declared.depmod.DepmodWords.{DepmodWords}
 use Rattle.kmod_words.specs.Depmod.{depmod_request}
 use Rattle.symbol_binding.specs.Unmet.{unmet}
 use Rattle.provider_rel.specs.Faces.{modules_of}
-use Rattle.depmod_core.specs.declared.file.OutputFile.{OutputFile}
-use Rattle.depmod_core.specs.Files.{content}
 use Rattle.stages_files.specs.KernelTable.{seen_kernel}
+use Rattle.command_depmod.specs.declared.files.DepmodFile.{DepmodFile}
 use Rattle.command_depmod.specs.Depmod.{target_of_request}
-use Rattle.command_depmod.specs.Outputs.{all_files, text_files}
+use Rattle.command_depmod.specs.Files.{all_files, content, text_files}
 use Rattle.command_depmod.specs.Warnings.{warning_line}
-use Rattle.laws_depmod_leaves.specs.Comes.{ComesTo, IndexedTree, files_of}
+use Rattle.laws_depmod_leaves.specs.Comes.{ComesTo, IndexedTree, made_of}
 use Rattle.laws_depmod_leaves.specs.Left.{with_files}
 use Rattle.kmod_cli.specs.CameTo.{CameTo}
 use Rattle.kmod_cli.specs.Plans.{IsPrintedPart}
 
 -- ---- what is replaced and printed
 
--- The files that are replaced, in their order: all, or none with `-n`.
-abbrev pub files_replaced : DepmodWords → List OutputFile
-files_replaced asked = if asked.dry_run then [] else all_files
+-- The files that are replaced, in their order: all, which are nine, or eleven with `--extra`; or none with `-n`.
+abbrev pub files_replaced : DepmodWords → List DepmodFile
+files_replaced asked = if asked.dry_run then [] else all_files asked.extra
 
 -- The files that are printed: with `-n` all that are text.
-abbrev pub files_printed : DepmodWords → List OutputFile
-files_printed asked = if asked.dry_run then text_files else []
+abbrev pub files_printed : DepmodWords → List DepmodFile
+files_printed asked = if asked.dry_run then text_files asked.extra else []
 
 -- Their bytes, one after the other.
 abbrev pub printed : DepmodWords → IndexedTree → List ℕ
-printed asked i = flat_map (content (files_of i)) (files_printed asked)
+printed asked i = flat_map (content (made_of i)) (files_printed asked)
 
 -- The warnings, which are written with `-e`: a line for each obstacle that is warned of.
 abbrev pub warnings : DepmodWords → IndexedTree → List ℕ
@@ -52,7 +51,7 @@ status_of (end e) = end_status e
 -- their texts are printed; or the line of the end is on err. All else is as it was.
 abbrev pub told_of : DepmodWords → Outcome IndexedTree → Shown → Shown
 told_of asked (value i) shown = record {
-  files = with_files (target_of_request asked) (files_of i) (files_replaced asked) shown.files;
+  files = with_files (target_of_request asked) (made_of i) (files_replaced asked) shown.files;
   calls = shown.calls;
   out = shown.out ++ printed asked i;
   err = shown.err ++ warnings asked i;
@@ -63,7 +62,7 @@ told_of asked (end e) shown = record shown { err = shown.err ++ end_line e }
 pub record IsReplacedPart (asked : DepmodWords) (i : IndexedTree) (shown : Shown) (new : World) : Type 0 where
   pub count : ℕ
   pub bytes : ℕ
-  pub files : new.files.contents ≡ Some (with_files (target_of_request asked) (files_of i) (take count (files_replaced asked)) shown.files)
+  pub files : new.files.contents ≡ Some (with_files (target_of_request asked) (made_of i) (take count (files_replaced asked)) shown.files)
   pub out : new.out.told ≡ Some (shown.out ++ take bytes (printed asked i))
 
 -- A first part of this was done; where no index comes, no file is replaced and nothing printed.

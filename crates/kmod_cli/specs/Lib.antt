@@ -2,5 +2,8 @@ pub mod Program
 pub mod CameTo
 pub mod Headline
 pub mod Plans
+pub mod TakesBack
 pub mod Indexes
+pub mod Extra
+pub mod Lookups
 pub mod Halves

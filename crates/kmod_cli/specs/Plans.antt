@@ -1,12 +1,12 @@
 -- modprobe plans exactly where an order exists, and else it names the first obstacle, whatever the
 -- files are. modprobe(8).
-use Rattle.std.specs.Prelude.{◌≡◌, ℕ, List, [], ◌++◌, take, Option, Some, None, ⊤}
+use Rattle.std.specs.Prelude.{◌≡◌, ℕ, List, [], ◌++◌, take, Some, None, ⊤}
 use Rattle.km_outside.specs.Contents.{Contents}
 use Rattle.km_course.specs.Course.Outcome.{value}
 use Rattle.km_course.specs.Lines.{line}
 use Rattle.km_course.specs.World.{World, Shown, Tells}
 use Rattle.kmod_words.specs.declared.modprobe.Mode.{Mode}
-use Rattle.kmod_words.specs.declared.modprobe.Mode.TheVariants.{Load, DryRun, ShowDepends, ResolveAlias}
+use Rattle.kmod_words.specs.declared.modprobe.Mode.TheVariants.{Load, DryRun, ShowDepends, ResolveAlias, Remove}
 use Rattle.kmod_words.specs.declared.modprobe.ModprobeWords.{ModprobeWords}
 use Rattle.kmod_words.specs.Modprobe.{modprobe_request}
 use Rattle.provider_rel.specs.declared.kernel.Kernel.{Kernel}
@@ -16,8 +16,8 @@ use Rattle.plan_builder.specs.Needs.{Sources}
 use Rattle.plan_builder.specs.Obstacles.{obstacle_of}
 use Rattle.plan_builder.specs.Steps.{plan_steps}
 use Rattle.plan_builder.specs.Text.{obstacle_text}
-use Rattle.command_modprobe.specs.declared.known.Known.{Known}
-use Rattle.command_modprobe.specs.Known.{reads_known}
+use Rattle.stages_known.specs.declared.known.Known.{Known}
+use Rattle.stages_known.specs.Known.{reads_known}
 use Rattle.command_modprobe.specs.Planned.{loaded_in, plan_lines, request_of, sources_with}
 use Rattle.laws_planned_loads.specs.Courses.{HasMachine}
 use Rattle.kmod_cli.specs.CameTo.{CameTo}
@@ -31,6 +31,7 @@ IsReady held asked Load = (kernel : Kernel) × (region : Region) × HasMachine h
 IsReady held asked DryRun = ⊤
 IsReady held asked ShowDepends = ⊤
 IsReady held asked ResolveAlias = ⊥
+IsReady held asked (Remove dry_run) = ⊥
 
 -- A plan is asked for, and what is read before it is understood.
 pub record CameToPlan (held : Contents) (asked : ModprobeWords) (known : Known) : Type 0 where

@@ -11,6 +11,10 @@ pub(crate) enum Command {
     /// Plans and loads modules into the modelled machine, and prints what names stand for.
     /// modprobe(8).
     Modprobe,
+    /// Prints the device nodes that depmod listed. kmod(8), "static-nodes".
+    StaticNodes,
+    /// Tells which built-in modules a name stands for.
+    BuiltinAlias,
     /// Makes a tree of modules in memory, indexes it and loads its modules there.
     Trial,
 }
@@ -31,6 +35,12 @@ pub(crate) fn command_named(word: &[u8]) -> Option<Command>
     }
     if word == b"trial".as_slice() {
         return Some(Command::Trial);
+    }
+    if word == b"static-nodes".as_slice() {
+        return Some(Command::StaticNodes);
+    }
+    if word == b"builtin-alias".as_slice() {
+        return Some(Command::BuiltinAlias);
     }
     None
 }

@@ -10,5 +10,5 @@ mod command;
 mod laws;
 mod program;
 
-pub use laws::halves_meet;
+pub use laws::{halves_meet, lookups_meet};
 pub use program::{depmod, modprobe, run};

@@ -2,14 +2,18 @@ ghost use Rattle.std.specs.Prelude.{◌≡◌, ◌∷◌, ℕ, List, codes};
 ghost use Rattle.km_outside.specs.FilesSeen.{FilesSeen};
 ghost use Rattle.km_course.specs.World.{world};
 ghost use Rattle.km_course.specs.Carries.{Carries};
+ghost use Rattle.command_builtin_alias.specs.BuiltinAlias.{builtin_alias_course};
 ghost use Rattle.command_depmod.specs.Depmod.{depmod_course};
 ghost use Rattle.command_modinfo.specs.Modinfo.{modinfo_course};
 ghost use Rattle.command_modprobe.specs.Modprobe.{modprobe_course};
+ghost use Rattle.command_static_nodes.specs.StaticNodes.{static_nodes_course};
 ghost use Rattle.command_trial.specs.Trial.{trial_course};
+ghost use Rattle.kmod_cli.specs.Extra.{Extra};
 ghost use Rattle.kmod_cli.specs.Headline.{Headline};
 ghost use Rattle.kmod_cli.specs.Indexes.{Indexes};
 ghost use Rattle.kmod_cli.specs.Plans.{Plans};
 ghost use Rattle.kmod_cli.specs.Program.{course, course_named};
+ghost use Rattle.kmod_cli.specs.TakesBack.{TakesBack};
 
 use crate::command::{Command, command_named};
 use km_course::{End, Stop, conclude};
@@ -39,11 +43,17 @@ pub fn run<F: Files, O: Out, E: Out>(
     ensures indexes { (rest : List (List ℕ)) → words.now ≡ codes "depmod" ∷ rest →
         Indexes rest (world (F.seen files.old) (O.seen out.old) (E.seen err.old))
         (world (F.seen files.new) (O.seen out.new) (E.seen err.new)) result }
+    ensures extra { (rest : List (List ℕ)) → words.now ≡ codes "depmod" ∷ rest →
+        Extra rest (world (F.seen files.old) (O.seen out.old) (E.seen err.old))
+        (world (F.seen files.new) (O.seen out.new) (E.seen err.new)) result }
     ensures plans { (rest : List (List ℕ)) → words.now ≡ codes "modprobe" ∷ rest →
         Plans rest (world (F.seen files.old) (O.seen out.old) (E.seen err.old))
         (world (F.seen files.new) (O.seen out.new) (E.seen err.new)) result }
     ensures headline { (rest : List (List ℕ)) → words.now ≡ codes "modprobe" ∷ rest →
         Headline rest (world (F.seen files.old) (O.seen out.old) (E.seen err.old))
+        (world (F.seen files.new) (O.seen out.new) (E.seen err.new)) result }
+    ensures takes_back { (rest : List (List ℕ)) → words.now ≡ codes "modprobe" ∷ rest →
+        TakesBack rest (world (F.seen files.old) (O.seen out.old) (E.seen err.old))
         (world (F.seen files.new) (O.seen out.new) (E.seen err.new)) result }
 {
     match words {
@@ -74,6 +84,8 @@ fn command<F: Files, O: Out, E: Out>(
             Command::Modinfo => modinfo(alloc, words, files, out, err),
             Command::Modprobe => modprobe(alloc, words, files, out, err),
             Command::Trial => trial(alloc, words, out, err),
+            Command::StaticNodes => static_nodes(alloc, words, files, out, err),
+            Command::BuiltinAlias => builtin_alias(alloc, words, files, out, err),
         },
         None => conclude(alloc, Err(Stop::from(End::NotUnderstood)), err),
     }
@@ -86,7 +98,9 @@ fn command<F: Files, O: Out, E: Out>(
 /// those of the tree in the folder, whose modules are all valid, over the kernel's table that is
 /// named, and they decode. If it is refused, it names the first obstacle, such as the first bad
 /// module or the cycle, and replaces no file. Whatever else stops it, it has replaced a first part
-/// of its files, each whole. depmod(8).
+/// of its files, each whole. There are nine files, or eleven with `--extra`. The two more are the
+/// index of the aliases that the kernel's modules.builtin.modinfo states, and the device nodes of
+/// the tree's modules. depmod(8).
 pub fn depmod<F: Files, O: Out, E: Out>(
     alloc: Global,
     words: &[Word],
@@ -98,6 +112,9 @@ pub fn depmod<F: Files, O: Out, E: Out>(
         (world (F.seen files.old) (O.seen out.old) (E.seen err.old))
         (world (F.seen files.new) (O.seen out.new) (E.seen err.new)) result }
     ensures indexes { Indexes words.now
+        (world (F.seen files.old) (O.seen out.old) (E.seen err.old))
+        (world (F.seen files.new) (O.seen out.new) (E.seen err.new)) result }
+    ensures extra { Extra words.now
         (world (F.seen files.old) (O.seen out.old) (E.seen err.old))
         (world (F.seen files.new) (O.seen out.new) (E.seen err.new)) result }
 {
@@ -132,6 +149,10 @@ fn modinfo<F: Reads, O: Out, E: Out>(
 /// command is chosen, and the listed modules load. Then status 0 means that all modules of the plan
 /// are loaded, and 1 that one of them finds no room or has a word that doesn't fit. The images that
 /// it put and the lines that it printed are those of the loaded modules. modprobe(8).
+///
+/// With `-r` it takes modules out of the modelled machine of the listed ones, the youngest first,
+/// and no step is refused. What is left is the machine without them. If the removed modules are
+/// those that were loaded last, it is the machine from before.
 pub fn modprobe<F: Writes, O: Out, E: Out>(
     alloc: Global,
     words: &[Word],
@@ -148,6 +169,9 @@ pub fn modprobe<F: Writes, O: Out, E: Out>(
     ensures headline { Headline words.now
         (world (F.seen files.old) (O.seen out.old) (E.seen err.old))
         (world (F.seen files.new) (O.seen out.new) (E.seen err.new)) result }
+    ensures takes_back { TakesBack words.now
+        (world (F.seen files.old) (O.seen out.old) (E.seen err.old))
+        (world (F.seen files.new) (O.seen out.new) (E.seen err.new)) result }
 {
     let outcome = command_modprobe::modprobe(alloc, words, files, out);
     conclude(alloc, outcome, err)
@@ -160,5 +184,38 @@ fn trial<O: Out, E: Out>(alloc: Global, words: &[Word], out: &mut O, err: &mut E
         (world files (O.seen out.old) (E.seen err.old)) (world files (O.seen out.new) (E.seen err.new)) result }
 {
     let outcome = command_trial::trial(alloc, words, out);
+    conclude(alloc, outcome, err)
+}
+
+/// Does what `static-nodes` does with these words after its name: prints the lines of the device nodes in a kernel's
+/// modules.devname. kmod(8), "static-nodes".
+fn static_nodes<F: Reads, O: Out, E: Out>(
+    alloc: Global,
+    words: &[Word],
+    files: &mut F,
+    out: &mut O,
+    err: &mut E,
+) -> u8
+    ensures { Carries (static_nodes_course words.now)
+        (world (F.seen files.old) (O.seen out.old) (E.seen err.old))
+        (world (F.seen files.new) (O.seen out.new) (E.seen err.new)) result }
+{
+    let outcome = command_static_nodes::static_nodes(alloc, words, files, out);
+    conclude(alloc, outcome, err)
+}
+
+/// Does what `builtin-alias` does with these words after its name: prints the built-in modules that a name stands for.
+fn builtin_alias<F: Reads, O: Out, E: Out>(
+    alloc: Global,
+    words: &[Word],
+    files: &mut F,
+    out: &mut O,
+    err: &mut E,
+) -> u8
+    ensures { Carries (builtin_alias_course words.now)
+        (world (F.seen files.old) (O.seen out.old) (E.seen err.old))
+        (world (F.seen files.new) (O.seen out.new) (E.seen err.new)) result }
+{
+    let outcome = command_builtin_alias::builtin_alias(alloc, words, files, out);
     conclude(alloc, outcome, err)
 }

@@ -28,17 +28,20 @@ use Rattle.stages_files.specs.IndexFile.{index_of, index_outcome}
 use Rattle.stages_files.specs.KernelTable.{reads_map, table_outcome}
 use Rattle.stages_loads.specs.Listed.{loads_listed}
 use Rattle.stages_loads.specs.Tables.{kernel_with, machine_outcome, reads_machine}
-use Rattle.command_modprobe.specs.declared.known.Known.{Known}
-use Rattle.command_modprobe.specs.Known.{reads_index_in, reads_indexes, reads_known, reads_loaded, reads_rules, reads_unmet}
-use Rattle.command_modprobe.specs.Loaded.{paths_outcome, region-by, region_at}
+use Rattle.stages_known.specs.declared.known.Known.{Known}
+use Rattle.stages_known.specs.Known.{reads_index_in, reads_indexes, reads_known, reads_loaded, reads_rules, reads_unmet}
+use Rattle.stages_loads.specs.Region.{region-by, region_at}
+use Rattle.stages_loads.specs.declared.load.Insertion.{Insertion}
+use Rattle.stages_loads.specs.Loads.{paths_of}
+use Rattle.command_modprobe.specs.Loaded.{inserts_outcome}
 use Rattle.command_modprobe.specs.Planned.{plan_outcome, plan_unless, request_of}
-use Rattle.command_modprobe.proofs.KnownSteps.{after_alias, after_builtin, after_configuration, after_dep, after_indexes, after_loaded, after_rules, after_softdep, after_symbols, after_unmet, softdep_stated, unmet_stated}
+use Rattle.stages_known.proofs.KnownSteps.{after_alias, after_builtin, after_configuration, after_dep, after_indexes, after_loaded, after_rules, after_softdep, after_symbols, after_unmet, softdep_stated, unmet_stated}
 use Rattle.laws_indexed_folder.specs.Indexed.{AreIn}
 use Rattle.laws_planned_loads.specs.Courses.{CameToLoads, HasMachine}
 use Rattle.laws_planned_loads.specs.Files.{AreFileModules}
 use Rattle.laws_planned_loads.proofs.KnownLemmas.{index_read, only-configuration, only-index, only-indexes, only-loaded, only-rules, only-unmet}
 use Rattle.laws_planned_loads.proofs.RunLemmas.{reads-file, reads-given, reads-then, run-read}
-use Rattle.laws_depmod_leaves.specs.Comes.{files_of}
+use Rattle.laws_depmod_leaves.specs.Comes.{files_of, made_of}
 use Rattle.laws_depmod_leaves.specs.Left.{IsInPlace, LeftIndexed}
 use Rattle.laws_depmod_leaves.specs.Loads.{IsLoadAfter}
 use Rattle.laws_depmod_leaves.proofs.LeftLemmas.{left-indexed}
@@ -103,7 +106,7 @@ stood : LeftIndexed depmod_asked indexed left
 stood = left-indexed found depmod_asked indexed place is-indexed
 
 are-in : AreIn left folder_found (files_of indexed)
-are-in = all-there folder_found (files_of indexed) found
+are-in = all-there folder_found false (made_of indexed) found
 
 -- ---- what is read
 
@@ -190,8 +193,8 @@ knows =
     ∙ on-value left (reads_loaded None) (after_loaded indexes [] []) [] (only-loaded None) (given-is (value []) left)
     ∙ given-is (value known) left
 
-abbrev two_paths : List (List ℕ)
-two_paths = codes "p.ko" ∷ codes "m.ko" ∷ []
+abbrev two_inserts : List Insertion
+two_inserts = record { path = codes "p.ko"; options = [] } ∷ record { path = codes "m.ko"; options = [] } ∷ []
 
 planned : plan_outcome known [] (request_of load_asked) ≡ value two_steps
 unfolding plan_outcome
@@ -199,8 +202,8 @@ planned =
     ap (λ o. plan_unless o (plan_steps (sources_by [] [] dep_bytes) request)) plain-unhindered
     ∙ ap (λ steps. value steps) plain-steps
 
-runs-none : paths_outcome two_steps ≡ value two_paths
-unfolding paths_outcome
+runs-none : inserts_outcome two_steps ≡ value two_inserts
+unfolding inserts_outcome
 runs-none = refl
 
 -- ---- the machine
@@ -253,7 +256,7 @@ after : IsLoadAfter found depmod_asked left load_asked kernel whole
 unfolding has-machine
 after = record { folder = refl; machine = has-machine; table = same-table }
 
-came : CameToLoads left folder_found None None (request_of load_asked) kernel whole known (start pages_of_region) two_steps two_paths
+came : CameToLoads left folder_found None None (request_of load_asked) kernel whole known (start pages_of_region) two_steps two_inserts
 came = record { knows = knows; listed = none-listed; planned = planned; runs_none = runs-none }
 
 abbrev loading : Loading
@@ -266,7 +269,7 @@ loading = record {
   known = known;
   listed = start pages_of_region;
   steps = two_steps;
-  paths = two_paths;
+  inserts = two_inserts;
 }
 
 stands : StandsAsIndexed left load_asked loading
@@ -279,7 +282,7 @@ stands = record {
 
 -- ---- the loads
 
-are-files : AreFileModules left folder_found two_paths (giver ∷ taker ∷ [])
+are-files : AreFileModules left folder_found (paths_of two_inserts) (giver ∷ taker ∷ [])
 are-files = (
   record { kind = refl; bytes = giver_file; there = left-get _; small = giver-small; passed = giver-passes; read = refl },
   (record { kind = refl; bytes = taker_file; there = left-get _; small = taker-small; passed = taker-passes; read = refl }, tt),

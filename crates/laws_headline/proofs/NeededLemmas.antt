@@ -6,8 +6,8 @@ use Rattle.name_lookup.specs.declared.indexes.Indexes.{Indexes}
 use Rattle.plan_builder.specs.Steps.{plan_steps}
 use Rattle.plan_builder.specs.declared.step.PlanStep.{PlanStep}
 use Rattle.plan_builder.specs.declared.step.PlanStep.TheVariants.{Insert}
-use Rattle.command_modprobe.specs.declared.known.Known.{Known}
-use Rattle.command_modprobe.specs.Loaded.{paths_outcome}
+use Rattle.stages_known.specs.declared.known.Known.{Known}
+use Rattle.command_modprobe.specs.Loaded.{inserts_outcome}
 use Rattle.command_modprobe.specs.Planned.{plan_outcome, plan_unless, request_of}
 use Rattle.laws_planned_loads.specs.Reading.{indexes_of}
 use Rattle.laws_headline.specs.Met.{load_asked}
@@ -40,7 +40,7 @@ commanded =
     ap (λ o. plan_unless o (plan_steps (sources_by command [] dep_bytes) request)) commanded-unhindered ∙ ap (λ steps. value steps) commanded-steps
 
 pub command-refused : CommandIsRefused
-unfolding paths_outcome
+unfolding inserts_outcome
 command-refused =
     (ap (λ made. plan_outcome (known_with command [] (indexes_of made)) [] (request_of load_asked)) made-so ∙ commanded, refl)
 

@@ -10,11 +10,12 @@ use Rattle.module_facts.specs.declared.module.Module.{Module}
 use Rattle.model_loader.specs.declared.entry.Entry.{Entry}
 use Rattle.model_loader.specs.Machine.{Machine}
 use Rattle.command_depmod.specs.Depmod.{target_of_request}
-use Rattle.command_depmod.specs.Outputs.{all_files}
+use Rattle.command_depmod.specs.Files.{all_files}
 use Rattle.laws_closed_plans.specs.Loads.{load_all}
-use Rattle.laws_depmod_leaves.specs.Comes.{IndexedTree, IsIndexed, files_of}
+use Rattle.laws_depmod_leaves.specs.Comes.{IndexedTree, IsIndexed, made_of}
 use Rattle.laws_depmod_leaves.specs.Left.{with_files}
 use Rattle.laws_planned_loads.specs.Files.{AreFileModules}
+use Rattle.stages_loads.specs.Loads.{paths_of}
 use Rattle.kmod_cli.specs.Headline.{Loading, StandsAsIndexed, folder_asked}
 use Rattle.laws_headline.specs.Objects.{found, giver_facts, taker_facts}
 
@@ -25,6 +26,7 @@ abbrev pub depmod_asked : DepmodWords
 depmod_asked = record {
   dry_run = false;
   errsyms = false;
+  extra = false;
   basedir = [];
   outdir = [];
   config = None;
@@ -39,11 +41,12 @@ indexed = record {
   tree = taker_facts ∷ giver_facts ∷ [];
   table = record { known = true; exports = [] };
   builtin = [];
+  info = None;
 }
 
 -- What it leaves.
 abbrev pub left : Contents
-left = with_files (target_of_request depmod_asked) (files_of indexed) all_files found
+left = with_files (target_of_request depmod_asked) (made_of indexed) (all_files false) found
 
 -- A modprobe of the module that uses the other, by the same System.map, into a region of 16 pages from 65536 on.
 abbrev pub load_asked : ModprobeWords
@@ -61,6 +64,7 @@ load_asked = record {
   region_base = 65536;
   region_size = 65536;
   image = None;
+  params = false;
   words = codes "m" ∷ [];
 }
 
@@ -71,8 +75,8 @@ load_asked = record {
 pub record IsMet (l : Loading) : Type 0 where
   pub stands : StandsAsIndexed left load_asked l
   pub plan : List Module
-  pub files : AreFileModules left (folder_asked load_asked) l.paths plan
-  pub paths : l.paths ≡ codes "p.ko" ∷ codes "m.ko" ∷ []
+  pub files : AreFileModules left (folder_asked load_asked) (paths_of l.inserts) plan
+  pub paths : paths_of l.inserts ≡ codes "p.ko" ∷ codes "m.ko" ∷ []
   pub machine : Machine
   pub loads : load_all l.listed plan ≡ Ok machine
   pub words : map (λ (e : Entry). le e.image 0 8) machine.entries ≡ 0 ∷ 65536 ∷ []

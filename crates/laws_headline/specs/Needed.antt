@@ -16,8 +16,8 @@ use Rattle.plan_builder.specs.declared.step.PlanStep.{PlanStep}
 use Rattle.plan_builder.specs.declared.step.PlanStep.TheVariants.{Insert, Install}
 use Rattle.stages_loads.specs.Modules.{module_at}
 use Rattle.stages_loads.specs.Tables.{kernel_with}
-use Rattle.command_modprobe.specs.declared.known.Known.{Known}
-use Rattle.command_modprobe.specs.Loaded.{paths_outcome}
+use Rattle.stages_known.specs.declared.known.Known.{Known}
+use Rattle.command_modprobe.specs.Loaded.{inserts_outcome}
 use Rattle.command_modprobe.specs.Planned.{plan_outcome, request_of}
 use Rattle.laws_closed_plans.specs.Loads.{load_all}
 use Rattle.laws_planned_loads.specs.Reading.{indexes_of}
@@ -63,7 +63,7 @@ ListedIsLeftOut = plan_over indexed [] (codes "p" ∷ []) ≡ value (Insert (cod
 abbrev pub CommandIsRefused : Type 0
 CommandIsRefused =
     (plan_over indexed (rules.Install (codes "p") (codes "true") ∷ []) [] ≡ value (Install (codes "p") (codes "true") ∷ Insert (codes "m") (codes "m.ko") [] ∷ []))
-    × (paths_outcome (Install (codes "p") (codes "true") ∷ Insert (codes "m") (codes "m.ko") [] ∷ []) ≡ end (Refused (InstallChosen (codes "p"))))
+    × (inserts_outcome (Install (codes "p") (codes "true") ∷ Insert (codes "m") (codes "m.ko") [] ∷ []) ≡ end (Refused (InstallChosen (codes "p"))))
 
 -- The folder as indexed: a tree in which the module didn't use the other yet. By its index the module is planned alone.
 abbrev pub earlier : IndexedTree

@@ -35,6 +35,18 @@ returns-in-Trial g c =
     (sym (c.in-Some.is ∙ ap Some c.in-Trial.is))
     (c.trial.ensures (g.F.Reads.seen c.args.files.now))
 
+pub returns-in-StaticNodes : goal.returns-in-StaticNodes
+returns-in-StaticNodes g c =
+    subst (λ named. Carries (course_named named c.args.words.now) (world (g.F.Reads.seen c.args.files.now) (g.O.Out.seen c.args.out.now) (g.E.Out.seen c.args.err.now)) (world (g.F.Reads.seen c.static_nodes.new.files) (g.O.Out.seen c.static_nodes.new.out) (g.E.Out.seen c.static_nodes.new.err)) c.static_nodes.result)
+    (sym (c.in-Some.is ∙ ap Some c.in-StaticNodes.is))
+    c.static_nodes.ensures
+
+pub returns-in-BuiltinAlias : goal.returns-in-BuiltinAlias
+returns-in-BuiltinAlias g c =
+    subst (λ named. Carries (course_named named c.args.words.now) (world (g.F.Reads.seen c.args.files.now) (g.O.Out.seen c.args.out.now) (g.E.Out.seen c.args.err.now)) (world (g.F.Reads.seen c.builtin_alias.new.files) (g.O.Out.seen c.builtin_alias.new.out) (g.E.Out.seen c.builtin_alias.new.err)) c.builtin_alias.result)
+    (sym (c.in-Some.is ∙ ap Some c.in-BuiltinAlias.is))
+    c.builtin_alias.ensures
+
 pub returns-in-None : goal.returns-in-None
 returns-in-None g c =
     let old = world (g.F.Reads.seen c.args.files.now) (g.O.Out.seen c.args.out.now) (g.E.Out.seen c.args.err.now) in

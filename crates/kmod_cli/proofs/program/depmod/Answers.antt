@@ -2,6 +2,8 @@ use Rattle.km_course.specs.World.{world}
 use Rattle.km_course.specs.Carries.{Carries}
 use Rattle.km_course.proofs.Carried.{carried}
 use Rattle.command_depmod.specs.Depmod.{depmod_course}
+use Rattle.kmod_cli.specs.Indexes.{Indexes}
+use Rattle.kmod_cli.proofs.ExtraLaw.{extra-law}
 use Rattle.kmod_cli.proofs.IndexesLaw.{indexes-law}
 use Rattle.kmod_cli.proofs.program.depmod.Goals as goal
 
@@ -18,7 +20,9 @@ returns g c =
     )
     c.depmod-outcome.ensures
     c.conclude.ensures in
+    let indexes : Indexes c.args.words.now old new c.conclude.result = indexes-law c.args.words.now old new c.conclude.result carries in
     record {
       carries = carries;
-      indexes = indexes-law c.args.words.now old new c.conclude.result carries;
+      indexes = indexes;
+      extra = extra-law c.args.words.now old new c.conclude.result indexes;
     }

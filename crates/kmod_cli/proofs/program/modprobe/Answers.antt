@@ -4,6 +4,7 @@ use Rattle.km_course.proofs.Carried.{carried}
 use Rattle.command_modprobe.specs.Modprobe.{modprobe_course}
 use Rattle.kmod_cli.proofs.HeadlineLaw.{headline}
 use Rattle.kmod_cli.proofs.PlansLaw.{plans}
+use Rattle.kmod_cli.proofs.TakesBackLaw.{takes-back}
 use Rattle.kmod_cli.proofs.program.modprobe.Goals as goal
 
 pub returns : goal.returns
@@ -23,4 +24,5 @@ returns g c =
       carries = carries;
       headline = headline c.args.words.now old new c.conclude.result carries;
       plans = plans c.args.words.now old new c.conclude.result carries;
+      takes_back = takes-back c.args.words.now old new c.conclude.result carries;
     }

@@ -3,7 +3,8 @@ use Rattle.std.proofs.lemmas.List.{take_rest}
 use Rattle.km_course.specs.World.{world}
 use Rattle.km_course.specs.Carries.{Carries}
 use Rattle.kmod_cli.specs.Program.{command_named, course, course_named}
-use Rattle.kmod_cli.proofs.CommandSteps.{no-words, name-first, depmod-indexes, modprobe-loads, modprobe-plans}
+use Rattle.kmod_cli.proofs.CommandSteps.{no-words, name-first, depmod-extra, depmod-indexes, modprobe-loads, modprobe-plans}
+use Rattle.kmod_cli.proofs.TakesBackLaw.{modprobe-takes_back}
 use Rattle.kmod_cli.proofs.program.run.Goals as goal
 
 pub returns-in-empty : goal.returns-in-empty
@@ -16,8 +17,10 @@ returns-in-empty g c =
     record {
       carries = carries;
       indexes = depmod-indexes words old new c.command.result carries;
+      extra = depmod-extra words old new c.command.result carries;
       headline = modprobe-loads words old new c.command.result carries;
       plans = modprobe-plans words old new c.command.result carries;
+      takes_back = modprobe-takes_back words old new c.command.result carries;
     }
 
 pub returns-in-len1-up : goal.returns-in-len1-up
@@ -35,6 +38,8 @@ returns-in-len1-up g c =
     record {
       carries = carries;
       indexes = depmod-indexes words old new c.command-in-len1-up.result carries;
+      extra = depmod-extra words old new c.command-in-len1-up.result carries;
       headline = modprobe-loads words old new c.command-in-len1-up.result carries;
       plans = modprobe-plans words old new c.command-in-len1-up.result carries;
+      takes_back = modprobe-takes_back words old new c.command-in-len1-up.result carries;
     }
