@@ -62,7 +62,8 @@ fn fields_of_pieces(rt: HostRuntime) -> Result<(), Fail> {
         ),
         // The last piece needs no NUL.
         (b"a.k=v", b"a|k|v\n"),
-        // The module is what stands before the first `.`, the key what stands from there to the first `=`.
+        // The module is what stands before the first `.`, the key what stands from there to the
+        // first `=`.
         (b"a.b.c=v", b"a|b.c|v\n"),
         (b"a.k=v.w=x\0", b"a|k|v.w=x\n"),
         (b"a.=\0", b"a||\n"),

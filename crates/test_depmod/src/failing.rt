@@ -108,7 +108,8 @@ static WRITTEN: [&str; 5] = [
     "kernel/a.ko:\nkernel/b.ko: kernel/a.ko\n# Aliases extracted from modules themselves.\n# Soft dependencies extracted from modules themselves.\n# Aliases for symbols, used by symbol_request().\nalias symbol:fa a\n",
 ];
 
-/// Makes each write to the output fail in turn with `-n`, until a run has none of that number: no file is replaced.
+/// Makes each write to the output fail in turn with `-n`, until a run has none of that number: no
+/// file is replaced.
 fn expect_writes(rt: &impl Abort, alloc: Global) -> Result<(), Fail> {
     for (number, out) in (0u8..).zip(WRITTEN) {
         let is_last = number == 4;

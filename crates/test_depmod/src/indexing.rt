@@ -226,7 +226,8 @@ static FURTHER: [IndexRow<'static>; 11] = [
         index: Index::WeakNeed,
         ..DONE
     },
-    // A version of a symbol with a long name, in the extended form: one that agrees, and one that doesn't.
+    // A version of a symbol with a long name, in the extended form: one that agrees, and one that
+    // doesn't.
     IndexRow {
         name: "a long name has a version",
         modules: &[
@@ -269,7 +270,8 @@ static REFUSALS: [IndexRow<'static>; 9] = [
         err: "kmod: cycle a -> b -> c -> a\n",
         ..REFUSED
     },
-    // The first bad module in the order of the tree is named by its path there, and no file is replaced.
+    // The first bad module in the order of the tree is named by its path there, and no file is
+    // replaced.
     IndexRow {
         name: "a bad module is named",
         modules: &[

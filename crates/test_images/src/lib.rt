@@ -1,4 +1,5 @@
-//! Tests of bytes that are made: images and the words of relocations in them, objects of sheets, and the made tree of a trial.
+//! Tests of bytes that are made: images and the words of relocations in them, objects of sheets,
+//! and the made tree of a trial.
 //!
 //! It builds on `raw_image`, `x86_relocate` and `tree_gen`.
 #![tactic(auto)]

@@ -52,7 +52,8 @@ static TEXT_ALONE: [(usize, &[u8]); 35] = [
     (744, b"\x01"),
 ];
 
-/// What is not 0 in the object of a text, a version, an export with its version, a weak need and a place.
+/// What is not 0 in the object of a text, a version, an export with its version, a weak need and a
+/// place.
 static ONE_OF_EACH: [(usize, &[u8]); 46] = [
     (0, b"\x7fELF\x02\x01\x01"),
     (16, b"\x01\0>\0\x01"),
@@ -283,8 +284,8 @@ const THREE_MORE: MoreRow = MoreRow {
     ],
 };
 
-/// What more of it can't be: a GPL-only name that isn't exported, a namespace that is empty, one with a NUL, and a version of
-/// more than 32 bits.
+/// What more of it can't be: a GPL-only name that isn't exported, a namespace that is empty, one
+/// with a NUL, and a version of more than 32 bits.
 static NO_MORE_OF_THREE: [MoreRow; 4] = [
     MoreRow {
         gpl: &[b"printk"],

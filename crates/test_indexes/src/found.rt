@@ -85,7 +85,8 @@ const INSTALL: &[u8] = b"install symbol:f /bin/true";
 /// Rules that blacklist.
 const BLACKLIST: &[u8] = b"blacklist own\nblacklist symbol:f";
 
-/// A name, rules, whether each index has it, whether the blacklist counts for all lists, and what is found.
+/// A name, rules, whether each index has it, whether the blacklist counts for all lists, and what
+/// is found.
 type FoundRow = (
     &'static [u8],
     &'static [u8],

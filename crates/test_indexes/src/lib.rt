@@ -1,4 +1,5 @@
-//! Tests of indexes: patterns, the nodes of a file, lookups in it, the file of a map, and what a name stands for.
+//! Tests of indexes: patterns, the nodes of a file, lookups in it, the file of a map, and what a
+//! name stands for.
 //!
 //! It builds on the crates of these, and on `test_objects` for bytes in hexadecimal digits, and for
 //! keys and texts.

@@ -1,4 +1,5 @@
-// What no clause says: with ample memory files are adopted and read, and the faults have their texts.
+// What no clause says: with ample memory files are adopted and read, and the faults have their
+// texts.
 ghost use Rattle.std.specs.Prelude.{◌≡◌, ◌<◌};
 
 use index_nodes::{IndexFault, Node, Nodes, Steps};

@@ -20,8 +20,8 @@ fn file_of(rt: &impl Abort, alloc: Global, values: &[(&str, u32, &str)]) -> Resu
     Ok(encode(alloc, &map)?)
 }
 
-/// A name, values with their keys and priorities, and the file: its start, so many absent children of four zero bytes each,
-/// and its end.
+/// A name, values with their keys and priorities, and the file: its start, so many absent children
+/// of four zero bytes each, and its end.
 type FileRow = (
     &'static str,
     &'static [(&'static str, u32, &'static str)],

@@ -111,8 +111,8 @@ static REFUSED: [(&[u8], &str); 5] = [
     ),
 ];
 
-/// Runs a row over a kernel of the version 6.1.0 below `/r` with this modules.dep.bin, and its module `a`, while something
-/// fails.
+/// Runs a row over a kernel of the version 6.1.0 below `/r` with this modules.dep.bin, and its
+/// module `a`, while something fails.
 fn expect_shown(
     rt: &impl Abort,
     alloc: Global,

@@ -23,7 +23,8 @@ const A_LOADED: &str =
 const BOTH_LOADED: &str =
     "insmod /r/lib/modules/6.1.0/kernel/a.ko\ninsmod /r/lib/modules/6.1.0/kernel/b.ko\nloaded a ffffffffc0000000 8192 c6c95917cef2d89bf138a45b46ef4155f44b4dba3fdef5bd3e0dd145c1741227\nloaded b ffffffffc0002000 4096 0a0ae56ba2cd70c076737e2ae47ebdd9a5154c842c849bb19266dcee8398c17b\n";
 
-/// A call on files of such a load: its kind and path, what was written before, and how many images were put.
+/// A call on files of such a load: its kind and path, what was written before, and how many images
+/// were put.
 type CallRow = (CallKind, &'static str, &'static str, usize);
 
 /// These calls in their order.
@@ -82,7 +83,8 @@ static CALLS: [CallRow; 17] = [
     (CallKind::Replace, "/r/img/b.img", A_LOADED, 1),
 ];
 
-/// Runs the load while something fails, and compares what it answers and writes, and the first images.
+/// Runs the load while something fails, and compares what it answers and writes, and the first
+/// images.
 fn expect_load(
     rt: &impl Abort,
     alloc: Global,
@@ -139,7 +141,8 @@ fn expect_call(
     Ok(true)
 }
 
-/// Makes each call of a kind fail in turn, until a run has none of that number and is done. Some were depmod's.
+/// Makes each call of a kind fail in turn, until a run has none of that number and is done. Some
+/// were depmod's.
 fn expect_kind(rt: &impl Abort, alloc: Global, kind: CallKind, first: u8) -> Result<(), Fail> {
     for number in 0..30 {
         if !expect_call(rt, alloc, kind, (first, number))? {
@@ -149,8 +152,8 @@ fn expect_kind(rt: &impl Abort, alloc: Global, kind: CallKind, first: u8) -> Res
     Err("each run met a fault".into())
 }
 
-/// What was written before each write to the output, the line on err, and how many images were put. The last run has no
-/// such write.
+/// What was written before each write to the output, the line on err, and how many images were put.
+/// The last run has no such write.
 static WRITES: [(&str, &str, usize); 4] = [
     ("", "kmod: output fault\n", 0),
     (PLANNED, "kmod: output fault\n", 1),

@@ -101,7 +101,8 @@ static TREES: [IndexedRow<'static>; 6] = [
         ],
         ..INDEXED
     },
-    // A weak need that a module provides: the provider is loaded first, and the word has its address.
+    // A weak need that a module provides: the provider is loaded first, and the word has its
+    // address.
     IndexedRow {
         name: "a weak need with a provider is bound",
         modules: &[
@@ -117,7 +118,8 @@ static TREES: [IndexedRow<'static>; 6] = [
         )],
         ..INDEXED
     },
-    // A weak need of a GPL-only export, by a module without a free license: both are loaded, and the word has no address.
+    // A weak need of a GPL-only export, by a module without a free license: both are loaded, and
+    // the word has no address.
     IndexedRow {
         name: "a weak need that isn't seen is loaded",
         modules: &[
@@ -143,11 +145,13 @@ const FILE_SYSTEM_LOAD: RowOf<'static> = (
     "",
 );
 
-/// The words of `ext4`: the addresses of what two helpers export, and the way to one of the kernel's.
+/// The words of `ext4`: the addresses of what two helpers export, and the way to one of the
+/// kernel's.
 const EXT4_WORDS: &[u8] =
     b"\x00\x20\x00\xc0\xff\xff\xff\xff\x00\x00\x00\xc0\xff\xff\xff\xff\xec\xbf\xff\xc0";
 
-/// Loads a file system with two helpers, over a kernel of 40 names, and compares both images byte for byte.
+/// Loads a file system with two helpers, over a kernel of 40 names, and compares both images byte
+/// for byte.
 fn expect_file_system(rt: &impl Abort, alloc: Global) -> Result<(), Fail> {
     let jbd2 = image(alloc, 8192, &[(4096, b"\x40\x00\x00\x81\xff\xff\xff\xff")])?;
     let ext4 = image(alloc, 4096, &[(0, EXT4_WORDS)])?;

@@ -35,7 +35,8 @@ static TREES: [IndexedRow<'static>; 3] = [
         ],
         ..INDEXED
     },
-    // A blacklisted module is left out of those of an alias, and of all only where that is asked for.
+    // A blacklisted module is left out of those of an alias, and of all only where that is asked
+    // for.
     IndexedRow {
         name: "a blacklisted module",
         modules: &[

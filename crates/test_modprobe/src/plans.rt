@@ -177,7 +177,8 @@ static TREES: [IndexedRow<'static>; 11] = [
         ],
         ..INDEXED
     },
-    // Soft dependencies come before and after their module; those that are found nowhere are passed over.
+    // Soft dependencies come before and after their module; those that are found nowhere are passed
+    // over.
     IndexedRow {
         name: "soft dependencies are planned",
         modules: &[
@@ -235,7 +236,8 @@ static TREES: [IndexedRow<'static>; 11] = [
         ],
         ..INDEXED
     },
-    // A GPL-only export isn't seen by a module without a free license, which isn't planned; one with such a license is.
+    // A GPL-only export isn't seen by a module without a free license, which isn't planned; one
+    // with such a license is.
     IndexedRow {
         name: "a GPL-only export is in the way",
         modules: &[

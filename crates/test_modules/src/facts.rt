@@ -211,8 +211,8 @@ const LONG_READ: FactsRow = FactsRow {
     ..NO_FACTS
 };
 
-/// Modules with extended versions: a name of 60 bytes has a version on both sides, which may be another one; extended versions
-/// hide the entries.
+/// Modules with extended versions: a name of 60 bytes has a version on both sides, which may be
+/// another one; extended versions hide the entries.
 static EXTENDED: [FactsRow; 3] = [
     LONG_READ,
     FactsRow {
@@ -325,7 +325,8 @@ static EXPORTED: [FactsRow; 1] = [FactsRow {
     ..NO_FACTS
 }];
 
-/// Texts, and whether a module with them is free: the first license decides, and without one a module isn't.
+/// Texts, and whether a module with them is free: the first license decides, and without one a
+/// module isn't.
 static LICENSES: [(&[&[u8]], bool); 12] = [
     (&[], false),
     (&[b"license=GPL"], true),

@@ -149,7 +149,8 @@ fn expect_load(
     Ok(())
 }
 
-/// Loads the modules of the rows in turn into a machine with so many bytes for modules. Each load answers as its row says.
+/// Loads the modules of the rows in turn into a machine with so many bytes for modules. Each load
+/// answers as its row says.
 pub(crate) fn expect_loads(
     rt: &impl Abort,
     alloc: Global,

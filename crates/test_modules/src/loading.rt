@@ -11,7 +11,8 @@ use test_objects::{
 
 /// Loads in turn into a machine with so many bytes for modules.
 static LOADS: [(u64, &[LoadRow]); 10] = [
-    // Two modules load one after the other, with their sizes, bases and words; neither before what it needs, nor twice.
+    // Two modules load one after the other, with their sizes, bases and words; neither before what
+    // it needs, nor twice.
     (
         0x3000,
         &[

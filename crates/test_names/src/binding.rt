@@ -21,7 +21,8 @@ static SEEN: [(bool, bool, bool); 4] = [
     (false, true, false),
 ];
 
-/// Namespaces, and whether a module that imports two may use their exports, and one that imports none.
+/// Namespaces, and whether a module that imports two may use their exports, and one that imports
+/// none.
 static SPACES: [(&[u8], bool, bool); 3] = [
     (b"", true, true),
     (b"NS", true, false),

@@ -58,7 +58,8 @@ fn text_of(alloc: Global, rules: &Rules) -> Result<Vec<u8>, AllocError> {
     Ok(text)
 }
 
-/// The texts of two files, and the name of the file and the number of the first line that isn't understood.
+/// The texts of two files, and the name of the file and the number of the first line that isn't
+/// understood.
 static BAD_LINES: [(&[u8], &[u8], u8, u32); 10] = [
     (b"options x", b"", b'0', 1),
     (b"options x y", b"blacklist", b'1', 1),

@@ -126,6 +126,67 @@ fn types_have_their_edges(rt: HostRuntime) -> Result<(), Fail> {
     )
 }
 
+/// Checks the forms of numbers: signs, prefixes and leading zeros, and what comes closest to them.
+#[test]
+fn numbers_have_their_forms(rt: HostRuntime) -> Result<(), Fail> {
+    expect_answers(
+        &rt,
+        rt.alloc(),
+        &[
+            (b"f", b"short"),
+            (b"g", b"int"),
+            (b"h", b"long"),
+            (b"d", b"ulong"),
+        ],
+        &[
+            (
+                b"f=32767 g=2147483647 h=9223372036854775807 d=0xffffffffffffffff".as_slice(),
+                Written(
+                    4,
+                    b"\xff\x7f\0\0\0\0\0\0\xff\xff\xff\x7f\0\0\0\0\xff\xff\xff\xff\xff\xff\xff\x7f\xff\xff\xff\xff\xff\xff\xff\xff",
+                ),
+            ),
+            (b"f=-0x8000", Written(1, b"\0\x80\0")),
+            (b"f=-0100000", Written(1, b"\0\x80\0")),
+            (b"f=-1 f=-0", Written(1, b"\0\0\0")),
+            (b"f=+0", Written(1, b"\0")),
+            (b"f=+0x7fff", Written(1, b"\xff\x7f\0")),
+            (b"f=0XaB", Written(1, b"\xab\0\0")),
+            (b"f=00000000000000000000000000000017", Written(1, b"\x0f\0")),
+            (
+                b"f=0x00000000000000000000000000000017",
+                Written(1, b"\x17\0"),
+            ),
+            (b"f=010 f=10", Written(1, b"\x0a\0")),
+            (b"f=010", Written(1, b"\x08\0")),
+            (b"f=08", Refused(b"bad value of f")),
+            (b"f=0779", Refused(b"bad value of f")),
+            (b"f=1a", Refused(b"bad value of f")),
+            (b"f=0xg", Refused(b"bad value of f")),
+            (b"f=0x-1", Refused(b"bad value of f")),
+            (b"f=x1", Refused(b"bad value of f")),
+            (b"f=+", Refused(b"bad value of f")),
+            (b"f=-", Refused(b"bad value of f")),
+            (b"f=--1", Refused(b"bad value of f")),
+            (b"f=++1", Refused(b"bad value of f")),
+            (b"f=", Refused(b"bad value of f")),
+            (b"f=1\n", Refused(b"bad value of f")),
+            (b"f=-0x8001", Refused(b"bad value of f")),
+            (b"d=-0", Refused(b"bad value of d")),
+            (b"d=99999999999999999999", Refused(b"bad value of d")),
+            (b"d=0x10000000000000000", Refused(b"bad value of d")),
+            (
+                b"d=10000000000000000000",
+                Written(
+                    1,
+                    b"\0\0\0\0\0\0\0\0\0\0\0\0\0\0\0\0\0\0\0\0\0\0\0\0\0\0\xe8\x89\x04\x23\xc7\x8a",
+                ),
+            ),
+            (b"h=99999999999999999999", Refused(b"bad value of h")),
+        ],
+    )
+}
+
 /// Checks truth values.
 #[test]
 fn truth_is_read(rt: HostRuntime) -> Result<(), Fail> {
@@ -136,6 +197,17 @@ fn truth_is_read(rt: HostRuntime) -> Result<(), Fail> {
         &[
             (b"raw".as_slice(), Written(1, b"\x01\0")),
             (b"raw=yes", Written(1, b"\x01")),
+            (b"raw=Y", Written(1, b"\x01")),
+            (b"raw=1", Written(1, b"\x01")),
+            (b"raw=10", Written(1, b"\x01")),
+            (b"raw=on", Written(1, b"\x01")),
+            (b"raw=oNe", Written(1, b"\x01")),
+            (b"raw raw=0", Written(1, b"\0")),
+            (b"raw raw=no", Written(1, b"\0")),
+            (b"raw raw=Off", Written(1, b"\0")),
+            (b"raw=2", Refused(b"bad value of raw")),
+            (b"raw=-1", Refused(b"bad value of raw")),
+            (b"raw=true", Refused(b"bad value of raw")),
             (b"raw=ON", Written(1, b"\x01")),
             (b"raw=raw raw=oF", Refused(b"bad value of raw")),
             (b"raw raw=oF", Written(1, b"\0")),

@@ -1,4 +1,5 @@
-//! Tests of what is read of one module: the parts of an object, its fields, its facts, and what is shown of it.
+//! Tests of what is read of one module: the parts of an object, its fields, its facts, and what is
+//! shown of it.
 //!
 //! It builds on `elf_object`, `modinfo_fields`, `module_facts` and `modinfo_tool`, and on
 //! `test_objects` for an object.

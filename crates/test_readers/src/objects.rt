@@ -1,4 +1,5 @@
-// The readers over bytes that were written by hand, with one change or more, and the texts of faults.
+// The readers over bytes that were written by hand, with one change or more, and the texts of
+// faults.
 
 ghost use Rattle.std.specs.Prelude.{◌≡◌, length, IfOk};
 
@@ -9,8 +10,8 @@ use std::process::Abort;
 use std::test::Fail;
 use test_objects::LICENSE_OBJECT;
 
-/// A file with code, two relocations of it, and the symbols `f`, defined, and `g`, weak and undefined.
-/// Symbol 0 has a name outside of the string table.
+/// A file with code, two relocations of it, and the symbols `f`, defined, and `g`, weak and
+/// undefined. Symbol 0 has a name outside of the string table.
 static CODE: [u8; 640] = [
     0x7f, 0x45, 0x4c, 0x46, 0x02, 0x01, 0x01, 0x00, 0x00, 0x00, 0x00, 0x00, 0x00, 0x00, 0x00, 0x00,
     0x01, 0x00, 0x3e, 0x00, 0x01, 0x00, 0x00, 0x00, 0x00, 0x00, 0x00, 0x00, 0x00, 0x00, 0x00, 0x00,

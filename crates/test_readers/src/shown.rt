@@ -18,7 +18,8 @@ const ODD_PARAMETERS: &[u8] =
 const LONG_KEYS: &[u8] =
     b"license=GPL\0\0\0lone\0author=A\0import_namespace=N\0a23456789012345=v\0filename=f\0";
 
-/// A module's path and section, the key that is asked for if any, whether NULs end the lines, and what is shown.
+/// A module's path and section, the key that is asked for if any, whether NULs end the lines, and
+/// what is shown.
 static SHOWN: [(&[u8], &[u8], Option<&[u8]>, bool, &[u8]); 12] = [
     (
         b"/m/a.ko",

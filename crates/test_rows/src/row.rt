@@ -10,7 +10,8 @@ pub type RowOf<'a> = (&'a str, u8, &'a str, &'a str);
 pub type Row = RowOf<'static>;
 
 /// The line of words that aren't understood.
-pub const USAGE: &str = "kmod: usage: kmod depmod|modprobe|modinfo|trial WORDS\n";
+pub const USAGE: &str =
+    "kmod: usage: kmod depmod|modprobe|modinfo|trial|static-nodes|builtin-alias WORDS\n";
 
 /// Returns what a row is to result in: its status, and what is written to the output and to err.
 pub fn wanted(row: RowOf<'_>) -> (u8, &[u8], &[u8]) {

@@ -1,36 +1,44 @@
 use km_names::Word;
-use kmod_words::{read_depmod, read_modinfo, read_modprobe, read_trial};
+use kmod_words::{
+    read_builtin_alias, read_depmod, read_modinfo, read_modprobe, read_static_nodes, read_trial,
+};
 use std::alloc::{AllocError, Global};
 use std::fmt::Debug;
 use std::process::Abort;
 use std::test::Fail;
 
 /// Words after `depmod`, and what they ask for.
-static DEPMOD: [(&str, &str); 5] = [
+static DEPMOD: [(&str, &str); 6] = [
     (
         "6.1.0",
-        r#"DepmodWords { dry_run: false, errsyms: false, basedir: "/", outdir: "/", config: None, filesyms: None, symvers: None, version: "6.1.0" }"#,
+        r#"DepmodWords { dry_run: false, errsyms: false, extra: false, basedir: "/", outdir: "/", config: None, filesyms: None, symvers: None, version: "6.1.0" }"#,
     ),
     (
         "-b /r -E /r/Module.symvers 6.1.0",
-        r#"DepmodWords { dry_run: false, errsyms: false, basedir: "/r", outdir: "/r", config: None, filesyms: None, symvers: Some("/r/Module.symvers"), version: "6.1.0" }"#,
+        r#"DepmodWords { dry_run: false, errsyms: false, extra: false, basedir: "/r", outdir: "/r", config: None, filesyms: None, symvers: Some("/r/Module.symvers"), version: "6.1.0" }"#,
     ),
     (
         "-aneb/r 6.1.0 -o /out -C=/c.conf",
-        r#"DepmodWords { dry_run: true, errsyms: true, basedir: "/r", outdir: "/out", config: Some("/c.conf"), filesyms: None, symvers: None, version: "6.1.0" }"#,
+        r#"DepmodWords { dry_run: true, errsyms: true, extra: false, basedir: "/r", outdir: "/out", config: Some("/c.conf"), filesyms: None, symvers: None, version: "6.1.0" }"#,
     ),
     (
         "--all --dry-run --errsyms --basedir=/r --filesyms m 6.1.0",
-        r#"DepmodWords { dry_run: true, errsyms: true, basedir: "/r", outdir: "/r", config: None, filesyms: Some("m"), symvers: None, version: "6.1.0" }"#,
+        r#"DepmodWords { dry_run: true, errsyms: true, extra: false, basedir: "/r", outdir: "/r", config: None, filesyms: Some("m"), symvers: None, version: "6.1.0" }"#,
     ),
     (
         "--outdir - --config d --symvers s -- -6",
-        r#"DepmodWords { dry_run: false, errsyms: false, basedir: "/", outdir: "-", config: Some("d"), filesyms: None, symvers: Some("s"), version: "-6" }"#,
+        r#"DepmodWords { dry_run: false, errsyms: false, extra: false, basedir: "/", outdir: "-", config: Some("d"), filesyms: None, symvers: Some("s"), version: "-6" }"#,
+    ),
+    (
+        "--extra -n 6.1.0",
+        r#"DepmodWords { dry_run: true, errsyms: false, extra: true, basedir: "/", outdir: "/", config: None, filesyms: None, symvers: None, version: "6.1.0" }"#,
     ),
 ];
 
 /// Words after `depmod` that aren't understood. `''` is an empty word.
-static NO_DEPMOD: [&str; 17] = [
+static NO_DEPMOD: [&str; 19] = [
+    "--extra --extra 6.1.0",
+    "--extra=yes 6.1.0",
     "",
     "-n",
     "-F x -E y 6.1.0",
@@ -51,47 +59,63 @@ static NO_DEPMOD: [&str; 17] = [
 ];
 
 /// Words after `modprobe`, and what they ask for.
-static MODPROBE: [(&str, &str); 9] = [
+static MODPROBE: [(&str, &str); 13] = [
     (
         "-n b -S 6.1.0",
-        r#"ModprobeWords { mode: DryRun, all: false, use_blacklist: false, ignore_install: false, dirname: "/", version: "6.1.0", config: None, loaded: None, system_map: None, symvers: None, region_base: 18446744072635809792, region_size: 1056964608, image: None, words: List { elements: ["b"] } }"#,
+        r#"ModprobeWords { mode: DryRun, all: false, use_blacklist: false, ignore_install: false, dirname: "/", version: "6.1.0", config: None, loaded: None, system_map: None, symvers: None, region_base: 18446744072635809792, region_size: 1056964608, image: None, params: false, words: List { elements: ["b"] } }"#,
     ),
     (
         "-d /r -S 6.1.0 -D -i a",
-        r#"ModprobeWords { mode: ShowDepends, all: false, use_blacklist: false, ignore_install: true, dirname: "/r", version: "6.1.0", config: None, loaded: None, system_map: None, symvers: None, region_base: 18446744072635809792, region_size: 1056964608, image: None, words: List { elements: ["a"] } }"#,
+        r#"ModprobeWords { mode: ShowDepends, all: false, use_blacklist: false, ignore_install: true, dirname: "/r", version: "6.1.0", config: None, loaded: None, system_map: None, symvers: None, region_base: 18446744072635809792, region_size: 1056964608, image: None, params: false, words: List { elements: ["a"] } }"#,
     ),
     (
         "-R -b -S6.1.0 symbol:fa",
-        r#"ModprobeWords { mode: ResolveAlias, all: false, use_blacklist: true, ignore_install: false, dirname: "/", version: "6.1.0", config: None, loaded: None, system_map: None, symvers: None, region_base: 18446744072635809792, region_size: 1056964608, image: None, words: List { elements: ["symbol:fa"] } }"#,
+        r#"ModprobeWords { mode: ResolveAlias, all: false, use_blacklist: true, ignore_install: false, dirname: "/", version: "6.1.0", config: None, loaded: None, system_map: None, symvers: None, region_base: 18446744072635809792, region_size: 1056964608, image: None, params: false, words: List { elements: ["symbol:fa"] } }"#,
     ),
     (
         "-S 6.1.0 --system-map m b depth=3",
-        r#"ModprobeWords { mode: Load, all: false, use_blacklist: false, ignore_install: false, dirname: "/", version: "6.1.0", config: None, loaded: None, system_map: Some("m"), symvers: None, region_base: 18446744072635809792, region_size: 1056964608, image: None, words: List { elements: ["b", "depth=3"] } }"#,
+        r#"ModprobeWords { mode: Load, all: false, use_blacklist: false, ignore_install: false, dirname: "/", version: "6.1.0", config: None, loaded: None, system_map: Some("m"), symvers: None, region_base: 18446744072635809792, region_size: 1056964608, image: None, params: false, words: List { elements: ["b", "depth=3"] } }"#,
     ),
     (
         "-abin -S=6.1.0 b c",
-        r#"ModprobeWords { mode: DryRun, all: true, use_blacklist: true, ignore_install: true, dirname: "/", version: "6.1.0", config: None, loaded: None, system_map: None, symvers: None, region_base: 18446744072635809792, region_size: 1056964608, image: None, words: List { elements: ["b", "c"] } }"#,
+        r#"ModprobeWords { mode: DryRun, all: true, use_blacklist: true, ignore_install: true, dirname: "/", version: "6.1.0", config: None, loaded: None, system_map: None, symvers: None, region_base: 18446744072635809792, region_size: 1056964608, image: None, params: false, words: List { elements: ["b", "c"] } }"#,
     ),
     (
         "--all --use-blacklist --ignore-install --show-depends --dirname=/r --set-version=6.1.0 --config=c --loaded=l --symvers=s --image=i b",
-        r#"ModprobeWords { mode: ShowDepends, all: true, use_blacklist: true, ignore_install: true, dirname: "/r", version: "6.1.0", config: Some("c"), loaded: Some("l"), system_map: None, symvers: Some("s"), region_base: 18446744072635809792, region_size: 1056964608, image: Some("i"), words: List { elements: ["b"] } }"#,
+        r#"ModprobeWords { mode: ShowDepends, all: true, use_blacklist: true, ignore_install: true, dirname: "/r", version: "6.1.0", config: Some("c"), loaded: Some("l"), system_map: None, symvers: Some("s"), region_base: 18446744072635809792, region_size: 1056964608, image: Some("i"), params: false, words: List { elements: ["b"] } }"#,
     ),
     (
         "-d /r -S 6.1.0 --system-map /r/System.map --symvers /r/Module.symvers --region 0xffffffffc0000000:0x3000 b",
-        r#"ModprobeWords { mode: Load, all: false, use_blacklist: false, ignore_install: false, dirname: "/r", version: "6.1.0", config: None, loaded: None, system_map: Some("/r/System.map"), symvers: Some("/r/Module.symvers"), region_base: 18446744072635809792, region_size: 12288, image: None, words: List { elements: ["b"] } }"#,
+        r#"ModprobeWords { mode: Load, all: false, use_blacklist: false, ignore_install: false, dirname: "/r", version: "6.1.0", config: None, loaded: None, system_map: Some("/r/System.map"), symvers: Some("/r/Module.symvers"), region_base: 18446744072635809792, region_size: 12288, image: None, params: false, words: List { elements: ["b"] } }"#,
     ),
     (
         "-n -S 6.1.0 --region=0xFFFFFFFFFFFFF000:0x1000 b",
-        r#"ModprobeWords { mode: DryRun, all: false, use_blacklist: false, ignore_install: false, dirname: "/", version: "6.1.0", config: None, loaded: None, system_map: None, symvers: None, region_base: 18446744073709547520, region_size: 4096, image: None, words: List { elements: ["b"] } }"#,
+        r#"ModprobeWords { mode: DryRun, all: false, use_blacklist: false, ignore_install: false, dirname: "/", version: "6.1.0", config: None, loaded: None, system_map: None, symvers: None, region_base: 18446744073709547520, region_size: 4096, image: None, params: false, words: List { elements: ["b"] } }"#,
     ),
     (
         "--dry-run -S 6.1.0 --region 0x0:0x0000000000001000 -- -r -C",
-        r#"ModprobeWords { mode: DryRun, all: false, use_blacklist: false, ignore_install: false, dirname: "/", version: "6.1.0", config: None, loaded: None, system_map: None, symvers: None, region_base: 0, region_size: 4096, image: None, words: List { elements: ["-r", "-C"] } }"#,
+        r#"ModprobeWords { mode: DryRun, all: false, use_blacklist: false, ignore_install: false, dirname: "/", version: "6.1.0", config: None, loaded: None, system_map: None, symvers: None, region_base: 0, region_size: 4096, image: None, params: false, words: List { elements: ["-r", "-C"] } }"#,
+    ),
+    (
+        "-S 6.1.0 --system-map m --params p depth=3 raw",
+        r#"ModprobeWords { mode: Load, all: false, use_blacklist: false, ignore_install: false, dirname: "/", version: "6.1.0", config: None, loaded: None, system_map: Some("m"), symvers: None, region_base: 18446744072635809792, region_size: 1056964608, image: None, params: true, words: List { elements: ["p", "depth=3", "raw"] } }"#,
+    ),
+    (
+        "--params -S 6.1.0 --system-map m --image /i p",
+        r#"ModprobeWords { mode: Load, all: false, use_blacklist: false, ignore_install: false, dirname: "/", version: "6.1.0", config: None, loaded: None, system_map: Some("m"), symvers: None, region_base: 18446744072635809792, region_size: 1056964608, image: Some("/i"), params: true, words: List { elements: ["p"] } }"#,
+    ),
+    (
+        "-r -S 6.1.0 --system-map m --loaded /l a b",
+        r#"ModprobeWords { mode: Remove { dry_run: false }, all: false, use_blacklist: false, ignore_install: false, dirname: "/", version: "6.1.0", config: None, loaded: Some("/l"), system_map: Some("m"), symvers: None, region_base: 18446744072635809792, region_size: 1056964608, image: None, params: false, words: List { elements: ["a", "b"] } }"#,
+    ),
+    (
+        "--remove -abin -d /r --symvers s --region 0x0:0x1000 -S 6.1.0 --system-map m b",
+        r#"ModprobeWords { mode: Remove { dry_run: true }, all: true, use_blacklist: true, ignore_install: true, dirname: "/r", version: "6.1.0", config: None, loaded: None, system_map: Some("m"), symvers: Some("s"), region_base: 0, region_size: 4096, image: None, params: false, words: List { elements: ["b"] } }"#,
     ),
 ];
 
 /// Words after `modprobe` that aren't understood. `''` is an empty word.
-static NO_MODPROBE: [&str; 27] = [
+static NO_MODPROBE: [&str; 37] = [
     "-S 6.1.0 b",
     "-n b",
     "-n -S 6.1.0",
@@ -99,7 +123,17 @@ static NO_MODPROBE: [&str; 27] = [
     "-R -n -S 6.1.0 b",
     "-n -S 6/1 b",
     "-r -S 6.1.0 b",
+    "-r -S 6.1.0 --system-map m",
+    "-r -r -S 6.1.0 --system-map m b",
+    "-r -n -S 6.1.0 b",
+    "-r -D -S 6.1.0 --system-map m b",
+    "-r -R -S 6.1.0 --system-map m b",
+    "-r --image /i -S 6.1.0 --system-map m b",
+    "-r --params -S 6.1.0 --system-map m b",
     "--params -n -S 6.1.0 b",
+    "--params -D -S 6.1.0 --system-map m b",
+    "--params -R -S 6.1.0 --system-map m b",
+    "--params --params -S 6.1.0 --system-map m b",
     "--extra x -n -S 6.1.0 b",
     "-n -S 6.1.0 --region 0x1000 b",
     "-n -S 6.1.0 --region 0x1000:0x0 b",
@@ -205,6 +239,53 @@ static NO_MODINFO: [&str; 20] = [
     "-k '' a",
 ];
 
+/// Words after `builtin-alias`, and what they ask for.
+static BUILTIN_ALIAS: [(&str, &str); 2] = [
+    (
+        "-d /r -S 6.1.0 tty-x",
+        r#"BuiltinAliasWords { dirname: "/r", version: "6.1.0", name: "tty-x" }"#,
+    ),
+    (
+        "usb -S=6.1.0",
+        r#"BuiltinAliasWords { dirname: "/", version: "6.1.0", name: "usb" }"#,
+    ),
+];
+
+/// Words after `builtin-alias` that aren't understood. `''` is an empty word.
+static NO_BUILTIN_ALIAS: [&str; 8] = [
+    "--set-version=6.1.0 usb",
+    "",
+    "-S 6.1.0",
+    "tty-x",
+    "-S 6.1.0 a b",
+    "-S 6/1 a",
+    "-S 6.1.0 ''",
+    "-b /r -S 6.1.0 a",
+];
+
+/// Words after `static-nodes`, and what they ask for.
+static STATIC_NODES: [(&str, &str); 2] = [
+    (
+        "-d /r -S 6.1.0 --format devname",
+        r#"StaticNodesWords { dirname: "/r", version: "6.1.0" }"#,
+    ),
+    (
+        "-fdevname -S=6.1.0",
+        r#"StaticNodesWords { dirname: "/", version: "6.1.0" }"#,
+    ),
+];
+
+/// Words after `static-nodes` that aren't understood. `''` is an empty word.
+static NO_STATIC_NODES: [&str; 7] = [
+    "",
+    "-S 6.1.0",
+    "-f devname",
+    "-S 6.1.0 -f human",
+    "-S 6.1.0 -f tmpfiles",
+    "-S 6.1.0 -f devname a",
+    "-S 6/1 -f devname",
+];
+
 /// Words after `trial`, and what they ask for.
 static TRIAL: [(&str, &str); 4] = [
     ("1 2", "TrialWords { seed: 1, count: 2 }"),
@@ -253,6 +334,8 @@ enum Command {
     Modprobe,
     Modinfo,
     Trial,
+    BuiltinAlias,
+    StaticNodes,
 }
 
 /// Returns what words ask for as it is shown, if they are understood. It promises nothing, so that
@@ -265,6 +348,8 @@ fn asked(alloc: Global, command: Command, line: &str) -> Result<Option<String>, 
         Command::Modprobe => shown(alloc, &read_modprobe(alloc, words)?),
         Command::Modinfo => shown(alloc, &read_modinfo(alloc, words)?),
         Command::Trial => shown(alloc, &read_trial(alloc, words)?),
+        Command::BuiltinAlias => shown(alloc, &read_builtin_alias(alloc, words)?),
+        Command::StaticNodes => shown(alloc, &read_static_nodes(alloc, words)?),
     }
 }
 
@@ -286,7 +371,7 @@ fn expect_words(
 ) -> Result<(), Fail> {
     for (line, want) in understood {
         let got = asked(alloc, command, line)?.ok_or("not understood")?;
-        assert_eq!(rt; got.as_str(), *want);
+        assert_eq!(rt; got.as_str(), *want, "{line}");
     }
     for line in refused {
         assert!(rt; asked(alloc, command, line)?.is_none(), "{line}");
@@ -300,5 +385,19 @@ fn words_of_each_command(rt: HostRuntime) -> Result<(), Fail> {
     expect_words(&rt, alloc, Command::Depmod, &DEPMOD, &NO_DEPMOD)?;
     expect_words(&rt, alloc, Command::Modprobe, &MODPROBE, &NO_MODPROBE)?;
     expect_words(&rt, alloc, Command::Modinfo, &MODINFO, &NO_MODINFO)?;
-    expect_words(&rt, alloc, Command::Trial, &TRIAL, &NO_TRIAL)
+    expect_words(&rt, alloc, Command::Trial, &TRIAL, &NO_TRIAL)?;
+    expect_words(
+        &rt,
+        alloc,
+        Command::BuiltinAlias,
+        &BUILTIN_ALIAS,
+        &NO_BUILTIN_ALIAS,
+    )?;
+    expect_words(
+        &rt,
+        alloc,
+        Command::StaticNodes,
+        &STATIC_NODES,
+        &NO_STATIC_NODES,
+    )
 }
