@@ -1,4 +1,5 @@
--- The aliases of the modules that are built into the kernel, and the map of their index. modprobe.d(5), "alias".
+-- The aliases of the modules that are built into the kernel, and the map of their index.
+-- modprobe.d(5), "alias".
 use Rattle.std.specs.Prelude.{ℕ, ◌&&◌, Bool, List, map, filter, fold, Option, option_map, codes}
 use Rattle.std.specs.List.{filter_map, position_or_len}
 use Rattle.std.specs.Str.{bytes_eq}
@@ -15,16 +16,16 @@ use Rattle.builtin_index.specs.Fields.{fields_of}
 abbrev pub is_alias : BuiltinField → Bool
 is_alias f = bytes_eq f.key (codes "alias") && is_graphic f.value
 
--- The names of the modules that have fields, in the order in which they are first seen.
+-- The names of the modules that have fields, in the order they are first seen in.
 abbrev pub modules_of : List BuiltinField → List (List ℕ)
 modules_of fields = first_seen (map (λ f. f.module) fields)
 
--- The place of a name among some.
+-- The place of a name among some names.
 abbrev pub place_among : List (List ℕ) → List ℕ → ℕ
 place_among names name = position_or_len (bytes_eq name) names
 
--- The name of a field's module under the normal form of the field's value, where it has one; the priority is the place
--- of the module.
+-- The name of a field's module under the normal form of the field's value, if it has one; the
+-- priority is the place of the module.
 abbrev pub alias_value : List (List ℕ) → BuiltinField → Option KeyValue
 alias_value names f = option_map (λ key. (key, (place_among names f.module, f.module))) (normal_alias f.value)
 
@@ -40,7 +41,7 @@ map_of values = with_values empty values
 abbrev pub alias_values : List BuiltinField → List KeyValue
 alias_values fields = filter_map (alias_value (modules_of fields)) (filter is_alias fields)
 
--- The map of the aliases that the bytes of a modules.builtin.modinfo state: each alias that can be used leads to its
--- module.
+-- The map of the aliases that the bytes of a modules.builtin.modinfo state: each alias that can be
+-- used leads to its module.
 unfoldable pub alias_map : List ℕ → KeyValues
 alias_map bytes = map_of (alias_values (fields_of bytes))

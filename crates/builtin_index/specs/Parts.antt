@@ -1,4 +1,5 @@
--- The parts of a piece, and the aliases of a file, as the code keeps them. No public meaning rests on these definitions.
+-- The parts of a piece, and the aliases of a file, as the code keeps them.
+-- It belongs to the code: no public meaning rests on it.
 use Rattle.std.specs.Prelude.{◌≡◌, ℕ, true, List, map, length, Option, Some, None, option_map, if◌then◌else◌}
 use Rattle.km_names.specs.Ascii.{is_graphic}
 use Rattle.km_names.specs.AliasForm.{normal_alias}
@@ -11,31 +12,31 @@ use Rattle.builtin_index.specs.declared.seen.Seen.{Seen}
 use Rattle.builtin_index.specs.declared.aliases.Stated.{Stated}
 use Rattle.builtin_index.specs.Aliases.{is_alias, place_among}
 
--- the field of these parts
+-- The field of these parts.
 abbrev pub field_shown : Parts → BuiltinField
 field_shown parts = record { «module» = underscored parts.module.now; key = parts.key.now; value = parts.value.now }
 
--- the names are those seen, in their order
+-- These names were seen, in their order.
 pub record IsSeen (seen : Seen) (names : List (List ℕ)) : Type 0 where
   pub table : IsTableOf seen.table (map Some names)
   pub count : seen.count ≡ length names
 
--- an alias of the module at a place: the place, the module's name, and the alias
+-- An alias of the module at a place: the place, the module's name, and the alias.
 abbrev pub AliasAt : Type 0
 AliasAt = ℕ × List ℕ × List ℕ
 
 abbrev pub alias_shown : Stated → AliasAt
 alias_shown stated = (stated.place, underscored stated.module.now, stated.alias.now)
 
--- the alias of a field, where the modules are seen in this order
+-- The alias of a field, if the modules are seen in this order.
 abbrev pub alias_in : List (List ℕ) → BuiltinField → Option AliasAt
 alias_in names f = if is_alias f then Some (place_among names f.module, f.module, f.value) else None
 
--- its value in the map
+-- The value of an alias in the map.
 abbrev pub value_at : AliasAt → Option KeyValue
 value_at a = option_map (λ key. (key, (a.0, a.1))) (normal_alias a.2)
 
--- the names and the alias are words of visible characters
+-- The names and the alias are words of visible characters.
 pub record IsWord (stated : Stated) : Type 0 where
   pub «module» : is_graphic stated.module.now ≡ true
   pub alias : is_graphic stated.alias.now ≡ true

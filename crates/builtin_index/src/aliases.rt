@@ -80,16 +80,17 @@ fn map_of_aliases(alloc: Global, list: &[Stated]) -> Result<KeyMap, AllocError>
     Ok(key_map)
 }
 
-/// Returns the map of modules.builtin.alias.bin, by the bytes of a modules.builtin.modinfo. Each alias that can be used
-/// leads by its normal form to the name of the module that states it: it is a word of visible characters, and has a normal
-/// form. The priority is the place of the module in the order in which modules are first seen in the file. modprobe.d(5),
-/// "alias".
+/// Returns the map of modules.builtin.alias.bin, by the bytes of a modules.builtin.modinfo. An
+/// alias can be used if it is a word of visible characters and has a normal form. Each such alias
+/// leads by its normal form to the name of the module that states it. The priority is the place of
+/// the module in the order that modules are first seen in. modprobe.d(5), "alias".
 pub fn builtin_aliases(alloc: Global, bytes: &[u8]) -> Result<KeyMap, AllocError>
     requires { length bytes.now ≤ file_limit }
     ensures { IfOk result (λ made. made ≡ alias_map bytes.now) }
 {
     let mut list = stated_aliases(alloc, bytes)?;
-    // A value goes behind the others of its key where they don't follow its module, so no list of values is moved.
+    // A value goes behind the others of its key if they don't follow its module, so no list of
+    // values is moved.
     list.sort_by_key(|stated| stated.place)?;
     map_of_aliases(alloc, &list)
 }

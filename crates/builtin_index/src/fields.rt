@@ -7,8 +7,8 @@ use crate::piece::{field, read_parts};
 use km_names::{List, split_at_byte};
 use std::alloc::{AllocError, Global};
 
-/// The fields of modules that are built into the kernel, in the order of the file. Contracts see it as the list of its
-/// fields.
+/// The fields of modules that are built into the kernel, in the order of the file. Contracts see it
+/// as the list of its fields.
 pub type BuiltinList = List<BuiltinField>;
 
 /// Counts the pieces that are fields.
@@ -25,14 +25,16 @@ fn field_count(bytes: &[u8]) -> usize {
     count
 }
 
-/// Reads the fields that the bytes of a modules.builtin.modinfo state, in order: the pieces between NULs that have a `.`
-/// before their first `=`. The module is what stands before the first `.`, each `-` replaced by `_`. The key is what stands
-/// from there to the first `=`, and the value what follows it. Other pieces are left out, and so are pieces whose module
-/// isn't a word of visible characters. The last piece needs no NUL. The kernel's include/linux/moduleparam.h.
+/// Reads the fields that the bytes of a modules.builtin.modinfo state, in order: the pieces between
+/// NULs that have a `.` before their first `=`. The module is the text before the first `.`, with
+/// each `-` replaced by `_`. The key is the text from there to the first `=`, and the value the
+/// text after it. Other pieces are left out, and so are pieces whose module isn't a word of visible
+/// characters. The last piece needs no NUL. The kernel's include/linux/moduleparam.h.
 pub fn builtin_fields(alloc: Global, bytes: &[u8]) -> Result<BuiltinList, AllocError>
     ensures { IfOk result (λ list. list ≡ fields_of bytes.now) }
 {
-    // A file may have a field for each four of its bytes, so the list has room for these and no more.
+    // A file may have a field for each four of its bytes, so the list has room for these and no
+    // more.
     let mut list = Vec::with_capacity(alloc, field_count(bytes))?;
     let mut rest = bytes;
     while !rest.is_empty() {

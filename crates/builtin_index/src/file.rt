@@ -10,9 +10,9 @@ use index_write::{WriteFault, encode};
 use km_names::Blob;
 use std::alloc::Global;
 
-/// Returns the bytes of modules.builtin.alias.bin, by the bytes of a modules.builtin.modinfo: the index that holds exactly
-/// the map of [`builtin_aliases`]. Where it would be longer than 67,108,864 bytes it is refused with that length. kmod's
-/// index format 2.1.
+/// Returns the bytes of modules.builtin.alias.bin, by the bytes of a modules.builtin.modinfo: the
+/// index that holds exactly the map of [`builtin_aliases`]. If it would be longer than 67,108,864
+/// bytes it is refused with that length. kmod's index format 2.1.
 pub fn alias_index(alloc: Global, bytes: &[u8]) -> Result<Blob, WriteFault>
     requires { length bytes.now ≤ file_limit }
     ensures file { IfOk result (λ index. index ≡ index_file (alias_map bytes.now)) }

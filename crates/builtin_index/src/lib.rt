@@ -1,9 +1,11 @@
-//! The modules that are built into the kernel, by the file modules.builtin.modinfo that the kernel's build leaves: the
-//! fields of all of them, the map of their aliases, and its index modules.builtin.alias.bin.
+//! The modules that are built into the kernel, by the file modules.builtin.modinfo that the
+//! kernel's build leaves: all their fields, the map of their aliases, and its index
+//! modules.builtin.alias.bin.
 //!
-//! The file has pieces `MODULE.KEY=VALUE`, each ended by a NUL: what a module's section `.modinfo` would have, under the
-//! module's name. The crate stands on `km_names` for texts and aliases, on `name_table` for the order in which modules
-//! are first seen, and on `index_write` for the map of an index and its file, by the definitions of `index_format`.
+//! The file has pieces `MODULE.KEY=VALUE`, each ended by a NUL: the contents of a module's section
+//! `.modinfo`, under the module's name. The crate uses `km_names` for texts and aliases,
+//! `name_table` for the order of modules, and `index_write` for the map of an index and its file,
+//! by the definitions of `index_format`.
 #![tactic(auto)]
 
 mod aliases;

@@ -9,7 +9,7 @@ use km_names::underscored;
 use name_table::OwnedNameTable;
 use std::alloc::{AllocError, Global};
 
-/// The names of modules without repeats, in the order in which they were first seen.
+/// The names of modules without repeats, in the order they were first seen in.
 #[derive(Drop)]
 pub(crate) struct Seen {
     table: OwnedNameTable,
@@ -28,8 +28,8 @@ impl Seen {
         }
     }
 
-    /// Returns the place of the module that a text names, each `-` replaced by `_`. The module is seen now if it wasn't
-    /// before.
+    /// Returns the place of the module that a text names, each `-` replaced by `_`. The module is
+    /// seen now if it wasn't before.
     pub(crate) fn place(&mut self, alloc: Global, text: &[u8]) -> Result<u32, AllocError>
         requires same { self.old.table.count ≡ self.old.count }
         requires room { self.old.count < 2 ^ 32 - 1 }

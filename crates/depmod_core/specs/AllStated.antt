@@ -1,4 +1,5 @@
--- What the modules of a tree state, as the code keeps it. Only private contracts cite this file.
+-- What the modules of a tree state, as the code keeps it.
+-- It belongs to the code: no public meaning rests on it.
 use Rattle.std.specs.Prelude.{◌≡◌, ℕ, List, Option, map}
 use Rattle.std.specs.Global.{Vec}
 use Rattle.module_facts.specs.declared.facts.Facts.{Facts}
@@ -7,11 +8,11 @@ use Rattle.depmod_core.specs.declared.stated.Kind.TheVariants.{Alias, Softdep, S
 use Rattle.depmod_core.specs.declared.stated.AllStated.{AllStated}
 use Rattle.depmod_core.specs.Kinds.{statements}
 
--- For each module of a tree what it states of a kind.
+-- The statements of one kind of each module of a tree.
 abbrev pub AreStated : Kind → List Facts → List (Vec (List ℕ × Option (List ℕ))) → Type 0
 AreStated kind tree all = map (λ (v : Vec (List ℕ × Option (List ℕ))). v.items) all ≡ map (statements kind) tree
 
--- The same of each kind.
+-- The statements of each kind of each module of a tree.
 pub record AreAllStated (tree : List Facts) (all : AllStated) : Type 0 where
   pub aliases : AreStated Alias tree all.aliases.items
   pub softdeps : AreStated Softdep tree all.softdeps.items

@@ -1,4 +1,5 @@
--- The names of the modules that are built into the kernel. modules.builtin as the kernel's build writes it, modprobe(8).
+-- The names of the modules that are built into the kernel. modules.builtin as the kernel's build
+-- writes it, modprobe(8).
 use Rattle.std.specs.Prelude.{ℕ, List, [], map, filter}
 use Rattle.km_names.specs.Ascii.{is_graphic}
 use Rattle.km_names.specs.Lines.{lines_of}
@@ -7,8 +8,8 @@ use Rattle.index_format.specs.Map.{KeyValues}
 use Rattle.name_table.specs.FirstSeen.{first_seen}
 use Rattle.depmod_core.specs.Maps.{map_of}
 
--- The names of the modules whose paths a modules.builtin lists, each once. One that isn't a word of visible characters is
--- left out, and so is what a blank line gives.
+-- The names of the modules whose paths a modules.builtin lists, each once. A name that isn't a word
+-- of visible characters is left out, and so is the name from a blank line.
 unfoldable pub built_in_names : List ℕ → List (List ℕ)
 built_in_names bytes = first_seen (filter is_graphic (map module_name (lines_of bytes)))
 

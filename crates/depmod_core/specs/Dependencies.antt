@@ -1,4 +1,4 @@
--- modules.dep and its index: on what each module of a tree depends. modules.dep(5).
+-- modules.dep and its index: what each module of a tree depends on. modules.dep(5).
 use Rattle.std.specs.Prelude.{ℕ, List, [], ◌∷◌, ◌++◌, map, flat_map, reverse, slice_get}
 use Rattle.std.specs.List.{zip, enumerate_from}
 use Rattle.std.specs.Option.{option_map_or}
@@ -8,7 +8,8 @@ use Rattle.module_facts.specs.declared.facts.Facts.{Facts}
 use Rattle.depmod_core.specs.Lines.{lines_text}
 use Rattle.depmod_core.specs.Maps.{map_of}
 
--- A dependency line: the path of a module, a `:`, and the paths of the modules that it needs, each after a space.
+-- A dependency line: the path of a module, a `:`, and the paths of the modules that it needs, each
+-- after a space.
 abbrev pub dependency_line : List ℕ → List (List ℕ) → List ℕ
 dependency_line path needed = path ++ 58 ∷ flat_map (λ other. 32 ∷ other) needed
 
@@ -16,12 +17,13 @@ dependency_line path needed = path ++ 58 ∷ flat_map (λ other. 32 ∷ other) n
 abbrev pub path_at : List Facts → ℕ → List ℕ
 path_at tree place = option_map_or (λ (f : Facts). f.path) (slice_get tree place) []
 
--- A module of a tree, with the places of those on which it depends, each after those on which it depends itself.
+-- A module of a tree, with the places of the modules that it depends on, each after those that it
+-- depends on itself.
 abbrev pub Dependent : Type 0
 Dependent = Facts × List ℕ
 
--- The dependency line of a module, which names those on which it depends from the last to the first: each stands before
--- those on which it depends itself.
+-- The dependency line of a module. It names the modules that it depends on from the last to the
+-- first: each comes before those that it depends on itself.
 abbrev pub line_of : List Facts → Dependent → List ℕ
 line_of tree m = dependency_line m.0.path (map (path_at tree) (reverse m.1))
 
@@ -29,7 +31,8 @@ line_of tree m = dependency_line m.0.path (map (path_at tree) (reverse m.1))
 unfoldable pub dep_text : List Facts → List (List ℕ) → List ℕ
 dep_text tree closures = lines_text (map (line_of tree) (zip tree closures))
 
--- The dependency line of a module under the module's name, its priority the module's place in the tree.
+-- The dependency line of a module under the module's name. Its priority is the module's place in
+-- the tree.
 abbrev pub dep_value : List Facts → ℕ × Dependent → KeyValue
 dep_value tree (place, m) = (m.0.name, (place, line_of tree m))
 

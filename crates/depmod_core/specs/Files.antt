@@ -1,4 +1,5 @@
--- The nine files of depmod, or the first of them that would be too large. depmod(8), modules.dep(5).
+-- The nine files of depmod, or the first of them that would be too large. depmod(8),
+-- modules.dep(5).
 use Rattle.std.specs.Prelude.{◌≡◌, ℕ, nat_lt, min, List, [], ◌∷◌, length, codes, Option, Some, None, Result, Ok, if◌then◌else◌}
 use Rattle.km_names.specs.First.{first}
 use Rattle.km_names.specs.Limit.{file_limit}
@@ -35,8 +36,8 @@ file_name SymbolsBin = codes "modules.symbols.bin"
 file_name BuiltinBin = codes "modules.builtin.bin"
 file_name Unmet = codes "modules.unmet"
 
--- The files of a tree, by what each module depends on, what stands in the way of loading modules, and what
--- modules.builtin has.
+-- The files of a tree, by what each module depends on, the obstacles to loading modules, and the
+-- contents of modules.builtin.
 unfoldable pub files_by : List Facts → List (List ℕ) → List Unbound → List ℕ → OutputFiles
 files_by tree closures obstacles builtin = record {
   dep = dep_text tree closures;
@@ -50,7 +51,7 @@ files_by tree closures obstacles builtin = record {
   unmet = file_text obstacles;
 }
 
--- The files of a tree over a kernel, where modules.builtin has these bytes.
+-- The files of a tree over a kernel, if modules.builtin has these bytes.
 unfoldable pub files : List Facts → Kernel → List ℕ → OutputFiles
 files tree kernel builtin =
     files_by tree (dependencies (modules_of tree) kernel) (unmet (modules_of tree) kernel) builtin
@@ -67,12 +68,13 @@ content fs SymbolsBin = fs.symbols_bin
 content fs BuiltinBin = fs.builtin_bin
 content fs Unmet = fs.unmet
 
--- The fault of a file of so many bytes: it is too large. A count past 64 bits is given as the greatest of 64.
+-- The fault of a file of so many bytes: it is too large. A count past 64 bits is given as the
+-- greatest of 64.
 abbrev pub size_fault : OutputFile → List ℕ → Option OutputFault
 size_fault which bytes =
     if nat_lt file_limit (length bytes) then Some (OutputTooLarge (file_name which) (min (length bytes) 18446744073709551615)) else None
 
--- The first of the files, in their order, that is too large.
+-- The fault of the first of the files, in their order, that is too large.
 unfoldable pub output_fault : OutputFiles → Option OutputFault
 output_fault fs =
     first (
@@ -91,13 +93,13 @@ output_fault fs =
 unfoldable pub outputs_of : List Facts → Kernel → List ℕ → Result OutputFiles OutputFault
 outputs_of tree kernel builtin = let made = files tree kernel builtin in unless_fault (output_fault made) made
 
--- The relation is that of the tree over some kernel.
+-- The relation is the tree's over some kernel.
 abbrev pub IsRelationOf : List Facts → Relation → Type 0
 IsRelationOf tree relation = (kernel : Kernel) × IsRelation (modules_of tree) kernel relation
 
--- The files stand for what they are made of. The indexes stand for their maps: no reader refuses them, and each key
--- reaches the values that it has in the map, and no others. And what a reader takes from modules.unmet, at whatever path,
--- is what stands in the way of loading modules.
+-- The files represent what they are made of. The indexes represent their maps: no reader refuses
+-- them, and each key reaches the values that it has in the map, and no others. What a reader takes
+-- from modules.unmet, at whatever path, is the list of obstacles to loading modules.
 pub record StandFor (tree : List Facts) (kernel : Kernel) (builtin : List ℕ) (made : OutputFiles) : Type 0 where
   pub dep : Holds made.dep_bin (dep_map tree (dependencies (modules_of tree) kernel))
   pub alias : Holds made.alias_bin (alias_map tree)

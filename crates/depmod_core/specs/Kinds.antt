@@ -1,4 +1,5 @@
--- What modules state, by its kind, and what indexes stand for, by their files.
+-- The statements of modules, by their kind, and the maps of indexes, by their files.
+-- It belongs to the code: no public meaning rests on it.
 use Rattle.std.specs.Prelude.{⊤, ℕ, List, ◌++◌, map, flat_map, codes, Option, Some, None, option_map}
 use Rattle.std.specs.List.{filter_map, enumerate_from}
 use Rattle.km_names.specs.AliasForm.{normal_alias}
@@ -15,13 +16,13 @@ use Rattle.depmod_core.specs.Dependencies.{dep_map}
 use Rattle.depmod_core.specs.Stated.{aliases_of, softdeps_of, symbols_of, alias_text, softdep_text, symbols_text, alias_map, symbols_map}
 use Rattle.depmod_core.specs.BuiltIn.{built_in_map}
 
--- The heading of the file.
+-- The heading of the file of a kind.
 abbrev pub heading : Kind → List ℕ
 heading Alias = codes "# Aliases extracted from modules themselves."
 heading Softdep = codes "# Soft dependencies extracted from modules themselves."
 heading Symbol = codes "# Aliases for symbols, used by symbol_request()."
 
--- What a module states.
+-- The texts of a kind that a module states.
 abbrev pub texts_of : Kind → Facts → List (List ℕ)
 texts_of Alias f = aliases_of f
 texts_of Softdep f = softdeps_of f
@@ -33,7 +34,7 @@ line_of Alias name text = codes "alias " ++ (text ++ (codes " " ++ name))
 line_of Softdep name text = codes "softdep " ++ (name ++ (codes " " ++ text))
 line_of Symbol name text = codes "alias symbol:" ++ (text ++ (codes " " ++ name))
 
--- The key by which the index has what is stated; softdeps have no index.
+-- The key that the index has a text under. Softdeps have no index.
 abbrev pub key_of : Kind → List ℕ → Option (List ℕ)
 key_of Alias text = normal_alias text
 key_of Softdep text = None
@@ -57,7 +58,7 @@ values_by kind (place, f) = values_with place f.name (statements kind f)
 abbrev pub map_by : Kind → List Facts → KeyValues
 map_by kind tree = map_of (flat_map (values_by kind) (enumerate_from 0 tree))
 
--- The text of the file, and the map of the index, as they are defined of a tree.
+-- The text of the file, and the map of the index, as they are defined for a tree.
 abbrev pub text_of : Kind → List Facts → List ℕ
 text_of Alias tree = alias_text tree
 text_of Softdep tree = softdep_text tree
@@ -68,7 +69,7 @@ map_for Alias tree = alias_map tree
 map_for Softdep tree = map_by Softdep tree
 map_for Symbol tree = symbols_map tree
 
--- The index stands for its map; this says nothing of a text.
+-- The index represents its map. A text file has no such property.
 abbrev pub Stands : List Facts → List (List ℕ) → List ℕ → OutputFile → List ℕ → Type 0
 Stands tree closures builtin DepBin bytes = Holds bytes (dep_map tree closures)
 Stands tree closures builtin AliasBin bytes = Holds bytes (alias_map tree)

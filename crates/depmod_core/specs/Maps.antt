@@ -1,4 +1,4 @@
--- The maps that indexes stand for, by the values that are put into them.
+-- The maps that indexes represent, by the values that are put into them.
 use Rattle.std.specs.Prelude.{List, fold}
 use Rattle.std.specs.FinMap.{empty}
 use Rattle.index_format.specs.Map.{KeyValues, with_value}

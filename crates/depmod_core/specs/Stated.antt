@@ -1,5 +1,5 @@
--- What modules state for others to find them by: aliases, softdeps, and the symbols that they export. depmod(8),
--- modprobe.d(5).
+-- What modules state so that others can find them: aliases, softdeps, and the symbols that they
+-- export. depmod(8), modprobe.d(5).
 use Rattle.std.specs.Prelude.{ℕ, ◌==◌, ◌&&◌, ◌||◌, not, Bool, nat_eq, List, [], ◌∷◌, ◌++◌, map, filter, flat_map, codes, is_some, option_map}
 use Rattle.std.specs.List.{list_all, filter_map, ends_with, enumerate_from}
 use Rattle.std.specs.Char.{is_ascii_graphic}
@@ -12,21 +12,21 @@ use Rattle.module_facts.specs.declared.facts.Facts.{Facts}
 use Rattle.depmod_core.specs.Lines.{lines_text}
 use Rattle.depmod_core.specs.Maps.{map_of}
 
--- An alias can be used: it is a word of visible characters, and has a normal form.
+-- Whether an alias can be used: it is a word of visible characters, and has a normal form.
 unfoldable pub is_usable_alias : List ℕ → Bool
 is_usable_alias alias = is_graphic alias && is_some (normal_alias alias)
 
--- A byte is that of a visible character or a space.
+-- Whether a byte is a visible character or a space.
 abbrev pub is_printable : ℕ → Bool
 is_printable b = is_ascii_graphic b || b == 32
 
--- The text of a softdep can be used: it has only visible characters and spaces, not spaces alone, and doesn't end in the
--- mark of a line that goes on.
+-- Whether the text of a softdep can be used: it has only visible characters and spaces, has a
+-- visible character, and doesn't end in `\`, which would continue the line.
 unfoldable pub is_usable_softdep : List ℕ → Bool
 is_usable_softdep text =
     list_all is_printable text && not (list_all (λ b. b == 32) text) && not (ends_with nat_eq text (92 ∷ []))
 
--- What a module states that can be used, and the names of what it exports.
+-- The aliases of a module that can be used.
 abbrev pub aliases_of : Facts → List (List ℕ)
 aliases_of f = filter is_usable_alias f.aliases
 
@@ -34,12 +34,11 @@ aliases_of f = filter is_usable_alias f.aliases
 abbrev pub softdeps_of : Facts → List (List ℕ)
 softdeps_of f = filter is_usable_softdep f.softdeps
 
--- The names of what a module exports.
+-- The names of a module's exports.
 abbrev pub symbols_of : Facts → List (List ℕ)
 symbols_of f = map (λ (e : Export). e.name) f.exports
 
--- The lines of a module: `alias ALIAS NAME`, the alias as the module states it; `softdep NAME TEXT`; and
--- `alias symbol:SYMBOL NAME`.
+-- A line `alias ALIAS NAME` for each alias, as the module states it.
 abbrev pub alias_lines : Facts → List (List ℕ)
 alias_lines f = map (λ alias. codes "alias " ++ (alias ++ (codes " " ++ f.name))) (aliases_of f)
 
@@ -51,8 +50,7 @@ softdep_lines f = map (λ text. codes "softdep " ++ (f.name ++ (codes " " ++ tex
 abbrev pub symbol_lines : Facts → List (List ℕ)
 symbol_lines f = map (λ symbol. codes "alias symbol:" ++ (symbol ++ (codes " " ++ f.name))) (symbols_of f)
 
--- The texts of modules.alias, modules.softdep and modules.symbols: a heading, and the lines of each module, in the order
--- of the tree.
+-- The text of modules.alias: a heading, and the lines of each module, in the order of the tree.
 unfoldable pub alias_text : List Facts → List ℕ
 alias_text tree = lines_text (codes "# Aliases extracted from modules themselves." ∷ flat_map alias_lines tree)
 
@@ -64,16 +62,17 @@ softdep_text tree = lines_text (codes "# Soft dependencies extracted from module
 unfoldable pub symbols_text : List Facts → List ℕ
 symbols_text tree = lines_text (codes "# Aliases for symbols, used by symbol_request()." ∷ flat_map symbol_lines tree)
 
--- The name of the module at a place under the normal form of each of its aliases, and under `symbol:SYMBOL` for each
--- symbol; the priority is the place.
+-- The name of the module at a place under the normal form of each of its aliases. The priority is
+-- the place.
 abbrev pub alias_values : ℕ × Facts → List KeyValue
 alias_values (place, f) = filter_map (λ alias. option_map (λ key. (key, (place, f.name))) (normal_alias alias)) (aliases_of f)
 
--- The name of the module at a place under `symbol:SYMBOL` for each symbol; the priority is the place.
+-- The name of the module at a place under `symbol:SYMBOL` for each symbol. The priority is the
+-- place.
 abbrev pub symbol_values : ℕ × Facts → List KeyValue
 symbol_values (place, f) = map (λ symbol. (codes "symbol:" ++ symbol, (place, f.name))) (symbols_of f)
 
--- The maps of modules.alias.bin and modules.symbols.bin, of what the modules state, in the order of the tree.
+-- The map of modules.alias.bin, from the aliases of the modules, in the order of the tree.
 unfoldable pub alias_map : List Facts → KeyValues
 alias_map tree = map_of (flat_map alias_values (enumerate_from 0 tree))
 

@@ -1,8 +1,9 @@
--- A text in the making, as the code keeps it.
+-- A text that is being written, as the code keeps it.
+-- It belongs to the code: no public meaning rests on it.
 use Rattle.std.specs.Prelude.{◌+◌, min, ℕ, List, [], ◌∷◌, ◌++◌, length, Some, None, option_map}
 use Rattle.depmod_core.specs.declared.text.Text.{Text}
 
--- A text that is measured alone, and one whose bytes are kept.
+-- A text that is only measured, and one whose bytes are kept.
 abbrev pub measured : Text
 measured = record { length = 0; kept = None }
 

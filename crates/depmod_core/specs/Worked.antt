@@ -1,4 +1,4 @@
--- Small trees, whose files can be told by hand.
+-- Small trees, whose files can be worked out by hand.
 use Rattle.std.specs.Prelude.{ℕ, true, false, List, [], ◌∷◌, None, codes}
 use Rattle.module_facts.specs.declared.facts.Facts.{Facts}
 
@@ -24,8 +24,8 @@ b_ko = plain (codes "kernel/b.ko") (codes "b")
 abbrev pub c_ko : Facts
 c_ko = plain (codes "kernel/c.ko") (codes "c")
 
--- A module with two aliases, of which one has no normal form, with four softdeps, of which one can be used, and with an
--- export.
+-- A module with two aliases, one of them without a normal form, with four softdeps, only one of
+-- which can be used, and with an export.
 abbrev pub x_ko : Facts
 x_ko = record (plain (codes "kernel/x.ko") (codes "x")) {
   aliases = codes "pci-x:v0000[!a-f]d*" ∷ codes "bad[x" ∷ [];

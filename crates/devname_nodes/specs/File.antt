@@ -1,4 +1,4 @@
--- The file modules.devname: its text, and what is read of one. kmod's depmod, "devname".
+-- The file modules.devname: its text, and what is read from one. kmod's depmod, "devname".
 use Rattle.std.specs.Prelude.{◌≡◌, ℕ, ◌+◌, ◌&&◌, not, Bool, true, All, List, [], ◌∷◌, ◌++◌, Option, option_map, is_none, Result, Ok, codes}
 use Rattle.std.specs.List.{flat_map, filter_map, position}
 use Rattle.km_names.specs.Ascii.{is_graphic}
@@ -19,11 +19,11 @@ heading = codes "# Device nodes to trigger on-demand module loading."
 abbrev pub lines_text : List Node → List ℕ
 lines_text nodes = flat_map (λ n. node_line n ++ 10 ∷ []) nodes
 
--- The text of the file that has these nodes: the heading, and a line for each.
+-- The text of the file with these nodes: the heading, and a line for each.
 unfoldable pub nodes_text : List Node → List ℕ
 nodes_text nodes = heading ++ 10 ∷ lines_text nodes
 
--- A line that is refused: no node's, and not ignored.
+-- Whether a line is refused: it states no node, and isn't ignored.
 abbrev pub is_bad : List ℕ → Bool
 is_bad line = is_none (line_node line) && not (is_ignored line)
 

@@ -1,4 +1,5 @@
--- The lines of modules.devname: how a node is written, and what node a line states. kmod's depmod, "devname".
+-- The lines of modules.devname: how a node is written, and what node a line states. kmod's depmod,
+-- "devname".
 use Rattle.std.specs.Prelude.{◌≡◌, ℕ, ◌<◌, ◌^◌, ◌==◌, Bool, true, false, List, ◌∷◌, ◌++◌, length, drop, Option, Some, None, option_map, option_and_then, if◌then◌else◌, codes, slice_index}
 use Rattle.std.specs.Fmt.{decimal}
 use Rattle.km_names.specs.Ascii.{is_graphic}
@@ -17,7 +18,7 @@ unfoldable pub node_line : Node → List ℕ
 node_line n =
     three_text n.module n.device (letter n.block ∷ (decimal n.major ++ (codes ":" ++ decimal n.minor)))
 
--- What a letter says of a device's kind, if it is one of the two.
+-- The kind of device that a letter means, if it is one of the two.
 abbrev pub kind_of : ℕ → Option Bool
 kind_of b = if b == 98 then Some true else if b == 99 then Some false else None
 
@@ -32,15 +33,15 @@ node_of_words w =
     if is_comment w.0 then None
     else option_map (λ k. record { «module» = w.0; device = w.1; block = k.0; major = k.1.0; minor = k.1.1 }) (device_word w.2)
 
--- The node that a line states, if it is one's.
+-- The node that a line states, if it states one.
 unfoldable pub line_node : List ℕ → Option Node
 line_node line = option_and_then node_of_words (three_words line)
 
--- Whether a line states nothing on purpose: it is blank, or a comment.
+-- Whether a line is ignored: it is blank, or a comment.
 abbrev pub is_ignored : List ℕ → Bool
 is_ignored line = if is_comment line then true else length (trimmed line) == 0
 
--- A node can be told from its line.
+-- A node that can be read back from its line.
 pub record IsNode (n : Node) : Type 0 where
   pub «module» : is_graphic n.module ≡ true
   pub plain : is_comment n.module ≡ false

@@ -1,5 +1,6 @@
--- The device nodes that modules ask for, by their aliases. kmod's depmod, "devname"; the kernel's MODULE_ALIAS_MISCDEV,
--- MODULE_ALIAS_CHARDEV and MODULE_ALIAS_BLOCKDEV, include/linux/miscdevice.h, include/linux/fs.h.
+-- The device nodes that modules ask for, by their aliases. kmod's depmod, "devname"; the kernel's
+-- MODULE_ALIAS_MISCDEV, MODULE_ALIAS_CHARDEV and MODULE_ALIAS_BLOCKDEV, include/linux/miscdevice.h,
+-- include/linux/fs.h.
 use Rattle.std.specs.Prelude.{ℕ, ◌==◌, ◌&&◌, Bool, true, false, List, map, length, drop, nat_eq, nat_lt, Option, Some, None, option_map, option_and_then, is_some, if◌then◌else◌, codes, slice_index}
 use Rattle.std.specs.List.{filter_map, starts_with}
 use Rattle.km_names.specs.Ascii.{is_graphic}
@@ -9,7 +10,7 @@ use Rattle.devname_nodes.specs.declared.alias.DeviceNumber.{DeviceNumber}
 use Rattle.devname_nodes.specs.declared.node.Node.{Node}
 use Rattle.devname_nodes.specs.Numbers.{numbers}
 
--- What follows a prefix in a text that begins with it.
+-- The rest of a text after a prefix, if the text begins with it.
 abbrev pub after_prefix : List ℕ → List ℕ → Option (List ℕ)
 after_prefix prefix text = if starts_with nat_eq text prefix then Some (drop (length prefix) text) else None
 
@@ -17,11 +18,11 @@ after_prefix prefix text = if starts_with nat_eq text prefix then Some (drop (le
 abbrev pub word : List ℕ → Option (List ℕ)
 word text = if is_graphic text then Some text else None
 
--- The device that an alias names: what follows `devname:`, if it is a word of visible characters.
+-- The device that an alias names: the text after `devname:`, if it is a word of visible characters.
 abbrev pub device_of : List ℕ → Option (List ℕ)
 device_of alias = option_and_then word (after_prefix (codes "devname:") alias)
 
--- The device number that an alias states: that of `char-major-M-N` or of `block-major-M-N`.
+-- The device number that an alias states as `char-major-M-N` or as `block-major-M-N`.
 abbrev pub numbered : Bool → Option (List ℕ) → Option DeviceNumber
 numbered block text = option_map (λ n. record { block = block; major = n.0; minor = n.1 }) (option_and_then numbers text)
 
@@ -34,13 +35,13 @@ number_of alias =
 abbrev pub is_comment : List ℕ → Bool
 is_comment text = nat_lt 0 (length text) && slice_index text 0 == 35
 
--- The node of a module of this name, by the device and the number that it has.
+-- The node of a module of this name, by its device and its number.
 abbrev pub node_by : List ℕ → Option (List ℕ) → Option DeviceNumber → Option Node
 node_by name device number =
     option_and_then (λ d. option_map (λ n. record { «module» = name; device = d; block = n.block; major = n.major; minor = n.minor }) number) device
 
--- The node of a module: the first device that its aliases name, and the first number that they state. A module whose name
--- begins as a comment has none.
+-- The node of a module: the first device that its aliases name, and the first number that they
+-- state. A module whose name begins as a comment has none.
 unfoldable pub node_of : Facts → Option Node
 node_of f =
     if is_comment f.name then None

@@ -1,16 +1,18 @@
--- The numbers of devices in texts: a major and a minor number. mknod(1), the kernel's include/linux/kdev_t.h.
+-- The numbers of devices in texts: a major and a minor number. mknod(1), the kernel's
+-- include/linux/kdev_t.h.
 use Rattle.std.specs.Prelude.{ℕ, ◌^◌, ◌==◌, ◌&&◌, not, Bool, List, length, nat_lt, nat_le, Option, Some, None, option_map, option_and_then, if◌then◌else◌, slice_index}
 use Rattle.std.specs.List.{list_all, before_first, after_first}
 use Rattle.std.specs.Char.{is_digit}
 use Rattle.std.specs.Str.Parse.{digits_value}
 
--- The number below 2^32 that a text states in 1 to 10 decimal digits; there is none where it is no such text.
+-- The number below 2^32 that a text states in 1 to 10 decimal digits. It is None if the text isn't
+-- such a number.
 unfoldable pub number : List ℕ → Option ℕ
 number text =
     if not (length text == 0) && nat_le (length text) 10 && list_all (λ b. is_digit b 10) text && nat_lt (digits_value 10 text) (2 ^ 32)
     then Some (digits_value 10 text) else None
 
--- Whether a text has a `0` before others.
+-- Whether a text begins with a `0` and has more bytes.
 abbrev pub has_leading_zero : List ℕ → Bool
 has_leading_zero text = nat_lt 1 (length text) && slice_index text 0 == 48
 

@@ -1,4 +1,4 @@
-// What aliases say of device nodes.
+// Device nodes in aliases.
 ghost use Rattle.std.specs.Prelude.{◌≡◌, option_map, map};
 ghost use Rattle.km_names.specs.First.{first};
 ghost use Rattle.devname_nodes.specs.Nodes.{device_of as device_named, number_of as number_stated, after_prefix};
@@ -9,7 +9,8 @@ use km_names::{Blob, is_graphic};
 /// A device's kind and number.
 #[derive(Clone, Copy)]
 pub(crate) struct DeviceNumber {
-    /// Whether it is of a block device. Otherwise it is of a character device.
+    /// Whether it is the number of a block device. Otherwise it is the number of a character
+    /// device.
     pub(crate) block: bool,
     pub(crate) major: u32,
     pub(crate) minor: u32,

@@ -1,8 +1,8 @@
-// What is written is read back, and the bytes of a small file.
+// What is written is read back.
 ghost use Rattle.devname_nodes.specs.File.{AreReadBack};
 
-/// States that the modules.devname that is written of a tree is read back as the tree's nodes, if
-/// its modules have words of visible characters for names.
+/// States that the modules.devname written of a tree is read back as the tree's nodes, if its
+/// modules have words of visible characters for names.
 pub fn nodes_are_read_back()
     ensures { AreReadBack }
 {}

@@ -1,6 +1,6 @@
 //! The device nodes that modules of a tree ask for, so that the device's first user loads its
-//! module. They are what the modules state in their aliases, and the file modules.devname, as
-//! `depmod` writes it and as it is read.
+//! module. They are stated in the modules' aliases and in the file modules.devname, which `depmod`
+//! writes and which is read back.
 //!
 //! A module that makes a device node has an alias `devname:DEVICE` and one of its device number,
 //! `char-major-M-N` or `block-major-M-N`. The text of a node's line is defined once, for the writer

@@ -65,7 +65,7 @@ pub(crate) fn read_line(alloc: Global, line: &[u8]) -> Result<Option<Node>, Allo
     }
 }
 
-/// Whether a line states nothing on purpose: it is a comment, or blank.
+/// Returns whether a line is ignored: it is a comment, or blank.
 pub(crate) fn is_ignored(line: &[u8]) -> bool
     ensures { result ≡ is_ignored_line line.now }
 {

@@ -25,7 +25,7 @@ pub struct Node {
 /// Device nodes, in the order of the tree or of a file. Contracts see it as the list of its nodes.
 pub type NodeList = List<Node>;
 
-/// Whether a text begins as a comment.
+/// Returns whether a text begins as a comment.
 pub(crate) fn is_comment(text: &[u8]) -> bool
     ensures { result ≡ begins_as_comment text.now }
 {

@@ -29,7 +29,7 @@ fn are_digits(text: &[u8]) -> bool
     text.iter().all(|b| char::from(*b).is_digit(10))
 }
 
-/// Returns the number that the digits state, the first the highest.
+/// Returns the number that the digits state, the highest digit first.
 fn digits_value(digits: &[u8]) -> u64
     requires few { length digits.now ≤ 10 }
     requires digits { IsTrue (list_all (λ b. is_digit b 10) digits.now) }

@@ -10,8 +10,8 @@ use std::alloc::Global;
 /// Reads the nodes of a modules.devname, whose path is `file`. A line `MODULE DEVICE TM:N` states a
 /// node, with one space between words that aren't empty and whose bytes are 33 to 126. MODULE
 /// doesn't begin with `#`, T is `c` or `b`, and M and N are decimal numbers below 2^32 without
-/// leading zeros. Blank lines and those that begin with `#` state none. `BadLine` is reported
-/// exactly at the first other line. kmod's depmod, modules.devname.
+/// leading zeros. Blank lines and those that begin with `#` state none. It answers `BadLine` with
+/// the first other line. kmod's depmod, modules.devname.
 pub fn read_nodes(alloc: Global, file: &PathText, bytes: &[u8]) -> Result<NodeList, ConfFault>
     requires { length bytes.now ≤ file_limit }
     ensures ok { IfOk result (λ nodes. read_of file.now bytes.now ≡ Ok nodes) }

@@ -2,8 +2,8 @@
 use Rattle.std.specs.Prelude.{ℕ, ◌==◌, ◌||◌, if◌then◌else◌, Option, Some, None, IsSome, unwrap_or}
 use Rattle.elf_format.specs.declared.relocation.TheConstants.{R_X86_64_NONE, R_X86_64_64, R_X86_64_PC32, R_X86_64_PLT32, R_X86_64_32, R_X86_64_32S, R_X86_64_PC64}
 
--- How many bytes a relocation of this type changes, where the type is known: none, the 8 of a word64, or the 4 of a
--- word32.
+-- The number of bytes that a relocation of this type changes, if the type is known: none, the 8 of
+-- a word64, or the 4 of a word32.
 abbrev pub width : ℕ → Option ℕ
 width kind =
     if kind == R_X86_64_NONE then Some 0
@@ -14,6 +14,6 @@ width kind =
 abbrev pub IsKnown : ℕ → Type 0
 IsKnown kind = IsSome (width kind)
 
--- The same where the type is known, and 0 where it isn't.
+-- The number of bytes that a relocation of this type changes, and 0 if the type isn't known.
 abbrev pub known_width : ℕ → ℕ
 known_width kind = unwrap_or (width kind) 0

@@ -1,6 +1,6 @@
 // The file header. gABI 4, "ELF Header".
 
-/// The bytes with which a file begins, e_ident from EI_MAG0 to EI_MAG3.
+/// The bytes that a file begins with, e_ident from EI_MAG0 to EI_MAG3.
 pub const ELFMAG: [u8; 4] = [0x7f, b'E', b'L', b'F'];
 /// The class of files of 64 bits, e_ident[EI_CLASS].
 pub const ELFCLASS64: u8 = 2;
@@ -13,7 +13,7 @@ pub const ET_REL: u16 = 1;
 /// The machine x86-64, e_machine.
 pub const EM_X86_64: u16 = 62;
 
-/// How many bytes the file header has, Elf64_Ehdr.
+/// The size of the file header in bytes, Elf64_Ehdr.
 pub const EHDR_SIZE: usize = 64;
-/// How many bytes a section header has, Elf64_Shdr.
+/// The size of a section header in bytes, Elf64_Shdr.
 pub const SHDR_SIZE: usize = 64;

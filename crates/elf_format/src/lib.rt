@@ -1,9 +1,10 @@
-//! The numbers of relocatable object files of x86-64, under the names of the standard: of the file header, of
-//! sections and symbols, and of relocations with the widths of what they change.
+//! The numbers of relocatable object files of x86-64, under the names of the standard. They are
+//! those of the file header, of sections and symbols, and of relocations with the widths of what
+//! they change.
 //!
-//! Readers, writers and loaders of object files all cite these, in code and in contracts, so that no number
-//! of the format stands twice. `specs/Relocation.antt` has the widths for contracts. The crate stands on std
-//! alone.
+//! Readers, writers and loaders of object files all cite these, in code and in contracts, so that
+//! each number of the format is stated once. `specs/Relocation.antt` has the widths for contracts.
+//! The crate uses only std.
 #![tactic(auto)]
 
 mod file_header;

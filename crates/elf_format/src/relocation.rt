@@ -3,7 +3,7 @@
 ghost use Rattle.std.specs.Prelude.{◌≡◌};
 ghost use Rattle.elf_format.specs.Relocation.{width};
 
-/// How many bytes a relocation with its addend has, Elf64_Rela.
+/// The size of a relocation with its addend in bytes, Elf64_Rela.
 pub const RELA_SIZE: usize = 24;
 
 /// The type of a relocation that changes nothing.
@@ -21,7 +21,8 @@ pub const R_X86_64_32S: u32 = 11;
 /// The distance to the address, in 8 bytes.
 pub const R_X86_64_PC64: u32 = 24;
 
-/// How many bytes a relocation of the type `kind` changes; `None` for a type that isn't one of these.
+/// Returns how many bytes a relocation of the type `kind` changes. The result is `None` for a type
+/// that isn't one of these.
 pub fn width(kind: u32) -> Option<u8>
     ensures { result ≡ width kind }
 {

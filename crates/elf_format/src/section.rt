@@ -24,5 +24,6 @@ pub const SHF_EXECINSTR: u64 = 4;
 /// The flag of a section whose sh_info is the number of a section.
 pub const SHF_INFO_LINK: u64 = 0x40;
 
-/// The bytes of a page of x86-64, the greatest alignment that a section in memory may ask for here.
+/// The size of a page of x86-64 in bytes. It is the greatest alignment that a section in memory may
+/// ask for here.
 pub const PAGE: u64 = 4096;

@@ -1,4 +1,4 @@
--- The texts of faults, as they stand in a line on standard error. Numbers are decimal.
+-- The texts of faults, as they are in a line on standard error. Numbers are decimal.
 use Rattle.std.specs.Prelude.{ℕ, List, ◌++◌, codes}
 use Rattle.std.specs.Fmt.{decimal}
 use Rattle.elf_object.specs.declared.fault.SectionFault.{SectionFault}
@@ -6,7 +6,7 @@ use Rattle.elf_object.specs.declared.fault.SectionFault.TheVariants.{NotElf, Tru
 use Rattle.elf_object.specs.declared.fault.ObjectFault.{ObjectFault}
 use Rattle.elf_object.specs.declared.fault.ObjectFault.TheVariants.{Shape, RelSection, BadTable, ExtendedIndex, CommonSymbol, BadSymbol, BadAlign, BadRela, UnknownType, OverlappingPlaces, Memory as OutOfMemory}
 
--- The text of what is wrong with the sections of a file.
+-- The text of a fault of the sections of a file.
 abbrev pub section_fault_text : SectionFault → List ℕ
 section_fault_text NotElf = codes "not an ELF file"
 section_fault_text (Truncated offset need) = codes "truncated at " ++ (decimal offset ++ (codes " need " ++ decimal need))
@@ -17,7 +17,7 @@ section_fault_text (BadSection index) = codes "bad section " ++ decimal index
 section_fault_text (BadString offset) = codes "bad string at " ++ decimal offset
 section_fault_text Memory = codes "out of memory"
 
--- The text of what is wrong with an object file.
+-- The text of a fault of an object file.
 abbrev pub object_fault_text : ObjectFault → List ℕ
 object_fault_text (Shape fault) = section_fault_text fault
 object_fault_text (RelSection index) = codes "relocations without addends in section " ++ decimal index

@@ -1,4 +1,5 @@
--- What the steps of reading an object file say to one another. No public contract cites it.
+-- What the steps of reading an object file guarantee each other.
+-- It belongs to the code: no public meaning rests on it.
 use Rattle.std.specs.Prelude.{◌≡◌, ℕ, ◌<◌, Bool, true, List, map, Some}
 use Rattle.elf_format.specs.declared.section.TheConstants.{SHT_RELA}
 use Rattle.km_names.specs.Strings.{string_at}
@@ -16,7 +17,8 @@ use Rattle.elf_object.specs.Symbols.{symbol_table}
 pub record HasStrings (table other : List ℕ) : Type 0 where
   pub strings : (at : ℕ) → string_at other at ≡ string_at table at
 
--- What the tables of a file name is there: the string table of the symbols, and what relocations change.
+-- The sections that the tables of a file name exist: the string table of the symbols, and the
+-- sections that relocations change.
 pub record TablesFit (b : List ℕ) : Type 0 where
   pub table : (t : ℕ) → symbol_table b ≡ Some t → t < section_count b
   pub names : (t : ℕ) → symbol_table b ≡ Some t → (section_of b t).link < section_count b
@@ -26,7 +28,7 @@ pub record TablesFit (b : List ℕ) : Type 0 where
 abbrev pub unkept_flags : List Section → List Symbol → List Bool
 unkept_flags sections symbols = map (lies_unkept sections) symbols
 
--- These places were met: what is known of their order is so, and they are the list where it is kept.
+-- These places were met: what is known of their order holds, and they are the list if it is kept.
 pub record HasMet (m : MetPlaces) (places : List RelaPlace) : Type 0 where
   pub order : IsOrderOf m.order places
   pub kept : m.keeps ≡ true → m.list.items ≡ places

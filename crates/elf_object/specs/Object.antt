@@ -27,22 +27,22 @@ pub record FileObject : Type 0 where
 abbrev pub file_object : List ℕ → FileObject
 file_object b = record { file = b; sections = sections_of b; symbols = symbols_of b; places = places_of b }
 
--- What is said of one section of a file: its bytes are there, and its alignment is one where it is kept in memory.
--- gABI 4, "Sections", sh_size and sh_addralign.
+-- One section of a file is valid: its bytes are in the file, and its alignment is valid if it is
+-- kept in memory. gABI 4, "Sections", sh_size and sh_addralign.
 pub record IsSectionIn (file : List ℕ) (s : Section) : Type 0 where
   pub within : IsTrue (has_content s.kind) → s.offset + s.size ≤ length file
   pub aligned : s.kept ≡ true → is_alignment s.align ≡ true
 
--- What is said of one symbol: its section is one of these unless its number is reserved, the one reserved number
--- is that of an absolute value, and its binding is one of the three. gABI 4, "Symbol Table".
+-- One symbol is valid. Its section is one of these unless its number is reserved, and the one
+-- reserved number is SHN_ABS. Its binding is one of the three. gABI 4, "Symbol Table".
 pub record IsSymbolIn (sections : List Section) (s : Symbol) : Type 0 where
   pub section : s.section < SHN_LORESERVE → s.section < length sections
   pub absolute : SHN_LORESERVE ≤ s.section → s.section ≡ SHN_ABS
   pub binding : s.binding ≤ STB_WEAK
 
--- What is said of one place: its type is known, its symbol is one of these, and its target is one of these
--- sections and kept. If it changes bytes, they lie in the target, which has bytes, and the symbol doesn't lie
--- in a section that isn't kept. gABI 4, "Relocation".
+-- One place is valid: its type is known, its symbol is one of these, and its target is one of these
+-- sections and kept. If it changes bytes, they lie in the target, which has bytes in the file, and
+-- the symbol doesn't lie in a section that isn't kept. gABI 4, "Relocation".
 pub record IsPlaceIn (sections : List Section) (symbols : List Symbol) (p : RelaPlace) : Type 0 where
   pub known : IsKnown p.kind
   pub symbol : p.symbol < length symbols
@@ -59,8 +59,8 @@ Changes p x = (p.offset ≤ x) × (x < p.offset + place_width p)
 abbrev pub AreApart : RelaPlace → RelaPlace → Type 0
 AreApart p q = p.target ≡ q.target → (x : ℕ) → Changes p x → Changes q x → ⊥
 
--- What a loader needs to know: each section, symbol and place can be as it is among the others, and no two places
--- change one byte.
+-- What a loader needs to know: each section, symbol and place is valid among the others, and no two
+-- places change one byte.
 pub record IsLoadable (o : FileObject) : Type 0 where
   pub sections : All (IsSectionIn o.file) o.sections
   pub symbols : All (IsSymbolIn o.sections) o.symbols
@@ -74,7 +74,7 @@ pub record IsObject (sections : FileSections) (symbols : List Symbol) (places : 
   pub few : length symbols < 2 ^ 32
   pub loadable : IsLoadable (record { file = sections.file; sections = sections.list; symbols = symbols; places = places })
 
--- The tests of what the sections of a file have, in order.
+-- The tests of the contents of a file's sections, in order.
 abbrev pub content_tests : List ℕ → List (Option ObjectFault)
 content_tests b = symbol_tests b ++ place_tests b
 
@@ -82,6 +82,6 @@ content_tests b = symbol_tests b ++ place_tests b
 unfoldable pub object_tests : List ℕ → List (Option ObjectFault)
 object_tests b = option_map (λ fault. Shape fault) (shape_fault b) ∷ content_tests b
 
--- What is wrong with an object file: the first test that fails.
+-- The fault of an object file: the first test that fails.
 unfoldable pub object_fault : List ℕ → Option ObjectFault
 object_fault b = first (object_tests b)

@@ -1,5 +1,6 @@
--- Bytes that two places change, as the search for them sees them: the bytes of all sections stand in one line, 2^32
--- of them for each section, so that a byte has one number. No public contract cites it.
+-- Bytes that two places change, as the search for them sees them: the bytes of all sections are in
+-- one line, 2^32 for each section, so that each byte has a number.
+-- It belongs to the code: no public meaning rests on it.
 use Rattle.std.specs.Prelude.{◌≡◌, ℕ, ◌+◌, ◌*◌, ◌^◌, ◌<◌, ◌≤◌, ◌&&◌, nat_lt, nat_le, Bool, true, List, Option, MatchOption}
 use Rattle.std.specs.List.{count_by}
 use Rattle.elf_object.specs.declared.place.RelaPlace.{RelaPlace}
@@ -7,7 +8,7 @@ use Rattle.elf_object.specs.declared.overlap.Order.{Order}
 use Rattle.elf_object.specs.declared.overlap.Span.{Span}
 use Rattle.elf_object.specs.Places.{place_width}
 
--- A number lies from low on and below high.
+-- Whether a number lies from low on and below high.
 abbrev pub is_between : ℕ → ℕ → ℕ → Bool
 is_between low high a = nat_le low a && nat_lt a high
 
@@ -19,7 +20,7 @@ count_at start finish a xs = count_by (λ x. is_between (start x) (finish x) a) 
 abbrev pub span_start : Span → ℕ
 span_start s = s.target * 2 ^ 32 + s.offset
 
--- The number after that of its last byte.
+-- The number after its last byte's.
 abbrev pub span_end : Span → ℕ
 span_end s = span_start s + s.width
 
@@ -27,7 +28,7 @@ span_end s = span_start s + s.width
 abbrev pub place_start : RelaPlace → ℕ
 place_start p = p.target * 2 ^ 32 + p.offset
 
--- The number after that of its last byte.
+-- The number after its last byte's.
 abbrev pub place_end : RelaPlace → ℕ
 place_end p = place_start p + place_width p
 
@@ -44,7 +45,7 @@ pub record IsApart {X : Type 0} (start finish : X → ℕ) (xs : List X) (end : 
   pub once : (a : ℕ) → count_at start finish a xs ≤ 1
   pub past : (a : ℕ) → end ≤ a → count_at start finish a xs ≡ 0
 
--- Where the order holds, the places stand apart and before its end.
+-- If the order holds, the places are apart and before its end.
 abbrev pub IsOrderOf : Order → List RelaPlace → Type 0
 IsOrderOf order places = order.holds ≡ true → IsApart place_start place_end places order.end
 

@@ -19,15 +19,17 @@ use Rattle.elf_object.specs.Shape.{contents, each, fault_if, section_count}
 use Rattle.elf_object.specs.Sections.{section_of, sections_of}
 use Rattle.elf_object.specs.Symbols.{entries, symbols_of}
 
--- An alignment is a power of two of at most a page, or 0, which counts as 1. gABI 4, "Sections", sh_addralign.
+-- An alignment is a power of two of at most a page, or 0, which counts as 1. gABI 4, "Sections",
+-- sh_addralign.
 unfoldable pub is_alignment : ℕ → Bool
 is_alignment align = nat_le align PAGE && (align == 0 || is_power_of_two align)
 
--- The test of the alignment of the section i, where it is kept.
+-- The test of the alignment of the section i, if it is kept.
 unfoldable pub align_test : List ℕ → ℕ → Option ObjectFault
 align_test b i = fault_if ((section_of b i).kept && not (is_alignment (section_of b i).align)) (BadAlign i)
 
--- The relocation j of a section of these bytes, over the section `target`. gABI 4, "Relocation", Elf64_Rela.
+-- The relocation j of a section of these bytes, over the section `target`. gABI 4, "Relocation",
+-- Elf64_Rela.
 unfoldable pub place_in : List ℕ → ℕ → ℕ → ℕ → RelaPlace
 place_in table section target j =
     let info = le table (24 * j + 8) 8 in
@@ -45,27 +47,28 @@ place_in table section target j =
 abbrev pub place_width : RelaPlace → ℕ
 place_width p = known_width p.kind
 
--- A symbol lies in a section that isn't kept. An undefined one lies in none, nor does one with a reserved number.
+-- Whether a symbol lies in a section that isn't kept. An undefined one lies in none, nor does one
+-- with a reserved number.
 abbrev pub lies_unkept : List Section → Symbol → Bool
 lies_unkept sections s =
     not (s.section == SHN_UNDEF) && option_map_or (λ t. not t.kept) (slice_get sections s.section) false
 
--- The symbol k does.
+-- Whether the symbol k lies in a section that isn't kept.
 unfoldable pub is_unkept : List Section → List Symbol → ℕ → Bool
 is_unkept sections symbols k = option_map_or (lies_unkept sections) (slice_get symbols k) false
 
--- How many bytes of a section a file can have changed: none of one whose bytes aren't there. gABI 4, "Sections",
--- SHT_NOBITS and sh_size.
+-- How many bytes of a section a relocation may change: none of one without bytes in the file. gABI
+-- 4, "Sections", SHT_NOBITS and sh_size.
 abbrev pub room_in : Section → ℕ
 room_in s = if s.kind == SHT_NOBITS then 0 else s.size
 
--- A place that changes bytes can't be as it is: it leaves the bytes that its section has, or its symbol lies in a section
--- that isn't kept. Both are said beside it.
+-- Whether a place that changes bytes is invalid: it leaves the `room` bytes of its section, or its
+-- symbol lies in a section that isn't kept (`unkept`).
 unfoldable pub is_bad_place : Bool → ℕ → RelaPlace → Bool
 is_bad_place unkept room p = nat_lt room (p.offset + place_width p) || unkept
 
--- The tests of a place in its section, in order, by the count of symbols, by whether its own lies in a section that
--- isn't kept, and by how many bytes its section has.
+-- The tests of a place in its section, in order. They take the count of symbols, whether its own
+-- symbol lies in a section that isn't kept, and the number of bytes of its section.
 unfoldable pub place_test : ℕ → Bool → ℕ → RelaPlace → Option ObjectFault
 place_test count unkept room p =
     first (
@@ -74,7 +77,7 @@ place_test count unkept room p =
     ∷ fault_if (not (p.kind == R_X86_64_NONE) && is_bad_place unkept room p) (BadRela p.section p.entry)
     ∷ [])
 
--- The section i holds relocations of a section that is kept.
+-- Whether the section i holds relocations of a section that is kept.
 unfoldable pub is_applied : List ℕ → ℕ → Bool
 is_applied b i = (section_of b i).kind == SHT_RELA && (section_of b (section_of b i).info).kept
 
@@ -100,15 +103,16 @@ entry_test b i j =
 unfoldable pub rela_test : List ℕ → ℕ → Option ObjectFault
 rela_test b i = if is_applied b i then first (each (entries (contents b i)) (entry_test b i)) else None
 
--- The place p changes the byte at x of the section `target`.
+-- Whether the place p changes the byte at x of the section `target`.
 unfoldable pub covers : ℕ → ℕ → RelaPlace → Bool
 covers target x p = p.target == target && nat_le p.offset x && nat_lt x (p.offset + place_width p)
 
--- Two places change the byte at x of the section `target`.
+-- Whether two places change the byte at x of the section `target`.
 unfoldable pub is_shared : List RelaPlace → ℕ → ℕ → Bool
 is_shared places target x = nat_lt 1 (count_by (covers target x) places)
 
--- The test that no byte of the section i is changed by two places; the least such byte is named.
+-- The test that no byte of the section i is changed by two places. The fault names the least such
+-- byte.
 unfoldable pub overlap_test : List ℕ → ℕ → Option ObjectFault
 overlap_test b i =
     option_map (λ x. OverlappingPlaces i x) (position (is_shared (places_of b) i) (range_with_len 0 (section_of b i).size))

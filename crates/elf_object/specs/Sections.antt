@@ -5,7 +5,7 @@ use Rattle.elf_object.specs.declared.section.Section.{Section}
 use Rattle.elf_object.specs.declared.section.SectionRef.{SectionRef}
 use Rattle.elf_object.specs.Shape.{AllInFile, HasTable, content, is_kept, name_in, name_table, section_count, section_header, shape_fault, contents}
 
--- A section that is shown in place, as one with a name of its own. gABI 4, "Sections", Elf64_Shdr.
+-- A section with a borrowed name, as one with a name of its own. gABI 4, "Sections", Elf64_Shdr.
 abbrev pub owned_section : SectionRef → Section
 owned_section s = record {
   name = s.name.now;
@@ -49,7 +49,7 @@ pub record FileSections : Type 0 where
   pub file : List ℕ
   pub list : List Section
 
--- The sections of a file, beside it.
+-- A file with its sections, computed from its bytes.
 abbrev pub file_sections : List ℕ → FileSections
 file_sections b = record { file = b; list = sections_of b }
 

@@ -12,7 +12,7 @@ use Rattle.elf_object.specs.declared.header.SectionHeader.{SectionHeader}
 use Rattle.elf_object.specs.declared.fault.SectionFault.{SectionFault}
 use Rattle.elf_object.specs.declared.fault.SectionFault.TheVariants.{NotElf, Truncated, WrongClass, WrongMachine, NotRelocatable, BadSection, BadString}
 
--- A test that fails with this fault where the condition holds.
+-- A test that fails with this fault if the condition holds.
 abbrev pub fault_if : {F : Type 0} → Bool → F → Option F
 fault_if failed fault = if failed then Some fault else None
 
@@ -20,24 +20,26 @@ fault_if failed fault = if failed then Some fault else None
 abbrev pub each : {F : Type 0} → ℕ → (ℕ → Option F) → List (Option F)
 each n test = map test (range_with_len 0 n)
 
--- Where the section header table begins. gABI 4, "ELF Header", e_shoff.
+-- The offset of the section header table. gABI 4, "ELF Header", e_shoff.
 abbrev pub table_place : List ℕ → ℕ
 table_place b = le b 40 8
 
--- How many sections the file has. gABI 4, "ELF Header", e_shnum.
+-- The number of sections. gABI 4, "ELF Header", e_shnum.
 abbrev pub section_count : List ℕ → ℕ
 section_count b = le b 60 2
 
--- Which section has the names of the sections. gABI 4, "ELF Header", e_shstrndx.
+-- The number of the section with the names of the sections. gABI 4, "ELF Header", e_shstrndx.
 abbrev pub name_table : List ℕ → ℕ
 name_table b = le b 62 2
 
--- The file is of 64 bits, little-endian and of version 1. gABI 4, "ELF Header", e_ident and e_version.
+-- Whether the file is of 64 bits, little-endian and of version 1. gABI 4, "ELF Header", e_ident and
+-- e_version.
 unfoldable pub is_class : List ℕ → Bool
 is_class b = slice_index b 4 == 2 && slice_index b 5 == 1 && slice_index b 6 == 1 && le b 20 4 == 1
 
--- The section header table has entries of 64 bytes, at least one of them and none with a reserved number,
--- and its names are in a section of its own. gABI 4, "ELF Header", e_shentsize.
+-- Whether the numbers of the section header table are valid. Its entries have 64 bytes, there is at
+-- least one and none with a reserved number, and the names are in a section other than the first.
+-- gABI 4, "ELF Header", e_shentsize.
 unfoldable pub is_table : List ℕ → Bool
 is_table b =
     le b 58 2 == 64 && nat_lt 0 (section_count b) && nat_lt (section_count b) 0xff00 && nat_lt 0 (name_table b)
@@ -66,15 +68,16 @@ section_header b i =
       entry_size = le b (at + 56) 8;
     }
 
--- Sections of these types have no bytes in the file.
+-- Whether sections of this type have bytes in the file.
 abbrev pub has_content : ℕ → Bool
 has_content kind = not (kind == SHT_NULL) && not (kind == SHT_NOBITS)
 
--- The bytes of a section: as many as its size says, from its offset on. gABI 4, "Sections", sh_offset.
+-- The bytes of a section: as many as its size says, from its offset on. gABI 4, "Sections",
+-- sh_offset.
 unfoldable pub content : List ℕ → ℕ → ℕ → ℕ → List ℕ
 content b kind offset size = if has_content kind then take size (drop offset b) else []
 
--- A section of these numbers lies in the file, as far as it has bytes there.
+-- A section with these numbers lies in the file, if it has bytes there.
 abbrev pub IsInFile : List ℕ → SectionHeader → Type 0
 IsInFile b h = IsTrue (has_content h.kind) → h.offset + h.size ≤ length b
 
@@ -82,18 +85,20 @@ IsInFile b h = IsTrue (has_content h.kind) → h.offset + h.size ≤ length b
 abbrev pub AllInFile : List ℕ → Type 0
 AllInFile b = (i : ℕ) → i < section_count b → IsInFile b (section_header b i)
 
--- The name of a section of this type, at a place of the table of names; a section of type NULL has none.
+-- The name of a section of this type, at a place of the table of names; a section of type NULL has
+-- none.
 unfoldable pub name_in : List ℕ → ℕ → ℕ → List ℕ
 name_in names kind at = if kind == SHT_NULL then [] else unwrap_or (string_at names at) []
 
--- Sections of these names are read by the module tools and by the loader, and by nobody later: the module's texts,
--- and the versions of its needs in both of their forms. Linux, kernel/module/main.c and scripts/mod/modpost.c.
+-- Whether sections of this name are only read by the module tools and the loader: the module's
+-- texts, and the versions of its needs in both of their forms. Linux, kernel/module/main.c and
+-- scripts/mod/modpost.c.
 unfoldable pub is_for_loading : List ℕ → Bool
 is_for_loading name =
     bytes_eq name (codes ".modinfo") || bytes_eq name (codes "__versions") || bytes_eq name (codes "__version_ext_crcs")
     || bytes_eq name (codes "__version_ext_names")
 
--- A section is kept in memory where it is one, has the flag ALLOC, and isn't there for the loading alone.
+-- Whether a section is kept in memory: it is one, has the flag ALLOC, and isn't only for loading.
 -- gABI 4, "Sections", sh_flags.
 unfoldable pub is_kept : ℕ → ℕ → List ℕ → Bool
 is_kept kind flags name = not (kind == SHT_NULL) && not (bit_and flags SHF_ALLOC == 0) && not (is_for_loading name)
@@ -114,7 +119,7 @@ header_tests b =
     ∷ fault_if (nat_lt (length b) (table_place b + 64 * section_count b)) (Truncated (table_place b) (64 * section_count b))
     ∷ []
 
--- The test that the section i lies in the file; the first section describes none.
+-- The test that the section i lies in the file, and that the first section is of type NULL.
 unfoldable pub place_test : List ℕ → ℕ → Option SectionFault
 place_test b i =
     let h = section_header b i in
@@ -140,6 +145,6 @@ unfoldable pub shape_tests : List ℕ → List (Option SectionFault)
 shape_tests b =
     header_tests b ++ each (section_count b) (place_test b) ++ name_table_test b ∷ each (section_count b) (name_test b)
 
--- What is wrong with the sections of a file: the first test that fails.
+-- The fault of the sections of a file: the first test that fails.
 unfoldable pub shape_fault : List ℕ → Option SectionFault
 shape_fault b = first (shape_tests b)

@@ -16,7 +16,7 @@ use Rattle.elf_object.specs.declared.fault.SectionFault.TheVariants.{BadString}
 use Rattle.elf_object.specs.Shape.{each, contents, fault_if, section_count}
 use Rattle.elf_object.specs.Sections.{entry_size, section_of}
 
--- A symbol that is shown in place, as one with a name of its own. gABI 4, "Symbol Table", Elf64_Sym.
+-- A symbol with a borrowed name, as one with a name of its own. gABI 4, "Symbol Table", Elf64_Sym.
 abbrev pub owned_symbol : SymbolRef → Symbol
 owned_symbol s = record { name = s.name.now; binding = s.binding; section = s.section; value = s.value }
 
@@ -28,20 +28,21 @@ rel_test b i = fault_if ((section_of b i).kind == SHT_REL) (RelSection i)
 unfoldable pub symbol_table : List ℕ → Option ℕ
 symbol_table b = position (λ i. (section_of b i).kind == SHT_SYMTAB) (range_with_len 0 (section_count b))
 
--- The section i is the symbol table.
+-- Whether the section i is the symbol table.
 unfoldable pub is_symbol_table : List ℕ → ℕ → Bool
 is_symbol_table b i = option_map_or (λ t. t == i) (symbol_table b) false
 
--- The section i is a string table.
+-- Whether the section i is a string table.
 unfoldable pub is_string_table : List ℕ → ℕ → Bool
 is_string_table b i = nat_lt i (section_count b) && (section_of b i).kind == SHT_STRTAB
 
--- The section i has entries of 24 bytes, each of them whole.
+-- Whether the section i has entries of 24 bytes, each of them whole.
 unfoldable pub has_entries : List ℕ → ℕ → Bool
 has_entries b i = entry_size b i == 24 && (section_of b i).size % 24 == 0
 
--- A section of symbols is the only one, has its entries, and has its names in a string table. A section of
--- relocations has its entries, is over the symbol table, and changes another section.
+-- Whether a table is valid. A section of symbols is the only one, has its entries, and has its
+-- names in a string table. A section of relocations has its entries, uses the symbol table, and
+-- changes another section.
 unfoldable pub is_good_table : List ℕ → ℕ → Bool
 is_good_table b i =
     let s = section_of b i in
@@ -49,7 +50,7 @@ is_good_table b i =
     else if s.kind == SHT_RELA then has_entries b i && is_symbol_table b s.link && nat_lt 0 s.info && nat_lt s.info (section_count b)
     else true
 
--- The test that the section i, if it is a table, can be one.
+-- The test that the section i is valid if it is a table.
 unfoldable pub table_test : List ℕ → ℕ → Option ObjectFault
 table_test b i = fault_if (not (is_good_table b i)) (BadTable i)
 
@@ -66,8 +67,9 @@ symbol_entry table j = record {
 abbrev pub binding : SymbolEntry → ℕ
 binding e = e.info / 16
 
--- A symbol of this name can't be as it is, in a file of that many sections: its section is neither one of
--- the file nor absolute, its binding is none of the three, or it is undefined and local or has no name.
+-- Whether a symbol of this name is invalid, in a file of so many sections. Its section is neither
+-- one of the file nor absolute, its binding is none of the three, or it is undefined and local or
+-- has no name.
 unfoldable pub is_bad_symbol : ℕ → List ℕ → SymbolEntry → Bool
 is_bad_symbol count name e =
     (nat_le SHN_LORESERVE e.section && not (e.section == SHN_ABS))
@@ -84,7 +86,8 @@ kind_test count name j e =
     ∷ fault_if (is_bad_symbol count name e) (BadSymbol j)
     ∷ [])
 
--- The tests of the symbol j of a table, by its string table and the count of sections. Symbol 0 isn't looked at.
+-- The tests of the symbol j of a table, by its string table and the count of sections. Symbol 0
+-- isn't tested.
 unfoldable pub symbol_test_in : List ℕ → List ℕ → ℕ → ℕ → Option ObjectFault
 symbol_test_in table names count j =
     let e = symbol_entry table j in
@@ -94,14 +97,15 @@ symbol_test_in table names count j =
     ∷ kind_test count (unwrap_or (string_at names e.name) []) j e
     ∷ [])
 
--- The symbol j of a table, by its string table. Symbol 0 has no name, and zeros, whatever the file has there.
+-- The symbol j of a table, by its string table. Symbol 0 has no name, and zeros, whatever the file
+-- has there.
 unfoldable pub symbol_in : List ℕ → List ℕ → ℕ → Symbol
 symbol_in table names j =
     let e = symbol_entry table j in
     if j == 0 then record { name = []; binding = 0; section = 0; value = 0 }
     else record { name = unwrap_or (string_at names e.name) []; binding = binding e; section = e.section; value = e.value }
 
--- How many entries of 24 bytes a table of these bytes has.
+-- The number of entries of 24 bytes in a table of these bytes.
 abbrev pub entries : List ℕ → ℕ
 entries table = length table / 24
 
@@ -109,11 +113,12 @@ entries table = length table / 24
 unfoldable pub symbols_in : List ℕ → List ℕ → List Symbol
 symbols_in table names = map (symbol_in table names) (range_with_len 0 (entries table))
 
--- The bytes of the symbol table of a file; none where there is no symbol table.
+-- The bytes of the symbol table of a file; none if there is no symbol table.
 unfoldable pub symbol_bytes : List ℕ → List ℕ
 symbol_bytes b = option_map_or (contents b) (symbol_table b) []
 
--- The bytes of the string table that has the names of a file's symbols; none where there is no symbol table.
+-- The bytes of the string table that has the names of a file's symbols; none if there is no symbol
+-- table.
 unfoldable pub symbol_names : List ℕ → List ℕ
 symbol_names b = option_map_or (λ t. contents b (section_of b t).link) (symbol_table b) []
 

@@ -1,4 +1,4 @@
-// What is wrong with a file.
+// Faults of a file.
 
 ghost use Rattle.std.specs.Prelude.{◌≡◌, IfOk};
 
@@ -24,13 +24,13 @@ pub enum SectionFault {
     /// The file isn't a relocatable object.
     #[error("not relocatable")]
     NotRelocatable,
-    /// The section header table, or the section `index` of it, can't be as it is.
+    /// The section header table, or its section `index`, is invalid.
     #[error("bad section {index}")]
     BadSection { index: u32 },
     /// No text that ends with a NUL begins at `offset` of the string table.
     #[error("bad string at {offset}")]
     BadString { offset: u64 },
-    /// Memory ran out.
+    /// Out of memory.
     #[error("out of memory")]
     Memory,
 }
@@ -38,28 +38,28 @@ pub enum SectionFault {
 /// Why a file is no object file of x86-64 whose symbols and relocations can be read.
 #[derive(Clone, Copy, Debug, PartialEq, Eq, Error)]
 pub enum ObjectFault {
-    /// Its sections can't be read; never for want of memory.
+    /// Its sections can't be read. Never out of memory.
     #[error("{0}")]
     Shape(SectionFault),
     /// The section `index` holds relocations without addends.
     #[error("relocations without addends in section {index}")]
     RelSection { index: u32 },
-    /// The section `index` can't be the table of symbols or of relocations that its type says.
+    /// The section `index` isn't a valid table of symbols or of relocations, as its type says.
     #[error("bad table in section {index}")]
     BadTable { index: u32 },
-    /// The section number of the symbol `index` stands elsewhere.
+    /// The section number of the symbol `index` is elsewhere (SHN_XINDEX).
     #[error("extended index at symbol {index}")]
     ExtendedIndex { index: u32 },
-    /// The symbol `index` wants memory of its own.
+    /// The symbol `index` is a common symbol (SHN_COMMON).
     #[error("common symbol {index}")]
     CommonSymbol { index: u32 },
-    /// The symbol `index` can't be as it is.
+    /// The symbol `index` is invalid.
     #[error("bad symbol {index}")]
     BadSymbol { index: u32 },
     /// The alignment of the section `index` is no power of two, or over a page.
     #[error("bad alignment of section {index}")]
     BadAlign { index: u32 },
-    /// The relocation `entry` of the section `section` can't be as it is.
+    /// The relocation `entry` of the section `section` is invalid.
     #[error("bad relocation {section} {entry}")]
     BadRela { section: u32, entry: u32 },
     /// The relocation `entry` of the section `section` is of the unknown type `kind`.
@@ -68,7 +68,7 @@ pub enum ObjectFault {
     /// Two relocations change the byte at `offset` of the section `section`.
     #[error("overlapping places in section {section} at {offset}")]
     OverlappingPlaces { section: u32, offset: u64 },
-    /// Memory ran out.
+    /// Out of memory.
     #[error("out of memory")]
     Memory,
 }
@@ -109,7 +109,7 @@ impl From<SectionFault> for ObjectFault {
 impl ObjectFault {
     ghost use Rattle.elf_object.specs.FaultText.{object_fault_text};
 
-    /// The text of the fault, as it stands in a line on standard error.
+    /// Returns the text of the fault, as it is in a line on standard error.
     pub fn text(&self, alloc: Global) -> Result<Blob, AllocError>
         ensures { IfOk result (λ text. text ≡ object_fault_text self.now) }
     {
@@ -167,7 +167,7 @@ impl<T: Drop> From<AllocFailed<T>> for SectionFault {
 impl SectionFault {
     ghost use Rattle.elf_object.specs.FaultText.{section_fault_text};
 
-    /// The text of the fault, as it stands in a line on standard error.
+    /// Returns the text of the fault, as it is in a line on standard error.
     pub fn text(&self, alloc: Global) -> Result<Blob, AllocError>
         ensures { IfOk result (λ text. text ≡ section_fault_text self.now) }
     {

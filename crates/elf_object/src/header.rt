@@ -26,7 +26,7 @@ pub(crate) struct SectionHeader {
     pub(crate) entry_size: u64,
 }
 
-/// Whether the file is of 64 bits, little-endian and of version 1.
+/// Returns whether the file is of 64 bits, little-endian and of version 1.
 #[tactic(auto, unfolding(crate::specs::Shape::is_class))]
 fn has_class(bytes: &[u8]) -> bool
     requires { 64 ≤ length bytes.now }
@@ -38,7 +38,7 @@ fn has_class(bytes: &[u8]) -> bool
         && le_u32_at(bytes, 20) == u32::from(EV_CURRENT)
 }
 
-/// Whether the numbers of the section header table can be those of a table.
+/// Returns whether the numbers of the section header table are valid.
 #[tactic(auto, unfolding(crate::specs::Shape::is_table))]
 fn has_table(bytes: &[u8]) -> bool
     requires { 64 ≤ length bytes.now }
@@ -53,7 +53,7 @@ fn has_table(bytes: &[u8]) -> bool
         && names < count
 }
 
-/// Where the section header table begins.
+/// Returns the offset of the section header table.
 pub(crate) fn table_place(bytes: &[u8]) -> u64
     requires { 64 ≤ length bytes.now }
     ensures { result ≡ table_place bytes.now }
@@ -61,7 +61,7 @@ pub(crate) fn table_place(bytes: &[u8]) -> u64
     le_u64_at(bytes, 40)
 }
 
-/// How many sections the file has.
+/// Returns the number of sections.
 pub(crate) fn section_count(bytes: &[u8]) -> u16
     requires { 64 ≤ length bytes.now }
     ensures { result ≡ section_count bytes.now }
@@ -69,7 +69,7 @@ pub(crate) fn section_count(bytes: &[u8]) -> u16
     le_u16_at(bytes, 60)
 }
 
-/// Which section has the names of the sections.
+/// Returns the number of the section with the names of the sections.
 pub(crate) fn name_table(bytes: &[u8]) -> u16
     requires { 64 ≤ length bytes.now }
     ensures { result ≡ name_table bytes.now }
@@ -112,7 +112,7 @@ pub(crate) fn check_header(bytes: &[u8]) -> Result<(), SectionFault>
     Ok(())
 }
 
-/// Whether the file has the `size` bytes from `offset`.
+/// Returns whether the file has the `size` bytes from `offset`.
 pub(crate) fn is_within(bytes: &[u8], offset: u64, size: u64) -> bool
     ensures { result ≡ nat_le (offset + size) (length bytes.now) }
 {
@@ -120,7 +120,7 @@ pub(crate) fn is_within(bytes: &[u8], offset: u64, size: u64) -> bool
     offset <= length && size <= length - offset
 }
 
-/// The section header `index`.
+/// Returns the section header `index`.
 #[tactic(auto, unfolding(crate::specs::Shape::section_header))]
 pub(crate) fn section_header(bytes: &[u8], index: u16) -> SectionHeader
     requires table { HasTable bytes.now }

@@ -1,4 +1,4 @@
-// The places that are met while a file is read.
+// The places met while a file is read.
 
 ghost use Rattle.std.specs.Prelude.{◌≡◌, [], ◌∷◌, ◌++◌, true, IfOk, List, OnOk};
 ghost use Rattle.elf_object.specs.Inner.{HasMet};
@@ -10,8 +10,8 @@ use crate::RelaPlace;
 use crate::overlap::Order;
 use std::alloc::{AllocError, Global};
 
-/// What is remembered of the places that were met: whether they stand in order, and the places themselves where their
-/// list is kept.
+/// What is kept of the places that were met: whether they are in order, and the places themselves
+/// if their list is kept.
 #[derive(Drop)]
 pub(crate) struct MetPlaces {
     pub(crate) list: Vec<RelaPlace>,
@@ -20,7 +20,7 @@ pub(crate) struct MetPlaces {
 }
 
 impl MetPlaces {
-    /// No place was met, and the list of so many will be kept.
+    /// Returns the state of no place met, with a list of so many to be kept.
     pub(crate) fn listing(alloc: Global, places: usize) -> Result<Self, AllocError>
         ensures none { IfOk result (λ m. HasMet m []) }
         ensures keeps { IfOk result (λ m. m.keeps ≡ true) }
@@ -32,7 +32,7 @@ impl MetPlaces {
         })
     }
 
-    /// No place was met, and no list will be kept.
+    /// Returns the state of no place met, with no list to be kept.
     pub(crate) fn testing(alloc: Global) -> Self
         ensures { HasMet result [] }
     {

@@ -17,7 +17,8 @@ use km_names::{Blob, List};
 use std::alloc::{AllocError, Global};
 use std::marker::Model;
 
-/// The sections, the symbols and the places of an object file, with its bytes. Contracts see all four.
+/// The sections, the symbols and the places of an object file, with its bytes. Contracts see all
+/// four.
 #[derive(Debug, Drop)]
 pub struct Object {
     sections: Sections,
@@ -61,13 +62,14 @@ impl Object {
     ghost use Rattle.elf_object.specs.Sections.{bytes_of};
     ghost use Rattle.elf_object.specs.Object.{IsPlaceIn, IsSectionIn, IsSymbolIn};
 
-    /// Reads an object file, which it keeps. After a refusal the bytes are given up.
+    /// Reads an object file, and keeps its bytes. After a refusal the bytes are dropped.
     ///
     /// # Errors
     ///
-    /// The first test of the file that fails, or `Memory`: it also comes where the names of the sections together,
-    /// or those of the symbols, have more than [`NAME_LIMIT`](crate::NAME_LIMIT) bytes, and where the tables of
-    /// relocations share their bytes and together have more than a file may have.
+    /// The first test of the file that fails, or `Memory`. `Memory` also comes if the names of the
+    /// sections together, or the names of the symbols together, have more than
+    /// [`NAME_LIMIT`](crate::NAME_LIMIT) bytes. It also comes if the tables of relocations share
+    /// their bytes and together have more than a file may have.
     pub fn read(alloc: Global, bytes: Blob) -> Result<Object, ObjectFault>
         requires { length bytes ≤ file_limit }
         ensures object { IfOk result (λ o. o ≡ file_object bytes) }
@@ -86,7 +88,7 @@ impl Object {
         })
     }
 
-    /// The object with the names of its symbols where these are, and without its places.
+    /// Returns the object with the names of its symbols in place, and without its places.
     pub fn view(&self, alloc: Global) -> Result<ObjectView<'_>, AllocError>
         ensures { IfOk result (λ view. view ≡ self.now) }
     {
@@ -95,7 +97,7 @@ impl Object {
         Ok(ObjectView { table, symbols })
     }
 
-    /// How many sections there are.
+    /// Returns the number of sections.
     pub fn section_count(&self) -> u32
         ensures count { result ≡ length self.now.sections }
         ensures some { 0 < result }
@@ -104,7 +106,7 @@ impl Object {
         self.sections.section_count()
     }
 
-    /// The section `i`.
+    /// Returns the section `i`.
     pub fn section(&self, i: u32) -> &Section
         requires { i < length self.now.sections }
         ensures section { slice_get self.now.sections i ≡ Some result.now }
@@ -113,7 +115,7 @@ impl Object {
         self.sections.section(i)
     }
 
-    /// The bytes of the section `i` in the file; a section of type NULL or NOBITS has none.
+    /// Returns the bytes of the section `i` in the file. A section of type NULL or NOBITS has none.
     pub fn section_bytes(&self, i: u32) -> &[u8]
         requires { i < length self.now.sections }
         ensures bytes { IfSome (slice_get self.now.sections i)
@@ -123,7 +125,7 @@ impl Object {
         self.sections.section_bytes(i)
     }
 
-    /// The first section of this name.
+    /// Returns the first section of this name.
     pub fn section_named(&self, name: &[u8]) -> Option<u32>
         ensures first { result ≡ position (λ s. bytes_eq s.name name.now) self.now.sections }
         ensures within { IfSome result (λ i. i < length self.now.sections) }
@@ -131,14 +133,14 @@ impl Object {
         self.sections.section_named(name)
     }
 
-    /// How many symbols there are, with symbol 0.
+    /// Returns the number of symbols, with symbol 0.
     pub fn symbol_count(&self) -> u32
         ensures { result ≡ length self.now.symbols }
     {
         self.symbols.len() as u32
     }
 
-    /// The symbol `i`.
+    /// Returns the symbol `i`.
     pub fn symbol(&self, i: u32) -> &Symbol
         requires { i < length self.now.symbols }
         ensures symbol { slice_get self.now.symbols i ≡ Some result.now }
@@ -147,7 +149,7 @@ impl Object {
         &self.symbols.as_slice()[i as usize]
     }
 
-    /// How many places there are.
+    /// Returns the number of places.
     pub fn place_count(&self) -> usize
         ensures count { result ≡ length self.now.places }
         ensures loadable { IsLoadable self.now }
@@ -155,7 +157,8 @@ impl Object {
         self.places.len()
     }
 
-    /// The place `i`. Places stand by relocation section, then by entry, and only for kept targets.
+    /// Returns the place `i`. Places are ordered by relocation section, then by entry, and only
+    /// kept targets have any.
     pub fn place(&self, i: usize) -> &RelaPlace
         requires { i < length self.now.places }
         ensures place { slice_get self.now.places i ≡ Some result.now }

@@ -1,4 +1,4 @@
-// Bytes that two places change.
+// Finds bytes that two places change.
 
 ghost use Rattle.std.specs.Prelude.{◌≡◌, [], ◌∷◌, ◌++◌, All, IfOk, List, MatchOption, ℕ};
 ghost use Rattle.std.specs.List.Sorted.{IsNonDecreasingBy};
@@ -10,11 +10,11 @@ use crate::RelaPlace;
 use elf_format::width;
 use std::alloc::{AllocError, Global};
 
-/// How many bytes each section has where the bytes of all stand in one line.
+/// The number of bytes that each section has if the bytes of all are put in one line.
 pub(crate) const SECTION: u64 = 1 << 32;
 
-/// Whether the places that were met stand in order and apart, and where the last of them ends in the line of all
-/// sections' bytes. No two places in order share a byte.
+/// Whether the places that were met are in order and apart, and the end of the last of them in the
+/// line of all sections' bytes. No two places in order share a byte.
 #[derive(Clone, Copy)]
 pub(crate) struct Order {
     pub(crate) end: u64,
@@ -25,7 +25,7 @@ impl Order {
     ghost use Rattle.elf_object.specs.Overlap.{IsNear, IsOrderOf};
     ghost use Rattle.elf_object.specs.Places.{place_width};
 
-    /// The order of no place.
+    /// Returns the order of no places.
     pub(crate) fn new() -> Self
         ensures { IsOrderOf result [] }
     {
@@ -53,8 +53,8 @@ impl Order {
     }
 }
 
-/// The bytes that a place changes: `width` bytes from `offset` on of the section `target`. It is small, since
-/// there may be one for each relocation of a file.
+/// The bytes that a place changes: `width` bytes from `offset` on of the section `target`. A span
+/// is small, since there may be one for each relocation of a file.
 #[derive(Clone, Copy)]
 pub(crate) struct Span {
     pub(crate) offset: u32,
@@ -65,14 +65,14 @@ pub(crate) struct Span {
 impl Span {
     ghost use Rattle.elf_object.specs.Overlap.{span_end, span_start};
 
-    /// Where its first byte stands in the line of all sections' bytes.
+    /// Returns the place of its first byte in the line of all sections' bytes.
     fn start(&self) -> u64
         ensures { result ≡ span_start self.now }
     {
         u64::from(self.target) * SECTION + u64::from(self.offset)
     }
 
-    /// Where its bytes end in that line.
+    /// Returns the end of its bytes in that line.
     fn end(&self) -> u64
         ensures { result ≡ span_end self.now }
     {
@@ -80,7 +80,7 @@ impl Span {
     }
 }
 
-/// The bytes of a place, if it changes any.
+/// Returns the bytes of a place, if it changes any.
 fn span_of(place: &RelaPlace) -> Option<Span>
     requires { IsNear place.now }
     ensures { MatchOption result (place_width place.now ≡ 0) (λ s. IsSpanOf place.now s) }
@@ -96,7 +96,7 @@ fn span_of(place: &RelaPlace) -> Option<Span>
     })
 }
 
-/// The bytes of each place that changes any.
+/// Returns the bytes of each place that changes any.
 fn spans_of(alloc: Global, places: &[RelaPlace]) -> Result<Vec<Span>, AllocError>
     requires { All IsNear places.now }
     ensures long { IfOk result (λ v. All IsLong v.items) }
@@ -113,7 +113,7 @@ fn spans_of(alloc: Global, places: &[RelaPlace]) -> Result<Vec<Span>, AllocError
     Ok(spans)
 }
 
-/// The least byte that two spans share, where the spans stand in order.
+/// Returns the least byte that two of the spans share. The spans are in order.
 fn first_shared(spans: &[Span]) -> Option<u64>
     requires sorted { IsNonDecreasingBy span_start spans.now }
     requires long { All IsLong spans.now }
@@ -130,7 +130,8 @@ fn first_shared(spans: &[Span]) -> Option<u64>
     None
 }
 
-/// The least byte that two places share. Places in order, as tools write them, take no memory.
+/// Returns the least byte that two places share. Places in order, as tools write them, take no
+/// memory.
 pub(crate) fn find_shared(
     alloc: Global,
     places: &[RelaPlace],

@@ -1,4 +1,4 @@
-// What is read of a file before its places are.
+// The parts of a file that are read before its places.
 
 ghost use Rattle.std.specs.Prelude.{◌≡◌, ◌≤◌, ◌⊎◌, length, map, None, Some, IfErr, IfOk, OnOk};
 ghost use Rattle.km_names.specs.Limit.{file_limit};
@@ -17,7 +17,7 @@ use crate::{ObjectFault, SymbolRef};
 use km_names::List;
 use std::alloc::Global;
 
-/// The sections and the symbols of a file, with their names where these stand.
+/// The sections and the symbols of a file, with their names in place.
 #[derive(Drop)]
 pub(crate) struct FileParts<'a> {
     pub(crate) table: SectionTable<'a>,
@@ -26,7 +26,7 @@ pub(crate) struct FileParts<'a> {
     pub(crate) unkept: Vec<bool>,
 }
 
-/// Reads a file but for its places, after all other tests that it must pass.
+/// Reads a file without its places, after all other tests that it must pass.
 pub(crate) fn read_parts<'a>(alloc: Global, bytes: &'a [u8]) -> Result<FileParts<'a>, ObjectFault>
     requires { length bytes.now ≤ file_limit }
     ensures sections { IfOk result (λ p. p.table ≡ file_sections bytes.now) }

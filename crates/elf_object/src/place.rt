@@ -22,24 +22,24 @@ pub struct RelaPlace {
     pub entry: u32,
     /// The section that is changed.
     pub target: u32,
-    /// Where in that section.
+    /// The offset in that section.
     pub offset: u64,
     /// The number of the symbol.
     pub symbol: u32,
     /// The type of the relocation. x86-64 psABI, "Relocation Types".
     pub kind: u32,
-    /// The number that is added to the symbol's address.
+    /// The number that is added to the symbol's address, r_addend.
     pub addend: i64,
 }
 
-/// A number of 64 bits as two's complement. gABI 4, "Data Representation", Elf64_Sxword.
+/// Returns a number of 64 bits as two's complement. gABI 4, "Data Representation", Elf64_Sxword.
 fn signed(bits: u64) -> i64
     ensures { result ≡ signed bits }
 {
     bits.cast_signed()
 }
 
-/// The relocation `entry` of a section of these bytes.
+/// Returns the relocation `entry` of a section of these bytes.
 #[tactic(auto, unfolding(crate::specs::Places::place_in))]
 pub(crate) fn place_at(table: &[u8], section: u32, target: u32, entry: u32) -> RelaPlace
     requires { 24 * entry + 24 ≤ length table.now }
@@ -58,7 +58,7 @@ pub(crate) fn place_at(table: &[u8], section: u32, target: u32, entry: u32) -> R
     }
 }
 
-/// Whether a symbol lies in a section that isn't kept.
+/// Returns whether a symbol lies in a section that isn't kept.
 fn is_unkept(sections: &[SectionRef], symbol: &SymbolRef) -> bool
     ensures { result ≡ lies_unkept (map owned_section sections.now) (owned_symbol symbol.now) }
 {
@@ -68,8 +68,8 @@ fn is_unkept(sections: &[SectionRef], symbol: &SymbolRef) -> bool
     }
 }
 
-/// For each symbol whether it lies in a section that isn't kept. Relocations are far more than symbols, so that is
-/// asked once for each symbol.
+/// Returns for each symbol whether it lies in a section that isn't kept. There are far more
+/// relocations than symbols, so this is computed once for each symbol.
 pub(crate) fn unkept_symbols(
     alloc: Global,
     sections: &[SectionRef],
@@ -84,7 +84,8 @@ pub(crate) fn unkept_symbols(
     Ok(flags)
 }
 
-/// How many bytes of a section a file can have changed: none of one whose bytes aren't there.
+/// Returns how many bytes of a section a relocation may change: none of one without bytes in the
+/// file.
 pub(crate) fn room_in(section: SectionRef) -> u64
     ensures { result ≡ room_in (owned_section section.entry) }
 {
@@ -95,8 +96,8 @@ pub(crate) fn room_in(section: SectionRef) -> u64
     }
 }
 
-/// Whether a place that changes `size` bytes can't be as it is in a section that has `room` bytes, by whether its symbol
-/// lies in a section that isn't kept.
+/// Returns whether a place that changes `size` bytes is invalid in a section with `room` bytes.
+/// `unkept` is whether its symbol lies in a section that isn't kept.
 #[tactic(auto, unfolding(crate::specs::Places::is_bad_place))]
 fn is_bad_place(unkept: bool, room: u64, place: &RelaPlace, size: u8) -> bool
     requires { width place.now.kind ≡ Some size }
@@ -106,8 +107,8 @@ fn is_bad_place(unkept: bool, room: u64, place: &RelaPlace, size: u8) -> bool
     room < size || room - size < place.offset || unkept
 }
 
-/// Tests a place in a section that has `room` bytes, by what is known of the symbols, and answers how many bytes it
-/// changes.
+/// Tests a place in a section with `room` bytes, by what is known of the symbols, and returns how
+/// many bytes it changes.
 #[tactic(auto, unfolding(crate::specs::Places::place_test))]
 pub(crate) fn check_place(unkept: &[bool], room: u64, place: &RelaPlace) -> Result<u8, ObjectFault>
     ensures fault { result_err result

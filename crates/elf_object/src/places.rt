@@ -21,11 +21,11 @@ use elf_format::{PAGE, RELA_SIZE, SHT_RELA};
 use km_names::{FILE_LIMIT, List};
 use std::alloc::{AllocError, Global};
 
-/// How many bytes the tables of relocations may have together: as many as a file may have. Only tables that share
-/// their bytes have more.
+/// The greatest total size of the tables of relocations, in bytes: as many as a file may have. Only
+/// tables that share their bytes have more.
 const TABLE_LIMIT: usize = FILE_LIMIT;
 
-/// Whether an alignment is a power of two of at most a page, or 0.
+/// Returns whether an alignment is a power of two of at most a page, or 0.
 #[tactic(auto, unfolding(crate::specs::Places::is_alignment))]
 fn is_alignment(align: u64) -> bool
     ensures { result ≡ is_alignment align }
@@ -48,7 +48,7 @@ fn check_alignments(sections: &SectionTable) -> Result<(), ObjectFault>
     Ok(())
 }
 
-/// Whether the section `index` holds relocations of a section that is kept.
+/// Returns whether the section `index` holds relocations of a section that is kept.
 #[tactic(auto, unfolding(crate::specs::Places::is_applied))]
 fn is_applied(sections: &SectionTable, index: u32) -> bool
     requires fit { TablesFit sections.now.file }
@@ -59,11 +59,11 @@ fn is_applied(sections: &SectionTable, index: u32) -> bool
     section.kind == SHT_RELA && sections.section(section.info).kept
 }
 
-/// How many relocations of kept sections the tables have together.
+/// Returns how many relocations of kept sections the tables have together.
 ///
 /// # Errors
 ///
-/// Where the tables together have more than `TABLE_LIMIT` bytes.
+/// The tables together have more than `TABLE_LIMIT` bytes.
 fn relocation_count(sections: &SectionTable) -> Result<usize, AllocError>
     requires { TablesFit sections.now.file }
 {
@@ -80,8 +80,8 @@ fn relocation_count(sections: &SectionTable) -> Result<usize, AllocError>
     Ok((TABLE_LIMIT - left) / RELA_SIZE)
 }
 
-/// Meets the places of the section `index`, where it holds relocations of a section that is kept. Almost all time of a
-/// read goes to its loop, so it stays a function of its own.
+/// Meets the places of the section `index`, if it holds relocations of a section that is kept.
+/// Almost all time of a read goes to its loop, so it stays a function of its own.
 #[inline(never)]
 fn meet_section_places(
     sections: &SectionTable,
@@ -115,7 +115,7 @@ fn meet_section_places(
     Ok(())
 }
 
-/// Meets the places of a file, of which none was met.
+/// Meets all places of a file. None was met before.
 fn meet_places(
     sections: &SectionTable,
     unkept: &[bool],
@@ -169,7 +169,8 @@ fn check_overlaps(
     }
 }
 
-/// Reads the places of a file, by what is known of its symbols, with the tests of the sections that they change.
+/// Reads the places of a file, by what is known of its symbols, and tests the sections that they
+/// change.
 pub(crate) fn read_places(
     alloc: Global,
     sections: &SectionTable,
@@ -192,8 +193,8 @@ pub(crate) fn read_places(
     Ok(List::from_vec(list))
 }
 
-/// Tests the places of a file, by what is known of its symbols, and the sections that they change. Places in order
-/// take no memory.
+/// Tests the places of a file, by what is known of its symbols, and the sections that they change.
+/// Places in order take no memory.
 pub(crate) fn check_places(
     alloc: Global,
     sections: &SectionTable,
@@ -208,7 +209,7 @@ pub(crate) fn check_places(
         (λ e. (e ≡ ObjectFault.Memory) ⊎ (first (place_tests sections.now.file) ≡ Some e)) }
 {
     check_alignments(sections)?;
-    // Tables may share their bytes: they are added up before they are looked at.
+    // Tables may share their bytes, so they are added up before they are read.
     relocation_count(sections)?;
     let mut met = MetPlaces::testing(alloc);
     meet_places(sections, unkept, &mut met)?;

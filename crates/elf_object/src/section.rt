@@ -21,22 +21,23 @@ pub struct Section {
     pub kind: u32,
     /// The flags, `sh_flags`.
     pub flags: u64,
-    /// Where its bytes begin in the file.
+    /// The offset of its bytes in the file.
     pub offset: u64,
-    /// How many bytes it has, in the file or when the module runs.
+    /// The number of its bytes, in the file or when the module runs.
     pub size: u64,
-    /// The section that belongs to it, `sh_link`.
+    /// The number of a section that belongs to it, `sh_link`.
     pub link: u32,
     /// The further number `sh_info`.
     pub info: u32,
-    /// Its place in memory is a multiple of this; 0 counts as 1.
+    /// The alignment of its place in memory; 0 counts as 1.
     pub align: u64,
-    /// Whether it is in the memory of the running module: it is a section, has the flag ALLOC, and isn't there
-    /// for the loading alone, as the module's texts and the versions of its needs are.
+    /// Whether it is in the memory of the running module: it is a section, has the flag ALLOC, and
+    /// isn't only for loading, as the module's texts and the versions of its needs are.
     pub kept: bool,
 }
 
-/// A section of a file whose name stands elsewhere, as in the file's table of names. gABI 4, "Sections", Elf64_Shdr.
+/// A section of a file whose name is borrowed, as from the file's table of names. gABI 4,
+/// "Sections", Elf64_Shdr.
 #[derive(Clone, Copy, Debug)]
 pub struct SectionRef<'a> {
     /// The text at `sh_name` of the names; empty for a section of type NULL.
@@ -45,21 +46,21 @@ pub struct SectionRef<'a> {
     pub kind: u32,
     /// The flags, `sh_flags`.
     pub flags: u64,
-    /// Where its bytes begin in the file.
+    /// The offset of its bytes in the file.
     pub offset: u64,
-    /// How many bytes it has, in the file or when the module runs.
+    /// The number of its bytes, in the file or when the module runs.
     pub size: u64,
-    /// The section that belongs to it, `sh_link`.
+    /// The number of a section that belongs to it, `sh_link`.
     pub link: u32,
     /// The further number `sh_info`.
     pub info: u32,
-    /// Its place in memory is a multiple of this; 0 counts as 1.
+    /// The alignment of its place in memory; 0 counts as 1.
     pub align: u64,
-    /// Whether it is in the memory of the running module, as of a [`Section`].
+    /// Whether it is in the memory of the running module, as for a [`Section`].
     pub kept: bool,
 }
 
-/// Whether sections of this name are read when the module is loaded, and by nobody later.
+/// Returns whether sections of this name are only read when the module is loaded.
 #[tactic(auto, unfolding(crate::specs::Shape::is_for_loading))]
 fn is_for_loading(name: &[u8]) -> bool
     ensures { result ≡ is_for_loading name.now }
@@ -70,7 +71,7 @@ fn is_for_loading(name: &[u8]) -> bool
         || name == b"__version_ext_names".as_slice()
 }
 
-/// Whether the section is in the memory of the running module.
+/// Returns whether the section is in the memory of the running module.
 #[tactic(auto, unfolding(crate::specs::Shape::is_kept))]
 fn is_kept(kind: u32, flags: u64, name: &[u8]) -> bool
     ensures { result ≡ is_kept kind flags name.now }
@@ -78,7 +79,7 @@ fn is_kept(kind: u32, flags: u64, name: &[u8]) -> bool
     kind != SHT_NULL && flags & SHF_ALLOC != 0 && !is_for_loading(name)
 }
 
-/// Tests the name of a section, where names may have `left` bytes more, and answers how many it has.
+/// Tests the name of a section, and returns its length. Names may have `left` bytes more.
 #[tactic(auto, unfolding(crate::specs::Shape::name_test_in))]
 pub(crate) fn check_name(
     names: &[u8],
@@ -103,7 +104,7 @@ pub(crate) fn check_name(
     }
 }
 
-/// The name of a section, by the table of names.
+/// Returns the name of a section, by the table of names.
 #[tactic(auto, unfolding(crate::specs::Shape::name_in))]
 fn section_name(names: &[u8], kind: u32, at: u32) -> &[u8]
     ensures { result.now ≡ name_in names.now kind at }
@@ -117,7 +118,7 @@ fn section_name(names: &[u8], kind: u32, at: u32) -> &[u8]
     }
 }
 
-/// The section `index`, by the table of names.
+/// Returns the section `index`, by the table of names.
 #[tactic(auto, unfolding(crate::specs::Sections::section_of))]
 pub(crate) fn section_at<'a>(bytes: &[u8], names: &'a [u8], index: u16) -> SectionRef<'a>
     requires table { HasTable bytes.now }
@@ -141,7 +142,7 @@ pub(crate) fn section_at<'a>(bytes: &[u8], names: &'a [u8], index: u16) -> Secti
 }
 
 impl<'a> SectionRef<'a> {
-    /// The section with a name of its own.
+    /// Returns the section with a name of its own.
     pub fn to_owned(&self, alloc: Global) -> Result<Section, AllocError>
         ensures { IfOk result (λ section. section ≡ owned_section self.now) }
     {

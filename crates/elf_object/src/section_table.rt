@@ -11,7 +11,7 @@ use crate::shape::contents;
 use km_names::List;
 use std::marker::Model;
 
-/// The sections of a file, with its bytes, both of them elsewhere. Contracts see both.
+/// The sections of a file, with its bytes, both borrowed. Contracts see both.
 #[derive(Drop)]
 pub(crate) struct SectionTable<'a> {
     pub(crate) bytes: &'a [u8],
@@ -33,7 +33,7 @@ impl<'a> SectionTable<'a> {
     ghost use Rattle.elf_object.specs.Sections.{IsRead, bytes_of, entry_size, owned_section, section_of, sections_of};
     ghost use Rattle.elf_format.specs.declared.symbol.TheConstants.{SHN_LORESERVE};
 
-    /// How many sections there are.
+    /// Returns the number of sections.
     pub(crate) fn section_count(&self) -> u32
         ensures count { result ≡ length self.now.list }
         ensures header { result ≡ section_count self.now.file }
@@ -44,7 +44,7 @@ impl<'a> SectionTable<'a> {
         self.sections.len() as u32
     }
 
-    /// The section `i`.
+    /// Returns the section `i`.
     pub(crate) fn section(&self, i: u32) -> SectionRef<'a>
         requires { i < length self.now.list }
         ensures section { slice_get self.now.list i ≡ Some (owned_section result) }
@@ -56,7 +56,7 @@ impl<'a> SectionTable<'a> {
         self.sections.as_slice()[i as usize]
     }
 
-    /// The bytes of the section `i` in the file; a section of type NULL or NOBITS has none.
+    /// Returns the bytes of the section `i` in the file. A section of type NULL or NOBITS has none.
     pub(crate) fn section_bytes(&self, i: u32) -> &'a [u8]
         requires { i < length self.now.list }
         ensures bytes { IfSome (slice_get self.now.list i)
@@ -67,7 +67,7 @@ impl<'a> SectionTable<'a> {
         contents(self.bytes, i as u16)
     }
 
-    /// The first section of this name.
+    /// Returns the first section of this name.
     pub(crate) fn section_named(&self, name: &[u8]) -> Option<u32>
         ensures first { result ≡ position (λ s. bytes_eq s.name name.now) self.now.list }
         ensures within { IfSome result (λ i. i < length self.now.list) }
@@ -80,7 +80,7 @@ impl<'a> SectionTable<'a> {
         None
     }
 
-    /// The sections, as the file has them.
+    /// Returns the sections, as the file has them.
     pub(crate) fn list(&self) -> &[SectionRef<'a>]
         ensures list { map owned_section result.now ≡ self.now.list }
         ensures file { map owned_section result.now ≡ sections_of self.now.file }
@@ -88,7 +88,8 @@ impl<'a> SectionTable<'a> {
         self.sections.as_slice()
     }
 
-    /// The size of an entry of the section `i`, if it is a table. gABI 4, "Sections", sh_entsize.
+    /// Returns the size of an entry of the section `i`, if it is a table. gABI 4, "Sections",
+    /// sh_entsize.
     pub(crate) fn entry_size(&self, i: u32) -> u64
         requires { i < length self.now.list }
         ensures { result ≡ entry_size self.now.file i }

@@ -34,12 +34,12 @@ impl Sections {
     ghost use Rattle.elf_object.specs.Sections.{IsRead, bytes_of, file_sections, section_of, sections_of};
     ghost use Rattle.elf_format.specs.declared.symbol.TheConstants.{SHN_LORESERVE};
 
-    /// Reads the sections of a file, which it keeps. After a refusal the bytes are given up.
+    /// Reads the sections of a file, and keeps its bytes. After a refusal the bytes are dropped.
     ///
     /// # Errors
     ///
-    /// The first test of the file that fails, or `Memory`: it also comes where the names of the sections together
-    /// have more than [`NAME_LIMIT`](crate::NAME_LIMIT) bytes.
+    /// The first test of the file that fails, or `Memory`. `Memory` also comes if the names of the
+    /// sections together have more than [`NAME_LIMIT`](crate::NAME_LIMIT) bytes.
     pub fn read(alloc: Global, bytes: Blob) -> Result<Sections, SectionFault>
         ensures sections { IfOk result (λ s. s ≡ file_sections bytes) }
         ensures read { OnOk result (IsRead bytes (sections_of bytes)) }
@@ -51,7 +51,7 @@ impl Sections {
         Ok(Sections::tested(alloc, bytes)?)
     }
 
-    /// The sections of a file that passed the tests. After a refusal the bytes are given up.
+    /// Returns the sections of a file that passed the tests. After a refusal the bytes are dropped.
     pub(crate) fn tested(alloc: Global, bytes: Blob) -> Result<Sections, AllocError>
         requires { IsRead bytes (sections_of bytes) }
         ensures { IfOk result (λ s. s ≡ file_sections bytes) }
@@ -60,7 +60,7 @@ impl Sections {
         Ok(Sections { bytes, sections })
     }
 
-    /// How many sections there are.
+    /// Returns the number of sections.
     pub fn section_count(&self) -> u32
         ensures count { result ≡ length self.now.list }
         ensures header { result ≡ section_count self.now.file }
@@ -71,7 +71,7 @@ impl Sections {
         self.sections.len() as u32
     }
 
-    /// The section `i`.
+    /// Returns the section `i`.
     pub fn section(&self, i: u32) -> &Section
         requires { i < length self.now.list }
         ensures section { slice_get self.now.list i ≡ Some result.now }
@@ -83,7 +83,7 @@ impl Sections {
         &self.sections.as_slice()[i as usize]
     }
 
-    /// The bytes of the section `i` in the file; a section of type NULL or NOBITS has none.
+    /// Returns the bytes of the section `i` in the file. A section of type NULL or NOBITS has none.
     pub fn section_bytes(&self, i: u32) -> &[u8]
         requires { i < length self.now.list }
         ensures bytes { IfSome (slice_get self.now.list i)
@@ -94,7 +94,7 @@ impl Sections {
         contents(self.bytes.as_bytes(), i as u16)
     }
 
-    /// The first section of this name.
+    /// Returns the first section of this name.
     pub fn section_named(&self, name: &[u8]) -> Option<u32>
         ensures first { result ≡ position (λ s. bytes_eq s.name name.now) self.now.list }
         ensures within { IfSome result (λ i. i < length self.now.list) }
@@ -107,7 +107,7 @@ impl Sections {
         None
     }
 
-    /// The sections with their names where these are.
+    /// Returns the sections with their names in place.
     pub(crate) fn table(&self, alloc: Global) -> Result<SectionTable<'_>, AllocError>
         ensures { IfOk result (λ table. table ≡ self.now) }
     {

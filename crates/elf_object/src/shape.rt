@@ -18,14 +18,14 @@ use elf_format::{SHT_NOBITS, SHT_NULL, SHT_STRTAB};
 use km_names::List;
 use std::alloc::{AllocError, Global};
 
-/// Whether sections of this type have bytes in the file.
+/// Returns whether sections of this type have bytes in the file.
 fn has_content(kind: u32) -> bool
     ensures { result ≡ has_content kind }
 {
     kind != SHT_NULL && kind != SHT_NOBITS
 }
 
-/// The bytes of a section in the file.
+/// Returns the bytes of a section in the file.
 #[tactic(auto, unfolding(crate::specs::Shape::content))]
 fn content(bytes: &[u8], kind: u32, offset: u64, size: u64) -> &[u8]
     requires { IsTrue (has_content kind) → offset + size ≤ length bytes.now }
@@ -39,7 +39,7 @@ fn content(bytes: &[u8], kind: u32, offset: u64, size: u64) -> &[u8]
     }
 }
 
-/// Tests that the section `index` lies in the file, and that the first one describes none.
+/// Tests that the section `index` lies in the file, and that the first one is of type NULL.
 #[tactic(auto, unfolding(crate::specs::Shape::place_test))]
 fn check_place(bytes: &[u8], index: u16, header: &SectionHeader) -> Result<(), SectionFault>
     requires { header.now ≡ section_header bytes.now index }
@@ -86,7 +86,7 @@ fn check_name_table(bytes: &[u8]) -> Result<(), SectionFault>
     Ok(())
 }
 
-/// The bytes of the section `index`.
+/// Returns the bytes of the section `index`.
 pub(crate) fn contents(bytes: &[u8], index: u16) -> &[u8]
     requires table { HasTable bytes.now }
     requires within { AllInFile bytes.now }
@@ -97,7 +97,8 @@ pub(crate) fn contents(bytes: &[u8], index: u16) -> &[u8]
     content(bytes, header.kind, header.offset, header.size)
 }
 
-/// Tests the names of the sections, by the table of names. Together they can't be longer than is kept.
+/// Tests the names of the sections, by the table of names. Together they have at most `NAME_LIMIT`
+/// bytes.
 fn check_names(bytes: &[u8], names: &[u8]) -> Result<(), SectionFault>
     requires table { HasTable bytes.now }
     requires names { HasStrings (contents bytes.now (name_table bytes.now)) names.now }
@@ -115,7 +116,7 @@ fn check_names(bytes: &[u8], names: &[u8]) -> Result<(), SectionFault>
     Ok(())
 }
 
-/// The table of names up to its last NUL.
+/// Returns the table of names up to its last NUL.
 fn section_names(bytes: &[u8]) -> &[u8]
     requires table { HasTable bytes.now }
     requires within { AllInFile bytes.now }
@@ -136,7 +137,7 @@ pub(crate) fn check_shape(bytes: &[u8]) -> Result<(), SectionFault>
     check_names(bytes, section_names(bytes))
 }
 
-/// The sections of a file that passed the tests, with their names where these stand.
+/// Returns the sections of a file that passed the tests, with their names in place.
 pub(crate) fn section_table<'a>(
     alloc: Global,
     bytes: &'a [u8],
@@ -156,7 +157,7 @@ pub(crate) fn section_table<'a>(
     })
 }
 
-/// The sections of a file that passed the tests, with names of their own.
+/// Returns the sections of a file that passed the tests, with names of their own.
 pub(crate) fn owned_sections(alloc: Global, bytes: &[u8]) -> Result<List<Section>, AllocError>
     requires { IsRead bytes.now (sections_of bytes.now) }
     ensures { IfOk result (λ sections. sections ≡ sections_of bytes.now) }
@@ -170,7 +171,7 @@ pub(crate) fn owned_sections(alloc: Global, bytes: &[u8]) -> Result<List<Section
     Ok(List::from_vec(sections))
 }
 
-/// Tests a file with sections, and shows them with their names where these stand.
+/// Tests a file with sections, and returns them with their names in place.
 pub(crate) fn read_shape<'a>(
     alloc: Global,
     bytes: &'a [u8],

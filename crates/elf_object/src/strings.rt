@@ -8,17 +8,17 @@ use km_names::{FILE_LIMIT, string_at};
 use memchr::memrchr;
 use std::alloc::AllocError;
 
-/// How many bytes the names of a file's sections may have together, and those of its symbols: four times as many
-/// as a file may have. Names may share their bytes, so a small file can ask for any number; the names of a
-/// real module together have less than a tenth of this.
+/// The greatest total size, in bytes, of the names of a file's sections, and of the names of its
+/// symbols: four times as many as a file may have. Names may share their bytes, so a small file can
+/// ask for any number. The names of a real module together have less than a tenth of this.
 pub const NAME_LIMIT: usize = 4 * FILE_LIMIT;
 
-/// The string at the place `at` of a table, where names may have `left` bytes more. No more than one byte past those is
-/// looked at.
+/// Returns the string at the place `at` of a table. Names may have `left` bytes more, and no more
+/// than one byte past those is read.
 ///
 /// # Errors
 ///
-/// Where the string is longer.
+/// The string is longer than `left` bytes.
 pub(crate) fn string_within(table: &[u8], at: u32, left: usize) -> Result<Option<&[u8]>, AllocError>
     requires { left ≤ NAME_LIMIT }
     ensures string { IfOk result (λ string. option_copied string ≡ string_of_table table.now at) }
@@ -33,7 +33,8 @@ pub(crate) fn string_within(table: &[u8], at: u32, left: usize) -> Result<Option
     }
 }
 
-/// A string table up to its last NUL. It has the same strings, and past its end none is searched for.
+/// Returns a string table up to its last NUL. It has the same strings, and no search goes past its
+/// end.
 pub(crate) fn up_to_last_nul(table: &[u8]) -> &[u8]
     ensures { HasStrings table.now result.now }
 {

@@ -22,26 +22,27 @@ pub struct Symbol {
     pub name: Name,
     /// The binding: 0 local, 1 global, 2 weak.
     pub binding: u8,
-    /// The number of its section; 0 where it is undefined, 0xfff1 where its value is absolute.
+    /// The number of its section; 0 if it is undefined, 0xfff1 if its value is absolute.
     pub section: u16,
     /// Its value: its place in its section, or the absolute value.
     pub value: u64,
 }
 
-/// A symbol of a file whose name stands elsewhere, as in the file's string table. gABI 4, "Symbol Table", Elf64_Sym.
+/// A symbol of a file whose name is borrowed, as from the file's string table. gABI 4, "Symbol
+/// Table", Elf64_Sym.
 #[derive(Clone, Copy, Debug)]
 pub struct SymbolRef<'a> {
     /// The text at `st_name` of the symbol table's string table.
     pub name: &'a [u8],
     /// The binding: 0 local, 1 global, 2 weak.
     pub binding: u8,
-    /// The number of its section; 0 where it is undefined, 0xfff1 where its value is absolute.
+    /// The number of its section; 0 if it is undefined, 0xfff1 if its value is absolute.
     pub section: u16,
     /// Its value: its place in its section, or the absolute value.
     pub value: u64,
 }
 
-/// One entry of a symbol table, as it stands in the file.
+/// One entry of a symbol table, as the file has it.
 #[derive(Clone, Copy)]
 pub(crate) struct SymbolEntry {
     pub(crate) name: u32,
@@ -50,7 +51,7 @@ pub(crate) struct SymbolEntry {
     pub(crate) value: u64,
 }
 
-/// The entry `index` of a symbol table.
+/// Returns the entry `index` of a symbol table.
 #[tactic(auto, unfolding(crate::specs::Symbols::symbol_entry))]
 fn symbol_entry(table: &[u8], index: u32) -> SymbolEntry
     requires { 24 * index + 24 ≤ length table.now }
@@ -65,7 +66,7 @@ fn symbol_entry(table: &[u8], index: u32) -> SymbolEntry
     }
 }
 
-/// Whether a symbol of this name can't be as it is, in a file of `count` sections.
+/// Returns whether a symbol of this name is invalid, in a file of `count` sections.
 #[tactic(auto, unfolding(crate::specs::Symbols::is_bad_symbol))]
 fn is_bad_symbol(count: u32, name: &[u8], entry: &SymbolEntry) -> bool
     ensures { result ≡ is_bad_symbol count name.now entry.now }
@@ -94,7 +95,8 @@ fn check_kind(count: u32, name: &[u8], index: u32, entry: &SymbolEntry) -> Resul
     Ok(())
 }
 
-/// The symbol `index` of a table, by its string table and the count of sections, where names may have `left` bytes more.
+/// Returns the symbol `index` of a table, by its string table and the count of sections. Names may
+/// have `left` bytes more.
 #[tactic(auto, unfolding(crate::specs::Symbols::symbol_in, crate::specs::Symbols::symbol_test_in))]
 fn read_symbol<'a>(
     table: &[u8],
@@ -135,8 +137,8 @@ fn read_symbol<'a>(
     })
 }
 
-/// The symbols of a table, by its string table and the count of sections. Their names together can't be longer than is
-/// kept.
+/// Returns the symbols of a table, by its string table and the count of sections. Their names
+/// together have at most `NAME_LIMIT` bytes.
 pub(crate) fn read_symbols<'a>(
     alloc: Global,
     table: &[u8],
@@ -162,7 +164,7 @@ pub(crate) fn read_symbols<'a>(
     Ok(List::from_vec(symbols))
 }
 
-/// Symbols with names of their own.
+/// Returns the symbols with names of their own.
 pub(crate) fn owned_symbols(
     alloc: Global,
     symbols: &[SymbolRef],
@@ -181,7 +183,7 @@ pub(crate) fn owned_symbols(
     Ok(List::from_vec(list))
 }
 
-/// Symbols with their names where these are.
+/// Returns the symbols with their names in place.
 pub(crate) fn borrowed_symbols<'a>(
     alloc: Global,
     symbols: &'a [Symbol],

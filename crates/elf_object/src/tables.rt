@@ -1,4 +1,4 @@
-// The tables of an object file: that of its symbols, and those of its relocations.
+// The tables of an object file: its symbol table and its tables of relocations.
 
 ghost use Rattle.std.specs.Prelude.{◌≡◌, ◌<◌, ◌≤◌, ◌⊎◌, length, map, None, Some, IfErr, IfOk, OnOk};
 ghost use Rattle.std.specs.Result.{result_err};
@@ -31,7 +31,7 @@ fn check_rel(sections: &SectionTable) -> Result<(), ObjectFault>
     Ok(())
 }
 
-/// The symbol table: the first section of that type.
+/// Returns the symbol table: the first section of that type.
 fn symbol_table(sections: &SectionTable) -> Option<u32>
     ensures { result ≡ symbol_table sections.now.file }
 {
@@ -43,7 +43,7 @@ fn symbol_table(sections: &SectionTable) -> Option<u32>
     None
 }
 
-/// Whether the section `index` is a string table.
+/// Returns whether the section `index` is a string table.
 #[tactic(auto, unfolding(crate::specs::Symbols::is_string_table))]
 fn is_string_table(sections: &SectionTable, index: u32) -> bool
     ensures { result ≡ is_string_table sections.now.file index }
@@ -51,7 +51,7 @@ fn is_string_table(sections: &SectionTable, index: u32) -> bool
     index < sections.section_count() && sections.section(index).kind == SHT_STRTAB
 }
 
-/// Whether the section `index` has entries of 24 bytes, each of them whole.
+/// Returns whether the section `index` has entries of 24 bytes, each of them whole.
 #[tactic(auto, unfolding(crate::specs::Symbols::has_entries))]
 fn has_entries(sections: &SectionTable, index: u32) -> bool
     requires { index < length sections.now.list }
@@ -61,7 +61,8 @@ fn has_entries(sections: &SectionTable, index: u32) -> bool
     sections.entry_size(index) == entry && sections.section(index).size % entry == 0
 }
 
-/// Whether the section `index`, if it is a table, can be one, by the number of the symbol table.
+/// Returns whether the section `index` is valid if it is a table, by the number of the symbol
+/// table.
 #[tactic(auto, unfolding(crate::specs::Symbols::is_good_table, crate::specs::Symbols::is_symbol_table))]
 fn is_good_table(sections: &SectionTable, symbols: Option<u32>, index: u32) -> bool
     requires index { index < length sections.now.list }
@@ -85,7 +86,7 @@ fn is_good_table(sections: &SectionTable, symbols: Option<u32>, index: u32) -> b
     }
 }
 
-/// Tests that each table can be one, by the number of the symbol table.
+/// Tests that each table is valid, by the number of the symbol table.
 fn check_tables(sections: &SectionTable, symbols: Option<u32>) -> Result<(), ObjectFault>
     requires { symbols ≡ symbol_table sections.now.file }
     ensures fault { result_err result
@@ -100,7 +101,8 @@ fn check_tables(sections: &SectionTable, symbols: Option<u32>) -> Result<(), Obj
     Ok(())
 }
 
-/// The bytes of the symbol table, and those of its string table; none where there is no symbol table.
+/// Returns the bytes of the symbol table, and the bytes of its string table; none if there is no
+/// symbol table.
 fn symbol_tables<'a>(sections: &SectionTable<'a>, symbols: Option<u32>) -> (&'a [u8], &'a [u8])
     requires read { IsRead sections.now.file sections.now.list }
     requires symbols { symbols ≡ symbol_table sections.now.file }

@@ -1,4 +1,4 @@
-// An object file whose names stay where they are.
+// An object file whose names stay in place.
 
 ghost use Rattle.std.specs.Prelude.{◌≡◌, ◌<◌, ◌≤◌, ◌⊎◌, length, map, None, Some, IfOk, IfErr, IfSome, OnOk, slice_get};
 ghost use Rattle.std.specs.List.{position};
@@ -13,7 +13,8 @@ use km_names::List;
 use std::alloc::Global;
 use std::marker::Model;
 
-/// An object file as its sections and symbols show it, for those who don't load it: names stand in the file, and its places were tested and aren't kept. Contracts see the whole object, as of
+/// An object file as its sections and symbols show it, for readers that don't load it: names are
+/// borrowed, and its places were tested and aren't kept. Contracts see the whole object, as for
 /// [`Object`](crate::Object).
 #[derive(Drop)]
 pub struct ObjectView<'a> {
@@ -49,7 +50,7 @@ impl<'a> ObjectView<'a> {
     ///
     /// # Errors
     ///
-    /// Those of [`Object::read`](crate::Object::read).
+    /// The same as of [`Object::read`](crate::Object::read).
     pub fn read(alloc: Global, bytes: &'a [u8]) -> Result<ObjectView<'a>, ObjectFault>
         requires { length bytes.now ≤ file_limit }
         ensures object { IfOk result (λ v. v ≡ file_object bytes.now) }
@@ -63,7 +64,7 @@ impl<'a> ObjectView<'a> {
         Ok(ObjectView { table, symbols })
     }
 
-    /// How many sections there are.
+    /// Returns the number of sections.
     pub fn section_count(&self) -> u32
         ensures count { result ≡ length self.now.sections }
         ensures some { 0 < result }
@@ -72,7 +73,7 @@ impl<'a> ObjectView<'a> {
         self.table.section_count()
     }
 
-    /// The section `i`.
+    /// Returns the section `i`.
     pub fn section(&self, i: u32) -> SectionRef<'a>
         requires { i < length self.now.sections }
         ensures section { slice_get self.now.sections i ≡ Some (owned_section result) }
@@ -81,7 +82,7 @@ impl<'a> ObjectView<'a> {
         self.table.section(i)
     }
 
-    /// The bytes of the section `i` in the file; a section of type NULL or NOBITS has none.
+    /// Returns the bytes of the section `i` in the file. A section of type NULL or NOBITS has none.
     pub fn section_bytes(&self, i: u32) -> &'a [u8]
         requires { i < length self.now.sections }
         ensures bytes { IfSome (slice_get self.now.sections i)
@@ -91,7 +92,7 @@ impl<'a> ObjectView<'a> {
         self.table.section_bytes(i)
     }
 
-    /// The first section of this name.
+    /// Returns the first section of this name.
     pub fn section_named(&self, name: &[u8]) -> Option<u32>
         ensures first { result ≡ position (λ s. bytes_eq s.name name.now) self.now.sections }
         ensures within { IfSome result (λ i. i < length self.now.sections) }
@@ -99,14 +100,14 @@ impl<'a> ObjectView<'a> {
         self.table.section_named(name)
     }
 
-    /// How many symbols there are, with symbol 0.
+    /// Returns the number of symbols, with symbol 0.
     pub fn symbol_count(&self) -> u32
         ensures { result ≡ length self.now.symbols }
     {
         self.symbols.len() as u32
     }
 
-    /// The symbol `i`.
+    /// Returns the symbol `i`.
     pub fn symbol(&self, i: u32) -> SymbolRef<'a>
         requires { i < length self.now.symbols }
         ensures symbol { slice_get self.now.symbols i ≡ Some (owned_symbol result) }

@@ -1,10 +1,10 @@
--- Whether a text matches a pattern, as a test: the pattern is read into parts, each of which takes a run of bytes or one
--- byte. It decides the relation of `Pattern`. fnmatch(3), glob(7).
+-- Whether a text matches a pattern, as a test. The pattern is read into parts, and each part takes
+-- a run of bytes or one byte. It decides the relation of `Pattern`. fnmatch(3), glob(7).
 use Rattle.std.specs.Prelude.{ℕ, ◌==◌, ◌&&◌, ◌||◌, not, nat_le, Bool, true, false, List, [], ◌∷◌, ◌++◌, length, Option, Some, None, if◌then◌else◌}
 use Rattle.std.specs.Option.{option_map, option_map_or}
 use Rattle.glob_match.specs.Pattern.{star, question, bracket, closing, bang, dash}
 
--- The items of a set list the byte.
+-- Whether the items of a set list the byte.
 abbrev pub is_listed : List ℕ → ℕ → Bool
 is_listed (low ∷ middle ∷ high ∷ items) byte =
     if middle == dash then (nat_le low byte && nat_le byte high) || is_listed items byte
@@ -12,7 +12,7 @@ is_listed (low ∷ middle ∷ high ∷ items) byte =
 is_listed (only ∷ items) byte = byte == only || is_listed items byte
 is_listed [] byte = false
 
--- The set between two brackets has the byte.
+-- Whether the set between two brackets has the byte.
 abbrev pub is_in_set : List ℕ → ℕ → Bool
 is_in_set [] byte = false
 is_in_set (first ∷ items) byte = if first == bang then not (is_listed items byte) else is_listed (first ∷ items) byte
@@ -22,7 +22,8 @@ pub data Part : Type 0 where
   Many : Part
   One : (ℕ → Bool) → Part
 
--- The parts of a pattern, of which the items of an open set were read; none where a set isn't closed.
+-- The parts of a pattern, whose front may be the items of an open set. It is None if a set isn't
+-- closed.
 abbrev pub parts_from : Option (List ℕ) → List ℕ → Option (List Part)
 parts_from None [] = Some []
 parts_from None (byte ∷ bytes) =
@@ -35,18 +36,18 @@ parts_from (Some items) (byte ∷ bytes) =
     if byte == closing then option_map (λ ps. One (is_in_set items) ∷ ps) (parts_from None bytes)
     else parts_from (Some (items ++ byte ∷ [])) bytes
 
--- Some end of the text passes a test, the whole of it or the empty one too.
+-- Whether some end of the text passes a test, also the whole of it or the empty one.
 abbrev pub some_end : (List ℕ → Bool) → List ℕ → Bool
 some_end test [] = test []
 some_end test (byte ∷ text) = test (byte ∷ text) || some_end test text
 
--- The parts, in their order, take the whole text.
+-- Whether the parts, in their order, take the whole text.
 abbrev pub parts_take : List Part → List ℕ → Bool
 parts_take [] text = length text == 0
 parts_take (Many ∷ ps) text = some_end (parts_take ps) text
 parts_take (One test ∷ ps) [] = false
 parts_take (One test ∷ ps) (byte ∷ text) = test byte && parts_take ps text
 
--- The text matches the pattern.
+-- Whether the text matches the pattern.
 unfoldable pub is_match : List ℕ → List ℕ → Bool
 is_match pattern text = option_map_or (λ ps. parts_take ps text) (parts_from None pattern) false

@@ -1,5 +1,5 @@
--- What the front of a set's items, and of a pattern, means for the whole, as the code takes it. No public meaning rests on
--- these definitions.
+-- What the front of a set's items, and of a pattern, means for the whole, as the code uses it.
+-- It belongs to the code: no public meaning rests on it.
 use Rattle.std.specs.Prelude.{◌≡◌, ◌≢◌, ◌≤◌, ◌<◌, ◌↔◌, ◌⊎◌, ℕ, List, ◌∷◌, ◌++◌, length, drop, Contains}
 use Rattle.glob_match.specs.Pattern.{Lists, Has, Matches, star, question, bracket, closing}
 use Rattle.glob_match.specs.declared.element.Element.{Element}
@@ -31,13 +31,13 @@ IsMet Any byte = Unit {0}
 IsMet (Set inside) byte = Has inside.now byte
 IsMet (Byte own) byte = byte ≡ own
 
--- The pattern matches a text where what follows matches some end of it.
+-- The pattern matches a text exactly if what follows matches some end of it.
 pub record IsRun (pattern after : List ℕ) : Type 0 where
   pub shorter : length after < length pattern
   pub ends : (text : List ℕ) → Matches pattern text ↔ ((skipped : ℕ) × Matches after (drop skipped text))
 
--- The pattern matches this text where what follows matches the text's rest, and no text otherwise than with a
--- byte first.
+-- The pattern matches this text if what follows matches the text's rest. It matches a text only if
+-- what follows matches that text's rest.
 pub record IsTaken (pattern text after rest : List ℕ) : Type 0 where
   pub shorter : length after < length pattern
   pub rest_is : rest ≡ drop 1 text
@@ -45,7 +45,7 @@ pub record IsTaken (pattern text after rest : List ℕ) : Type 0 where
   pub back : Matches after rest → Matches pattern text
   pub takes_one : (other : List ℕ) → Matches pattern other → Matches after (drop 1 other)
 
--- What the pattern's first element says of the text's matches.
+-- What the match of the pattern's first element means for the text.
 abbrev pub IsMeeting : List ℕ → List ℕ → Meeting → Type 0
 IsMeeting pattern text End = Matches pattern text
 IsMeeting pattern text (Skips after) = IsRun pattern after.now

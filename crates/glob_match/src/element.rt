@@ -7,18 +7,18 @@ use crate::set::has;
 /// One element of a pattern.
 #[derive(Clone, Copy)]
 pub(crate) enum Element<'p> {
-    /// `*`: any run of bytes, the empty one too.
+    /// `*`: any run of bytes, also the empty one.
     Run,
     /// `?`: any one byte.
     Any,
-    /// One byte of a set, by what stands between its brackets.
+    /// One byte of a set, by the bytes between its brackets.
     Set(&'p [u8]),
     /// Any other byte, which matches itself.
     Byte(u8),
 }
 
-/// The inside of a set and what follows its closing bracket, of the bytes after its opening one. None
-/// where no bracket closes it.
+/// Returns the inside of a set and what follows its closing bracket. `bytes` begins after the
+/// opening one. The result is `None` if no bracket closes the set.
 fn split_set(bytes: &[u8]) -> Option<(&[u8], &[u8])>
     ensures { MatchOption result (Contains bytes.now closing → ⊥)
         (λ r. Closes bytes.now r.0.now r.1.now) }
@@ -27,8 +27,9 @@ fn split_set(bytes: &[u8]) -> Option<(&[u8], &[u8])>
     Some((&bytes[..end], &bytes[end + 1..]))
 }
 
-/// The element that a pattern begins with, of its first byte and the bytes after it, and the pattern after
-/// that element. None where it is a set that no bracket closes.
+/// Returns the element that a pattern begins with, and the pattern after that element. The pattern
+/// is a first byte and the bytes after it. The result is `None` if the element is a set that no
+/// bracket closes.
 #[tactic(auto, using(crate::proofs::Rules::unclosed))]
 pub(crate) fn first_element(first: u8, after: &[u8]) -> Option<(Element<'_>, &[u8])>
     ensures { MatchOption result ((text : List ℕ) → Matches (first ∷ after.now) text → ⊥)
@@ -46,7 +47,8 @@ pub(crate) fn first_element(first: u8, after: &[u8]) -> Option<(Element<'_>, &[u
 }
 
 impl Element<'_> {
-    /// Whether the element matches this byte alone, whatever follows. A run doesn't stop at a byte.
+    /// Returns whether the element matches exactly this one byte, whatever follows. A run matches
+    /// no single byte.
     pub(crate) fn is_met(&self, byte: u8) -> bool
         ensures { IsTrue result ↔ IsMet self.now byte }
     {

@@ -1,6 +1,6 @@
-//! Wildcard patterns over bytes: `*`, `?` and sets in brackets, as fnmatch(3) and glob(7) describe them.
-//! [`matches`] decides exactly the relation of that name in `specs/` and takes no memory. The crate stands on
-//! nothing but std.
+//! Wildcard patterns over bytes: `*`, `?` and sets in brackets, as fnmatch(3) and glob(7) describe
+//! them. [`matches`] decides exactly the relation `Matches` in `specs/` and takes no memory. The
+//! crate uses only std.
 #![tactic(auto)]
 
 mod element;

@@ -2,7 +2,7 @@ ghost use Rattle.glob_match.specs.Front.{IsMeeting};
 
 use crate::element::{Element, first_element};
 
-/// How the first element of a pattern meets a text.
+/// How the first element of a pattern matches the front of a text.
 #[derive(Clone, Copy)]
 pub(crate) enum Meeting<'p, 't> {
     /// The pattern and the text are both at their end.
@@ -11,13 +11,13 @@ pub(crate) enum Meeting<'p, 't> {
     Skips(&'p [u8]),
     /// The first element matches the first byte, and these are the pattern and the text after them.
     Takes(&'p [u8], &'t [u8]),
-    /// The pattern doesn't match this text; it may match an end of it.
+    /// The pattern doesn't match this text. It may match an end of it.
     Mismatch,
     /// A set isn't closed, so the pattern matches nothing.
     Unclosed,
 }
 
-/// How the first element of the pattern meets the text.
+/// Returns how the first element of the pattern matches the front of the text.
 pub(crate) fn meet<'p, 't>(pattern: &'p [u8], text: &'t [u8]) -> Meeting<'p, 't>
     ensures { IsMeeting pattern.now text.now result }
 {

@@ -4,11 +4,11 @@ ghost use Rattle.glob_match.specs.Pattern.{Matches};
 
 use crate::meeting::{Meeting, meet};
 
-/// Whether the whole text matches the pattern. It takes no memory.
+/// Returns whether the whole text matches the pattern. It takes no memory.
 ///
-/// fnmatch(3) and glob(7) describe the patterns, with no escapes, no classes of characters and no byte of
-/// the text that is special: `*` is any run of bytes, `?` any one byte, `[..]` one byte of a set, or with
-/// `[!..]` one byte out of it; any other byte is itself.
+/// fnmatch(3) and glob(7) describe the patterns. There are no escapes and no classes of characters,
+/// and no byte of the text is special. `*` is any run of bytes and `?` any one byte. `[..]` is one
+/// byte of a set, and `[!..]` one byte outside it. Any other byte is itself.
 pub fn matches(pattern: &[u8], text: &[u8]) -> bool
     ensures related { IsTrue result ↔ Matches pattern.now text.now }
     ensures test { result ≡ is_match pattern.now text.now }
@@ -16,14 +16,15 @@ pub fn matches(pattern: &[u8], text: &[u8]) -> bool
     search(pattern, text)
 }
 
-/// Whether the text matches, by going back to the last `*` where a byte doesn't fit.
+/// Returns whether the text matches. If a byte doesn't fit, goes back to the last `*`.
 fn search(pattern: &[u8], text: &[u8]) -> bool
     ensures { IsTrue result ↔ Matches pattern.now text.now }
 {
     let mut rest = pattern;
     let mut left = text;
-    // The two places to go back to: the pattern after its last `*` so far, and the end of the text that
-    // this was last tried on. An earlier `*` need not give up more, since the last one can take that too.
+    // The two places to go back to: the pattern after its last `*` so far, and the end of the text
+    // that it was last tried on. An earlier `*` needn't take more bytes, since the last one can
+    // take them too.
     let mut retry: Option<(&[u8], &[u8])> = None;
     loop {
         match meet(rest, left) {

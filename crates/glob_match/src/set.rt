@@ -2,8 +2,9 @@ ghost use Rattle.std.specs.Prelude.{◌≡◌, ◌↔◌, ◌<◌, [], IsTrue, M
 ghost use Rattle.glob_match.specs.Front.{BeginsWith};
 ghost use Rattle.glob_match.specs.Pattern.{Has, Lists};
 
-/// The first range of a set's items, from its lowest to its highest byte, and the items after it. A byte
-/// that stands for itself is the range from itself to itself. None where there is no item.
+/// Returns the first range of a set's items, from its lowest to its highest byte, and the items
+/// after it. A single byte is the range from itself to itself. The result is `None` if there is no
+/// item.
 fn first_range(items: &[u8]) -> Option<(u8, u8, &[u8])>
     ensures { MatchOption result (items.now ≡ []) (λ r. BeginsWith items.now r.0 r.1 r.2.now) }
 {
@@ -16,7 +17,7 @@ fn first_range(items: &[u8]) -> Option<(u8, u8, &[u8])>
     }
 }
 
-/// Whether the items of a set list the byte.
+/// Returns whether the items of a set list the byte.
 fn lists(items: &[u8], byte: u8) -> bool
     ensures { IsTrue result ↔ Lists items.now byte }
 {
@@ -30,7 +31,7 @@ fn lists(items: &[u8], byte: u8) -> bool
     false
 }
 
-/// Whether a set has the byte, by what stands between its brackets.
+/// Returns whether a set has the byte, by the bytes between its brackets.
 pub(crate) fn has(inside: &[u8], byte: u8) -> bool
     ensures { IsTrue result ↔ Has inside.now byte }
 {

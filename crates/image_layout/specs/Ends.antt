@@ -1,4 +1,5 @@
--- The places that the search for offsets keeps, one for each class. No public contract cites it.
+-- The places that the search for offsets keeps, one for each class.
+-- It belongs to the code: no public meaning rests on it.
 use Rattle.std.specs.Prelude.{◌≡◌, ℕ, ◌<◌, ◌^◌, List}
 use Rattle.elf_object.specs.declared.section.Section.{Section}
 use Rattle.image_layout.specs.declared.class.Class.{Class}
@@ -12,7 +13,7 @@ end_in ends Code = ends.code
 end_in ends Fixed = ends.fixed
 end_in ends Variable = ends.variable
 
--- The places are where the classes end with these of all sections.
+-- The places are the ends of the classes with these sections, which are the first of all.
 pub record AreEnds (sections before : List Section) (ends : Ends) : Type 0 where
   pub code : ends.code ≡ end_of (class_start sections Code) (of_class Code before)
   pub fixed : ends.fixed ≡ end_of (class_start sections Fixed) (of_class Fixed before)

@@ -1,5 +1,5 @@
--- The image of a module at a base: the bytes of its sections, with the word of each relocation at its place. x86-64
--- psABI, "Relocation".
+-- The image of a module at a base: the bytes of its sections, with the word of each relocation at
+-- its place. x86-64 psABI, "Relocation".
 use Rattle.std.specs.Prelude.{ℕ, ◌+◌, ◌%◌, ◌^◌, List, map, slice_index, Option, option_map}
 use Rattle.elf_object.specs.declared.place.RelaPlace.{RelaPlace}
 use Rattle.elf_object.specs.Object.{FileObject}
@@ -9,8 +9,8 @@ use Rattle.x86_relocate.specs.Patched.{patched, first_too_wide, overflow_of}
 use Rattle.image_layout.specs.Offsets.{offset}
 use Rattle.image_layout.specs.Plain.{plain_image}
 
--- The word that a relocation asks for, in an image at a base, by the addresses of the symbols. A place that changes no
--- byte may stand past everything, so places are modulo 2^64.
+-- The patch of a relocation, in an image at a base, by the addresses of the symbols. A place that
+-- changes no byte may be past everything, so places are modulo 2^64.
 unfoldable pub patch_of : FileObject → ℕ → List ℕ → RelaPlace → Patch
 patch_of o base addresses p =
     let at = offset o.sections p.target + p.offset in

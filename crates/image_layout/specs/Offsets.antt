@@ -1,5 +1,6 @@
--- Where the sections of a module lie in its image. gABI 4, "Sections", sh_addralign and sh_flags. The three classes are
--- those of the kernel's layout_sections, kernel/module/main.c; that each begins at a page is this project's choice.
+-- The places of a module's sections in its image. gABI 4, "Sections", sh_addralign and sh_flags.
+-- The three classes are those of the kernel's layout_sections, kernel/module/main.c. That each
+-- begins at a page is this project's choice.
 use Rattle.std.specs.Prelude.{ℕ, ◌+◌, ◌-◌, ◌*◌, ◌/◌, ◌==◌, ◌&&◌, nat_lt, not, Bool, true, false, if◌then◌else◌, List, [], ◌∷◌, map, length, filter, take, bit_and, slice_get}
 use Rattle.std.specs.List.{range_with_len}
 use Rattle.std.specs.Option.{option_map_or}
@@ -16,25 +17,25 @@ greater a b = if nat_lt a b then b else a
 unfoldable pub aligned : ℕ → ℕ → ℕ
 aligned place align = let a = greater 1 align in a * ((place + (a - 1)) / a)
 
--- The class of a section: with code; else only read; else the rest.
+-- The class of a section: with code, else only read, else the rest.
 unfoldable pub class_of : Section → Class
 class_of s =
     if not (bit_and s.flags SHF_EXECINSTR == 0) then Code
     else if bit_and s.flags SHF_WRITE == 0 then Fixed
     else Variable
 
--- The two classes are one.
+-- Whether the two classes are the same.
 abbrev pub is_class : Class → Class → Bool
 is_class Code Code = true
 is_class Fixed Fixed = true
 is_class Variable Variable = true
 is_class one other = false
 
--- The section is in memory, in this class.
+-- Whether the section is in memory, in this class.
 abbrev pub is_in : Class → Section → Bool
 is_in class s = s.kept && is_class class (class_of s)
 
--- Where the last of some sections ends that are placed from a place on in order, each at the next multiple of its
+-- The end of sections that are placed from a place on in order, each at the next multiple of its
 -- alignment.
 unfoldable pub end_of : ℕ → List Section → ℕ
 end_of place [] = place
@@ -44,7 +45,8 @@ end_of place (s ∷ later) = end_of (aligned place s.align + s.size) later
 abbrev pub of_class : Class → List Section → List Section
 of_class class sections = filter (is_in class) sections
 
--- Where a class begins, and where its last section ends. The first one begins at 0, and each later one at the next page.
+-- The beginning of each class, and its end. The first class begins at 0, and each later one at the
+-- next page.
 unfoldable pub fixed_start : List Section → ℕ
 fixed_start sections = aligned (end_of 0 (of_class Code sections)) PAGE
 
@@ -59,20 +61,22 @@ class_start sections Variable = variable_start sections
 abbrev pub class_end : List Section → Class → ℕ
 class_end sections class = end_of (class_start sections class) (of_class class sections)
 
--- Where a section lies that these of all sections stand before: after those of them that are of its class.
+-- The place of a section after these sections, which are the first of all: after those of them that
+-- are in its class.
 unfoldable pub offset_after : List Section → List Section → Section → ℕ
 offset_after sections before s =
     aligned (end_of (class_start sections (class_of s)) (of_class (class_of s) before)) s.align
 
--- Where the section i begins in the image; one that isn't in memory counts as 0.
+-- The place of the section i in the image. A section that isn't in memory has 0.
 unfoldable pub offset : List Section → ℕ → ℕ
 offset sections i =
     option_map_or (λ s. if s.kept then offset_after sections (take i sections) s else 0) (slice_get sections i) 0
 
--- The same of all sections.
+-- The places of all sections.
 unfoldable pub offsets : List Section → List ℕ
 offsets sections = map (offset sections) (range_with_len 0 (length sections))
 
--- How many bytes the image has: the end of the last section, up to the next page, and at least a page.
+-- The size of the image in bytes: the end of the last section, up to the next page, and at least a
+-- page.
 unfoldable pub image_size : List Section → ℕ
 image_size sections = greater PAGE (aligned (class_end sections Variable) PAGE)

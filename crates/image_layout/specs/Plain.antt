@@ -6,12 +6,13 @@ use Rattle.elf_object.specs.Object.{FileObject}
 use Rattle.elf_object.specs.Sections.{bytes_of}
 use Rattle.image_layout.specs.Offsets.{offset, image_size}
 
--- Bytes that stand from a place of the image on.
+-- Bytes from a place of the image on.
 pub record Piece : Type 0 where
   pub at : ℕ
   pub bytes : List ℕ
 
--- The bytes of the section i, where it is in memory: those of the file. One without bytes in the file has none here.
+-- The bytes of the section i, from the file, if it is in memory. A section without bytes in the
+-- file has none here.
 unfoldable pub piece : FileObject → ℕ → Piece
 piece o i = record {
   at = offset o.sections i;
@@ -22,11 +23,11 @@ piece o i = record {
 abbrev pub pieces : FileObject → List Piece
 pieces o = map (piece o) (range_with_len 0 (length o.sections))
 
--- The piece has the place x of the image.
+-- Whether the piece covers the place x of the image.
 abbrev pub has_place : ℕ → Piece → Bool
 has_place x p = nat_le p.at x && nat_lt x (p.at + length p.bytes)
 
--- The byte at the place x: that of the piece which has it, else 0.
+-- The byte at the place x: from the piece that covers it, and else 0.
 abbrev pub plain_byte : List Piece → ℕ → ℕ
 plain_byte ps x = option_map_or (λ p. slice_index p.bytes (x - p.at)) (find (has_place x) ps) 0
 

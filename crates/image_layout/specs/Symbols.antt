@@ -1,4 +1,5 @@
--- The addresses of symbols. gABI 4, "Symbol Table", st_value and st_shndx; x86-64 psABI, "Relocation", S.
+-- The addresses of symbols. gABI 4, "Symbol Table", st_value and st_shndx; x86-64 psABI,
+-- "Relocation", S.
 use Rattle.std.specs.Prelude.{ℕ, ◌+◌, ◌%◌, ◌^◌, ◌==◌, Bool, false, if◌then◌else◌, List, map, length, slice_index, slice_get}
 use Rattle.std.specs.List.{range_with_len}
 use Rattle.std.specs.Option.{option_map_or}
@@ -8,19 +9,20 @@ use Rattle.elf_object.specs.declared.symbol.Symbol.{Symbol}
 use Rattle.elf_object.specs.Object.{FileObject}
 use Rattle.image_layout.specs.Offsets.{offset}
 
--- The section of this number is in memory.
+-- Whether the section of this number is in memory.
 abbrev pub is_placed : List Section → ℕ → Bool
 is_placed sections i = option_map_or (λ s. s.kept) (slice_get sections i) false
 
--- The address of a symbol of an image at a base: one that is defined elsewhere stands for what is given; one in a section
--- in memory lies there, by its value; the value of any other is its address.
+-- The address of a symbol of an image at a base. A symbol that is defined elsewhere has the given
+-- address. One in a section in memory lies there, by its value. For any other its value is its
+-- address.
 unfoldable pub symbol_address : List Section → ℕ → ℕ → Symbol → ℕ
 symbol_address sections base given s =
     if s.section == SHN_UNDEF then given
     else if is_placed sections s.section then (base + offset sections s.section + s.value) % 2 ^ 64
     else s.value
 
--- The address of the symbol k, by what each symbol stands for where it is defined elsewhere.
+-- The address of the symbol k. `given` has the address of each symbol that is defined elsewhere.
 unfoldable pub address : FileObject → ℕ → List ℕ → ℕ → ℕ
 address o base given k =
     option_map_or (symbol_address o.sections base (slice_index given k)) (slice_get o.symbols k) 0

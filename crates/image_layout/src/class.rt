@@ -6,18 +6,18 @@ ghost use Rattle.image_layout.specs.Offsets.{class_of as the_class, is_class, is
 use elf_format::{SHF_EXECINSTR, SHF_WRITE};
 use elf_object::Section;
 
-/// The classes of sections in memory, in the order in which they are placed.
+/// The classes of sections in memory, in the order they are placed in.
 #[derive(Clone, Copy, Debug)]
 pub(crate) enum Class {
-    /// With code.
+    /// Sections with code.
     Code,
-    /// Without code, and only read.
+    /// Sections without code that are only read.
     Fixed,
-    /// The rest.
+    /// The other sections.
     Variable,
 }
 
-/// The class of a section.
+/// Returns the class of a section.
 #[tactic(auto, unfolding(crate::specs::Offsets::class_of))]
 pub(crate) fn class_of(section: &Section) -> Class
     ensures { result ≡ the_class section.now }
@@ -31,7 +31,7 @@ pub(crate) fn class_of(section: &Section) -> Class
     }
 }
 
-/// Whether the two classes are one.
+/// Returns whether the two classes are the same.
 fn are_one(class: Class, other: Class) -> bool
     ensures { result ≡ is_class class other }
 {
@@ -43,7 +43,7 @@ fn are_one(class: Class, other: Class) -> bool
     }
 }
 
-/// Whether a section is in memory, in this class.
+/// Returns whether a section is in memory, in this class.
 pub(crate) fn is_in(class: Class, section: &Section) -> bool
     ensures { result ≡ stands_in class section.now }
 {

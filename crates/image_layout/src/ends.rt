@@ -1,4 +1,4 @@
-// Where sections end that are placed one after the other.
+// The ends of sections that are placed one after the other.
 
 ghost use Rattle.std.specs.Prelude.{◌≡◌, ◌+◌, ◌%◌, ◌<◌, ◌≤◌, ◌^◌, true, if◌then◌else◌, length, take};
 ghost use Rattle.elf_object.specs.Places.{is_alignment};
@@ -7,7 +7,8 @@ ghost use Rattle.image_layout.specs.Offsets.{aligned as the_aligned, end_of, is_
 use crate::class::{Class, is_in};
 use elf_object::{Object, Section};
 
-/// The least multiple of an alignment that isn't below a place. An alignment of 0 counts as 1.
+/// Returns the least multiple of an alignment that isn't below a place. An alignment of 0 counts as
+/// 1.
 #[tactic(auto, unfolding(crate::specs::Offsets::aligned), using(crate::proofs::Aligning::aligned_above, crate::proofs::Aligning::aligned_near, crate::proofs::Aligning::aligned_page))]
 pub(crate) fn aligned(place: u128, align: u64) -> u128
     requires { place < 2 ^ 120 }
@@ -20,7 +21,8 @@ pub(crate) fn aligned(place: u128, align: u64) -> u128
     align * ((place + (align - 1)) / align)
 }
 
-/// Where the sections of a class end with this one, where the earlier ones end at a place.
+/// Returns the end of a class after this section. `end` is the end of the earlier sections of the
+/// class.
 #[tactic(auto, using(crate::proofs::Aligning::alignment_small))]
 fn end_with(class: Class, section: &Section, end: u128) -> u128
     requires end { end < 2 ^ 110 }
@@ -34,7 +36,8 @@ fn end_with(class: Class, section: &Section, end: u128) -> u128
     aligned(end, section.align) + u128::from(section.size)
 }
 
-/// Where the first sections, so many of them, end that are of a class which begins at a place.
+/// Returns the end of a class that begins at `start`, after the first `count` sections of the
+/// object.
 pub(crate) fn end_of_first(object: &Object, class: Class, start: u128, count: u32) -> u128
     requires start { start < 2 ^ 100 }
     requires count { count ≤ length object.now.sections }
@@ -50,7 +53,7 @@ pub(crate) fn end_of_first(object: &Object, class: Class, start: u128, count: u3
     end
 }
 
-/// Where the sections of a class end that begins at a place.
+/// Returns the end of a class that begins at `start`.
 pub(crate) fn end_of_class(object: &Object, class: Class, start: u128) -> u128
     requires { start < 2 ^ 100 }
     ensures end { result ≡ end_of start (of_class class object.now.sections) }

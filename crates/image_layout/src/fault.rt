@@ -8,9 +8,9 @@ use x86_relocate::Overflow;
 /// Why the image of an object isn't made.
 #[derive(Debug, Drop)]
 pub enum LayFault {
-    /// The word of this relocation doesn't fit; no earlier one's is so.
+    /// The word of this relocation doesn't fit, and the words of the earlier ones do.
     Overflow(Overflow),
-    /// Memory ran out.
+    /// Out of memory.
     Memory,
 }
 

@@ -15,7 +15,7 @@ use raw_image::Image;
 use std::alloc::Global;
 use x86_relocate::{Overflow, Patch, put};
 
-/// The word that a relocation asks for, in an image at a base, by the addresses of the symbols.
+/// Returns the patch of a relocation, in an image at a base, by the addresses of the symbols.
 #[tactic(auto, unfolding(crate::specs::Laid::patch_of), using(crate::proofs::SymbolLemmas::offset_at, crate::proofs::SymbolLemmas::length_layout, crate::proofs::SymbolLemmas::wrapped_place))]
 fn patch_of(
     object: &Object,
@@ -41,7 +41,7 @@ fn patch_of(
     }
 }
 
-/// Puts the words of all relocations into the image of an object at a base, in one pass.
+/// Writes the words of all relocations into the image of an object at a base, in one pass.
 fn relocate(
     image: &mut Image,
     object: &Object,
@@ -68,12 +68,14 @@ fn relocate(
     Ok(())
 }
 
-/// The image of an object at a base, by the addresses of its symbols: the bytes of its sections, with the word of each
-/// relocation at its place. It is made in one block. x86-64 psABI, "Relocation".
+/// Returns the image of an object at a base, by the addresses of its symbols: the bytes of its
+/// sections, with the word of each relocation at its place. It is made in one block. x86-64 psABI,
+/// "Relocation".
 ///
 /// # Errors
 ///
-/// `Overflow` exactly at the first relocation whose word doesn't fit, or `Memory`.
+/// `Overflow` exactly if the word of a relocation doesn't fit, with the first such relocation; or
+/// `Memory`.
 #[tactic(auto, unfolding(crate::specs::Laid::laid))]
 pub fn image_at(
     alloc: Global,

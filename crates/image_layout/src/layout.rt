@@ -1,4 +1,4 @@
-// Where each section lies, and the size of the image.
+// The places of the sections, and the size of the image.
 
 ghost use Rattle.std.specs.Prelude.{ℕ, List, Some, take, slice_get, [], ◌≡◌, ◌+◌, ◌*◌, ◌%◌, ◌<◌, ◌≤◌, ◌^◌, true, length, IfOk, IfSome, if◌then◌else◌, slice_index};
 ghost use Rattle.elf_object.specs.Places.{is_alignment};
@@ -14,7 +14,7 @@ use elf_object::{Object, Section};
 use std::alloc::{AllocError, Global};
 use std::marker::Model;
 
-/// For each class a place: where it begins, or where the sections end that were placed in it.
+/// A place for each class: its beginning, or the end of the sections that were placed in it.
 #[derive(Clone, Copy, Debug)]
 pub(crate) struct Ends {
     pub(crate) code: u128,
@@ -22,7 +22,7 @@ pub(crate) struct Ends {
     pub(crate) variable: u128,
 }
 
-/// Where the classes begin.
+/// Returns the beginnings of the classes.
 #[tactic(auto, unfolding(crate::specs::Offsets::fixed_start, crate::specs::Offsets::variable_start, crate::specs::Offsets::end_of))]
 fn class_starts(object: &Object) -> Ends
     ensures starts { AreEnds object.now.sections [] result }
@@ -38,7 +38,7 @@ fn class_starts(object: &Object) -> Ends
     }
 }
 
-/// Where a class begins.
+/// Returns the beginning of a class.
 fn start_of(object: &Object, class: Class) -> u128
     ensures start { result ≡ class_start object.now.sections class }
     ensures near { result < 2 ^ 95 }
@@ -51,8 +51,8 @@ fn start_of(object: &Object, class: Class) -> u128
     }
 }
 
-/// Where the section `i`, which is in memory, begins in the image of its object. It takes no memory. gABI 4,
-/// "Sections", sh_addralign.
+/// Returns the place of the section `i`, which is in memory, in the image of its object. It takes
+/// no memory. gABI 4, "Sections", sh_addralign.
 pub fn section_at(object: &Object, i: u32) -> u64
     requires section { i < length object.now.sections }
     requires kept { IfSome (slice_get object.now.sections i) (λ s. s.kept ≡ true) }
@@ -67,7 +67,7 @@ pub fn section_at(object: &Object, i: u32) -> u64
     aligned(end, section.align) as u64
 }
 
-/// How many bytes the image of an object has: whole pages, and at least one.
+/// Returns the size of the image of an object in bytes: whole pages, and at least one.
 #[tactic(auto, unfolding(crate::specs::Offsets::image_size, crate::specs::Offsets::end_of))]
 pub fn image_size(object: &Object) -> u128
     ensures size { result ≡ size_of_image object.now.sections }
@@ -84,7 +84,8 @@ pub fn image_size(object: &Object) -> u128
     }
 }
 
-/// Places a section at the next multiple of its alignment: where it lies, and where it ends.
+/// Places a section at the next multiple of its alignment. Returns its place, and moves `end` to
+/// its end.
 #[tactic(auto, using(crate::proofs::Aligning::alignment_small))]
 fn place_at(end: &mut u128, section: &Section) -> u128
     requires end { end.old < 2 ^ 110 }
@@ -99,7 +100,7 @@ fn place_at(end: &mut u128, section: &Section) -> u128
 }
 
 impl Ends {
-    /// Places a section in its class, which then ends with it: where it lies.
+    /// Places a section in its class, whose end becomes the section's, and returns its place.
     #[tactic(auto, unfolding(crate::specs::Offsets::offset_after))]
     fn place(&mut self, section: &Section) -> u128
         requires near { AreNear self.old }
@@ -117,7 +118,8 @@ impl Ends {
     }
 }
 
-/// Where a section lies, by where the classes end with those before it, and then with it.
+/// Returns the place of a section, by the ends of the classes with the sections before it, and adds
+/// it to its class.
 fn next_offset(ends: &mut Ends, section: &Section) -> u128
     requires near { AreNear ends.old }
     requires aligned { section.now.kept ≡ true → is_alignment section.now.align ≡ true }
@@ -128,7 +130,7 @@ fn next_offset(ends: &mut Ends, section: &Section) -> u128
     if section.kept { ends.place(section) } else { 0 }
 }
 
-/// Where each section of an object lies in its image. Contracts see the list of these places.
+/// The place of each section of an object in its image. Contracts see the list of these places.
 #[derive(Debug, Drop)]
 pub struct Layout {
     offsets: Vec<u64>,
@@ -143,7 +145,7 @@ impl Model for Layout {
 }
 
 impl Layout {
-    /// The places of the sections of an object whose image fits in memory.
+    /// Returns the places of the sections of an object whose image fits in memory.
     pub fn new(alloc: Global, object: &Object) -> Result<Layout, AllocError>
         requires { size_of_image object.now.sections < 2 ^ 63 }
         ensures { IfOk result (λ l. l ≡ offsets object.now.sections) }
@@ -158,7 +160,7 @@ impl Layout {
         Ok(Layout { offsets })
     }
 
-    /// Where the section `i` begins; 0 where it isn't in memory.
+    /// Returns the place of the section `i`, and 0 if it isn't in memory.
     pub fn offset(&self, i: u32) -> u64
         requires { i < length self.now }
         ensures { result ≡ slice_index self.now i }

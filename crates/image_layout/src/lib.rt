@@ -1,12 +1,14 @@
 //! Where the sections of a module lie in memory, and the image of a module at a base.
 //!
-//! Sections in memory stand in three classes, each from a page on: those with code, those that are only read, and the
-//! rest. An image is the bytes of these sections with the word of each relocation at its place: it is made in one block,
-//! into which sections are copied straight from the file and words are written one by one, so that it is never held
-//! twice. Contracts see offsets, sizes and images as functions of the object file.
+//! Sections in memory are in three classes, each from a page on: those with code, those that are
+//! only read, and the rest. An image is the bytes of these sections with the word of each
+//! relocation at its place. It is made in one block: sections are copied there straight from the
+//! file, and words are written one by one, so it is never held twice. Contracts see offsets, sizes
+//! and images as functions of the object file.
 //!
-//! The crate stands on `elf_object` for sections, symbols and places, on `x86_relocate` for the words, on `raw_image` for
-//! the block, and on `elf_format` and `km_names`. Want of memory is free; a word that is too wide is the one other refusal.
+//! The crate uses `elf_object` for sections, symbols and places, `x86_relocate` for the words,
+//! `raw_image` for the block, and `elf_format` and `km_names`. Out of memory is free; the only
+//! other refusal is a word that is too wide.
 #![tactic(auto)]
 
 mod class;

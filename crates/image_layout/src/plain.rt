@@ -1,4 +1,4 @@
-// The bytes of the sections in an image.
+// The bytes of sections in an image.
 
 ghost use Rattle.std.specs.Prelude.{◌≡◌, ◌<◌, ◌^◌, length, IfOk};
 ghost use Rattle.image_layout.specs.Offsets.{image_size as size_of_image, offsets};
@@ -9,7 +9,7 @@ use elf_object::Object;
 use raw_image::Image;
 use std::alloc::{AllocError, Global};
 
-/// The bytes that the section `i` has in the image: those of the file, where it is in memory.
+/// Returns the bytes of the section `i` in the image: the file's, if the section is in memory.
 #[tactic(auto, using(crate::proofs::PlainLemmas::piece_kept, crate::proofs::PlainLemmas::piece_unkept))]
 fn bytes_in_memory(object: &Object, i: u32) -> &[u8]
     requires { i < length object.now.sections }
@@ -22,7 +22,8 @@ fn bytes_in_memory(object: &Object, i: u32) -> &[u8]
     }
 }
 
-/// The image of an object before any relocation: each section is copied from the file, into one block.
+/// Returns the image of an object before any relocation: each section is copied from the file, into
+/// one block.
 pub(crate) fn plain_image(
     alloc: Global,
     object: &Object,

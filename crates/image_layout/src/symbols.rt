@@ -9,7 +9,7 @@ use elf_format::SHN_UNDEF;
 use elf_object::{Object, Symbol};
 use std::alloc::{AllocError, Global};
 
-/// Whether the section of this number is one, and in memory.
+/// Returns whether there is a section of this number, and it is in memory.
 fn is_placed(object: &Object, number: u16) -> bool
     ensures placed { result ≡ stands_in_memory object.now.sections number }
     ensures within { result ≡ true → number < length object.now.sections }
@@ -18,7 +18,8 @@ fn is_placed(object: &Object, number: u16) -> bool
     number < object.section_count() && object.section(number).kept
 }
 
-/// The address of a symbol in an image at a base; `given` is what it stands for where it is defined elsewhere.
+/// Returns the address of a symbol in an image at a base. `given` is its address if it is defined
+/// elsewhere.
 #[tactic(auto, unfolding(crate::specs::Symbols::symbol_address), using(crate::proofs::SymbolLemmas::offset_at, crate::proofs::SymbolLemmas::length_layout, crate::proofs::SymbolLemmas::wrapped_twice))]
 fn symbol_address(object: &Object, layout: &Layout, base: u64, given: u64, symbol: &Symbol) -> u64
     requires { layout.now ≡ offsets object.now.sections }
@@ -34,8 +35,8 @@ fn symbol_address(object: &Object, layout: &Layout, base: u64, given: u64, symbo
     base.wrapping_add(at).wrapping_add(symbol.value)
 }
 
-/// The addresses of all symbols of an object, in an image at a base. `given` has for each symbol what it stands for
-/// where it is defined elsewhere. gABI 4, "Symbol Table".
+/// Returns the addresses of all symbols of an object, in an image at a base. `given` has for each
+/// symbol its address if it is defined elsewhere. gABI 4, "Symbol Table".
 pub fn addresses(
     alloc: Global,
     object: &Object,

@@ -6,7 +6,7 @@ use Rattle.index_format.specs.declared.numbers.TheConstants.{PLACE_MASK, HAS_PRE
 abbrev pub place_of : ℕ → ℕ
 place_of link = bit_and link PLACE_MASK
 
--- Whether the node has a prefix, values or children: bits 31, 30 and 29. Bit 28 says nothing.
+-- Whether the node has a prefix, values or children: bits 31, 30 and 29. Bit 28 has no meaning.
 abbrev pub has_prefix : ℕ → Bool
 has_prefix link = not (bit_and link HAS_PREFIX == 0)
 
@@ -16,7 +16,7 @@ has_values link = not (bit_and link HAS_VALUES == 0)
 abbrev pub has_children : ℕ → Bool
 has_children link = not (bit_and link HAS_CHILDREN == 0)
 
--- 1 for a field that has content, and 0 for an empty one, which is left out.
+-- 1 for a field with content, and 0 for an empty one, which is left out.
 abbrev pub flag : {A : Type 0} → List A → ℕ
 flag [] = 0
 flag (x ∷ xs) = 1

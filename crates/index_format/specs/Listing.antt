@@ -1,5 +1,5 @@
--- The values of many keys, each with its key: by the order of the keys' bytes, and those of one key in their
--- order; and the same values by rising priority.
+-- The values of many keys, each with its key. They are ordered by the bytes of the keys, and the
+-- values of one key keep their order. Another order is by rising priority.
 use Rattle.std.specs.Prelude.{◌≡◌, ℕ, List, [], map, filter}
 use Rattle.std.specs.List.Sorted.{IsSortedByKey, IsStableByKey}
 use Rattle.std.specs.Ordering.{nat_cmp, is_eq}
@@ -14,18 +14,19 @@ KeyValue = List ℕ × Value
 abbrev pub under : List ℕ → List KeyValue → List Value
 under key ps = map (λ p. p.1) (filter (λ p. is_eq (slice_cmp nat_cmp key p.0)) ps)
 
--- The pairs are the values of all keys: their keys never fall, and each key has its values in their order.
+-- The pairs are the values of all keys: their keys never fall, and each key has its values in their
+-- order.
 pub record IsListing (values : List ℕ → List Value) (ps : List KeyValue) : Type 0 where
   pub keys : IsSortedByKey (λ p. p.0) (slice_cmp nat_cmp) ps
   pub each : (key : List ℕ) → under key ps ≡ values key
 
--- The pairs are the values of all keys of which something is true, and of no other.
+-- The pairs are the values of all keys that a predicate selects, and of no other.
 pub record IsSelection (Selects : List ℕ → Type 0) (values : List ℕ → List Value) (ps : List KeyValue) : Type 0 where
   pub keys : IsSortedByKey (λ p. p.0) (slice_cmp nat_cmp) ps
   pub each : (key : List ℕ) → Selects key → under key ps ≡ values key
   pub others : (key : List ℕ) → ¬ Selects key → under key ps ≡ []
 
--- The values by rising priority, those of one priority in the order that they had.
+-- The values by rising priority. Values of one priority keep their order.
 pub record IsByPriority (before after : List Value) : Type 0 where
   pub rises : IsSortedByKey (λ v. v.0) nat_cmp after
   pub stable : IsStableByKey (λ v. v.0) nat_cmp before after

@@ -1,4 +1,4 @@
--- The map that an index stands for: from a key to the values of that key, in the order in which they stand.
+-- The map that an index represents: from a key to its values, in their order.
 use Rattle.std.specs.Prelude.{ℕ, ◌<◌, All, List, [], ◌∷◌, nat_lt, if◌then◌else◌, unwrap_or}
 use Rattle.std.specs.List.{list_all}
 use Rattle.std.specs.Ordering.{nat_cmp}
@@ -14,12 +14,12 @@ Value = ℕ × List ℕ
 abbrev pub KeyValues : Type 0
 KeyValues = FinMap (slice_cmp nat_cmp) (List Value)
 
--- The values of a key, none where the map doesn't have it.
+-- The values of a key, and none if the map doesn't have it.
 abbrev pub values_of : KeyValues → List ℕ → List Value
 values_of m key = unwrap_or (get m key) []
 
--- The values with one more, which stands after the last one whose priority isn't greater: before the
--- longest rest of the list in which each priority is greater.
+-- The values with one more, which goes after the last one whose priority isn't greater: before the
+-- longest rest of the list whose priorities are all greater.
 abbrev pub place : List Value → Value → List Value
 place [] v = v ∷ []
 place (x ∷ xs) v = if list_all (λ y. nat_lt v.0 y.0) (x ∷ xs) then v ∷ x ∷ xs else x ∷ place xs v
@@ -28,7 +28,7 @@ place (x ∷ xs) v = if list_all (λ y. nat_lt v.0 y.0) (x ∷ xs) then v ∷ x 
 abbrev pub with_value : KeyValues → List ℕ → Value → KeyValues
 with_value m key v = insert m key (place (values_of m key) v)
 
--- Its code, by which a struct can be seen as such a map.
+-- The code of the map, by which a struct can be seen as such a map.
 abbrev pub key_values_code : Coded KeyValues
 key_values_code = code (coded_list coded_ℕ) (coded_list (coded× coded_ℕ (coded_list coded_ℕ)))
 

@@ -12,7 +12,7 @@ head = 0xb0 ∷ 0x07 ∷ 0xf4 ∷ 0x57 ∷ 0x00 ∷ 0x02 ∷ 0x00 ∷ 0x01 ∷ [
 abbrev pub no_keys : KeyValues
 no_keys = empty
 
--- Its root has no field, and stands at 12.
+-- The file of the map without keys. Its root has no field, and is at 12.
 abbrev pub no_keys_file : List ℕ
 no_keys_file = head ++ (0 ∷ 0 ∷ 0 ∷ 0x0c ∷ [])
 
@@ -20,7 +20,7 @@ no_keys_file = head ++ (0 ∷ 0 ∷ 0 ∷ 0x0c ∷ [])
 abbrev pub one : List ℕ → ℕ → List ℕ → Entry
 one key priority text = (key, (priority, text) ∷ [])
 
--- Five keys, of which one begins others; each has the text "x".
+-- Five keys, one of which begins others. Each has the text "x".
 abbrev pub five_entries : List Entry
 five_entries =
     one (codes "ask") 0 (codes "x")
@@ -54,7 +54,7 @@ five_keys_file =
     ++ (0 ∷ 0 ∷ 0 ∷ 0 ∷ 0 ∷ 0 ∷ 0 ∷ 0 ∷ 0 ∷ 0 ∷ 0 ∷ 0 ∷ 0 ∷ 0 ∷ 0 ∷ 0 ∷ 0 ∷ 0 ∷ 0 ∷ 0 ∷ 0 ∷ 0 ∷ 0 ∷ 0 ∷ 0 ∷ 0 ∷ [])
     ++ (0xe0 ∷ 0 ∷ 0 ∷ 0x44 ∷ [])
 
--- Two modules, of which one depends on the other, with their lines of modules.dep.
+-- Two modules, one of which depends on the other, with their lines of modules.dep.
 abbrev pub two_modules_entries : List Entry
 two_modules_entries =
     one (codes "a") 0 (codes "kernel/a.ko:")
@@ -74,7 +74,7 @@ two_modules_file =
     -- 66: the root, "a" to "b"
     ++ (0x61 ∷ 0x62 ∷ 0x40 ∷ 0 ∷ 0 ∷ 0x0c ∷ 0x40 ∷ 0 ∷ 0 ∷ 0x21 ∷ [])
 
--- The root at 12 has a child that stands after it, at 18.
+-- The root at 12 has a child that is after it, at 18.
 abbrev pub child_after_parent : List ℕ
 child_after_parent =
     head ++ (0x20 ∷ 0 ∷ 0 ∷ 0x0c ∷ 0x61 ∷ 0x61 ∷ 0x40 ∷ 0 ∷ 0 ∷ 0x12 ∷ 0 ∷ 0 ∷ 0 ∷ 1 ∷ 0 ∷ 0 ∷ 0 ∷ 0 ∷ 0x78 ∷ 0 ∷ [])
@@ -97,7 +97,8 @@ child_at_parent = head ++ (0x20 ∷ 0 ∷ 0 ∷ 0x0c ∷ 0x61 ∷ 0x61 ∷ 0x20 
 abbrev pub child_without_field : List ℕ
 child_without_field = head ++ (0x20 ∷ 0 ∷ 0 ∷ 0x0d ∷ 0 ∷ 0x61 ∷ 0x61 ∷ 0 ∷ 0 ∷ 0 ∷ 0x0c ∷ [])
 
--- The root's range is of the byte 128, of the byte 0, and from "b" down to "a"; its one child is absent.
+-- The root's range is of the byte 128, of the byte 0, and from "b" down to "a"; its one child is
+-- absent.
 abbrev pub byte_over_127 : List ℕ
 byte_over_127 = head ++ (0x20 ∷ 0 ∷ 0 ∷ 0x0c ∷ 0x80 ∷ 0x80 ∷ 0 ∷ 0 ∷ 0 ∷ 0 ∷ [])
 
@@ -117,15 +118,15 @@ prefix_cut_off = head ++ (0x80 ∷ 0 ∷ 0 ∷ 0x0c ∷ 0x6b ∷ [])
 abbrev pub count_cut_off : List ℕ
 count_cut_off = head ++ (0x40 ∷ 0 ∷ 0 ∷ 0x0c ∷ 0 ∷ 0 ∷ 0 ∷ [])
 
--- The root stands at 11, in its own offset.
+-- The root is at 11, in its own offset.
 abbrev pub root_at_11 : List ℕ
 root_at_11 = head ++ (0x80 ∷ 0 ∷ 0 ∷ 0x0b ∷ 0 ∷ [])
 
--- The root's offset has the bit that says nothing, and no field.
+-- The root's offset has the bit without meaning, and no field.
 abbrev pub bit_28 : List ℕ
 bit_28 = head ++ (0x10 ∷ 0 ∷ 0 ∷ 0x0c ∷ [])
 
--- Two offsets lead to the node at 12, of which the second says that it has no field.
+-- Two offsets lead to the node at 12, and the second has no flag of a field.
 abbrev pub reached_without_field : List ℕ
 reached_without_field =
     head ++ (0x20 ∷ 0 ∷ 0 ∷ 0x16 ∷ 0 ∷ 0 ∷ 0 ∷ 1 ∷ 0 ∷ 0 ∷ 0 ∷ 0 ∷ 0x78 ∷ 0 ∷ [])

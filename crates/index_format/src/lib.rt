@@ -1,9 +1,9 @@
-//! The format of a module index: what the bytes of a file mean, which files a reader refuses, and which file
-//! the writer makes of a map. This is kmod's index format, version 2.1.
+//! The format of a module index: what the bytes of a file mean, which files a reader refuses, and
+//! which file the writer makes of a map. This is kmod's index format, version 2.1.
 //!
-//! The crate has the format's numbers, and definitions in `specs/`, on which the readers and the writer of indexes
-//! are proved. It stands on `km_names`. Its functions do nothing: the contract of each says what the definitions
-//! give on small files that were written by hand.
+//! The crate has the format's numbers, and definitions in `specs/` for the proofs of the readers
+//! and the writer of indexes. It uses `km_names`. Its functions do nothing: the contract of each
+//! says what the definitions give on small files that were written by hand.
 #![tactic(auto)]
 
 mod numbers;

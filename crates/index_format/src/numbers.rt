@@ -1,12 +1,12 @@
 //! The numbers of kmod's index format 2.1.
 
-/// With what a file begins.
+/// The number that a file begins with.
 pub const MAGIC: u32 = 0xb007_f457;
 
-/// The version of the format, 2.1, which stands after the magic.
+/// The version of the format, 2.1, which follows the magic.
 pub const VERSION: u32 = 0x0002_0001;
 
-/// The first place of a node, after the magic, the version and the offset of the root.
+/// The first possible place of a node, after the magic, the version and the offset of the root.
 pub const FIRST_PLACE: u32 = 12;
 
 /// The bits of an offset that are the place of its node.

@@ -7,16 +7,17 @@ ghost use Rattle.index_format.specs.File.{file};
 ghost use Rattle.index_format.specs.Worked.{head, no_keys, no_keys_file, five_keys, five_keys_file, two_modules, two_modules_file, child_after_parent, node_reached_twice, value_cut_off};
 ghost use Rattle.index_format.specs.Worked.{child_at_parent, child_without_field, byte_over_127, byte_0, range_turned, offset_cut_off, prefix_cut_off, count_cut_off, root_at_11, bit_28, reached_without_field, grandchild_at_10, version_2_0, three_bytes};
 
-/// The files of three small maps: without keys, with five keys of which one begins others, and with the
-/// dependencies of two modules.
+/// States the files of three small maps: without keys, with five keys one of which begins others,
+/// and with the dependencies of two modules.
 pub fn small_files()
     ensures no_keys { file no_keys ≡ no_keys_file }
     ensures five_keys { file five_keys ≡ five_keys_file }
     ensures two_modules { file two_modules ≡ two_modules_file }
 {}
 
-/// What keys reach in the file of the five keys: a key that is there, one that begins others, one that only
-/// begins one, one whose last bytes are no prefix, and the empty key.
+/// States what keys reach in the file of the five keys and in the file of two modules. The keys are
+/// one of the map, one that begins others, a front of a key, one whose last bytes are no prefix,
+/// the empty key, and a module.
 pub fn small_lookups()
     ensures key { at five_keys_file (root five_keys_file) (codes "once") ≡ (3, codes "x") ∷ [] }
     ensures begins { at five_keys_file (root five_keys_file) (codes "on") ≡ (2, codes "x") ∷ [] }
@@ -27,7 +28,8 @@ pub fn small_lookups()
         ≡ (1, codes "kernel/b.ko: kernel/a.ko") ∷ [] }
 {}
 
-/// How many nodes the walks of keys through the file of the five keys have, and how many nodes it has.
+/// States the number of nodes on the walks of keys through the file of the five keys, and the
+/// number of its nodes.
 pub fn small_walks()
     ensures key { visits five_keys_file (codes "once") ≡ 3 }
     ensures begins { visits five_keys_file (codes "on") ≡ 2 }
@@ -36,7 +38,7 @@ pub fn small_walks()
     ensures all { node_count five_keys_file ≡ 7 }
 {}
 
-/// The small files are accepted, and these are refused.
+/// States that the small files are accepted and these other ones refused.
 pub fn refused_files()
     ensures no_keys { index_fault no_keys_file ≡ None }
     ensures five_keys { index_fault five_keys_file ≡ None }
@@ -50,7 +52,8 @@ pub fn refused_files()
     ensures cut_off { index_fault value_cut_off ≡ Some (BadNode 12) }
 {}
 
-/// What a reader says of files that only one of its tests, or their order, tells from sound ones.
+/// States a reader's answers to files that only one of its tests, or their order, distinguishes
+/// from sound ones.
 pub fn odd_files()
     ensures three_bytes { index_fault three_bytes ≡ Some BadMagic }
     ensures version { index_fault version_2_0 ≡ Some BadVersion }

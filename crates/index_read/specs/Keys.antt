@@ -1,5 +1,5 @@
--- The nodes of an index, each with the key that leads to it, in the order of their keys: after a node come those
--- below it, by rising bytes, each with all that is below it.
+-- The nodes of an index, each with the key that leads to it, in the order of their keys: after a
+-- node come the ones below it, by rising bytes, each with all that is below it.
 use Rattle.std.specs.Prelude.{ℕ, zero, suc, ◌+◌, ◌-◌, ◌≤◌, List, [], ◌∷◌, ◌++◌, length, take, Option, Some, None}
 use Rattle.index_format.specs.Link.{place_of}
 use Rattle.index_format.specs.Node.{root, prefix, child}
@@ -10,24 +10,24 @@ use Rattle.index_read.specs.declared.walk.Level.{Level}
 abbrev pub Item : Type 0
 Item = List ℕ × ℕ
 
--- The nodes that a child leads to, where there is one.
+-- The nodes that a child leads to, if there is one.
 abbrev pub on_child : Option ℕ → (ℕ → List Item) → List Item
 on_child None under = []
 on_child (Some next) under = under next
 
--- The nodes below a node with this key, by so many bytes from one on. What a child leads to is given by its
--- offset and by the key with its byte.
+-- The nodes below a node with this key, by so many bytes from one on. `under` gives the nodes that
+-- a child leads to, by its offset and by the key with its byte.
 unfoldable pub branches : (ℕ → List ℕ → List Item) → List ℕ → ℕ → List ℕ → ℕ → ℕ → List Item
 branches under b link key byte zero = []
 branches under b link key byte (suc n) =
     on_child (child b link byte) (λ next. under next (key ++ byte ∷ [])) ++ branches under b link key (byte + 1) n
 
--- How many bytes may lead to a child.
+-- The number of bytes that may lead to a child.
 abbrev pub key_bytes : ℕ
 key_bytes = 128
 
--- A node and those below it, down to a depth. Children stand below their parent in the file, so the place of a
--- node is depth enough for what is below it.
+-- A node and the ones below it, down to a depth. Children are below their parent in the file, so
+-- the place of a node is enough depth for what is below it.
 unfoldable pub items : List ℕ → ℕ → ℕ → List ℕ → List Item
 items b zero link key = []
 items b (suc depth) link key =
@@ -38,17 +38,18 @@ items b (suc depth) link key =
 abbrev pub all_items : List ℕ → List Item
 all_items b = items b (length b + 1) (root b) []
 
--- The nodes that are still to come on a level: those below the bytes from its next one on.
+-- The nodes still to come on a level: the ones below the bytes from its next one on.
 abbrev pub level_items : List ℕ → List ℕ → Level → List Item
 level_items b key l =
     branches (items b (place_of (link_of l.node))) b (link_of l.node) (take l.key_length key) l.next (key_bytes - l.next)
 
--- The nodes that are still to come, the last level's first.
+-- The nodes still to come, the last level's first.
 abbrev pub items_left : List ℕ → List ℕ → List Level → List Item
 items_left b key [] = []
 items_left b key (l ∷ ls) = items_left b key ls ++ level_items b key l
 
--- A level of the file: its key is a front of this length of the walk's, and its next byte may lead to a child.
+-- A level of the file: its key is a front of the walk's key of at most this length, and its next
+-- byte may lead to a child.
 pub record IsLevel (b : List ℕ) (most : ℕ) (l : Level) : Type 0 where
   pub node : IsNodeOf b l.node
   pub key : l.key_length ≤ most

@@ -1,4 +1,4 @@
--- What lookups in a map answer.
+-- The answers of lookups in a map.
 use Rattle.std.specs.Prelude.{ℕ, ◌==◌, not, Bool, List, [], ◌∷◌, length, Option, Some, None}
 use Rattle.index_format.specs.Map.{Value, KeyValues, values_of}
 

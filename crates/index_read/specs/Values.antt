@@ -1,4 +1,5 @@
--- The values and pairs of lookups as those of an index, and the values of all keys that match a text.
+-- The values and pairs of lookups as values of an index, and the values of all keys that match a
+-- text.
 use Rattle.std.specs.Prelude.{◌≡◌, ℕ, List, map}
 use Rattle.index_format.specs.Map.{Value}
 use Rattle.index_format.specs.Listing.{KeyValue, IsSelection, IsByPriority}
@@ -20,13 +21,13 @@ pair_of p = (p.key, value_of p.value)
 abbrev pub shown_pairs : List Pair → List KeyValue
 shown_pairs ps = map pair_of ps
 
--- The values of every key that as a pattern matches the text, by key and then by place.
+-- The values of every key that matches the text as a pattern, by key and then by place.
 pub record IsMatching (values : List ℕ → List Value) (text : List ℕ) (found : List Value) : Type 0 where
   pub pairs : List KeyValue
   pub matching : IsSelection (λ key. Matches key text) values pairs
   pub found_is : found ≡ map (λ p. p.1) pairs
 
--- The same values by rising priority, and those of one priority by key and then by place.
+-- The same values by rising priority. Values of one priority are by key and then by place.
 pub record IsWild (values : List ℕ → List Value) (text : List ℕ) (found : List Value) : Type 0 where
   pub unordered : List Value
   pub matching : IsMatching values text unordered

@@ -1,4 +1,5 @@
--- What the entries, groups and nodes of the writer are in the tree of an index.
+-- The entries, groups and nodes of the writer, as the tree of an index has them.
+-- It belongs to the code: no public meaning rests on it.
 use Rattle.std.specs.Prelude.{ℕ, suc, ◌<◌, ◌==◌, List, [], ◌∷◌, length, map, if◌then◌else◌}
 use Rattle.std.specs.List.{AllByRecursion}
 use Rattle.index_format.specs.Tree.{Entry, common_prefix, cut, ending, groups}
@@ -25,17 +26,17 @@ group_of g = (g.byte, at_depth g.depth g.entries.now)
 abbrev pub groups_of : List Group → List (ℕ × List Entry)
 groups_of gs = map group_of gs
 
--- How many entries end here, where only the first one may.
+-- The number of entries that end here. Only the first one may.
 abbrev pub ended : List Entry → ℕ
 ended [] = 0
 ended (([], values) ∷ es) = 1
 ended ((c ∷ key, values) ∷ es) = 0
 
--- Each key goes on.
+-- Each key continues.
 abbrev pub AllGoOn : List Entry → Type 0
 AllGoOn es = AllByRecursion (λ e. 0 < length e.0) es
 
--- How many entries at the front go on with a byte.
+-- The number of entries at the front whose keys continue with a byte.
 abbrev pub leading : ℕ → List Entry → ℕ
 leading byte [] = 0
 leading byte (([], values) ∷ es) = 0
@@ -44,7 +45,7 @@ leading byte ((c ∷ key, values) ∷ es) = if byte == c then suc (leading byte 
 abbrev pub part_of : TreeNode → Part
 part_of n = record { byte = n.byte; prefix = n.prefix.now; values = shown_values n.values.now; children = n.children }
 
--- The entries of a group with the prefix of its node taken off, and that node.
+-- The entries of a group with the prefix of its node removed, and that node.
 abbrev pub below : List Entry → List Entry
 below es = cut (length (common_prefix es)) es
 

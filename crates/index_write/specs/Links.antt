@@ -1,4 +1,5 @@
--- What the writer keeps while it writes.
+-- The state of the writer while it writes.
+-- It belongs to the code: no public meaning rests on it.
 use Rattle.std.specs.Prelude.{ℕ, Bool, true, false, List, map}
 use Rattle.index_format.specs.File.{Links, Written}
 use Rattle.index_write.specs.declared.bytes.ChildLink.{ChildLink}

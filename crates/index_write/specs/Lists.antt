@@ -1,4 +1,5 @@
--- What the map from keys to lists of values is as a map of an index.
+-- The writer's map from keys to lists of values, as a map of an index: how contracts see a
+-- `KeyMap`.
 use Rattle.std.specs.Prelude.{ℕ, ◌<◌, ◌^◌, List, [], length, map, unwrap_or, T, Vec}
 use Rattle.std.specs.List.{AllByRecursion}
 use Rattle.std.specs.declared.alloc.Global.{Global}
@@ -46,7 +47,8 @@ with_one es key v = put (slice_cmp nat_cmp) key (place (found es key) v) es
 abbrev pub IsStorable : Value → Type 0
 IsStorable v = (v.0 < 2 ^ 32) × IsText v.1
 
--- What the lists keep: each has a key of the allowed bytes, and values, each of which a file can have.
+-- An entry that the lists can have: a key of the allowed bytes, and at least one value, all of
+-- which a file can have.
 pub record IsStorableEntry (e : Entry) : Type 0 where
   pub key : IsKey e.0
   pub some : 0 < length e.1

@@ -1,5 +1,6 @@
--- The nodes of a file one after the other, as they are written: each finds the links to its children at the
--- end of the links that wait for their parents.
+-- The nodes of a file one after the other, as they are written: each finds the links to its
+-- children at the end of the waiting links.
+-- It belongs to the code: no public meaning rests on it.
 use Rattle.std.specs.Prelude.{ℕ, ◌+◌, ◌-◌, ◌*◌, ◌==◌, List, [], ◌∷◌, ◌++◌, length, take, drop, sum_by, flat_map, if◌then◌else◌}
 use Rattle.index_format.specs.declared.numbers.TheConstants.{FIRST_PLACE, MAGIC, VERSION}
 use Rattle.index_format.specs.Map.{Value}
@@ -9,7 +10,7 @@ use Rattle.index_format.specs.Node.{upward}
 use Rattle.index_format.specs.File.{Written, Links, number, offset, node_bytes}
 use Rattle.index_write.specs.declared.node.Span.{Span}
 
--- A node without its children, of which it has the range of bytes that lead to them.
+-- A node without its children. It has the range of bytes that lead to them.
 pub record Part : Type 0 where
   pub byte : ℕ
   pub prefix : List ℕ
@@ -38,7 +39,7 @@ parts_of (Branch byte prefix values below beside) =
     parts_of below
     ++ (record { byte = byte; prefix = prefix; values = values; children = span_of (bytes_of below) }) ∷ parts_of beside
 
--- What is written after one more node, and after more nodes; its links are those that wait.
+-- What is written after one more node, and after more nodes. The links are the waiting ones.
 unfoldable pub with_part : Part → Written → Written
 with_part p w =
     let rest = length w.links - p.children.count in
@@ -51,7 +52,7 @@ unfoldable pub with_parts : List Part → Written → Written
 with_parts [] w = w
 with_parts (p ∷ ps) w = with_parts ps (with_part p w)
 
--- How many bytes a node takes.
+-- The size of a node in bytes.
 abbrev pub prefix_size : List ℕ → ℕ
 prefix_size [] = 0
 prefix_size (byte ∷ prefix) = length (byte ∷ prefix) + 1
@@ -69,7 +70,8 @@ values_size (v ∷ values) = 4 + sum_by value_size (v ∷ values)
 abbrev pub part_size : Part → ℕ
 part_size p = prefix_size p.prefix + span_size p.children + values_size p.values
 
--- What stands before the nodes, with 0 for the offset of the root, and the same with that offset.
+-- The bytes before the nodes, with 0 for the offset of the root, and the whole file with that
+-- offset.
 abbrev pub headed : Written
 headed = record { bytes = number MAGIC ++ number VERSION ++ number 0; links = [] }
 

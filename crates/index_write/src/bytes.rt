@@ -13,7 +13,7 @@ use byteorder::{BigEndian, ByteOrder};
 use index_format::{HAS_CHILDREN, HAS_PREFIX, HAS_VALUES, MAGIC, VERSION};
 use std::alloc::{AllocError, Global};
 
-/// The offset of a node that waits for its parent, with the byte that leads to it.
+/// The offset of a node whose parent isn't written yet, with the byte that leads to it.
 #[derive(Clone, Copy)]
 pub(crate) struct ChildLink {
     byte: u8,
@@ -41,7 +41,7 @@ fn push_prefix(out: &mut Vec<u8>, prefix: &[u8]) -> Result<(), AllocError>
     Ok(())
 }
 
-/// The offset for a byte, 0 where no child has it.
+/// Returns the offset for a byte, and 0 if no child has it.
 fn offset_of(links: &[ChildLink], byte: usize) -> u32
     ensures { result ≡ offset (links_of links.now) byte }
 {
@@ -53,7 +53,7 @@ fn offset_of(links: &[ChildLink], byte: usize) -> u32
     0
 }
 
-/// The offset for each byte, 0 where no child has it.
+/// Returns the offset for each byte, with 0 if no child has it.
 fn offset_table(links: &[ChildLink]) -> [u32; 256]
     ensures { (byte : ℕ) → byte < 256 → slice_index result byte ≡ offset (links_of links.now) byte }
 {
@@ -120,7 +120,7 @@ fn push_values(out: &mut Vec<u8>, values: &[StoredValue]) -> Result<(), AllocErr
     Ok(())
 }
 
-/// The offset of the node at a place, by whether it has a prefix, children and values.
+/// Returns the offset of the node at a place, by whether it has a prefix, children and values.
 fn link_to(place: u32, has_prefix: bool, has_children: bool, has_values: bool) -> u32
     requires { place < 2 ^ 28 }
     ensures { result ≡ bit has_prefix * HAS_PREFIX + bit has_values * HAS_VALUES + bit has_children * HAS_CHILDREN + place }
@@ -131,8 +131,8 @@ fn link_to(place: u32, has_prefix: bool, has_children: bool, has_values: bool) -
     prefix + values + children + place
 }
 
-/// Writes a node. It takes the links to its children from the end of those that wait, and its own link waits
-/// in their place.
+/// Writes a node. It takes the links to its children from the end of the waiting links, and puts
+/// its own link in their place.
 fn write_node(
     out: &mut Vec<u8>,
     links: &mut Vec<ChildLink>,
@@ -161,7 +161,7 @@ fn write_node(
     Ok(())
 }
 
-/// Puts the offset of the root into its place.
+/// Writes the offset of the root to its place.
 fn put_root(out: &mut [u8], root: u32)
     requires { FIRST_PLACE ≤ length out.old }
     ensures { out.new ≡ take 8 out.old ++ number root ++ drop FIRST_PLACE out.old }
@@ -169,7 +169,7 @@ fn put_root(out: &mut [u8], root: u32)
     BigEndian::write_u32(&mut out[8..], root);
 }
 
-/// The file of these nodes, which take so many bytes.
+/// Returns the file of these nodes. `capacity` is the number of bytes to reserve for it.
 pub(crate) fn write(
     alloc: Global,
     nodes: &[TreeNode],

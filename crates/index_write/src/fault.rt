@@ -1,15 +1,14 @@
 use std::alloc::{AllocError, AllocFailed};
 
-/// Why a map was not written.
+/// Why a map wasn't written.
 #[derive(Debug, Drop)]
 pub enum WriteFault {
-    /// The file would be longer than 67,108,864 bytes: so many, or at least so many where `length` is the
-    /// greatest number of 64 bits.
+    /// The file would be longer than 67,108,864 bytes.
     IndexTooLarge {
-        /// The bytes of the file.
+        /// The size of the file in bytes, or the greatest number of 64 bits if that is less.
         length: u64,
     },
-    /// Memory ran out.
+    /// Out of memory.
     Memory,
 }
 

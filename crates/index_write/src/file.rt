@@ -11,8 +11,8 @@ use crate::size::file_size;
 use km_names::{Blob, FILE_LIMIT};
 use std::alloc::Global;
 
-/// The file of a map in kmod's index format 2.1. Where it would be longer than 67,108,864 bytes nothing of that
-/// size is built.
+/// Returns the file of a map in kmod's index format 2.1. If it would be longer than 67,108,864
+/// bytes, the answer is `IndexTooLarge` and the file isn't built.
 pub fn encode(alloc: Global, map: &KeyMap) -> Result<Blob, WriteFault>
     ensures file { IfOk result (λ b. b ≡ file map.now) }
     ensures holds { IfOk result (λ b. Holds b map.now) }

@@ -17,8 +17,8 @@ pub(crate) struct StoredValue {
     pub(crate) text: Blob,
 }
 
-/// A map from keys to values, each of which has a priority and a text. The values of a key stand by rising
-/// priority, those of one priority in the order in which they were added.
+/// A map from keys to values, each with a priority and a text. The values of a key are ordered by
+/// rising priority. Values of one priority are in the order they were added in.
 #[derive(Drop)]
 pub struct KeyMap {
     alloc: Global,
@@ -44,7 +44,7 @@ impl KeyMap {
     ghost use Rattle.index_write.specs.Lists.{IsStorableEntry};
     ghost use Rattle.index_write.specs.Groups.{shown};
 
-    /// The map without keys. It takes no memory.
+    /// Returns the map without keys. It takes no memory.
     pub fn new(alloc: Global) -> KeyMap
         ensures { result ≡ map.empty }
     {
@@ -54,8 +54,8 @@ impl KeyMap {
         }
     }
 
-    /// Adds a value to a key. It goes after the last value of the key whose priority isn't greater. After a
-    /// refusal the map is as before.
+    /// Adds a value to a key. It goes after the last value of the key whose priority isn't greater.
+    /// After a refusal the map is as before.
     pub fn add(&mut self, key: &[u8], priority: u32, text: &[u8]) -> Result<(), AllocError>
         requires key { IsKey key.now }
         requires text { IsText text.now }
@@ -69,7 +69,7 @@ impl KeyMap {
         add_value(self.alloc, &mut self.lists, key, value)
     }
 
-    /// The keys in their order, each with its values.
+    /// Returns the keys in their order, each with its values.
     pub(crate) fn entries(&self, alloc: Global) -> Result<Vec<KeyEntry<'_>>, AllocError>
         ensures shown { IfOk result (λ v. shown v.items ≡ map.entries self.now) }
         ensures rises { OnOk result (Rises (map.entries self.now)) }

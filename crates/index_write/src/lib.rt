@@ -1,7 +1,9 @@
-//! The writer of module indexes: a map from keys to values, and its file in kmod's index format 2.1.
+//! The writer of module indexes: a map from keys to values, and its file in kmod's index format
+//! 2.1.
 //!
-//! It stands on `km_names` and on the definitions of `index_format`: the bytes that are written are the file
-//! of the map by that format, and a reader of the format finds in them each key's values and nothing else.
+//! The crate uses `km_names` and the definitions of `index_format`: the bytes written are the file
+//! of the map by that format, and a reader of the format finds in them each key's values and
+//! nothing else.
 #![tactic(auto)]
 
 mod bytes;

@@ -9,7 +9,7 @@ use crate::key_map::StoredValue;
 use std::alloc::{AllocError, Global};
 use std::collections::BTreeMap;
 
-/// The place of a new value: after the last one whose priority isn't greater.
+/// Returns the place of a new value: after the last one whose priority isn't greater.
 fn place_for(list: &[StoredValue], priority: u32) -> usize
     ensures within { result ≤ length list.now }
     ensures place { (v : ℕ × List ℕ) → v.0 ≡ priority → insert (shown_values list.now) result v ≡ place (shown_values list.now) v }
@@ -21,7 +21,7 @@ fn place_for(list: &[StoredValue], priority: u32) -> usize
     at
 }
 
-/// Puts a value in its place.
+/// Inserts a value at its place.
 fn add_to(list: &mut Vec<StoredValue>, value: StoredValue) -> Result<(), AllocError>
     ensures ok { OnOk result (shown_values list.new.items ≡ place (shown_values list.old.items) (value_of value)) }
     ensures err { OnErr result (list.new.items ≡ list.old.items) }
@@ -31,7 +31,7 @@ fn add_to(list: &mut Vec<StoredValue>, value: StoredValue) -> Result<(), AllocEr
     Ok(())
 }
 
-/// Puts the first value of a new key into the map.
+/// Inserts the first value of a new key into the map.
 fn add_key(
     alloc: Global,
     lists: &mut BTreeMap<Vec<u8>, Vec<StoredValue>>,
@@ -48,7 +48,7 @@ fn add_key(
     Ok(())
 }
 
-/// Puts a value into the list of its key.
+/// Inserts a value into the list of its key.
 pub(crate) fn add_value(
     alloc: Global,
     lists: &mut BTreeMap<Vec<u8>, Vec<StoredValue>>,

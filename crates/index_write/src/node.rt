@@ -14,8 +14,8 @@ pub(crate) struct KeyEntry<'a> {
     pub(crate) values: &'a [StoredValue],
 }
 
-/// Entries whose keys begin alike, with the byte that leads to their node and the number of bytes that are
-/// taken off their keys there.
+/// Entries whose keys begin alike, with the byte that leads to their node and the number of bytes
+/// that are removed from their keys there.
 #[derive(Clone, Copy)]
 pub(crate) struct Group<'e, 'a> {
     byte: u8,
@@ -23,7 +23,7 @@ pub(crate) struct Group<'e, 'a> {
     depth: usize,
 }
 
-/// The bytes that lead to a node's children: the first and the last one, and how many there are.
+/// The bytes that lead to a node's children: the first and the last one, and their number.
 #[derive(Clone, Copy)]
 pub(crate) struct Span {
     pub(crate) first: u8,
@@ -40,7 +40,7 @@ pub(crate) struct TreeNode<'a> {
     pub(crate) children: Span,
 }
 
-/// What is left of a key when so many bytes are taken off.
+/// Returns the rest of a key without so many bytes at its front.
 fn rest_of(key: &[u8], depth: usize) -> &[u8]
     ensures rest { result.now ≡ drop depth key.now }
     ensures fits { depth + length result.now < 2 ^ 64 }
@@ -52,7 +52,7 @@ fn rest_of(key: &[u8], depth: usize) -> &[u8]
     }
 }
 
-/// How many bytes two keys have in common at their front.
+/// Returns the length of the common front of two keys.
 fn common_length(a: &[u8], b: &[u8]) -> usize
     ensures within { result ≤ length a.now }
     ensures common { take result a.now ≡ common a.now b.now }
@@ -64,8 +64,8 @@ fn common_length(a: &[u8], b: &[u8]) -> usize
     n
 }
 
-/// The longest prefix that is common to what is left of the keys. They rise, so it is common to the first and
-/// the last of them.
+/// Returns the longest prefix that is common to what is left of the keys. The keys rise, so it is
+/// the common front of the first and the last.
 fn common_prefix<'a>(entries: &[KeyEntry<'a>], depth: usize) -> &'a [u8]
     requires { Rises (at_depth depth entries.now) }
     ensures prefix { result.now ≡ common_prefix (at_depth depth entries.now) }
@@ -79,7 +79,7 @@ fn common_prefix<'a>(entries: &[KeyEntry<'a>], depth: usize) -> &'a [u8]
     &prefix[..common]
 }
 
-/// The values of the key that ends here.
+/// Returns the values of the key that ends here.
 fn ending<'a>(entries: &[KeyEntry<'a>], depth: usize) -> &'a [StoredValue]
     ensures { shown_values result.now ≡ ending (at_depth depth entries.now) }
 {
@@ -93,7 +93,7 @@ fn ending<'a>(entries: &[KeyEntry<'a>], depth: usize) -> &'a [StoredValue]
     }
 }
 
-/// How many entries end here: the first one or none.
+/// Returns how many entries end here: the first one or none.
 fn ended(entries: &[KeyEntry], depth: usize) -> usize
     ensures count { result ≡ ended (at_depth depth entries.now) }
     ensures within { result ≤ length entries.now }
@@ -104,7 +104,7 @@ fn ended(entries: &[KeyEntry], depth: usize) -> usize
     if first.key.len() <= depth { 1 } else { 0 }
 }
 
-/// How many entries at the front go on with this byte.
+/// Returns the number of entries at the front whose keys continue with this byte.
 fn run_length(entries: &[KeyEntry], depth: usize, byte: u8) -> usize
     ensures count { result ≡ leading byte (at_depth depth entries.now) }
     ensures within { result ≤ length entries.now }
@@ -117,7 +117,7 @@ fn run_length(entries: &[KeyEntry], depth: usize, byte: u8) -> usize
     entries.len()
 }
 
-/// The first group of entries that all go on, and how many entries it has.
+/// Returns the first group of entries whose keys all continue, and the number of its entries.
 fn first_group<'e, 'a>(entries: &'e [KeyEntry<'a>], depth: usize) -> Option<(Group<'e, 'a>, usize)>
     requires { AllGoOn (at_depth depth entries.now) }
     ensures none { IfNone result (entries.now ≡ []) }
@@ -136,7 +136,7 @@ fn first_group<'e, 'a>(entries: &'e [KeyEntry<'a>], depth: usize) -> Option<(Gro
     Some((group, count))
 }
 
-/// Puts the groups of the entries that go on after the pending ones.
+/// Puts the groups of the entries whose keys continue after the pending ones.
 fn push_groups<'e, 'a>(
     entries: &'e [KeyEntry<'a>],
     depth: usize,
@@ -153,7 +153,7 @@ fn push_groups<'e, 'a>(
     Ok(())
 }
 
-/// The range of the bytes that lead to the nodes of groups.
+/// Returns the range of the bytes that lead to the nodes of groups.
 fn span_of(groups: &[Group]) -> Span
     ensures { result ≡ span_of (map (λ g. g.0) (groups_of groups.now)) }
 {
@@ -171,7 +171,7 @@ fn span_of(groups: &[Group]) -> Span
     }
 }
 
-/// The node of a group. The groups below it go after the pending ones.
+/// Returns the node of a group. The groups below it go after the pending ones.
 fn node_of<'e, 'a>(
     group: &Group<'e, 'a>,
     pending: &mut Vec<Group<'e, 'a>>,
@@ -192,7 +192,7 @@ fn node_of<'e, 'a>(
     })
 }
 
-/// The root.
+/// Returns the root.
 fn root_of<'e, 'a>(
     entries: &'e [KeyEntry<'a>],
     pending: &mut Vec<Group<'e, 'a>>,
@@ -211,8 +211,8 @@ fn root_of<'e, 'a>(
     })
 }
 
-/// The nodes of the tree in the order of the file. They are found the other way round, each before those below
-/// it, and a vector keeps the groups whose nodes are still to be made.
+/// Returns the nodes of the tree in the order of the file. They are found in the reverse order,
+/// each before those below it, and a vector keeps the groups whose nodes are still to be made.
 pub(crate) fn nodes<'a>(
     alloc: Global,
     entries: &[KeyEntry<'a>],

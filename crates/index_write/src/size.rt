@@ -8,7 +8,7 @@ use crate::key_map::StoredValue;
 use crate::node::{Span, TreeNode};
 use index_format::FIRST_PLACE;
 
-/// How many bytes a prefix takes with its NUL.
+/// Returns the size of a prefix with its NUL, in bytes.
 fn prefix_size(prefix: &[u8]) -> u64
     ensures { result ≡ min (prefix_size prefix.now) (2 ^ 64 - 1) }
 {
@@ -19,7 +19,7 @@ fn prefix_size(prefix: &[u8]) -> u64
     }
 }
 
-/// How many bytes the range of a node's children takes with its offsets.
+/// Returns the size of the range of a node's children with its offsets, in bytes.
 fn span_size(children: &Span) -> u64
     ensures { result ≡ span_size children.now }
 {
@@ -30,7 +30,7 @@ fn span_size(children: &Span) -> u64
     }
 }
 
-/// How many bytes values take with their count.
+/// Returns the size of values with their count, in bytes.
 fn values_size(values: &[StoredValue]) -> u64
     ensures { result ≡ min (values_size (shown_values values.now)) (2 ^ 64 - 1) }
 {
@@ -46,7 +46,7 @@ fn values_size(values: &[StoredValue]) -> u64
     total
 }
 
-/// How many bytes a node takes.
+/// Returns the size of a node in bytes.
 fn node_size(node: &TreeNode) -> u64
     ensures { result ≡ min (part_size (part_of node.now)) (2 ^ 64 - 1) }
 {
@@ -55,7 +55,7 @@ fn node_size(node: &TreeNode) -> u64
         .saturating_add(values_size(node.values))
 }
 
-/// How many bytes the file of these nodes has.
+/// Returns the size of the file of these nodes in bytes.
 pub(crate) fn file_size(nodes: &[TreeNode]) -> u64
     ensures { result ≡ min (FIRST_PLACE + sum_by part_size (map part_of nodes.now)) (2 ^ 64 - 1) }
 {

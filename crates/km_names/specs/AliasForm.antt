@@ -7,20 +7,21 @@ use Rattle.km_names.specs.Path.{underscored}
 abbrev pub opens : List ℕ → Bool
 opens part = list_any (λ b. b == 91) part
 
--- Whether brackets pair in a text that was cut at each `]`: each part but the last has a `[`, which the
--- `]` after it closes, and the last has none.
+-- Whether brackets pair in a text that was cut at each `]`: each part but the last has a `[`, which
+-- the `]` after it closes, and the last has none.
 abbrev pub brackets_pair : List (List ℕ) → Bool
 brackets_pair [] = true
 brackets_pair (last ∷ []) = not (opens last)
 brackets_pair (part ∷ next ∷ parts) = opens part && brackets_pair (next ∷ parts)
 
--- A part of such a text, with each `-` before its `[` read as `_`.
+-- A part of such a text, with each `-` before its `[` replaced by `_`.
 abbrev pub underscored_outside : List ℕ → List ℕ
 underscored_outside part =
     underscored (before_first (λ b. b == 91) part) ++ drop (position_or_len (λ b. b == 91) part) part
 
--- The normal form of an alias or a pattern: each `-` outside brackets becomes `_`. A `[` opens a bracket
--- up to the next `]`. There is none where a `[` has no `]` after it, or a `]` stands outside a bracket.
+-- The normal form of an alias or a pattern: each `-` outside brackets becomes `_`. A `[` opens a
+-- bracket up to the next `]`. The form is None if a `[` has no `]` after it, or a `]` is outside a
+-- bracket.
 unfoldable pub normal_alias : List ℕ → Option (List ℕ)
 normal_alias text =
     let parts = slice_split (λ b. b == 93) text in

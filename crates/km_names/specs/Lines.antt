@@ -4,27 +4,28 @@ use Rattle.std.specs.List.{slice_split, ends_with}
 use Rattle.km_names.specs.declared.conf.Line.{Line}
 use Rattle.km_names.specs.Space.{trimmed}
 
--- The pieces, without the last where it is empty.
+-- The pieces, without the last if it is empty.
 abbrev pub without_empty_last : List (List ℕ) → List (List ℕ)
 without_empty_last [] = []
 without_empty_last ([] ∷ []) = []
 without_empty_last (piece ∷ pieces) = piece ∷ without_empty_last pieces
 
--- The lines of a text: what stands between its line ends, and after the last one where anything does.
+-- The lines of a text: the pieces between its line ends, and the piece after the last one unless it
+-- is empty.
 unfoldable pub lines_of : List ℕ → List (List ℕ)
 lines_of text = without_empty_last (slice_split (λ b. b == 10) text)
 
--- Whether a line goes on in the next: its last byte is `\`.
+-- Whether a line continues in the next: its last byte is `\`.
 abbrev pub goes_on : List ℕ → Bool
 goes_on line = ends_with nat_eq line (92 ∷ [])
 
--- The lines with a text put before the first of them, under the number that the text has.
+-- The lines with a text put before the first of them, under the text's own number.
 abbrev pub onto_line : ℕ → List ℕ → List Line → List Line
 onto_line number front [] = record { number = number; text = front } ∷ []
 onto_line number front (line ∷ lines) = record { number = number; text = front ++ line.text } ∷ lines
 
--- The joined lines, where the first has this number: one that goes on stands before the text of the
--- next without its mark, and keeps its own number.
+-- The joined lines, if the first line has this number. A line that continues goes before the text
+-- of the next, without its `\`, and keeps its own number.
 abbrev pub joined_lines : ℕ → List (List ℕ) → List Line
 joined_lines number [] = []
 joined_lines number (line ∷ lines) =
@@ -40,10 +41,11 @@ is_statement (b ∷ bs) = not (b == 35)
 abbrev pub trimmed_line : Line → Line
 trimmed_line line = record { number = line.number; text = trimmed line.text }
 
--- The lines without white space at either end, less those that state nothing.
+-- The lines without white space at either end, and without those that state nothing.
 unfoldable pub statements : List Line → List Line
 statements lines = filter (λ line. is_statement line.text) (map trimmed_line lines)
 
--- The lines of a configuration file that state something, joined, each with the number of its first part, from 1.
+-- The lines of a configuration file that state something, joined, each with the number of its first
+-- part, from 1.
 unfoldable pub conf_lines : List ℕ → List Line
 conf_lines bytes = statements (joined_lines 1 (lines_of bytes))

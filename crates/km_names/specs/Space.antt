@@ -1,4 +1,5 @@
--- White space in the lines of configuration files: space, tab and carriage return. modprobe.d(5), depmod.d(5).
+-- White space in the lines of configuration files: space, tab and carriage return. modprobe.d(5),
+-- depmod.d(5).
 use Rattle.std.specs.Prelude.{ℕ, ◌-◌, List, [], ◌∷◌, Bool, ◌||◌, ◌==◌, length, take, drop}
 use Rattle.std.specs.List.{before_first, prefix_len, suffix_len, slice_split}
 
@@ -18,7 +19,7 @@ trimmed_end text = take (length text - suffix_len is_space text) text
 unfoldable pub trimmed : List ℕ → List ℕ
 trimmed text = trimmed_end (trimmed_start text)
 
--- The word that a text begins with: what stands before its first white space.
+-- The word that a text begins with: the bytes before its first white space.
 unfoldable pub first_word : List ℕ → List ℕ
 first_word text = before_first is_space text
 

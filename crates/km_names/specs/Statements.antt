@@ -1,4 +1,5 @@
--- What configuration files state, or the first line that isn't understood. modprobe.d(5), depmod.d(5).
+-- What configuration files state, or the first line that isn't understood. modprobe.d(5),
+-- depmod.d(5).
 use Rattle.std.specs.Prelude.{ℕ, List, Option, Some, None, Result, Ok, Err, map}
 use Rattle.std.specs.List.{filter_map, flat_map}
 use Rattle.km_names.specs.First.{first}
@@ -8,12 +9,12 @@ use Rattle.km_names.specs.declared.conf.Line.{Line}
 use Rattle.km_names.specs.declared.conf.ConfFault.{ConfFault}
 use Rattle.km_names.specs.declared.conf.ConfFault.TheVariants.{BadLine}
 
--- The fault of a line of a file, whose text was read as a statement or as none.
+-- The fault of a line of a file, whose text is read as a statement or as None.
 abbrev pub line_fault : {X : Type 0} → List ℕ → ℕ → Option X → Option ConfFault
 line_fault file number None = Some (BadLine file number)
 line_fault file number (Some statement) = None
 
--- The faults of the lines of a file, in order, where `read` reads the text of a line.
+-- The faults of the lines of a file, in order; `read` reads the text of a line.
 abbrev pub file_faults : {X : Type 0} → (List ℕ → Option X) → ConfFile → List (Option ConfFault)
 file_faults read file = map (λ (line : Line). line_fault file.path line.number (read line.text)) (conf_lines file.bytes)
 

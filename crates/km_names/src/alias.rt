@@ -4,9 +4,9 @@ ghost use Rattle.km_names.specs.AliasForm.{normal_alias as normal_form};
 use crate::Alias;
 use std::alloc::{AllocError, Global};
 
-/// The normal form of an alias or of a pattern of aliases: each `-` outside brackets becomes `_`. A `[`
-/// opens a bracket up to the next `]`. It is `None` exactly where a `[` has no `]` after it, or a `]`
-/// stands outside a bracket. modprobe.d(5), "alias".
+/// Returns the normal form of an alias or of a pattern of aliases: each `-` outside brackets
+/// becomes `_`. A `[` opens a bracket up to the next `]`. The result is `None` exactly if a `[` has
+/// no `]` after it, or a `]` is outside a bracket. modprobe.d(5), "alias".
 pub fn normal_alias(alloc: Global, text: &[u8]) -> Result<Option<Alias>, AllocError>
     ensures { IfOk result (λ normal. normal ≡ normal_form text.now) }
 {

@@ -5,8 +5,8 @@ ghost use Rattle.std.specs.Char.{is_ascii_graphic, is_digit, digit_value as valu
 ghost use Rattle.std.specs.Str.Parse.{digits_value};
 ghost use Rattle.km_names.specs.Ascii.{is_graphic as is_word, hexadecimal as number_of};
 
-/// Whether the text is a word of visible characters: it isn't empty, and each of its bytes is one of 33 to
-/// 126. isgraph(3).
+/// Returns whether the text is a word of visible characters: it isn't empty, and each of its bytes
+/// is one of 33 to 126. isgraph(3).
 #[tactic(auto, unfolding(crate::specs::Ascii::is_graphic))]
 pub fn is_graphic(text: &[u8]) -> bool
     ensures { result ≡ is_word text.now }
@@ -20,8 +20,9 @@ fn are_graphic(text: &[u8]) -> bool
     text.iter().all(|b| b.is_ascii_graphic())
 }
 
-/// The number that the text states in 1 to 16 hexadecimal digits of either case. It is `None` exactly where
-/// the text isn't such a number. proc(5) writes addresses so, in `kallsyms`.
+/// Returns the number that the text states in 1 to 16 hexadecimal digits of either case. The result
+/// is `None` exactly if the text isn't such a number. proc(5) has addresses in this form, in
+/// `kallsyms`.
 #[tactic(auto, unfolding(crate::specs::Ascii::hexadecimal))]
 pub fn hexadecimal(text: &[u8]) -> Option<u64>
     ensures { result ≡ number_of text.now }
@@ -38,7 +39,7 @@ fn are_digits(text: &[u8]) -> bool
     text.iter().all(|b| char::from(*b).is_digit(16))
 }
 
-/// The number that the digits state, the first the highest.
+/// Returns the number that the digits state, the highest digit first.
 fn digits_value(digits: &[u8]) -> u64
     requires few { length digits.now ≤ 16 }
     requires digits { IsTrue (list_all (λ b. is_digit b 16) digits.now) }
@@ -51,7 +52,7 @@ fn digits_value(digits: &[u8]) -> u64
     number
 }
 
-/// The value of a digit, 0 to 15.
+/// Returns the value of a digit, 0 to 15.
 fn digit_value(digit: u8) -> u64
     requires { IsTrue (is_digit digit 16) }
     ensures { result ≡ value_of_digit digit }

@@ -5,7 +5,7 @@ use std::alloc::{AllocError, Global};
 use std::fmt;
 use std::marker::{Model, PhantomData};
 
-/// A growing list of bytes of the kind `K`, an empty enum that tells paths, names and texts apart.
+/// A growing list of bytes of the kind `K`, an empty enum that separates paths, names and texts.
 /// Contracts see it as the list of its bytes.
 #[derive(Drop)]
 pub struct Bytes<K> {
@@ -21,7 +21,7 @@ impl<K> Model for Bytes<K> {
     ghost view = { λ b. b.bytes.items };
 }
 
-/// Shown as text in quotes, with escapes where it isn't UTF-8.
+/// Shows the bytes as text in quotes, with escapes where they aren't UTF-8.
 impl<K> fmt::Debug for Bytes<K> {
     fn fmt<W: fmt::Write>(&self, f: &mut fmt::Formatter<W>) -> fmt::Result {
         fmt::Debug::fmt(&BStr::new(self.as_bytes()), f)
@@ -57,7 +57,7 @@ pub type PathText = Bytes<PathKind>;
 pub type Alias = Bytes<AliasKind>;
 
 impl<K> Bytes<K> {
-    /// The empty list of bytes. It takes no memory.
+    /// Returns the empty list of bytes. It takes no memory.
     pub fn new(alloc: Global) -> Self
         ensures { result ≡ [] }
     {
@@ -67,7 +67,7 @@ impl<K> Bytes<K> {
         }
     }
 
-    /// A copy of these bytes.
+    /// Returns a copy of the bytes.
     pub fn from_slice(alloc: Global, bytes: &[u8]) -> Result<Self, AllocError>
         ensures { IfOk result (λ b. b ≡ bytes.now) }
     {
@@ -77,7 +77,7 @@ impl<K> Bytes<K> {
         })
     }
 
-    /// The bytes of a vector. It takes no memory.
+    /// Returns the bytes of a vector. It takes no memory.
     pub fn from_vec(bytes: Vec<u8>) -> Self
         ensures { result ≡ bytes.items }
     {
@@ -87,7 +87,7 @@ impl<K> Bytes<K> {
         }
     }
 
-    /// The vector of the bytes. It takes no memory.
+    /// Returns the vector of the bytes. It takes no memory.
     pub fn into_vec(self) -> Vec<u8>
         ensures { result.items ≡ self }
     {
@@ -112,7 +112,7 @@ impl<K> Bytes<K> {
         self.bytes.extend_from_slice(bytes)
     }
 
-    /// The byte at place `i`, from 0.
+    /// Returns the byte at place `i`, from 0.
     pub fn get(&self, i: usize) -> Option<&u8>
         ensures item { option_copied result ≡ slice_get self.now i }
         ensures past_end { IsNone result ↔ (length self.now ≤ i) }
@@ -120,21 +120,21 @@ impl<K> Bytes<K> {
         self.bytes.get(i)
     }
 
-    /// How many bytes there are.
+    /// Returns how many bytes there are.
     pub fn len(&self) -> usize
         ensures { result ≡ length self.now }
     {
         self.bytes.len()
     }
 
-    /// Whether there is no byte.
+    /// Returns whether there is no byte.
     pub fn is_empty(&self) -> bool
         ensures { result ≡ (length self.now == 0) }
     {
         self.bytes.is_empty()
     }
 
-    /// The bytes as a slice.
+    /// Returns the bytes as a slice.
     pub fn as_bytes(&self) -> &[u8]
         ensures { result.now ≡ self.now }
     {

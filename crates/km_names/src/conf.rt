@@ -25,15 +25,15 @@ pub struct ConfFile {
     pub bytes: Blob,
 }
 
-/// Configuration files, in the order in which they are read.
+/// Configuration files, in the order they are read in.
 pub type ConfFiles = List<ConfFile>;
 
-/// Why configuration files weren't understood.
+/// Why configuration files couldn't be read as statements.
 #[derive(Debug, Drop)]
 pub enum ConfFault {
-    /// The first line that states what isn't understood: its file, and its number there, from 1.
+    /// The first line that isn't understood: its file, and its number there, from 1.
     BadLine { file: PathText, line: u32 },
-    /// Memory ran out.
+    /// Out of memory.
     Memory,
 }
 

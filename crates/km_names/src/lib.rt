@@ -1,10 +1,10 @@
-//! The words that every crate above shares: lists that contracts see as the list of their items, byte
-//! lists told apart by what they are for, so that a path can't be passed for a name, and numbers and strings
-//! as they stand in files.
+//! The words that every crate above shares: lists that contracts see as the list of their items,
+//! and numbers and strings as files have them. Byte lists have kinds, so that a path can't be
+//! passed for a name.
 //!
-//! It stands on std, on `byteorder` for the numbers, on `memchr` for the ends of lines and strings, and on
-//! `bstr` to show bytes. Each list keeps its allocator; only `push` and its kin can be refused, for want of
-//! memory, and then the list is as it was.
+//! The crate uses std, `byteorder` for the numbers, `memchr` for the ends of lines and strings, and
+//! `bstr` to show bytes. Each list keeps its allocator. Only `push` and `extend` of a list can be
+//! refused, when memory runs out, and then the list is as it was.
 #![tactic(auto)]
 
 mod alias;

@@ -7,7 +7,7 @@ use crate::{Blob, Line, Lines};
 use memchr::memchr;
 use std::alloc::{AllocError, Global};
 
-/// The first line of a text that isn't empty, without its line end, and what follows it.
+/// Returns the first line of a text that isn't empty, without its line end, and what follows it.
 pub fn first_line(text: &[u8]) -> (&[u8], &[u8])
     requires { 0 < length text.now }
     ensures lines { lines_of text.now ≡ result.0.now ∷ lines_of result.1.now }
@@ -19,10 +19,10 @@ pub fn first_line(text: &[u8]) -> (&[u8], &[u8])
     }
 }
 
-/// The lines of a configuration file that state something, in order, each with the number of its first
-/// part in the file, from 1. A line whose last byte is `\` is joined with the next, without the mark;
-/// then white space is taken off at either end, and empty lines and those that begin with `#` are left
-/// out. modprobe.d(5), depmod.d(5).
+/// Returns the lines of a configuration file that state something, in order. Each has the number of
+/// its first part in the file, from 1. A line whose last byte is `\` is joined with the next,
+/// without the `\`. Then white space at either end is removed, and empty lines and those that begin
+/// with `#` are left out. modprobe.d(5), depmod.d(5).
 pub fn conf_lines(alloc: Global, bytes: &[u8]) -> Result<Lines, AllocError>
     requires { length bytes.now ≤ file_limit }
     ensures { IfOk result (λ lines. lines ≡ lines_of_conf bytes.now) }
@@ -39,7 +39,8 @@ pub fn conf_lines(alloc: Global, bytes: &[u8]) -> Result<Lines, AllocError>
     Ok(lines)
 }
 
-// A joined line at the start of a text: its text, how many lines it is made of, and what follows it.
+// A joined line at the start of a text: its text, the number of lines it is made of, and what
+// follows it.
 #[derive(Drop)]
 struct Joined<'a> {
     text: Blob,

@@ -29,7 +29,7 @@ pub type Paths = List<PathText>;
 pub type Texts = List<Blob>;
 
 impl<T: Drop> List<T> {
-    /// The empty list. It takes no memory.
+    /// Returns the empty list. It takes no memory.
     pub fn new(alloc: Global) -> Self
         ensures { result ≡ [] }
     {
@@ -38,14 +38,14 @@ impl<T: Drop> List<T> {
         }
     }
 
-    /// The list of a vector's items. It takes no memory.
+    /// Returns the list of a vector's items. It takes no memory.
     pub fn from_vec(elements: Vec<T>) -> Self
         ensures { result ≡ elements.items }
     {
         List { elements }
     }
 
-    /// Puts an item at the end. A refused item is dropped, and the list is as before.
+    /// Puts an item at the end. If it is refused, the item is dropped and the list is as before.
     pub fn push(&mut self, item: T) -> Result<(), AllocError>
         ensures ok { OnOk result (self.new ≡ self.old ++ item ∷ []) }
         ensures err { OnErr result (self.new ≡ self.old) }
@@ -54,7 +54,7 @@ impl<T: Drop> List<T> {
         Ok(())
     }
 
-    /// The item at place `i`, from 0.
+    /// Returns the item at place `i`, from 0.
     pub fn get(&self, i: usize) -> Option<&T>
         ensures item { option_copied result ≡ slice_get self.now i }
         ensures past_end { IsNone result ↔ (length self.now ≤ i) }
@@ -62,21 +62,21 @@ impl<T: Drop> List<T> {
         self.elements.get(i)
     }
 
-    /// How many items there are.
+    /// Returns how many items there are.
     pub fn len(&self) -> usize
         ensures { result ≡ length self.now }
     {
         self.elements.len()
     }
 
-    /// Whether there is no item.
+    /// Returns whether there is no item.
     pub fn is_empty(&self) -> bool
         ensures { result ≡ (length self.now == 0) }
     {
         self.elements.is_empty()
     }
 
-    /// The items as a slice.
+    /// Returns the items as a slice.
     pub fn as_slice(&self) -> &[T]
         ensures { result.now ≡ self.now }
     {

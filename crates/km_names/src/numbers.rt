@@ -1,10 +1,10 @@
-// Numbers as they stand in files, read at a place.
+// Numbers as files have them, read at a place.
 ghost use Rattle.std.specs.Prelude.{◌≡◌, ◌+◌, ◌≤◌, length};
 ghost use Rattle.km_names.specs.Number.{be, le};
 
 use byteorder::{BigEndian, ByteOrder, LittleEndian};
 
-/// The number in the 2 bytes from place `at`, the lowest first.
+/// Returns the number in the 2 bytes from place `at`, the lowest first.
 pub fn le_u16_at(bytes: &[u8], at: usize) -> u16
     requires { at + 2 ≤ length bytes.now }
     ensures { result ≡ le bytes.now at 2 }
@@ -13,7 +13,7 @@ pub fn le_u16_at(bytes: &[u8], at: usize) -> u16
     LittleEndian::read_u16(rest)
 }
 
-/// The number in the 4 bytes from place `at`, the lowest first.
+/// Returns the number in the 4 bytes from place `at`, the lowest first.
 pub fn le_u32_at(bytes: &[u8], at: usize) -> u32
     requires { at + 4 ≤ length bytes.now }
     ensures { result ≡ le bytes.now at 4 }
@@ -22,7 +22,7 @@ pub fn le_u32_at(bytes: &[u8], at: usize) -> u32
     LittleEndian::read_u32(rest)
 }
 
-/// The number in the 8 bytes from place `at`, the lowest first.
+/// Returns the number in the 8 bytes from place `at`, the lowest first.
 pub fn le_u64_at(bytes: &[u8], at: usize) -> u64
     requires { at + 8 ≤ length bytes.now }
     ensures { result ≡ le bytes.now at 8 }
@@ -31,7 +31,7 @@ pub fn le_u64_at(bytes: &[u8], at: usize) -> u64
     LittleEndian::read_u64(rest)
 }
 
-/// The number in the 2 bytes from place `at`, the highest first.
+/// Returns the number in the 2 bytes from place `at`, the highest first.
 pub fn be_u16_at(bytes: &[u8], at: usize) -> u16
     requires { at + 2 ≤ length bytes.now }
     ensures { result ≡ be bytes.now at 2 }
@@ -40,7 +40,7 @@ pub fn be_u16_at(bytes: &[u8], at: usize) -> u16
     BigEndian::read_u16(rest)
 }
 
-/// The number in the 4 bytes from place `at`, the highest first.
+/// Returns the number in the 4 bytes from place `at`, the highest first.
 pub fn be_u32_at(bytes: &[u8], at: usize) -> u32
     requires { at + 4 ≤ length bytes.now }
     ensures { result ≡ be bytes.now at 4 }

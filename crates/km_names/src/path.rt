@@ -6,7 +6,8 @@ use crate::{Name, PathText};
 use memchr::{memchr, memrchr};
 use std::alloc::{AllocError, Global};
 
-/// The name of these bytes, with each `-` replaced by `_`, as modprobe(8) reads the names of modules.
+/// Returns a name from these bytes, with each `-` replaced by `_`, as modprobe(8) reads the names
+/// of modules.
 pub fn underscored(alloc: Global, text: &[u8]) -> Result<Name, AllocError>
     ensures { IfOk result (λ name. name ≡ underscored_bytes text.now) }
 {
@@ -17,8 +18,8 @@ pub fn underscored(alloc: Global, text: &[u8]) -> Result<Name, AllocError>
     Ok(Name::from_vec(bytes))
 }
 
-/// The name of the module at a path: the bytes after the last `/`, up to the first `.`, each `-`
-/// replaced by `_`. modprobe(8), modules.dep(5).
+/// Returns the name of the module at a path: the bytes after the last `/`, up to the first `.`,
+/// each `-` replaced by `_`. modprobe(8), modules.dep(5).
 pub fn module_name(alloc: Global, path: &PathText) -> Result<Name, AllocError>
     ensures { IfOk result (λ name. name ≡ name_of_path path.now) }
 {
@@ -28,7 +29,7 @@ pub fn module_name(alloc: Global, path: &PathText) -> Result<Name, AllocError>
     )
 }
 
-/// Whether the path is that of a compressed module: it ends in `.ko.gz`, `.ko.xz` or `.ko.zst`.
+/// Returns whether the path is of a compressed module: it ends in `.ko.gz`, `.ko.xz` or `.ko.zst`.
 /// depmod(8).
 pub fn is_compressed(path: &PathText) -> bool
     ensures { result ≡ has_compressed_end path.now }
@@ -37,8 +38,8 @@ pub fn is_compressed(path: &PathText) -> bool
     bytes.ends_with(b".ko.gz") || bytes.ends_with(b".ko.xz") || bytes.ends_with(b".ko.zst")
 }
 
-/// The path of what stands below a folder: the folder's path without the slashes at its end, one `/`,
-/// and the rest. So below `/` there is only one slash.
+/// Returns a path below a folder: the folder's path without the slashes at its end, one `/`, and
+/// the rest. So below `/` there is only one slash.
 pub fn join(alloc: Global, dir: &PathText, rest: &[u8]) -> Result<PathText, AllocError>
     ensures { IfOk result (λ path. path ≡ path_below dir.now rest.now) }
 {
@@ -50,7 +51,7 @@ pub fn join(alloc: Global, dir: &PathText, rest: &[u8]) -> Result<PathText, Allo
     Ok(PathText::from_vec(path))
 }
 
-/// What stands before the first such byte, or all where there is none.
+/// Returns the bytes before the first such byte, or all if there is none.
 pub(crate) fn before_byte(byte: u8, text: &[u8]) -> &[u8]
     ensures { result.now ≡ before_first (λ b. b == byte) text.now }
 {
@@ -60,7 +61,7 @@ pub(crate) fn before_byte(byte: u8, text: &[u8]) -> &[u8]
     }
 }
 
-// What stands after the last such byte, or all where there is none.
+// Returns the bytes after the last such byte, or all if there is none.
 fn after_last_byte(byte: u8, text: &[u8]) -> &[u8]
     ensures { result.now ≡ after_last (λ b. b == byte) text.now }
 {
@@ -70,7 +71,7 @@ fn after_last_byte(byte: u8, text: &[u8]) -> &[u8]
     }
 }
 
-// The bytes without the slashes at their end.
+// Returns the bytes without the slashes at their end.
 fn without_end_slashes(path: &[u8]) -> &[u8]
     ensures { result.now ≡ without_slashes path.now }
 {

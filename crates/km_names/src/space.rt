@@ -5,15 +5,16 @@ ghost use Rattle.km_names.specs.Space.{is_space as is_space_byte, trimmed as tri
 use crate::{Blob, Texts};
 use std::alloc::{AllocError, Global};
 
-/// A text without the white space at either end: space, tab and carriage return. modprobe.d(5).
+/// Returns a text without the white space at either end. White space is space, tab and carriage
+/// return. modprobe.d(5).
 pub fn trimmed(text: &[u8]) -> &[u8]
     ensures { result.now ≡ trimmed_text text.now }
 {
     trimmed_end(trimmed_start(text))
 }
 
-/// The word that a text begins with, up to its first white space, and what follows it, without white
-/// space at either end. modprobe.d(5).
+/// Returns the word that a text begins with, up to its first white space, and the rest without
+/// white space at either end. modprobe.d(5).
 pub fn split_word(text: &[u8]) -> (&[u8], &[u8])
     ensures word { result.0.now ≡ first_word text.now }
     ensures rest { result.1.now ≡ rest_after_word text.now }
@@ -28,7 +29,7 @@ fn is_space(byte: u8) -> bool
     byte == b' ' || byte == b'\t' || byte == b'\r'
 }
 
-// How many bytes stand before the first white space.
+// Returns the number of bytes before the first white space.
 fn word_length(text: &[u8]) -> usize
     ensures place { result ≡ position_or_len is_space_byte text.now }
     ensures within { result ≤ length text.now }
@@ -60,7 +61,7 @@ fn trimmed_end(text: &[u8]) -> &[u8]
     &text[..end]
 }
 
-/// The words of a text: what stands between its white space. modprobe.d(5), depmod.d(5).
+/// Returns the words of a text: its pieces between white space. modprobe.d(5), depmod.d(5).
 pub fn words(alloc: Global, text: &[u8]) -> Result<Texts, AllocError>
     ensures { IfOk result (λ words. words ≡ words_of text.now) }
 {

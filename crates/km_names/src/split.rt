@@ -3,7 +3,8 @@ ghost use Rattle.std.specs.List.{before_first, after_first};
 
 use memchr::memchr;
 
-/// The bytes before the first that equals `byte`, and those after it. Where none does, all bytes and none.
+/// Returns the bytes before the first that equals `byte`, and those after it. If there is no such
+/// byte, returns all bytes and none.
 pub fn split_at_byte(bytes: &[u8], byte: u8) -> (&[u8], &[u8])
     ensures before { result.0.now ≡ before_first (λ b. b == byte) bytes.now }
     ensures after { result.1.now ≡ after_first (λ b. b == byte) bytes.now }

@@ -8,7 +8,7 @@ use std::alloc::{AllocError, Global};
 
 /// What a line of a configuration file states.
 pub trait Statement: Drop + Sized {
-    /// What a text states, or none where it isn't understood.
+    /// Reads a text as a statement. It is `None` if the text isn't understood.
     ghost read: { List ℕ → Option Self };
 
     /// Reads the text of a line, which has no white space at either end.
@@ -16,8 +16,8 @@ pub trait Statement: Drop + Sized {
         ensures { IfOk result (λ statement. statement ≡ read text.now) };
 }
 
-/// What configuration files state, one statement for each line, in order. `BadLine` comes exactly at the
-/// first line that states what isn't understood.
+/// Returns what configuration files state, one statement for each line, in order. It answers
+/// `BadLine` with the first line that isn't understood, if there is one.
 pub fn parse_files<S: Statement>(alloc: Global, files: &ConfFiles) -> Result<Items<S>, ConfFault>
     requires { All (λ file. length file.bytes ≤ file_limit) files.now }
     ensures ok { IfOk result (λ statements. parsed S.read files.now ≡ Ok statements) }

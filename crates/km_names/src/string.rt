@@ -4,8 +4,8 @@ ghost use Rattle.km_names.specs.Strings.{first_string as string_of, string_at as
 
 use memchr::memchr;
 
-/// The string that the bytes begin with: those before the first NUL. It is `None` exactly where there is
-/// no NUL. gABI 4, "String Table".
+/// Returns the string that the bytes begin with: those before the first NUL. The result is `None`
+/// exactly if there is no NUL. gABI 4, "String Table".
 pub fn first_string(bytes: &[u8]) -> Option<&[u8]>
     ensures string { option_copied result ≡ string_of bytes.now }
     ensures shorter { IfSome result (λ string. length string.now < length bytes.now) }
@@ -16,8 +16,8 @@ pub fn first_string(bytes: &[u8]) -> Option<&[u8]>
     }
 }
 
-/// The string at the place `at` of a table of strings: the bytes from there up to the next NUL. It is
-/// `None` exactly where no NUL follows in the table. gABI 4, "String Table".
+/// Returns the string at the place `at` of a table of strings: the bytes from there up to the next
+/// NUL. The result is `None` exactly if no NUL follows in the table. gABI 4, "String Table".
 pub fn string_at(table: &[u8], at: usize) -> Option<&[u8]>
     ensures string { option_copied result ≡ string_of_table table.now at }
     ensures shorter { IfSome result (λ string. at + length string.now < length table.now) }

@@ -19,7 +19,7 @@ impl Model for Word {
 }
 
 impl Word {
-    /// A word of this text.
+    /// Returns a word of this text.
     pub fn from_text(alloc: Global, text: &str) -> Result<Word, AllocError>
         ensures { IfOk result (λ w. w ≡ text.now) }
     {
@@ -28,21 +28,21 @@ impl Word {
         })
     }
 
-    /// The word as text.
+    /// Returns the word as text.
     pub fn as_str(&self) -> &str
         ensures { result.now ≡ self.now }
     {
         self.text.as_str()
     }
 
-    /// The word's bytes.
+    /// Returns the word's bytes.
     pub fn as_bytes(&self) -> &[u8]
         ensures { result.now ≡ self.now }
     {
         self.text.as_bytes()
     }
 
-    /// The byte at place `i`, from 0.
+    /// Returns the byte at place `i`, from 0.
     pub fn get(&self, i: usize) -> Option<&u8>
         ensures item { option_copied result ≡ slice_get self.now i }
         ensures past_end { IsNone result ↔ (length self.now ≤ i) }
@@ -50,7 +50,7 @@ impl Word {
         self.as_bytes().get(i)
     }
 
-    /// How many bytes the word has.
+    /// Returns how many bytes the word has.
     pub fn len(&self) -> usize
         ensures { result ≡ length self.now }
     {

@@ -1,4 +1,4 @@
--- How often calls of files were made, and how often they were refused, by the cause.
+-- The number of calls of files, and of their refusals by cause.
 use Rattle.std.specs.Prelude.{ℕ, ◌≤◌, Result, Ok, Err}
 use Rattle.km_outside.specs.Counts.{one_more}
 use Rattle.km_outside.specs.declared.files.FileAnswer.{FileAnswer}
@@ -6,34 +6,34 @@ use Rattle.km_outside.specs.declared.files.FileAnswer.TheVariants.{Absent, Faile
 use Rattle.km_outside.specs.declared.files.ReplaceAnswer.{ReplaceAnswer}
 use Rattle.km_outside.specs.declared.files.ReplaceAnswer.TheVariants as replaces
 
--- how many calls were made, and how often one failed, found nothing and met too much
+-- The number of calls, and how many of them failed, found nothing or exceeded a limit.
 pub record CallCounts : Type 0 where
   pub calls : ℕ
   pub faults : ℕ
   pub absences : ℕ
   pub excesses : ℕ
 
--- nothing counted
+-- Counts of zero.
 abbrev pub no_counts : CallCounts
 no_counts = record { calls = 0; faults = 0; absences = 0; excesses = 0 }
 
--- after a refusal: the count of its cause is one higher, and want of memory isn't counted
+-- The counts after a refusal: the count of its cause is one higher. Out of memory isn't counted.
 abbrev pub refused : CallCounts → FileAnswer → CallCounts
 refused counts Absent = record counts { absences = one_more counts.absences }
 refused counts Failed = record counts { faults = one_more counts.faults }
 refused counts (TooLarge _) = record counts { excesses = one_more counts.excesses }
 refused counts Memory = counts
 
--- after one more call
+-- The counts after one more call.
 abbrev pub made : CallCounts → CallCounts
 made counts = record counts { calls = one_more counts.calls }
 
--- after a call that reads a file or lists a folder, with this answer
+-- The counts after a call that reads a file or lists a folder, with this answer.
 abbrev pub answered : {T : Type 0} → CallCounts → Result T FileAnswer → CallCounts
 answered counts (Ok _) = made counts
 answered counts (Err refusal) = refused (made counts) refusal
 
--- after a call that replaces a file, with this answer
+-- The counts after a call that replaces a file, with this answer.
 abbrev pub replied : {T : Type 0} → CallCounts → Result T ReplaceAnswer → CallCounts
 replied counts (Ok _) = made counts
 replied counts (Err replaces.Failed) = refused (made counts) Failed

@@ -1,4 +1,5 @@
--- How a proof tells apart what is seen of files in memory: each is stored as the tuple of its parts.
+-- How a proof distinguishes what is seen of files in memory: each is stored as the tuple of its
+-- parts.
 use Rattle.std.specs.Prelude.{ℕ, List, refl}
 use Rattle.std.specs.Coded.{Coded, code_by, coded×, coded_ℕ, coded_list}
 use Rattle.std.specs.FinMap as map

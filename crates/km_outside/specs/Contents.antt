@@ -8,32 +8,32 @@ use Rattle.std.specs.Cmp.Lexicographic.{slice_cmp}
 use Rattle.std.specs.FinMap as map
 use Rattle.km_names.specs.Path.{path_below}
 
--- the order of paths and names: by their bytes
+-- The order of paths and names: by their bytes.
 abbrev pub by_bytes : List ℕ → List ℕ → Ordering
 by_bytes = slice_cmp nat_cmp
 
--- the files of a machine: from the bytes of a path to the bytes of the file there
+-- The files of a machine: a map from the bytes of a path to the bytes of the file there.
 abbrev pub Contents : Type 0
 Contents = map.FinMap by_bytes (List ℕ)
 
--- what follows the prefix in the path, where the path begins so
+-- The part of the path after the prefix, if the path begins with the prefix.
 abbrev pub rest_after : List ℕ → List ℕ → Option (List ℕ)
 rest_after prefix path = if bytes_eq (take (length prefix) path) prefix then Some (drop (length prefix) path) else None
 
--- What stands below a folder: the rest of each path that begins with the folder and a slash, in the order of
--- the paths.
+-- The paths below a folder: the rest of each path that begins with the folder and a slash, in the
+-- order of the paths.
 abbrev pub rests_below : List ℕ → Contents → List (List ℕ)
 rests_below folder files = filter_map (rest_after (path_below folder [])) (map.keys files)
 
--- those that pass the test
+-- The paths below a folder that pass the test.
 abbrev pub listed : (List ℕ → Bool) → List ℕ → Contents → List (List ℕ)
 listed fits folder files = filter fits (rests_below folder files)
 
--- A path relative to a folder has at least one byte.
+-- Whether a path relative to a folder is one: it has at least one byte.
 abbrev pub is_path : List ℕ → Bool
 is_path rest = nat_lt 0 (length rest)
 
--- The name of a configuration file that stands in a folder: it ends in `.conf`, and is in no folder below.
--- modprobe.d(5), depmod.d(5).
+-- Whether this is the name of a configuration file in a folder: it ends in `.conf`, and is in no
+-- folder below. modprobe.d(5), depmod.d(5).
 abbrev pub is_conf_name : List ℕ → Bool
 is_conf_name name = ends_with nat_eq name (codes ".conf") && not (list_any (λ b. b == 47) name)

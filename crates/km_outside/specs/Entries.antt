@@ -4,6 +4,6 @@ use Rattle.std.specs.FinMap.{from_entries}
 use Rattle.std.specs.Global.{Vec}
 use Rattle.km_outside.specs.Contents.{Contents}
 
--- the files by their paths, where each key is a vector of a path's bytes
+-- The files by their paths, if each key is a vector of a path's bytes.
 abbrev pub files_of : List (Vec ℕ × List ℕ) → Contents
 files_of entries = from_entries (map (λ e. (e.0.items, e.1)) entries)

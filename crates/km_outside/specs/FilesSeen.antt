@@ -1,4 +1,4 @@
--- What a contract sees of the files that a program is handed, and what each call may answer and leave.
+-- What a contract sees of the files that a program gets, and what each call may answer and leave.
 use Rattle.std.specs.Prelude.{◌≡◌, ◌≢◌, ℕ, ◌≤◌, ◌<◌, min, Bool, true, false, List, [], length, Option, Some, None, Result, Ok, Err, IfSome, IsSomeAnd, All, ⊤}
 use Rattle.std.specs.Option.{option_map}
 use Rattle.std.specs.List.Sorted.{IsStrictlySortedBy}
@@ -12,19 +12,20 @@ use Rattle.km_outside.specs.declared.files.FileAnswer.TheVariants.{Absent, Faile
 use Rattle.km_outside.specs.declared.files.ReplaceAnswer.{ReplaceAnswer}
 use Rattle.km_outside.specs.declared.files.ReplaceAnswer.TheVariants as replaces
 
--- No folder with more names is listed.
+-- The greatest number of names that a folder may have to be listed.
 abbrev pub list_limit : ℕ
 list_limit = 1000000
 
--- What is seen of files: how often calls were made and refused, the contents where the object tells them,
--- and whether it is sure, which means that no call fails.
+-- What is seen of files: the counts of calls and refusals, the contents if they are known, and
+-- whether the files are sure. Sure means that no call fails.
 pub record FilesSeen : Type 0 where
   pub counts : CallCounts
   pub contents : Option Contents
   pub sure : Bool
 
--- What a read of the path may answer: over told contents the file's bytes, that it isn't there, or how long
--- it is; that the call failed, where the files aren't sure; or want of memory.
+-- What a read of the path may answer: bytes within the limit, that nothing is there, or the length
+-- of a file past the limit. Over known contents these are the file's own. It may also answer that
+-- the call failed, if the files aren't sure, or out of memory.
 abbrev pub IsReadAt : List ℕ → FilesSeen → Result (List ℕ) FileAnswer → Type 0
 IsReadAt path files (Ok bytes) = (length bytes ≤ file_limit) × IfSome files.contents (λ told. map.get told path ≡ Some bytes)
 IsReadAt path files (Err Absent) = IfSome files.contents (λ told. map.get told path ≡ None)
@@ -33,9 +34,10 @@ IsReadAt path files (Err (TooLarge n)) =
     (file_limit < n) × IfSome files.contents (λ told. IsSomeAnd (map.get told path) (λ bytes. n ≡ min (length bytes) count_end))
 IsReadAt path files (Err Memory) = ⊤
 
--- What a listing of the folder for the names that pass the test may answer: the names, each once and rising
--- by their bytes, over told contents just those below the folder; that nothing lies below it; how many
--- there are; that the call failed, where the files aren't sure; or want of memory.
+-- What a listing of the folder for the names that pass the test may answer: names within the limit,
+-- that nothing lies below it, or their number past the limit. Names are each once and rising by
+-- bytes. Over known contents the answer is the folder's own. It may also answer that the call
+-- failed, if the files aren't sure, or out of memory.
 abbrev pub IsListOf : (List ℕ → Bool) → List ℕ → FilesSeen → Result (List (List ℕ)) FileAnswer → Type 0
 IsListOf fits folder files (Ok names) =
     IsStrictlySortedBy by_bytes names × All (λ name. fits name ≡ true) names × (length names ≤ list_limit)
@@ -46,27 +48,28 @@ IsListOf fits folder files (Err (TooLarge n)) =
     (list_limit < n) × IfSome files.contents (λ told. n ≡ min (length (listed fits folder told)) count_end)
 IsListOf fits folder files (Err Memory) = ⊤
 
--- What a read answers and leaves: one call more is counted, with its cause where it is refused, and nothing
--- else changes.
+-- What a read answers and leaves: one more call is counted, with its cause if it is refused, and
+-- nothing else changes.
 abbrev pub ReadAnswers : List ℕ → FilesSeen → FilesSeen → Result (List ℕ) FileAnswer → Type 0
 ReadAnswers path old new result = (new ≡ record old { counts = answered old.counts result }) × IsReadAt path old result
 
--- the answer of a read into a buffer, which holds these bytes after it
+-- The answer of a read into a buffer that holds these bytes after it.
 abbrev pub buffered : List ℕ → Result ⊤ FileAnswer → Result (List ℕ) FileAnswer
 buffered bytes (Ok done) = Ok bytes
 buffered bytes (Err refusal) = Err refusal
 
--- The same of a listing.
+-- What a listing answers and leaves: one more call is counted, with its cause if it is refused, and
+-- nothing else changes.
 abbrev pub ListAnswers : (List ℕ → Bool) → List ℕ → FilesSeen → FilesSeen → Result (List (List ℕ)) FileAnswer → Type 0
 ListAnswers fits folder old new result =
     (new ≡ record old { counts = answered old.counts result }) × IsListOf fits folder old result
 
--- the files with these bytes at the path, where they are told
+-- The files with these bytes at the path, if the contents are known.
 abbrev pub with_file_at : List ℕ → List ℕ → FilesSeen → FilesSeen
 with_file_at path bytes files = record files { contents = option_map (λ told. map.insert told path bytes) files.contents }
 
--- What a replacement of the file at the path answers and leaves: the bytes stand there and nothing else
--- changes, or all contents are as before.
+-- What a replacement of the file at the path answers and leaves: the bytes are there and nothing
+-- else changes, or all contents are as before.
 abbrev pub ReplaceAnswers : List ℕ → List ℕ → FilesSeen → FilesSeen → Result ⊤ ReplaceAnswer → Type 0
 ReplaceAnswers path bytes old new (Ok done) =
     new ≡ record (with_file_at path bytes old) { counts = replied old.counts (Ok done) }

@@ -1,4 +1,5 @@
 -- What of a folder is listed: the names of configuration files, or the paths of all files below it.
+-- It belongs to the code: no public meaning rests on it.
 use Rattle.std.specs.Prelude.{ℕ, Bool, List, Option, Some, None, if◌then◌else◌}
 use Rattle.std.specs.List.{filter_map}
 use Rattle.km_outside.specs.Contents.{is_conf_name, is_path, rest_after}
@@ -7,21 +8,21 @@ use Rattle.km_outside.specs.declared.listing.Listing.TheVariants.{Conf, Tree}
 use Rattle.km_outside.specs.declared.mem_files.CallKind.{CallKind}
 use Rattle.km_outside.specs.declared.mem_files.CallKind.TheVariants.{ListConf, ListTree}
 
--- the calls that list so
+-- The kind of calls that list so.
 abbrev pub kind_of : Listing → CallKind
 kind_of Conf = ListConf
 kind_of Tree = ListTree
 
--- the test of the names that are listed
+-- The test of the names that are listed.
 abbrev pub test_of : Listing → List ℕ → Bool
 test_of Conf = is_conf_name
 test_of Tree = is_path
 
--- what passes the test of this, if anything
+-- The rest, if it passes the test.
 abbrev pub passing : (List ℕ → Bool) → Option (List ℕ) → Option (List ℕ)
 passing fits None = None
 passing fits (Some rest) = if fits rest then Some rest else None
 
--- what is listed of these paths, for a folder whose path with a slash at its end is the prefix
+-- The listed ones of these paths, for a folder whose path with a slash at its end is the prefix.
 abbrev pub listed_of : (List ℕ → Bool) → List ℕ → List (List ℕ) → List (List ℕ)
 listed_of fits prefix paths = filter_map (λ path. passing fits (rest_after prefix path)) paths

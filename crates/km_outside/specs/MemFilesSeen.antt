@@ -20,18 +20,19 @@ pub record KindsSeen : Type 0 where
   pub tree_lists : CallsSeen
   pub replaces : CallsSeen
 
--- The files, the calls by kind and number, and how often calls were made and refused.
+-- The files, the calls by kind and number, and the counts of calls and refusals.
 pub record MemFilesSeen : Type 0 where
   pub contents : Contents
   pub kinds : KindsSeen
   pub counts : CallCounts
 
--- whether no call is listed to fail
+-- Whether no call is listed to fail.
 abbrev pub no_kind_listed : KindsSeen → Bool
 no_kind_listed kinds =
     none_listed kinds.reads && none_listed kinds.conf_lists && none_listed kinds.tree_lists && none_listed kinds.replaces
 
--- What is seen of them as files. They tell their contents, and are sure where no call is listed to fail.
+-- What is seen of them as files. Their contents are known, and they are sure if no call is listed
+-- to fail.
 abbrev pub mem_files_seen : MemFilesSeen → FilesSeen
 mem_files_seen files = record {
   counts = files.counts;
@@ -39,70 +40,70 @@ mem_files_seen files = record {
   sure = no_kind_listed files.kinds;
 }
 
--- no calls, and none that is to fail
+-- The state of no calls and none listed to fail.
 abbrev pub no_kinds : KindsSeen
 no_kinds = record { reads = no_calls; conf_lists = no_calls; tree_lists = no_calls; replaces = no_calls }
 
--- no files, no calls, and none that is to fail
+-- No files, no calls, and none listed to fail.
 abbrev pub no_files : MemFilesSeen
 no_files = record { contents = map.empty; kinds = no_kinds; counts = no_counts }
 
--- with these bytes at the path, in place of what was there
+-- The files with these bytes at the path, in place of what was there.
 abbrev pub with_file : MemFilesSeen → List ℕ → List ℕ → MemFilesSeen
 with_file files path bytes = record files { contents = map.insert files.contents path bytes }
 
--- the calls of this kind
+-- The calls of this kind.
 abbrev pub calls_of : KindsSeen → CallKind → CallsSeen
 calls_of kinds Read = kinds.reads
 calls_of kinds ListConf = kinds.conf_lists
 calls_of kinds ListTree = kinds.tree_lists
 calls_of kinds Replace = kinds.replaces
 
--- these calls of this kind, and those of the other kinds as before
+-- The calls with these for this kind; the other kinds are as before.
 abbrev pub with_calls : KindsSeen → CallKind → CallsSeen → KindsSeen
 with_calls kinds Read calls = record kinds { reads = calls }
 with_calls kinds ListConf calls = record kinds { conf_lists = calls }
 with_calls kinds ListTree calls = record kinds { tree_lists = calls }
 with_calls kinds Replace calls = record kinds { replaces = calls }
 
--- with the call of this kind and number listed to fail
+-- The files with the call of this kind and number listed to fail.
 abbrev pub with_failing_call : MemFilesSeen → CallKind → ℕ → MemFilesSeen
 with_failing_call files kind n = record files { kinds = with_calls files.kinds kind (with_failing (calls_of files.kinds kind) n) }
 
--- whether the next call of this kind fails
+-- Whether the next call of this kind fails.
 abbrev pub kind_fails : MemFilesSeen → CallKind → Bool
 kind_fails files kind = next_fails (calls_of files.kinds kind)
 
--- after one more call of this kind
+-- The calls after one more of this kind.
 abbrev pub kind_called : KindsSeen → CallKind → KindsSeen
 kind_called kinds kind = with_calls kinds kind (called (calls_of kinds kind))
 
--- the answer to a read where these bytes, or nothing, are at the path
+-- The answer to a read if these bytes, or nothing, are at the path.
 abbrev pub found : Option (List ℕ) → Result (List ℕ) FileAnswer
 found None = Err Absent
 found (Some bytes) = if nat_lt file_limit (length bytes) then Err (TooLarge (min (length bytes) count_end)) else Ok bytes
 
--- the answer to the next read of the path with ample memory
+-- The answer to the next read of the path if memory is ample.
 abbrev pub mem_read : MemFilesSeen → List ℕ → Result (List ℕ) FileAnswer
 mem_read files path = if kind_fails files Read then Err Failed else found (map.get files.contents path)
 
--- the answer to a listing where so many paths lie below the folder and these names are listed
+-- The answer to a listing if so many paths lie below the folder and these names are listed.
 abbrev pub found_names : ℕ → List (List ℕ) → Result (List (List ℕ)) FileAnswer
 found_names below names =
     if below == 0 then Err Absent
     else if nat_lt list_limit (length names) then Err (TooLarge (min (length names) count_end)) else Ok names
 
--- the answer to the next listing of this kind with ample memory
+-- The answer to the next listing of this kind if memory is ample.
 abbrev pub mem_list : MemFilesSeen → CallKind → (List ℕ → Bool) → List ℕ → Result (List (List ℕ)) FileAnswer
 mem_list files kind fits folder =
     if kind_fails files kind then Err Failed
     else found_names (length (listed is_path folder files.contents)) (listed fits folder files.contents)
 
--- after the next call of this kind, which read or listed with this answer
+-- The files after the next call of this kind, which read or listed with this answer.
 abbrev pub after_call : {T : Type 0} → MemFilesSeen → CallKind → Result T FileAnswer → MemFilesSeen
 after_call files kind answer = record files { kinds = kind_called files.kinds kind; counts = answered files.counts answer }
 
--- after the next replacement, which had this answer
+-- The files after the next replacement, which had this answer.
 abbrev pub after_replace : MemFilesSeen → List ℕ → List ℕ → Result ⊤ ReplaceAnswer → MemFilesSeen
 after_replace files path bytes (Ok done) = record (with_file files path bytes) {
   kinds = kind_called files.kinds Replace;

@@ -5,14 +5,15 @@ use Rattle.km_outside.specs.Counts.{one_more}
 use Rattle.km_outside.specs.CallsSeen.{CallsSeen, no_calls, next_fails, called, with_failing, none_listed}
 use Rattle.km_outside.specs.OutSeen.{OutSeen, Within}
 
--- The bytes written so far, the room that is left after them, the writes by number, and how many failed.
+-- The bytes written so far, the room left after them, the writes by number, and how many failed.
 pub record MemOutSeen : Type 0 where
   pub bytes : List ℕ
   pub left : ℕ
   pub writes : CallsSeen
   pub faults : ℕ
 
--- What is seen of it as an output. It tells its bytes, and its room where no write is listed to fail.
+-- What is seen of it as an output. Its bytes are known, and so is its capacity if no write is
+-- listed to fail.
 abbrev pub mem_out_seen : MemOutSeen → OutSeen
 mem_out_seen out = record {
   faults = out.faults;
@@ -20,26 +21,26 @@ mem_out_seen out = record {
   room = if none_listed out.writes then Some (length out.bytes + out.left) else None;
 }
 
--- an empty output with this room
+-- An empty output with this capacity.
 abbrev pub empty_with_room : ℕ → MemOutSeen
 empty_with_room room = record { bytes = []; left = room; writes = no_calls; faults = 0 }
 
--- whether the next write fails: its number is listed, or the piece is longer than the room left
+-- Whether the next write fails: its number is listed, or the piece is longer than the room left.
 abbrev pub write_fails : MemOutSeen → List ℕ → Bool
 write_fails out piece = next_fails out.writes || nat_lt out.left (length piece)
 
--- after the next write, which appends the piece unless it fails
+-- The output after the next write, which appends the piece unless it fails.
 abbrev pub after_write : MemOutSeen → List ℕ → MemOutSeen
 after_write out piece =
     if write_fails out piece
     then record out { writes = called out.writes; faults = one_more out.faults }
     else record out { writes = called out.writes; bytes = out.bytes ++ piece; left = out.left - length piece }
 
--- with the write of number n listed to fail
+-- The output with the write of number n listed to fail.
 abbrev pub with_failing_write : MemOutSeen → ℕ → MemOutSeen
 with_failing_write out n = record out { writes = with_failing out.writes n }
 
--- The bytes written are within the room that is told.
+-- The bytes written are within the known capacity.
 pub mem_out-within : (out : MemOutSeen) → Within (mem_out_seen out)
 mem_out-within out =
     elim (none_listed out.writes) as (λ told. IfSome (if told then Some (length out.bytes + out.left) else None) (λ room. length out.bytes ≤ room)) [

@@ -5,17 +5,19 @@ use Rattle.km_outside.specs.Counts.{one_more}
 use Rattle.km_outside.specs.OutSeen.{OutSeen}
 use Rattle.km_outside.specs.declared.out.OutFailed.{OutFailed}
 
--- How often a write failed, and the bytes that the writer holds where it tells them, as one over memory does.
+-- How often a write failed, and the bytes that the writer holds if they are known, as for one over
+-- memory.
 pub record StreamSeen : Type 0 where
   pub faults : ℕ
   pub contents : Option (List ℕ)
 
--- What is seen of it as an output: it tells neither its bytes nor a room, since the writer may be a terminal.
+-- What is seen of it as an output: neither its bytes nor its capacity is known, since the writer
+-- may be a terminal.
 abbrev pub stream_seen : StreamSeen → OutSeen
 stream_seen stream = record { faults = stream.faults; told = None; room = None }
 
--- What a write of the piece leaves: where the writer tells its bytes, these and then the piece. A failed
--- one leaves a first part of the piece, and one fault more.
+-- What a write of the piece leaves: if the writer's bytes are known, those and then the piece. A
+-- failed one leaves a first part of the piece, and one fault more.
 abbrev pub StreamWrites : List ℕ → StreamSeen → StreamSeen → Result ⊤ OutFailed → Type 0
 StreamWrites piece old new (Ok _) = (new.faults ≡ old.faults) × Appends old.contents new.contents piece
 StreamWrites piece old new (Err _) =

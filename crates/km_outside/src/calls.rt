@@ -5,7 +5,7 @@ ghost use Rattle.km_outside.specs.Counts.{count_end};
 use std::alloc::{AllocError, Global};
 use std::marker::Model;
 
-/// The calls of one kind, numbered from 0, some of which are listed to fail.
+/// The calls of one kind, numbered from 0, with a list of those that are to fail.
 #[derive(Drop)]
 pub(crate) struct Calls {
     next: u64,
@@ -21,7 +21,7 @@ impl Model for Calls {
 }
 
 impl Calls {
-    /// No call made, and none listed to fail. It takes no memory.
+    /// Returns the state of no call made and none listed to fail. It takes no memory.
     pub(crate) fn new(alloc: Global) -> Self
         ensures { result ≡ no_calls }
     {
@@ -31,7 +31,7 @@ impl Calls {
         }
     }
 
-    /// Counts the next call, and says whether it is to fail.
+    /// Counts the next call, and returns whether it is to fail.
     pub(crate) fn make(&mut self) -> bool
         ensures fails { result ≡ next_fails self.old }
         ensures after { self.new ≡ called self.old }

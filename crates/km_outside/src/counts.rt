@@ -4,7 +4,7 @@ ghost use Rattle.km_outside.specs.CallCounts.{made, no_counts, refused};
 use crate::{FileAnswer, ReplaceAnswer};
 use std::marker::Model;
 
-/// How often calls of files were made, and refused by the cause. A count stands still at its type's end.
+/// The number of calls of files, and of their refusals by cause. A count stays at its type's end.
 #[derive(Drop)]
 pub(crate) struct Counts {
     calls: u64,
@@ -22,7 +22,7 @@ impl Model for Counts {
 }
 
 impl Counts {
-    /// Nothing counted.
+    /// Returns counts of zero.
     pub(crate) fn new() -> Self
         ensures { result ≡ no_counts }
     {
@@ -41,7 +41,7 @@ impl Counts {
         self.calls = self.calls.saturating_add(1);
     }
 
-    /// Counts the cause of a refusal, which is handed on.
+    /// Counts the cause of a refusal, and returns the refusal.
     pub(crate) fn refuse(&mut self, refusal: FileAnswer) -> FileAnswer
         ensures same { result ≡ refusal }
         ensures after { self.new ≡ refused self.old refusal }

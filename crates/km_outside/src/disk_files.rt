@@ -16,8 +16,8 @@ use std::alloc::Global;
 use std::marker::Model;
 use std::rt;
 
-/// The files of the machine that the program runs on, reached through the runtime `R`. They tell no
-/// contents and aren't sure.
+/// The files of the machine that the program runs on, reached through the runtime `R`. Their
+/// contents aren't known, and calls may fail.
 #[derive(Drop)]
 pub struct DiskFiles<R> {
     rt: R,
@@ -33,7 +33,7 @@ impl<R> Model for DiskFiles<R> {
 }
 
 impl<R: rt::Files + AllocGlobal + Clone + Drop> DiskFiles<R> {
-    /// The files that the runtime reaches, with nothing counted.
+    /// Returns the files that the runtime reaches, with nothing counted.
     pub fn new(rt: R) -> Self
         ensures { result ≡ no_counts }
     {
@@ -43,7 +43,7 @@ impl<R: rt::Files + AllocGlobal + Clone + Drop> DiskFiles<R> {
         }
     }
 
-    /// What is listed of the folder.
+    /// Lists the folder.
     fn list<K>(
         &mut self,
         alloc: Global,
@@ -64,9 +64,9 @@ impl<R: rt::Files + AllocGlobal + Clone + Drop> DiskFiles<R> {
 impl<R: rt::Files + AllocGlobal + Clone + Drop> Reads for DiskFiles<R> {
     ghost seen = { disk_seen };
 
-    /// Reads the file at the path. Nothing there, a part of the path that is no folder, and a folder are
-    /// absent; a path that isn't UTF-8 and every other error of the system are a fault. A regular file
-    /// that is longer than the limit isn't read.
+    /// Reads the file at the path. The answer is `Absent` if nothing is there, if a part of the
+    /// path is no folder, and if a folder is there. A path that isn't UTF-8 and every other error
+    /// of the system are `Failed`. A regular file that is longer than the limit isn't read.
     fn read(&mut self, alloc: Global, path: &PathText) -> Result<Blob, FileAnswer>
         ensures answers { ReadAnswers path.now (disk_seen self.old) (disk_seen self.new) result }
         ensures after { self.new ≡ answered self.old result }
@@ -92,9 +92,10 @@ impl<R: rt::Files + AllocGlobal + Clone + Drop> Reads for DiskFiles<R> {
         }
     }
 
-    /// Lists what ends in `.conf` in the folder and is no folder itself, after links are followed; a link
-    /// to nowhere isn't listed. Nothing there, a part of the path that is no folder, and a file are
-    /// absent; a name that isn't UTF-8 and every other error of the system are a fault.
+    /// Lists what ends in `.conf` in the folder and is no folder itself, after links are followed.
+    /// A link to nowhere isn't listed. The answer is `Absent` if nothing is there, if a part of the
+    /// path is no folder, and if a file is there. A name that isn't UTF-8 and every other error of
+    /// the system are `Failed`.
     fn list_conf(&mut self, alloc: Global, dir: &PathText) -> Result<Names, FileAnswer>
         ensures answers { ListAnswers is_conf_name dir.now (disk_seen self.old) (disk_seen self.new) result }
         ensures after { self.new ≡ answered self.old result }
@@ -104,9 +105,9 @@ impl<R: rt::Files + AllocGlobal + Clone + Drop> Reads for DiskFiles<R> {
 }
 
 impl<R: rt::Files + AllocGlobal + Clone + Drop> Writes for DiskFiles<R> {
-    /// Writes a new file beside the old one, flushes it to the disk and gives it the old one's name. On
-    /// any failure the new file is removed again. A link at the path is replaced itself, and what it led
-    /// to stays as it was.
+    /// Writes a new file beside the old one, flushes it to the disk and gives it the old one's
+    /// name. On any failure the new file is removed again. A link at the path is replaced itself,
+    /// and its target stays as it was.
     fn replace(&mut self, alloc: Global, path: &PathText, bytes: &[u8]) -> Result<(), ReplaceAnswer>
         ensures answers { ReplaceAnswers path.now bytes.now (disk_seen self.old) (disk_seen self.new) result }
         ensures after { self.new ≡ replied self.old result }
@@ -121,8 +122,8 @@ impl<R: rt::Files + AllocGlobal + Clone + Drop> Writes for DiskFiles<R> {
 }
 
 impl<R: rt::Files + AllocGlobal + Clone + Drop> Files for DiskFiles<R> {
-    /// Lists the regular files below the folder at every depth. Links below it are neither followed nor
-    /// listed. The refusals are those of a listing of configuration files.
+    /// Lists the regular files below the folder at every depth. Links below it are neither followed
+    /// nor listed. The refusals are the same as for a listing of configuration files.
     fn list_tree(&mut self, alloc: Global, dir: &PathText) -> Result<Paths, FileAnswer>
         ensures answers { ListAnswers is_path dir.now (disk_seen self.old) (disk_seen self.new) result }
         ensures after { self.new ≡ answered self.old result }

@@ -18,30 +18,30 @@ use std::fs::{DirEntry, ReadDir};
 use std::io::ErrorKind;
 use std::{fs, io, rt};
 
-/// What an entry of a folder is to a listing.
+/// The kind of an entry of a folder, as a listing sees it.
 #[derive(Clone, Copy)]
 enum EntryKind {
-    /// A file that is listed if its name is.
+    /// A file that is listed if its name passes the test.
     File,
     /// A folder whose files are listed too.
     Folder,
-    /// Neither: a link, a device and the like, or what isn't there any more.
+    /// Neither: a link, a device and the like, or an entry that has gone since.
     Other,
 }
 
-/// A walk through a folder and, where all files are listed, the folders below it.
+/// A walk through a folder and, if all files are listed, the folders below it.
 #[derive(Drop)]
 struct Walk {
     listing: Listing,
-    /// The folders that are still to be read: each relative to the walk's, with a slash at its end.
+    /// The folders still to be read: each relative to the walk's, with a slash at its end.
     pending: Vec<String>,
-    /// What was found, in no order.
+    /// The files found, in no order.
     found: Vec<Vec<u8>>,
-    /// How many entries were met.
+    /// The number of entries met.
     met: usize,
 }
 
-/// What is listed of the folder, each once and rising by its bytes, if no more entries than the limit are
+/// Lists the folder: each name or path once, rising by bytes, if no more entries than the limit are
 /// met.
 pub(crate) fn list_folder<R: rt::Files + AllocGlobal + Clone + Drop, K>(
     rt: &R,
@@ -62,7 +62,7 @@ pub(crate) fn list_folder<R: rt::Files + AllocGlobal + Clone + Drop, K>(
     rising(alloc, found)
 }
 
-/// What is found below the folder, in no order.
+/// Returns what is found below the folder, in no order.
 fn find<R: rt::Files + AllocGlobal + Clone + Drop>(
     rt: &R,
     alloc: Global,
@@ -88,7 +88,7 @@ fn find<R: rt::Files + AllocGlobal + Clone + Drop>(
 }
 
 impl Walk {
-    /// Reads the folders that are still to be read, and those found meanwhile.
+    /// Reads the folders still to be read, and those found meanwhile.
     fn read_pending<R: rt::Files + AllocGlobal + Clone + Drop>(
         &mut self,
         rt: &R,
@@ -187,8 +187,8 @@ impl Walk {
     }
 }
 
-/// What the entry is. For a listing of configuration files links are followed, for one of all files they
-/// aren't.
+/// Returns the kind of the entry. A listing of configuration files follows links; a listing of all
+/// files doesn't.
 fn kind_of_entry<R: rt::Files>(
     rt: &R,
     listing: Listing,
@@ -212,7 +212,8 @@ fn kind_of_entry<R: rt::Files>(
     }
 }
 
-/// The answer to an error of the system at something below the folder that is listed, which is there.
+/// Returns the answer to an error of the system below the folder that is listed, when the folder
+/// itself exists.
 fn answer_below(error: io::Error) -> FileAnswer
     ensures { IsPast list_limit result }
 {
@@ -222,7 +223,7 @@ fn answer_below(error: io::Error) -> FileAnswer
     }
 }
 
-/// The paths in rising order, each once.
+/// Returns the paths in rising order, each once.
 fn rising<K>(alloc: Global, mut found: Vec<Vec<u8>>) -> Result<List<Bytes<K>>, FileAnswer>
     ensures rising { IfOk result (λ names. IsStrictlySortedBy by_bytes names) }
     ensures kept { (p : List ℕ → Bool) → All (λ path. p path.items ≡ true) found.items → IfOk result (λ names. All (λ name. p name ≡ true) names) }
@@ -234,7 +235,7 @@ fn rising<K>(alloc: Global, mut found: Vec<Vec<u8>>) -> Result<List<Bytes<K>>, F
     Ok(as_list(alloc, found)?)
 }
 
-/// The paths as a list.
+/// Converts the paths to a list.
 fn as_list<K>(alloc: Global, paths: Vec<Vec<u8>>) -> Result<List<Bytes<K>>, AllocError>
     ensures { IfOk result (λ list. list ≡ map (λ path. path.items) paths.items) }
 {

@@ -36,7 +36,7 @@ pub(crate) fn read_file<R: rt::Files>(
     }
 }
 
-/// The length of a regular file, and 0 for all else.
+/// Returns the length of a regular file, and 0 for everything else.
 fn told_length<F: OpenFile>(file: &F) -> u64 {
     match file.metadata() {
         Ok(metadata) if metadata.is_file() => metadata.len(),
@@ -44,7 +44,7 @@ fn told_length<F: OpenFile>(file: &F) -> u64 {
     }
 }
 
-/// Whether the bytes that were read are no more than the limit.
+/// Tests that the bytes that were read are no more than the limit.
 fn check_length(bytes: &[u8]) -> Result<(), FileAnswer>
     ensures limit { OnOk result (length bytes.now ≤ file_limit) }
     ensures past { IfErr result (IsPast file_limit) }
@@ -56,7 +56,7 @@ fn check_length(bytes: &[u8]) -> Result<(), FileAnswer>
     Ok(())
 }
 
-/// The answer to an error of the system.
+/// Returns the answer to an error of the system.
 pub(crate) fn answer_to(kind: ErrorKind) -> FileAnswer
     ensures { result ≡ answer_of kind }
 {

@@ -9,14 +9,14 @@ use std::io::ErrorKind;
 use std::os::unix::fs::OpenOptionsExt;
 use std::{fs, io, rt};
 
-/// How many names are tried for the new file. One that is taken was left by a run that was cut off, or is
-/// that of a run beside this one.
+/// The number of names that are tried for the new file. A name that is taken was left by a run that
+/// was cut off, or belongs to a run beside this one.
 const TRIES: u32 = 100;
 
 /// The permissions of a new file, before the process's own mask.
 const MODE: u32 = 0o644;
 
-/// A file that stands beside the one that it is to replace.
+/// A file beside the one that it is to replace.
 #[derive(Drop)]
 struct NewFile<F: Drop> {
     file: F,
@@ -41,7 +41,7 @@ pub(crate) fn replace_file<R: rt::Files>(
     drop(file);
     let renamed = written.and_then(|()| fs::rename(rt, new.as_str(), path));
     if let Err(error) = renamed {
-        // It isn't wanted any more; where even this fails it stays, under a name that nothing reads.
+        // It isn't needed any more. If even this fails it stays, under a name that nothing reads.
         let _ = fs::remove_file(rt, new.as_str());
         return Err(answer_to(&error));
     }
@@ -65,7 +65,7 @@ fn create_beside<R: rt::Files>(
     Err(ReplaceAnswer::Failed)
 }
 
-/// Makes a file where none is.
+/// Makes a file if none exists.
 fn create_new<R: rt::Files>(rt: &R, path: &str) -> io::Result<R::File> {
     let mut options = OpenOptions::new();
     options.write(true);
@@ -80,7 +80,7 @@ fn fill<F: io::Write + OpenFile>(file: &mut F, bytes: &[u8]) -> io::Result<()> {
     file.sync_all()
 }
 
-/// The answer to an error of the system.
+/// Returns the answer to an error of the system.
 fn answer_to(error: &io::Error) -> ReplaceAnswer {
     match error.kind() {
         ErrorKind::OutOfMemory => ReplaceAnswer::Memory,

@@ -8,8 +8,8 @@ use std::io;
 use std::io::Read;
 use std::marker::Model;
 
-/// The bytes of the file that was read last, in memory that the next read uses again. A contract sees it as
-/// those bytes.
+/// The bytes of the file that was read last, in memory that the next read uses again. A contract
+/// sees it as those bytes.
 #[derive(Drop)]
 pub struct FileBuffer {
     room: Vec<u8>,
@@ -28,7 +28,7 @@ impl Model for FileBuffer {
 }
 
 impl FileBuffer {
-    /// No byte. It takes no memory.
+    /// Returns the empty buffer. It takes no memory.
     pub fn new(alloc: Global) -> Self
         ensures { result ≡ [] }
     {
@@ -38,14 +38,14 @@ impl FileBuffer {
         }
     }
 
-    /// The bytes as a slice.
+    /// Returns the bytes as a slice.
     pub fn as_bytes(&self) -> &[u8]
         ensures { result.now ≡ self.now }
     {
         &self.room[..self.filled]
     }
 
-    /// The bytes as a value of their own, in the memory of the buffer.
+    /// Returns the bytes as an owned value, in the memory of the buffer.
     pub fn into_blob(self) -> Blob
         ensures { result ≡ self }
     {
@@ -54,7 +54,7 @@ impl FileBuffer {
         Blob::from_vec(room)
     }
 
-    /// The bytes of a file that was read, in their own memory.
+    /// Returns a buffer with the bytes of a file that was read, in their own memory.
     pub(crate) fn from_blob(bytes: Blob) -> Self
         requires { length bytes ≤ file_limit }
         ensures { result ≡ bytes }
@@ -66,8 +66,9 @@ impl FileBuffer {
         }
     }
 
-    /// Reads to the end, and at most to one byte past [`FILE_LIMIT`](km_names::FILE_LIMIT), in place of what was there.
-    /// Where about `expected` bytes are to come, the room for them is made once.
+    /// Reads to the end, and at most to one byte past [`FILE_LIMIT`](km_names::FILE_LIMIT), in
+    /// place of what was there. If about `expected` bytes are to come, memory for them is reserved
+    /// once.
     pub(crate) fn read_from<R: Read>(&mut self, reader: &mut R, expected: usize) -> io::Result<()>
         ensures limit { OnOk result (length self.new ≤ file_limit + 1) }
         ensures bytes { OnOk result (IfSome (R.remaining reader.old) (λ left. self.new ≡ take (file_limit + 1) left)) }

@@ -6,7 +6,7 @@ use crate::FileBuffer;
 use km_names::{Blob, Names, PathText, Paths};
 use std::alloc::{AllocError, AllocFailed, Global};
 
-/// No folder with more names than this is listed.
+/// The greatest number of names that a folder may have to be listed.
 pub const LIST_LIMIT: usize = 1_000_000;
 
 /// Why a file wasn't read or a folder wasn't listed.
@@ -16,7 +16,8 @@ pub enum FileAnswer {
     Absent,
     /// The call failed.
     Failed,
-    /// There is more than the limit: how many bytes, or entries of the folder, were met.
+    /// There is more than the limit. `length` is the number of bytes, or of the folder's entries
+    /// that were met.
     TooLarge { length: u64 },
     /// Out of memory.
     Memory,
@@ -76,12 +77,14 @@ pub trait Reads {
     /// What a contract sees of the files.
     ghost seen: { Self → FilesSeen };
 
-    /// The bytes of the file at the path, if they are no more than [`km_names::FILE_LIMIT`].
+    /// Returns the bytes of the file at the path, if they are no more than
+    /// [`km_names::FILE_LIMIT`].
     fn read(&mut self, alloc: Global, path: &PathText) -> Result<Blob, FileAnswer>
         ensures answers { ReadAnswers path.now (seen self.old) (seen self.new) result };
 
-    /// Reads the file at the path as [`read`](Reads::read) does, into a buffer in place of what was there. After a
-    /// refusal the buffer may hold any bytes. Files that can use its memory again do so in a body of their own.
+    /// Reads the file at the path as [`read`](Reads::read) does, into a buffer in place of what was
+    /// there. After a refusal the buffer may hold any bytes. Implementations that can use its
+    /// memory again have a body of their own.
     fn read_into(
         &mut self,
         alloc: Global,
@@ -94,23 +97,23 @@ pub trait Reads {
         Ok(())
     }
 
-    /// The names of the files that stand in the folder and end in `.conf`, each once and rising by their
+    /// Returns the names of the files in the folder that end in `.conf`, each once and rising by
     /// bytes, if they are no more than [`LIST_LIMIT`].
     fn list_conf(&mut self, alloc: Global, dir: &PathText) -> Result<Names, FileAnswer>
         ensures answers { ListAnswers is_conf_name dir.now (seen self.old) (seen self.new) result };
 }
 
-/// Files that can be replaced also.
+/// Files that can also be replaced.
 pub trait Writes: Reads {
     /// Puts a file of these bytes at the path, in place of what was there: whole, or not at all.
     fn replace(&mut self, alloc: Global, path: &PathText, bytes: &[u8]) -> Result<(), ReplaceAnswer>
         ensures answers { ReplaceAnswers path.now bytes.now (Self.seen self.old) (Self.seen self.new) result };
 }
 
-/// All that the program does with files.
+/// Everything that the program does with files.
 pub trait Files: Writes {
-    /// The paths of the files below the folder at every depth, relative to it, each once and rising by
-    /// their bytes, if they are no more than [`LIST_LIMIT`].
+    /// Returns the paths of the files below the folder at every depth, relative to it, each once
+    /// and rising by bytes, if they are no more than [`LIST_LIMIT`].
     fn list_tree(&mut self, alloc: Global, dir: &PathText) -> Result<Paths, FileAnswer>
         ensures answers { ListAnswers is_path dir.now (Self.seen self.old) (Self.seen self.new) result };
 }

@@ -30,7 +30,7 @@ impl Model for Kinds {
 }
 
 impl Kinds {
-    /// No call made, and none listed to fail. It takes no memory.
+    /// Returns the state of no call made and none listed to fail. It takes no memory.
     pub(crate) fn new(alloc: Global) -> Self
         ensures { result ≡ no_kinds }
     {
@@ -42,7 +42,7 @@ impl Kinds {
         }
     }
 
-    /// Counts the next call of this kind, and says whether it is to fail.
+    /// Counts the next call of this kind, and returns whether it is to fail.
     pub(crate) fn make(&mut self, kind: CallKind) -> bool
         ensures fails { result ≡ next_fails (calls_of self.old kind) }
         ensures after { self.new ≡ kind_called self.old kind }
@@ -55,7 +55,7 @@ impl Kinds {
         }
     }
 
-    /// Lists the call of this kind and of number `n` to fail. After a refusal the calls are as before.
+    /// Lists the call of this kind and number `n` to fail. After a refusal the calls are as before.
     pub(crate) fn fail(&mut self, kind: CallKind, n: u64) -> Result<(), AllocError>
         requires { n < count_end }
         ensures ok { OnOk result (self.new ≡ with_calls self.old kind (with_failing (calls_of self.old kind) n)) }

@@ -5,17 +5,17 @@ ghost use Rattle.km_outside.specs.Listing.{kind_of, test_of, passing};
 
 use crate::CallKind;
 
-/// What of a folder is listed.
+/// What is listed of a folder.
 #[derive(Clone, Copy, Debug, PartialEq, Eq)]
 pub(crate) enum Listing {
-    /// The names of the configuration files that stand in it.
+    /// The names of the configuration files in it.
     Conf,
     /// The paths of all files below it.
     Tree,
 }
 
 impl Listing {
-    /// The calls that list so.
+    /// Returns the kind of calls that list so.
     pub(crate) fn kind(self) -> CallKind
         ensures { result ≡ kind_of self }
     {
@@ -25,7 +25,7 @@ impl Listing {
         }
     }
 
-    /// Whether this, which follows a folder and a slash in a path, is listed.
+    /// Returns whether a path's rest, which follows a folder and a slash, is listed.
     pub(crate) fn lists(self, rest: &[u8]) -> bool
         ensures { result ≡ test_of self rest.now }
     {
@@ -35,7 +35,7 @@ impl Listing {
         }
     }
 
-    /// What follows the prefix, a folder and a slash, in the path, where it is listed.
+    /// Returns the rest of the path after the prefix, a folder and a slash, if it is listed.
     pub(crate) fn rest<'a>(self, prefix: &[u8], path: &'a [u8]) -> Option<&'a [u8]>
         ensures { option_map (λ rest. rest.now) result ≡ passing (test_of self) (rest_after prefix.now path.now) }
     {

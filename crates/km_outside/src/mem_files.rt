@@ -33,8 +33,8 @@ pub enum CallKind {
     Replace,
 }
 
-/// Files that are kept in memory. They tell their contents, and are sure as long as no call is listed to
-/// fail. A folder is there where some path lies below it.
+/// Files that are kept in memory. Their contents are known, and no call fails unless it is listed
+/// to fail. A folder exists if some path lies below it.
 #[derive(Drop)]
 pub struct MemFiles {
     alloc: Global,
@@ -57,7 +57,7 @@ impl Model for MemFiles {
 }
 
 impl MemFiles {
-    /// No file. It takes no memory.
+    /// Returns the empty set of files. It takes no memory.
     pub fn new(alloc: Global) -> MemFiles
         ensures { result ≡ no_files }
     {
@@ -69,8 +69,8 @@ impl MemFiles {
         }
     }
 
-    /// Puts a file with these bytes at the path, in place of what was there. After a refusal all is as
-    /// before.
+    /// Puts a file with these bytes at the path, in place of what was there. After a refusal all is
+    /// as before.
     pub fn put(&mut self, path: &PathText, bytes: &[u8]) -> Result<(), AllocError>
         ensures ok { OnOk result (self.new ≡ with_file self.old path.now bytes.now) }
         ensures err { OnErr result (self.new ≡ self.old) }
@@ -81,7 +81,7 @@ impl MemFiles {
         Ok(())
     }
 
-    /// The bytes of the file at the path.
+    /// Returns the bytes of the file at the path.
     pub fn get(&self, path: &PathText) -> Option<&[u8]>
         ensures { option_map (λ bytes. bytes.now) result ≡ map.get self.now.contents path.now }
     {
@@ -100,7 +100,7 @@ impl MemFiles {
         self.kinds.fail(kind, n)
     }
 
-    /// What is listed of the folder, unless this call is listed to fail.
+    /// Lists the folder, unless this call is listed to fail.
     fn list<K>(
         &mut self,
         alloc: Global,
@@ -131,7 +131,7 @@ impl MemFiles {
 impl Reads for MemFiles {
     ghost seen = { mem_files_seen };
 
-    /// The bytes at the path, unless this read is listed to fail.
+    /// Returns the bytes at the path, unless this read is listed to fail.
     fn read(&mut self, alloc: Global, path: &PathText) -> Result<Blob, FileAnswer>
         ensures answers { ReadAnswers path.now (mem_files_seen self.old) (mem_files_seen self.new) result }
         ensures exact { (result ≡ mem_read self.old path.now) ⊎ (result ≡ Err Memory) }
@@ -152,7 +152,8 @@ impl Reads for MemFiles {
         Ok(Blob::from_slice(alloc, bytes)?)
     }
 
-    /// The names of the configuration files in the folder, unless this call is listed to fail.
+    /// Returns the names of the configuration files in the folder, unless this call is listed to
+    /// fail.
     fn list_conf(&mut self, alloc: Global, dir: &PathText) -> Result<Names, FileAnswer>
         ensures answers { ListAnswers is_conf_name dir.now (mem_files_seen self.old) (mem_files_seen self.new) result }
         ensures exact { (result ≡ mem_list self.old ListConf is_conf_name dir.now) ⊎ (result ≡ Err Memory) }
@@ -184,7 +185,7 @@ impl Writes for MemFiles {
 }
 
 impl Files for MemFiles {
-    /// The paths of the files below the folder, unless this call is listed to fail.
+    /// Returns the paths of the files below the folder, unless this call is listed to fail.
     fn list_tree(&mut self, alloc: Global, dir: &PathText) -> Result<Paths, FileAnswer>
         ensures answers { ListAnswers is_path dir.now (mem_files_seen self.old) (mem_files_seen self.new) result }
         ensures exact { (result ≡ mem_list self.old ListTree is_path dir.now) ⊎ (result ≡ Err Memory) }

@@ -11,7 +11,7 @@ use km_names::{Blob, Bytes, List};
 use std::alloc::{AllocError, Global};
 use std::collections::BTreeMap;
 
-/// How many paths below the folder are listed, where the prefix is the folder and a slash.
+/// Returns how many paths below the folder are listed. The prefix is the folder and a slash.
 pub(crate) fn count_listed(
     files: &BTreeMap<Vec<u8>, Blob>,
     listing: Listing,
@@ -29,7 +29,7 @@ pub(crate) fn count_listed(
     count
 }
 
-/// What is listed of the paths below the folder, in their order.
+/// Returns the paths below the folder that are listed, in their order.
 pub(crate) fn collect_listed<K>(
     alloc: Global,
     files: &BTreeMap<Vec<u8>, Blob>,

@@ -9,7 +9,7 @@ use std::alloc::{AllocError, Global};
 use std::marker::Model;
 
 /// An output that keeps the bytes in memory, up to a capacity that is fixed when it is made. Its
-/// bytes are known, and so is its capacity as long as no write is listed to fail.
+/// bytes are known. Its capacity is known as long as no write is listed to fail.
 #[derive(Drop)]
 pub struct MemOut {
     bytes: Vec<u8>,
@@ -30,7 +30,7 @@ impl Model for MemOut {
 }
 
 impl MemOut {
-    /// An empty output with room for so many bytes, which are reserved here.
+    /// Returns an empty output with room for so many bytes, which is reserved here.
     pub fn with_room(alloc: Global, room: usize) -> Result<MemOut, AllocError>
         ensures { IfOk result (λ out. out ≡ empty_with_room room) }
     {
@@ -42,7 +42,8 @@ impl MemOut {
         })
     }
 
-    /// Makes the write of number `n`, counted from 0, fail. After a refusal the output is as before.
+    /// Makes the write of number `n`, counted from 0, fail. After a refusal the output is as
+    /// before.
     pub fn fail_write(&mut self, n: u64) -> Result<(), AllocError>
         requires { n < count_end }
         ensures ok { OnOk result (self.new ≡ with_failing_write self.old n) }
@@ -51,7 +52,7 @@ impl MemOut {
         self.writes.fail(n)
     }
 
-    /// The bytes written so far.
+    /// Returns the bytes written so far.
     pub fn bytes(&self) -> &[u8]
         ensures { result.now ≡ self.now.bytes }
     {
@@ -66,7 +67,8 @@ impl Out for MemOut {
 
     ghost within = { mem_out-within };
 
-    /// Appends the piece, unless this write is listed to fail or the piece is longer than the room left.
+    /// Appends the piece, unless this write is listed to fail or the piece is longer than the room
+    /// left.
     fn write(&mut self, bytes: &[u8]) -> Result<(), OutFailed>
         ensures answers { WriteAnswers bytes.now (mem_out_seen self.old) (mem_out_seen self.new) result }
         ensures fails { is_err result ≡ write_fails self.old bytes.now }

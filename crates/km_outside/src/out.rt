@@ -13,6 +13,6 @@ pub trait Out {
     fn write(&mut self, bytes: &[u8]) -> Result<(), OutFailed>
         ensures answers { WriteAnswers bytes.now (seen self.old) (seen self.new) result };
 
-    /// The bytes written never pass the room.
+    /// The bytes written never exceed the capacity, if both are known.
     ghost within: { (out : Self) → Within (seen out) };
 }

@@ -30,7 +30,7 @@ impl<W: Write> Model for Stream<W> {
 }
 
 impl<W: Write> Stream<W> {
-    /// An output over the writer, with no fault counted.
+    /// Returns an output over the writer, with no fault counted.
     pub fn new(writer: W) -> Self
         ensures { result ≡ record { faults = 0; contents = W.contents writer } }
     {
@@ -43,7 +43,7 @@ impl<W: Write> Out for Stream<W> {
 
     ghost within = { λ _. tt };
 
-    /// Writes the piece in as many turns as the writer needs, each of which takes at least one byte.
+    /// Writes the piece in as many turns as the writer needs. Each turn takes at least one byte.
     fn write(&mut self, bytes: &[u8]) -> Result<(), OutFailed>
         ensures answers { WriteAnswers bytes.now (stream_seen self.old) (stream_seen self.new) result }
         ensures writes { StreamWrites bytes.now self.old self.new result }

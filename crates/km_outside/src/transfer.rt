@@ -1,4 +1,5 @@
-//! The loops over the library's `read` and `write`. Each turn moves at least one byte, so each ends.
+//! The loops over the library's `read` and `write`. Each turn moves at least one byte, so each loop
+//! ends.
 
 ghost use Rattle.std.specs.Prelude.{◌≡◌, ◌+◌, ◌<◌, ◌≤◌, ℕ, length, take, drop, vec_len, IfOk, OnOk, IfSome, MatchResult};
 ghost use Rattle.std.specs.Io.{ReadsAtMost, WritesAtMost};
@@ -11,14 +12,15 @@ use std::alloc::{AllocError, Global};
 use std::io;
 use std::io::{ErrorKind, Read, Write};
 
-/// How many times in a row a call that a signal interrupted is made again.
+/// How many times in a row a call that a signal interrupted is repeated.
 const RETRIES: u32 = 1000;
 
-/// The least number of bytes that room is made for, since some files don't tell their length.
+/// The least room, in bytes, that is made for a file. Some files don't report their length.
 const LEAST_ROOM: usize = 4096;
 
-/// Reads to the end, and at most to one byte past [`FILE_LIMIT`], over what the buffer holds, and answers how many
-/// bytes were read. Where about `expected` bytes are to come, the room for them is made once.
+/// Reads to the end, and at most to one byte past [`FILE_LIMIT`], over what the buffer holds.
+/// Returns how many bytes were read. If about `expected` bytes are to come, memory for them is
+/// reserved once.
 pub(crate) fn read_limited<R: Read>(
     reader: &mut R,
     buffer: &mut Vec<u8>,
@@ -40,7 +42,8 @@ pub(crate) fn read_limited<R: Read>(
     Ok(filled)
 }
 
-/// One turn: makes room after the filled part, and reads some bytes there, none only at the end.
+/// Runs one turn: makes room after the filled part, and reads some bytes into it. No bytes means
+/// the end.
 fn read_more<R: Read>(reader: &mut R, buffer: &mut Vec<u8>, filled: usize) -> io::Result<usize>
     requires within { filled ≤ vec_len buffer.old }
     requires below_limit { filled ≤ file_limit }
@@ -57,7 +60,8 @@ fn read_more<R: Read>(reader: &mut R, buffer: &mut Vec<u8>, filled: usize) -> io
     read_at(reader, buffer.as_mut_slice(), filled)
 }
 
-/// Makes the buffer so long, with zeros after what it holds, where it isn't longer. After a refusal it is as before.
+/// Extends the buffer with zeros to this length, unless it is that long already. After a refusal it
+/// is as before.
 fn lengthen(buffer: &mut Vec<u8>, length: usize) -> Result<(), AllocError>
     requires { length ≤ file_limit + 1 }
     ensures room { OnOk result (length ≤ vec_len buffer.new) }
@@ -70,7 +74,7 @@ fn lengthen(buffer: &mut Vec<u8>, length: usize) -> Result<(), AllocError>
     buffer.resize(length, 0)
 }
 
-/// Reads some bytes into the buffer after its filled part, none only at the end.
+/// Reads some bytes into the buffer after its filled part. No bytes means the end.
 fn read_at<R: Read>(reader: &mut R, buffer: &mut [u8], filled: usize) -> io::Result<usize>
     requires { filled < length buffer.old }
     ensures front { take filled buffer.new ≡ take filled buffer.old }
@@ -81,7 +85,7 @@ fn read_at<R: Read>(reader: &mut R, buffer: &mut [u8], filled: usize) -> io::Res
     read_some(reader, &mut buffer[filled..])
 }
 
-/// One read, which is made again where a signal interrupted it.
+/// Reads once, and again if a signal interrupted it.
 fn read_some<R: Read>(reader: &mut R, room: &mut [u8]) -> io::Result<usize>
     ensures bound { ReadsAtMost result room.new }
     ensures bytes { ReadConsumes (R.remaining reader.old) (R.remaining reader.new) result room.new }
@@ -95,8 +99,8 @@ fn read_some<R: Read>(reader: &mut R, room: &mut [u8]) -> io::Result<usize>
     reader.read(room)
 }
 
-/// Writes all of the bytes. Each turn takes at least one byte, or the write fails; then a first part of
-/// the bytes has been written.
+/// Writes all of the bytes. Each turn takes at least one byte, or the write fails; then a first
+/// part of the bytes has been written.
 pub(crate) fn write_whole<W: Write>(writer: &mut W, bytes: &[u8]) -> Result<(), OutFailed>
     ensures { MatchResult result
         (λ _. Appends (W.contents writer.old) (W.contents writer.new) bytes.now)
@@ -112,7 +116,7 @@ pub(crate) fn write_whole<W: Write>(writer: &mut W, bytes: &[u8]) -> Result<(), 
     Ok(())
 }
 
-/// One write, which is made again where a signal interrupted it.
+/// Writes once, and again if a signal interrupted it.
 fn write_some<W: Write>(writer: &mut W, bytes: &[u8]) -> io::Result<usize>
     ensures bound { WritesAtMost result bytes.now }
     ensures bytes { WriteAppends (W.contents writer.old) (W.contents writer.new) result bytes.now }

@@ -1,7 +1,7 @@
-//! What a text finds in the index of the built-in aliases: laws alone.
+//! What a text finds in the index of the built-in aliases: only laws.
 //!
-//! The crate stands on `builtin_index` for the map of the aliases, on `index_read` for lookups, and on `glob_match` for
-//! patterns.
+//! The crate uses `builtin_index` for the map of the aliases, `index_read` for lookups, and
+//! `glob_match` for patterns.
 #![tactic(auto)]
 
 mod laws;

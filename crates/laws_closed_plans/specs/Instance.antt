@@ -1,4 +1,5 @@
--- A tree of two modules, of which one uses the other: what the law on closed plans asks for holds of it.
+-- A tree of two modules, one of which uses the other: the premises of the law on closed plans hold
+-- for it.
 use Rattle.std.specs.Prelude.{◌≡◌, true, false, List, [], ◌∷◌, ◌++◌, codes, Some, if◌then◌else◌}
 use Rattle.std.specs.Str.{bytes_eq}
 use Rattle.module_facts.specs.declared.facts.Facts.{Facts}

@@ -6,7 +6,7 @@ use Rattle.model_loader.specs.declared.fault.LoadFault.TheVariants.{RegionFull, 
 use Rattle.model_loader.specs.Machine.{Machine}
 use Rattle.model_loader.specs.Step.{step}
 
--- What follows a load, unless it is refused.
+-- The next result, unless a load was refused.
 abbrev pub unless_refused : (Machine → Result Machine LoadFault) → Result Machine LoadFault → Result Machine LoadFault
 unless_refused next (Ok machine) = next machine
 unless_refused next (Err fault) = Err fault
@@ -16,13 +16,14 @@ abbrev pub load_all : Machine → List Module → Result Machine LoadFault
 load_all machine [] = Ok machine
 load_all machine (m ∷ ms) = unless_refused (λ next. load_all next ms) (step machine m)
 
--- What is loaded after other modules is loaded into the machine that these leave.
+-- The modules after others are loaded into the machine that the others leave.
 abbrev pub LoadsFollow : Type 0
 LoadsFollow =
     (machine : Machine) (before after : List Module)
     → load_all machine (before ++ after) ≡ unless_refused (λ next. load_all next after) (load_all machine before)
 
--- A refusal for the place of a module alone: no gap of the region has room, or a word doesn't fit there.
+-- A refusal only for the place of a module: no gap of the region has room, or a word doesn't fit
+-- there.
 pub data IsPlaceFault : LoadFault → Type 0 where
   full : (pages : ℕ) → IsPlaceFault (RegionFull pages)
   overflow : (section entry : ℕ) → IsPlaceFault (Overflow section entry)

@@ -1,6 +1,6 @@
--- Why a module can't be loaded by reason of the names that it has, needs and exports: the first six tests of a load, over
--- what is seen of a kernel and of the modules that are loaded. The kernel's resolve_symbol and verify_exported_symbols,
--- kernel/module/main.c.
+-- Why a module can't be loaded because of the names that it has, needs and exports: the first six
+-- tests of a load, over what is seen of a kernel and of the loaded modules. The kernel's
+-- resolve_symbol and verify_exported_symbols, kernel/module/main.c.
 use Rattle.std.specs.Prelude.{ℕ, List, [], ◌∷◌, ◌++◌, map, Option, option_map}
 use Rattle.km_names.specs.First.{first}
 use Rattle.symbol_binding.specs.Symbols.{Export, Face, Kernel}
@@ -10,15 +10,16 @@ use Rattle.model_loader.specs.declared.fault.LoadFault.{LoadFault}
 use Rattle.model_loader.specs.declared.fault.LoadFault.TheVariants.{AlreadyLoaded, MissingSymbol, GplOnly, VersionDiffers, NotImported, ExportTaken}
 use Rattle.model_loader.specs.Step.{fault_if, owner_name}
 
--- The test that no need of a module is such.
+-- The test that no need of a module fails the test of needs.
 abbrev pub need_fault : Kernel → List Face → Face → NeedTest → (List ℕ → LoadFault) → Option LoadFault
 need_fault kernel loaded m test fault = option_map fault (first_need kernel loaded m test)
 
--- The test that nothing stands under the name of an export.
+-- The test that the name of an export isn't bound yet.
 abbrev pub export_fault : Kernel → List Face → Export → Option LoadFault
 export_fault kernel loaded e = option_map (λ t. ExportTaken t.0 (owner_name t.1.owner)) (taken kernel loaded e)
 
--- The first of the six tests of its names that a module fails, where these modules are loaded, oldest first.
+-- The first of the six tests of its names that a module fails, if these modules are loaded, oldest
+-- first.
 unfoldable pub name_fault : Kernel → List Face → Face → Option LoadFault
 name_fault kernel loaded m =
     first (

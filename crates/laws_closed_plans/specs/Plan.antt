@@ -11,19 +11,20 @@ use Rattle.symbol_binding.specs.declared.unbound.Unbound.TheVariants.{Missing, G
 use Rattle.laws_closed_plans.specs.Members.{Member}
 use Rattle.laws_closed_plans.specs.Names.{first_name_fault}
 
--- What is seen of modules.
+-- The faces of modules.
 abbrev pub faces_of : List Module → List Face
 faces_of ms = map (λ m. m.face) ms
 
--- A module of the list has this path.
+-- Whether a module of the list has this path.
 abbrev pub is_at : List Module → List ℕ → Bool
 is_at ms path = list_any (λ m. bytes_eq m.path path) ms
 
--- The path is that of the kernel or of a module of the list.
+-- Whether the path is the kernel's or a listed module's.
 abbrev pub stands : List Module → List ℕ → Bool
 stands ms path = bytes_eq vmlinux path || is_at ms path
 
--- The line says that a module of the plan exports what the kernel, a listed module or another of the plan does.
+-- Whether the line says that a module of the plan exports what the kernel, a listed module or
+-- another of the plan does.
 abbrev pub collides : List Module → List Module → Unbound → Bool
 collides listed plan (Missing m x) = false
 collides listed plan (Gpl m x by) = false
@@ -39,19 +40,20 @@ pub record IsStep (plan before : List Module) (m : Module) : Type 0 where
 
 -- A plan is closed over the listed modules.
 pub record IsClosed (tree : List Module) (kernel : Kernel) (listed plan : List Module) : Type 0 where
-  -- its modules are of the tree
+  -- Its modules are of the tree.
   pub of_tree : (m : Module) → Member m plan → Member m tree
-  -- they have distinct names, and none that is listed
+  -- They have distinct names, and none that is listed.
   pub fresh : (before : List Module) (m : Module) → IsStep plan before m → is_named (faces_of (listed ++ before)) m.face.name ≡ false
-  -- what a module uses is listed, or stands before it
+  -- What a module uses is listed, or comes before it.
   pub behind : (before : List Module) (m : Module) → IsStep plan before m → (p : Module) → Member p (uses tree kernel m) → Member p (listed ++ before)
-  -- no double line has both sides among the plan, the listed modules and the kernel, and one of them in the plan
+  -- No double line has both sides among the plan, the listed modules and the kernel, and one of
+  -- them in the plan.
   pub alone : list_any (collides listed plan) (unmet tree kernel) ≡ false
-  -- no other line belongs to a module of the plan
+  -- No other line belongs to a module of the plan.
   pub clear : (m : Module) → Member m plan → list_any (belongs m.path) (unmet tree kernel) ≡ false
 
--- Over a known kernel, after modules of the tree that load one after the other, no module of a closed plan is refused
--- for its names.
+-- Over a known kernel, after modules of the tree that load one after the other, no module of a
+-- closed plan is refused for its names.
 abbrev pub ClosedPlansPass : Type 0
 ClosedPlansPass =
     (tree : List Module) (kernel : Kernel) (listed plan : List Module)

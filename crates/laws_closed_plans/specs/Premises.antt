@@ -1,4 +1,5 @@
--- What each premise of the law on closed plans is for: small trees that lack one of them, and are refused.
+-- The use of each premise of the law on closed plans: small trees that lack one of them, and are
+-- refused.
 use Rattle.std.specs.Prelude.{ℕ, ◌&&◌, not, nat_eq, Bool, true, false, List, [], ◌∷◌, ◌++◌, Some, is_none, codes}
 use Rattle.std.specs.List.{list_any, list_all}
 use Rattle.symbol_binding.specs.Symbols.{Module, Kernel}
@@ -8,19 +9,20 @@ use Rattle.symbol_binding.specs.Table.{is_named}
 use Rattle.laws_closed_plans.specs.Names.{first_name_fault}
 use Rattle.laws_closed_plans.specs.Plan.{faces_of, collides}
 
--- Each module is new among those before it.
+-- Whether each module is new among the modules before it.
 abbrev pub are_fresh : List Module → List Module → Bool
 are_fresh loaded [] = true
 are_fresh loaded (m ∷ ms) = not (is_named (faces_of loaded) m.face.name) && are_fresh (loaded ++ m ∷ []) ms
 
--- What each module uses is before it.
+-- Whether what each module uses comes before it.
 abbrev pub are_behind : List Module → Kernel → List Module → List Module → Bool
 are_behind tree kernel loaded [] = true
 are_behind tree kernel loaded (m ∷ ms) =
     list_all (λ p. is_named (faces_of loaded) p.face.name) (uses tree kernel m) && are_behind tree kernel (loaded ++ m ∷ []) ms
 
--- The premises, in order: the kernel is known, the listed modules are of the tree and load one after the other, the
--- modules of the plan are of the tree, new, behind what they use, without double lines, and without other lines.
+-- The premises, in order. The kernel is known. The listed modules are of the tree, and load one
+-- after the other. The modules of the plan are of the tree, new, and after what they use. They have
+-- no double lines, and no other lines.
 unfoldable pub premises : List Module → Kernel → List Module → List Module → List Bool
 premises tree kernel listed plan =
     kernel.known
@@ -33,12 +35,12 @@ premises tree kernel listed plan =
     ∷ list_all (λ m. not (list_any (belongs m.path) (unmet tree kernel))) plan
     ∷ []
 
--- All hold, but for the one at this place.
+-- All premises hold except the one at this place.
 abbrev pub all_but : ℕ → List Bool
 all_but i =
     not (nat_eq i 0) ∷ not (nat_eq i 1) ∷ not (nat_eq i 2) ∷ not (nat_eq i 3) ∷ not (nat_eq i 4) ∷ not (nat_eq i 5) ∷ not (nat_eq i 6) ∷ not (nat_eq i 7) ∷ []
 
--- A kernel that exports nothing, and one of which nothing is known.
+-- A kernel that exports nothing, and a kernel that isn't known.
 abbrev pub bare : Kernel
 bare = record { known = true; exports = [] }
 

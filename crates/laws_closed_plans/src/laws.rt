@@ -13,8 +13,8 @@ pub fn closed_plans_pass()
     ensures { ClosedPlansPass }
 {}
 
-/// States that modules are loaded one after the other, and that whatever is loaded into a new
-/// machine is bound.
+/// States that loads of modules one after the other can be split in two, and that a new machine is
+/// sound after any loads.
 pub fn loads_bind()
     ensures follow { LoadsFollow }
     ensures bind { LoadsBind }
@@ -31,7 +31,8 @@ pub fn closed_plans_bind()
     ensures { ClosedPlansBind }
 {}
 
-/// States that each premise of the first law is needed: with all others, a module is refused.
+/// States that each premise of the first law is needed: if only that one fails, a module is
+/// refused.
 #[tactic(auto, unfolding(crate::specs::Names::name_fault, symbol_binding::specs::Unmet::unmet, symbol_binding::specs::Needs::agree, crate::specs::Premises::premises))]
 pub fn premises_are_needed()
     ensures all { premises (p ∷ wanting false ∷ []) bare [] (p ∷ wanting false ∷ []) ≡ all_but 8 }
@@ -56,8 +57,7 @@ pub fn premises_are_needed()
     ensures clear_refused { first_name_fault bare [] (faces_of (wanting false ∷ [])) ≡ Some (MissingSymbol (codes "x")) }
 {}
 
-/// States that what the law on plans asks of a tree, its kernel and a plan holds of a tree of two
-/// modules.
+/// States that the premises of the law on plans hold for a tree of two modules.
 pub fn two_modules_are_closed()
     ensures { TwoAreClosed }
 {}

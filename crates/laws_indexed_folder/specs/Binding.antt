@@ -1,4 +1,4 @@
--- What loading a plan comes to that is closed over the files that depmod made of a tree.
+-- What loading a plan results in if it is closed over the files that depmod made of a tree.
 use Rattle.std.specs.Prelude.{◌≡◌, true, ℕ, List, [], ◌∷◌, Some, slice_get, length, AllPairs}
 use Rattle.relation_order.specs.Sets.{below}
 use Rattle.relation_order.specs.Cycle.{cycle}
@@ -14,16 +14,16 @@ use Rattle.laws_closed_plans.specs.Members.{Member}
 use Rattle.laws_closed_plans.specs.Binding.{IsPlanned, Binds}
 use Rattle.laws_indexed_folder.specs.Index.{IsAtPath, IsLineIn, lines_of_map}
 
--- A tree of modules stands as it was indexed, over a known kernel: this map has its dependency lines.
+-- A tree of modules is as it was indexed, over a known kernel: this map has its dependency lines.
 pub record StandsAsIndexed (tree : List Facts) (kernel : Kernel) (dep : KeyValues) : Type 0 where
-  -- the kernel's table is known
+  -- The kernel's table is known.
   pub known : kernel.known ≡ true
-  -- no two modules have one name, and each has the name of its path
+  -- No two modules have one name, and each has the name of its path.
   pub names : AllPairs (λ (a b : Facts). a.name ≡ b.name → ⊥) tree
   pub paths : (f : Facts) → Member f tree → IsAtPath f
-  -- no walk from a module to one that it uses leads back
+  -- No walk from a module to one that it uses leads back.
   pub acyclic : cycle (uses_at (modules_of tree) (kernel_of kernel)) (below (length tree)) ≡ []
-  -- under each name the map has what the map of the tree's dependencies has
+  -- The map has the same values under each name as the map of the tree's dependencies.
   pub map : (name : List ℕ) → values_of dep name ≡ values_of (dep_map tree (dependencies (modules_of tree) (kernel_of kernel))) name
 
 -- A plan that is closed over the lines of that map binds.
@@ -34,7 +34,8 @@ IndexedPlansBind =
     → IsPlanned tree kernel (lines_of_map dep) addressed region listed plan
     → Binds addressed region listed plan
 
--- Each name that has a value has the dependency line of a module of the tree, and each module of the tree has one value.
+-- Each name that has a value has the dependency line of a module of the tree, and each module of
+-- the tree has one value.
 abbrev pub LinesAreOfTree : Type 0
 LinesAreOfTree =
     (tree : List Facts) (kernel : Kernel) (dep : KeyValues)

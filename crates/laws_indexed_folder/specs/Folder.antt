@@ -1,4 +1,4 @@
--- Loads of modules from a folder that stands as depmod indexed it. modprobe(8).
+-- Loads of modules from a folder that is as depmod indexed it. modprobe(8).
 use Rattle.std.specs.Prelude.{◌≡◌, ℕ, List, [], ◌∷◌, Some, None, Ok, IsOk, slice_get}
 use Rattle.km_names.specs.Path.{path_below}
 use Rattle.km_outside.specs.Contents.{Contents}
@@ -24,7 +24,7 @@ use Rattle.laws_closed_plans.specs.Binding.{Binds}
 use Rattle.laws_indexed_folder.specs.Index.{lines_of_map}
 use Rattle.laws_indexed_folder.specs.Indexed.{HasFile, Indexed}
 
--- The modules.dep.bin of a folder stands for this map, and its modules.unmet has these lines.
+-- The modules.dep.bin of a folder represents this map, and its modules.unmet has these lines.
 pub record IsRead (held : Contents) (folder : List ℕ) (dep : KeyValues) (lines : List Unbound) : Type 0 where
   pub index : List ℕ
   pub index_there : HasFile held (path_below folder (file_name DepBin)) index
@@ -40,14 +40,14 @@ pub record IsFileOf (held : Contents) (folder : List ℕ) (dep : KeyValues) (nam
   pub own : own_path value.1 ≡ path
   pub there : HasFile held (path_below folder path) bytes
 
--- The module of a name is that of its file.
+-- The module of a name is the one of its file.
 pub record IsModuleOf (held : Contents) (folder : List ℕ) (dep : KeyValues) (name : List ℕ) (m : Module) : Type 0 where
   pub path : List ℕ
   pub bytes : List ℕ
   pub file : IsFileOf held folder dep name path bytes
   pub facts : m.facts ≡ facts_of path bytes
 
--- So is each of some modules, in the order of their names.
+-- Each of some modules is the one of its name's file, in the order of their names.
 abbrev pub AreModulesOf : Contents → List ℕ → KeyValues → List (List ℕ) → List Module → Type 0
 AreModulesOf held folder dep [] [] = Unit {0}
 AreModulesOf held folder dep [] (m ∷ ms) = ⊥
@@ -55,8 +55,8 @@ AreModulesOf held folder dep (name ∷ names) [] = ⊥
 AreModulesOf held folder dep (name ∷ names) (m ∷ ms) =
     IsModuleOf held folder dep name m × AreModulesOf held folder dep names ms
 
--- In a folder that stands as depmod indexed it the file of each name that has one is a valid module of that name, with
--- the facts that the tree has.
+-- In a folder that is as depmod indexed it, the file of each name that has one is valid. It is a
+-- module of that name, with the facts that the tree has.
 abbrev pub FilesAreValid : Type 0
 FilesAreValid =
     (held : Contents) (folder : List ℕ) (tree : List Facts) (kernel : Kernel) (builtin : List ℕ) (dep : KeyValues) (lines : List Unbound)
@@ -65,8 +65,8 @@ FilesAreValid =
     → (name path bytes : List ℕ) → IsFileOf held folder dep name path bytes
     → (fact_fault path bytes ≡ None) × ((facts_of path bytes).name ≡ name) × Member (facts_of path bytes) tree
 
--- A plan of a folder that stands as depmod indexed it, over the same kernel's table with addresses, binds, where it is
--- closed over the names of listed modules that load.
+-- A plan of a folder that is as depmod indexed it binds, if it is closed over the names of listed
+-- modules that load. The machine has the same kernel's table, with addresses.
 abbrev pub FoldersBind : Type 0
 FoldersBind =
     (held : Contents) (folder : List ℕ) (tree : List Facts) (kernel : Kernel) (builtin : List ℕ) (dep : KeyValues) (lines : List Unbound)

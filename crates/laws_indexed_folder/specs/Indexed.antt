@@ -1,5 +1,5 @@
--- Files that stand as depmod indexed them: the modules of a tree in a folder, and what depmod made of them. depmod(8),
--- modules.dep(5).
+-- Files that are as depmod indexed them: the modules of a tree in a folder, and what depmod made of
+-- them. depmod(8), modules.dep(5).
 use Rattle.std.specs.Prelude.{◌≡◌, ◌≤◌, ℕ, true, List, length, Some, None, Ok}
 use Rattle.std.specs.FinMap.{get}
 use Rattle.km_names.specs.Limit.{file_limit}
@@ -41,7 +41,7 @@ pub record IsModuleFile (held : Contents) (folder : List ℕ) (f : Facts) : Type
 abbrev pub IsIn : Contents → List ℕ → OutputFiles → OutputFile → Type 0
 IsIn held folder made name = HasFile held (path_below folder (file_name name)) (content made name)
 
--- So are all that modprobe reads.
+-- All files that modprobe reads are in the folder.
 pub record AreIn (held : Contents) (folder : List ℕ) (made : OutputFiles) : Type 0 where
   pub dep : IsIn held folder made DepBin
   pub alias : IsIn held folder made AliasBin
@@ -50,27 +50,27 @@ pub record AreIn (held : Contents) (folder : List ℕ) (made : OutputFiles) : Ty
   pub built_in : IsIn held folder made BuiltinBin
   pub unmet : IsIn held folder made Unmet
 
--- A folder stands as depmod indexed it, over a kernel, where modules.builtin had these bytes.
+-- A folder is as depmod indexed it, over a kernel, when modules.builtin had these bytes.
 pub record Indexed (held : Contents) (folder : List ℕ) (tree : List Facts) (kernel : Kernel) (builtin : List ℕ) : Type 0 where
-  -- the tree is one of valid modules, whose files are in the folder
+  -- The tree is one of valid modules, whose files are in the folder.
   pub is_tree : IsTree tree
   pub modules : (f : Facts) → Member f tree → IsModuleFile held folder f
-  -- the kernel's table is known
+  -- The kernel's table is known.
   pub known : kernel.known ≡ true
-  -- no walk from a module to one that it uses leads back, and no limit is passed
+  -- No walk from a module to one that it uses leads back, and no limit is exceeded.
   pub related : relation_fault (modules_of tree) (kernel_of kernel) ≡ None
   pub small : output_fault (files tree (kernel_of kernel) builtin) ≡ None
-  -- the files that modprobe reads are those of the tree
+  -- The files that modprobe reads are the tree's.
   pub made : AreIn held folder (files tree (kernel_of kernel) builtin)
 
--- What is read of such a folder: each module of the tree as it was, the dependency lines of the tree, and its lines of
--- modules.unmet.
+-- What is read from such a folder: each module of the tree as it was, the dependency lines of the
+-- tree, and its lines of modules.unmet.
 pub record ReadsAsIndexed (held : Contents) (folder : List ℕ) (tree : List Facts) (kernel : Kernel) : Type 0 where
   pub modules : (f : Facts) (bytes : List ℕ) → Member f tree → HasFile held (path_below folder f.path) bytes → (fact_fault f.path bytes ≡ None) × (facts_of f.path bytes ≡ f)
   pub lines : (bytes : List ℕ) (dep : KeyValues) → HasFile held (path_below folder (file_name DepBin)) bytes → Holds bytes dep → StandsAsIndexed tree kernel dep
   pub unmet : (path bytes : List ℕ) → HasFile held (path_below folder (file_name Unmet)) bytes → unmet_of path bytes ≡ Ok (unmet (modules_of tree) (kernel_of kernel))
 
--- Folders that stand as depmod indexed them are read so.
+-- Folders that are as depmod indexed them are read so.
 abbrev pub FoldersReadAsIndexed : Type 0
 FoldersReadAsIndexed =
     (held : Contents) (folder : List ℕ) (tree : List Facts) (kernel : Kernel) (builtin : List ℕ)

@@ -1,4 +1,4 @@
--- What never stands in the way of a plan over files that depmod wrote. depmod(8), modules.dep(5).
+-- What is never an obstacle to a plan over files that depmod wrote. depmod(8), modules.dep(5).
 use Rattle.std.specs.Prelude.{◌≡◌, ℕ, List, Some, None}
 use Rattle.module_facts.specs.declared.facts.Facts.{Facts}
 use Rattle.symbol_binding.specs.Symbols.{Kernel as SeenKernel}
@@ -11,7 +11,8 @@ use Rattle.plan_builder.specs.Needs.{Sources}
 use Rattle.plan_builder.specs.Obstacles.{obstacle_of}
 use Rattle.laws_indexed_folder.specs.Binding.{StandsAsIndexed}
 
--- The files that depmod makes of a tree stand for what they are made of, where none of them is too large.
+-- The files that depmod makes of a tree represent what they are made of, if none of them is too
+-- large.
 abbrev pub FilesStand : Type 0
 FilesStand =
     (tree : List Facts) (kernel : SeenKernel) (builtin : List ℕ)

@@ -13,7 +13,7 @@ use Rattle.plan_builder.specs.Closed.{IsAtOwnPath}
 use Rattle.laws_closed_plans.specs.Lines.{AreClosed}
 use Rattle.laws_indexed_folder.specs.Index.{lines_of_map}
 
--- The name of the module that a step loads, where it loads one.
+-- The name of the module that a step loads, if it loads one.
 abbrev pub inserted_name : PlanStep → List (List ℕ)
 inserted_name (Insert name path options) = name ∷ []
 inserted_name (Install name command) = []
@@ -23,7 +23,7 @@ inserted_name (Builtin name) = []
 abbrev pub inserted_names : List PlanStep → List (List ℕ)
 inserted_names steps = flat_map inserted_name steps
 
--- The path that a step loads a module from.
+-- The path that a step loads a module from, if it loads one.
 abbrev pub inserted_path : PlanStep → List (List ℕ)
 inserted_path (Insert name path options) = path ∷ []
 inserted_path (Install name command) = []
@@ -33,20 +33,21 @@ inserted_path (Builtin name) = []
 abbrev pub inserted_paths : List PlanStep → List (List ℕ)
 inserted_paths steps = flat_map inserted_path steps
 
--- The step runs a command.
+-- Whether the step runs a command.
 abbrev pub runs_command : PlanStep → Bool
 runs_command (Insert name path options) = false
 runs_command (Install name command) = true
 runs_command (Builtin name) = false
 
--- The modules that some steps load are a closed plan over the loaded names, and each is loaded from the first path of its
--- dependency line.
+-- The modules that some steps load are a closed plan over the loaded names, and each is loaded from
+-- the first path of its dependency line.
 pub record AreClosedSteps (s : Sources) (steps : List PlanStep) : Type 0 where
   pub closed : AreClosed (lines_of_map s.maps.dep) s.unmet s.loaded (inserted_names steps)
   pub own_paths : All (IsAtOwnPath s.maps.dep) steps
   pub paths : inserted_paths steps ≡ map (lines_of_map s.maps.dep).path (inserted_names steps)
 
--- So are those of each plan that runs no command, over loaded modules that have dependency lines.
+-- The steps of each plan that runs no command are closed, over loaded modules that have dependency
+-- lines.
 abbrev pub PlansAreClosed : Type 0
 PlansAreClosed =
     (s : Sources) (request : Request)

@@ -6,8 +6,9 @@ ghost use Rattle.laws_indexed_folder.specs.Binding.{IndexedPlansBind, LinesAreOf
 ghost use Rattle.laws_indexed_folder.specs.Steps.{PlansAreClosed};
 ghost use Rattle.laws_indexed_folder.specs.Standing.{FilesStand, LinesAreNoObstacle};
 
-/// States that the map that depmod makes has the dependency lines of its tree, and no others. The
-/// lines of such a map say what each module of the tree depends on.
+/// States that the map that depmod makes has the dependency lines of its tree. The lines of such a
+/// map name the modules that each module of the tree depends on. Each name with a value has the
+/// line of a module of the tree.
 pub fn indexed_lines()
     ensures files { FilesHaveLines }
     ensures maps { MapsHaveLines }
@@ -19,7 +20,7 @@ pub fn indexed_plans_bind()
     ensures { IndexedPlansBind }
 {}
 
-/// States that a folder as depmod indexed it is read as that. Its modules are valid and have the
+/// States how a folder is read that is as depmod indexed it. Its modules are valid and have the
 /// facts of the tree, its modules.dep.bin has the tree's dependency lines, and its modules.unmet
 /// the tree's lines.
 pub fn folders_read_as_indexed()
@@ -27,7 +28,7 @@ pub fn folders_read_as_indexed()
 {}
 
 /// States that each module that a plan names is read from a valid file of such a folder. A plan
-/// that is closed over what was read of the folder binds, after listed modules that load.
+/// that is closed over what was read from the folder binds, after listed modules that load.
 pub fn folders_bind()
     ensures valid { FilesAreValid }
     ensures bind { FoldersBind }

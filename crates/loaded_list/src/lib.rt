@@ -1,6 +1,7 @@
-//! The list of loaded modules, in the form of /proc/modules: a line a module, which begins with the module's name.
+//! The list of loaded modules, in the form of /proc/modules: a line for each module, which begins
+//! with the module's name.
 //!
-//! It stands on `km_names` for lines and words.
+//! The crate uses `km_names` for lines and words.
 #![tactic(auto)]
 
 mod loaded;

@@ -20,7 +20,7 @@ impl Model for Loaded {
 }
 
 impl Loaded {
-    /// No module. It takes no memory.
+    /// Returns the empty list. It takes no memory.
     pub fn new(alloc: Global) -> Loaded
         ensures { result ≡ [] }
     {
@@ -29,9 +29,9 @@ impl Loaded {
         }
     }
 
-    /// The modules that a text in the form of /proc/modules lists: the first word of each line that isn't blank, in the
-    /// order of the lines. The kernel lists the newest module first. White space is space, tab and carriage return.
-    /// proc(5), `modules`.
+    /// Returns the modules that a text in the form of /proc/modules lists: the first word of each
+    /// line that isn't blank, in the order of the lines. The kernel lists the newest module first.
+    /// White space is space, tab and carriage return. proc(5), `modules`.
     pub fn read(alloc: Global, bytes: &[u8]) -> Result<Loaded, AllocError>
         ensures { IfOk result (λ loaded. loaded ≡ loaded_of bytes.now) }
     {
@@ -45,8 +45,8 @@ impl Loaded {
         Ok(Loaded { names })
     }
 
-    /// Puts a name at the end, that of a module older than all others. A refused name is dropped, and the list is as
-    /// before.
+    /// Puts a name at the end, as of the oldest module. If it is refused, the name is dropped and
+    /// the list is as before.
     pub fn push(&mut self, name: Name) -> Result<(), AllocError>
         ensures ok { OnOk result (self.new ≡ self.old ++ name ∷ []) }
         ensures err { OnErr result (self.new ≡ self.old) }
@@ -54,7 +54,7 @@ impl Loaded {
         self.names.push(name)
     }
 
-    /// The name at place `i`, from 0, the newest.
+    /// Returns the name at place `i`, from 0. The newest module is first.
     pub fn get(&self, i: usize) -> Option<&Name>
         ensures item { option_copied result ≡ slice_get self.now i }
         ensures past_end { IsNone result ↔ (length self.now ≤ i) }
@@ -62,14 +62,14 @@ impl Loaded {
         self.names.get(i)
     }
 
-    /// How many modules there are.
+    /// Returns the number of modules.
     pub fn len(&self) -> usize
         ensures { result ≡ length self.now }
     {
         self.names.len()
     }
 
-    /// The names as a slice.
+    /// Returns the names as a slice.
     pub fn as_slice(&self) -> &[Name]
         ensures { result.now ≡ self.now }
     {
@@ -77,7 +77,7 @@ impl Loaded {
     }
 }
 
-/// Puts the name that a line begins with at the end, if the line isn't blank.
+/// Puts the name that a line begins with at the end, unless the line is blank.
 fn push_name(alloc: Global, names: &mut Names, line: &[u8]) -> Result<(), AllocError>
     ensures { OnOk result (names.new ≡ names.old ++ name_if_any line.now) }
 {

@@ -7,7 +7,7 @@ use Rattle.km_names.specs.Statements.{parsed}
 use Rattle.km_names.specs.declared.conf.ConfFile.{ConfFile}
 use Rattle.km_names.specs.declared.conf.ConfFault.{ConfFault}
 
--- The words of a line, where there is one.
+-- The words of a line, if there is one.
 abbrev pub some_words : List (List ℕ) → Option (List (List ℕ))
 some_words [] = None
 some_words (word ∷ words) = Some (word ∷ words)
@@ -16,7 +16,7 @@ some_words (word ∷ words) = Some (word ∷ words)
 unfoldable pub search_line : List ℕ → Option (List (List ℕ))
 search_line text = if bytes_eq (first_word text) (codes "search") then some_words (words (rest_after_word text)) else None
 
--- The words of all lines, in order, or `updates built-in` where there is no line.
+-- The words of all lines, in order, or `updates built-in` if there is no line.
 abbrev pub words_of_lines : List (List (List ℕ)) → List (List ℕ)
 words_of_lines [] = codes "updates" ∷ codes "built-in" ∷ []
 words_of_lines (line ∷ lines) = flat_map (λ words. words) (line ∷ lines)

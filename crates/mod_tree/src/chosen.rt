@@ -10,7 +10,7 @@ use crate::places::Places;
 use km_names::{PathText, module_name};
 use std::alloc::{AllocError, Global};
 
-/// A path of a module as it is compared with others: by its module name, then by its rank, and then by itself.
+/// A path of a module with its sort key: its module name, then its rank, and then the path.
 #[derive(PartialEq, Eq, PartialOrd, Ord, Drop)]
 pub(crate) struct Candidate<'a> {
     name: Vec<u8>,
@@ -18,7 +18,7 @@ pub(crate) struct Candidate<'a> {
     path: &'a [u8],
 }
 
-/// The chosen ones among paths of modules, one for each module name.
+/// Returns the chosen ones among paths of modules, one for each module name.
 pub(crate) fn chosen_paths<'a>(
     alloc: Global,
     modules: &[&'a PathText],
@@ -31,7 +31,7 @@ pub(crate) fn chosen_paths<'a>(
     first_of_each(alloc, list.as_slice())
 }
 
-/// The paths as they are compared, in their order.
+/// Returns the paths with their sort keys, in order.
 fn candidates<'a>(
     alloc: Global,
     modules: &[&'a PathText],
@@ -54,7 +54,7 @@ fn candidates<'a>(
     Ok(list)
 }
 
-/// Where each search word first stands.
+/// Returns the first place of each search word.
 fn word_places<'a>(alloc: Global, search: &'a Search) -> Result<Places<'a>, AllocError>
     ensures { IfOk result (λ places. IsPlacesOf search.now places) }
 {
@@ -65,7 +65,7 @@ fn word_places<'a>(alloc: Global, search: &'a Search) -> Result<Places<'a>, Allo
     Ok(places)
 }
 
-/// The rank of a path among search words whose places are known.
+/// Returns the rank of a path among search words whose places are known.
 fn rank(places: &Places<'_>, path: &[u8]) -> usize
     ensures { (search : List (List ℕ)) → IsPlacesOf search places.now → result ≡ rank_of search path.now }
 {
@@ -77,7 +77,7 @@ fn rank(places: &Places<'_>, path: &[u8]) -> usize
     }
 }
 
-/// The least place of a word that names a folder of the path, or the count of words.
+/// Returns the least place of a word that names a folder of the path, or the count of words.
 fn folder_place(places: &Places<'_>, path: &[u8]) -> usize
     ensures { (search : List (List ℕ)) → IsPlacesOf search places.now
         → result ≡ position_or_len (is_folder_of path.now) search }
@@ -91,7 +91,7 @@ fn folder_place(places: &Places<'_>, path: &[u8]) -> usize
     least
 }
 
-/// Of candidates in order, the first of each name.
+/// Returns the first path of each name, among candidates in order.
 fn first_of_each<'a>(alloc: Global, list: &[Candidate<'a>]) -> Result<Vec<&'a [u8]>, AllocError>
     ensures { IfOk result (λ chosen. (search : List (List ℕ)) → All (IsCandidate search) list.now
         → shown chosen.items ≡ heads None (map path_of list.now)) }

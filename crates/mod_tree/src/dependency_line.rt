@@ -5,11 +5,11 @@ ghost use Rattle.mod_tree.specs.DependencyLine.{is_separator as is_parting, are_
 use crate::tree::is_module_path;
 use memchr::memchr3;
 
-/// The first path of a dependency line, which is that of the module itself. modules.dep(5).
+/// Returns the first path of a dependency line, which is the module's own. modules.dep(5).
 ///
-/// A dependency line is a path, a `:`, and for each module that is needed a space and its path. A path there is
-/// the path of a module without spaces, `:` and line ends. It is `None` exactly where the bytes aren't such a
-/// line.
+/// A dependency line is a path, a `:`, and for each needed module a space and its path. A path
+/// there is the path of a module without spaces, `:` and line ends. The result is `None` exactly if
+/// the bytes aren't such a line.
 pub fn line_path(line: &[u8]) -> Option<&[u8]>
     ensures { option_copied result ≡ path_of_line line.now }
 {
@@ -24,7 +24,7 @@ pub fn line_path(line: &[u8]) -> Option<&[u8]>
     }
 }
 
-/// What stands before the first byte that parts paths or ends them, and the rest, which begins with it.
+/// Returns the bytes before the first separator, and the rest, which begins with it.
 fn split_at_separator(text: &[u8]) -> (&[u8], &[u8])
     ensures before { result.0.now ≡ before_first is_parting text.now }
     ensures rest { result.1.now ≡ drop (length result.0.now) text.now }
@@ -35,7 +35,7 @@ fn split_at_separator(text: &[u8]) -> (&[u8], &[u8])
     }
 }
 
-/// Whether a text is, for each of some paths or for none, a space and the path.
+/// Returns whether a text is a sequence of paths, maybe none, with a space before each.
 fn are_paths(text: &[u8]) -> bool
     ensures { result ≡ are_needed (slice_split (λ b. b == 32) text.now) }
 {
@@ -44,7 +44,7 @@ fn are_paths(text: &[u8]) -> bool
         if rest[0] != b' ' {
             return false;
         }
-        // Where it ends at no space, the next round says so.
+        // If what follows the path isn't a space, the next round refuses it.
         let (path, after) = split_at_separator(&rest[1..]);
         if !is_module_path(path) {
             return false;

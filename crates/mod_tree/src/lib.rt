@@ -1,8 +1,8 @@
-//! The tree of a kernel's modules: of all files that name a module, the one that the search list puts
-//! first, in the order of the kernel's build; and what a dependency line says of the module's own path.
-//! depmod.d(5), "search"; modules.order; modules.dep(5).
+//! The tree of a kernel's modules. For each module name it has the file that the search list puts
+//! first, and it is in the order of the kernel's build. The crate also reads a module's own path
+//! from a dependency line. depmod.d(5), "search"; modules.order; modules.dep(5).
 //!
-//! It stands on `km_names` for names, lines and configuration files, and on `memchr` for the ends of paths.
+//! It uses `km_names` for names, lines and configuration files, and `memchr` for the ends of paths.
 #![tactic(auto)]
 
 mod chosen;

@@ -10,15 +10,15 @@ use crate::places::Places;
 use km_names::{PathText, Paths, first_line};
 use std::alloc::{AllocError, Global};
 
-/// A path as it is compared with others: by the place of its first line in modules.order, or the number of lines where it
-/// has none, and then by itself.
+/// A path with its sort key: the place of its first line in modules.order, or the number of lines
+/// if it has none, and then the path.
 #[derive(PartialEq, Eq, PartialOrd, Ord, Drop)]
 pub(crate) struct Listing<'a> {
     place: usize,
     path: &'a [u8],
 }
 
-/// The chosen paths in the order of the tree.
+/// Returns the chosen paths in the order of the tree.
 pub(crate) fn tree_in_order(
     alloc: Global,
     chosen: &[&[u8]],
@@ -33,7 +33,7 @@ pub(crate) fn tree_in_order(
     listed_paths(alloc, list.as_slice())
 }
 
-/// Where each line of a text first stands.
+/// Returns the first place of each line of a text.
 fn line_places(alloc: Global, text: &[u8]) -> Result<Places<'_>, AllocError>
     ensures { IfOk result (λ places. IsPlacesOf (lines_of text.now) places) }
 {
@@ -47,7 +47,7 @@ fn line_places(alloc: Global, text: &[u8]) -> Result<Places<'_>, AllocError>
     Ok(places)
 }
 
-/// The paths as they are compared, in their order.
+/// Returns the paths with their sort keys, in order.
 fn listings<'a>(
     alloc: Global,
     chosen: &[&'a [u8]],
@@ -66,7 +66,7 @@ fn listings<'a>(
     Ok(list)
 }
 
-/// The paths that were compared, in their order.
+/// Returns the paths of a sorted list, in its order.
 fn listed_paths(alloc: Global, list: &[Listing<'_>]) -> Result<Paths, AllocError>
     ensures { IfOk result (λ paths. paths ≡ map listed_path list.now) }
 {

@@ -6,7 +6,7 @@ ghost use Rattle.mod_tree.specs.Places.{IsPlacesOf};
 use std::alloc::{AllocError, Global};
 use std::collections::BTreeMap;
 
-/// The first place of each of some byte lists, and how many byte lists there are.
+/// The first place of each of some byte lists, and the number of byte lists.
 #[derive(Drop)]
 pub(crate) struct Places<'a> {
     first: BTreeMap<&'a [u8], usize>,
@@ -23,7 +23,7 @@ impl<'a> Places<'a> {
         }
     }
 
-    /// How many byte lists there are.
+    /// Returns the number of byte lists.
     pub(crate) fn count(&self) -> usize
         ensures { (items : List (List ℕ)) → IsPlacesOf items self.now → result ≡ length items }
     {
@@ -43,7 +43,7 @@ impl<'a> Places<'a> {
         Ok(())
     }
 
-    /// The first place of a byte list, or the count where it isn't there.
+    /// Returns the first place of a byte list, or the count if it has none.
     pub(crate) fn first_place(&self, item: &[u8]) -> usize
         ensures { (items : List (List ℕ)) → IsPlacesOf items self.now → result ≡ position_or_len (bytes_eq item.now) items }
     {

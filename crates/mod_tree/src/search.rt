@@ -9,16 +9,17 @@ use km_names::{
 use std::alloc::{AllocError, Global};
 use std::marker::Model;
 
-/// The words that say in which folders modules are looked for first, in order. `built-in` stands for the folders
-/// that no word names. depmod.d(5), "search".
+/// The words that name the folders that are searched for modules first, in order. `built-in` means
+/// the folders that no word names. depmod.d(5), "search".
 pub type Search = Names;
 
-/// Reads the search list of files of depmod.d(5): the words of all their `search` lines, in order, or
-/// `updates built-in` where there is none. No file has more than 67,108,864 bytes.
+/// Reads the search list of files of depmod.d(5): the words of all their `search` lines, in order,
+/// or `updates built-in` if there is none. No file has more than 67,108,864 bytes.
 ///
 /// # Errors
 ///
-/// `BadLine` exactly at the first line that states anything else, or that has no word after `search`; or `Memory`.
+/// `BadLine` with the first line that states anything else, or that has no word after `search`; or
+/// `Memory`.
 pub fn parse_search(alloc: Global, files: &ConfFiles) -> Result<Search, ConfFault>
     requires { All (λ file. length file.bytes ≤ file_limit) files.now }
     ensures ok { IfOk result (λ search. search_of files.now ≡ Ok search) }
@@ -29,7 +30,7 @@ pub fn parse_search(alloc: Global, files: &ConfFiles) -> Result<Search, ConfFaul
     Ok(words_of_lines(alloc, &lines)?)
 }
 
-/// The words of all lines, in order, or those of the usual list where there is no line.
+/// Returns the words of all lines, in order, or the default list if there is no line.
 fn words_of_lines(alloc: Global, lines: &Items<SearchLine>) -> Result<Search, AllocError>
     ensures { IfOk result (λ search. search ≡ listed_words lines.now) }
 {

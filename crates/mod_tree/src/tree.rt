@@ -14,14 +14,14 @@ use std::cmp::Ordering;
 /// The paths of a tree's modules, relative to the kernel's folder, in the order of the tree.
 pub type Tree = Paths;
 
-/// Why there is no tree of the listed paths.
+/// Why the listed paths have no tree.
 #[derive(Drop)]
 pub enum TreeFault {
     /// The least path of a module, by bytes, that has a byte outside 33 to 126 or a `:`.
     BadPath { path: PathText },
-    /// How many module names there are, more than 10,000.
+    /// There are more than 10,000 module names: `count` of them.
     TooManyModules { count: u64 },
-    /// Memory ran out.
+    /// Out of memory.
     Memory,
 }
 
@@ -45,17 +45,18 @@ impl<T: Drop> From<AllocFailed<T>> for TreeFault {
     }
 }
 
-/// The most modules that a tree may have.
+/// The greatest number of modules in a tree.
 const MODULE_LIMIT: usize = 10_000;
 
-/// Chooses the tree of the listed paths: of each module name the path that the search list ranks first, ties by
-/// bytes; first those that modules.order lists, by their first line there, and then the others by bytes.
-/// depmod.d(5), "search".
+/// Chooses the tree of the listed paths. Each module name has the path that the search list ranks
+/// first, with ties broken by bytes. First come the paths that modules.order lists, by their first
+/// line there, and then the others by bytes. depmod.d(5), "search".
 ///
 /// # Errors
 ///
-/// `BadPath` exactly where the path of a module has a byte outside 33 to 126 or a `:`, with the least such path by
-/// bytes; then `TooManyModules` exactly where there are more than 10,000 module names; or `Memory`.
+/// `BadPath` exactly if the path of a module has a byte outside 33 to 126 or a `:`, with the least
+/// such path by bytes. Else `TooManyModules` exactly if there are more than 10,000 module names. Or
+/// `Memory`.
 pub fn choose(
     alloc: Global,
     paths: &Paths,
@@ -81,7 +82,7 @@ pub fn choose(
     Ok(tree_in_order(alloc, chosen.as_slice(), order_file)?)
 }
 
-/// The paths that are those of modules.
+/// Returns the paths of modules among these paths.
 fn module_paths(alloc: Global, paths: &Paths) -> Result<Vec<&PathText>, AllocError>
     ensures { IfOk result (λ modules. shown modules.items ≡ filter has_module_path paths.now) }
 {
@@ -94,7 +95,7 @@ fn module_paths(alloc: Global, paths: &Paths) -> Result<Vec<&PathText>, AllocErr
     Ok(modules)
 }
 
-/// Whether a path is that of a module: it ends in `.ko`, or as compressed modules do.
+/// Returns whether a path is of a module: it ends in `.ko`, or as compressed modules do.
 pub(crate) fn is_module_path(path: &[u8]) -> bool
     ensures { result ≡ has_module_path path.now }
 {
@@ -107,7 +108,7 @@ fn has_compressed_end(path: &[u8]) -> bool
     path.ends_with(b".ko.gz") || path.ends_with(b".ko.xz") || path.ends_with(b".ko.zst")
 }
 
-/// The least path by bytes that has a byte which can't stand there.
+/// Returns the least path by bytes that has a bad byte.
 fn bad_path<'a>(modules: &[&'a PathText]) -> Option<&'a PathText>
     ensures { option_copied result ≡ bad_path_of (shown modules.now) }
 {
@@ -129,7 +130,7 @@ fn has_bad_byte(path: &[u8]) -> bool
     path.iter().any(|b| *b < 33 || *b > 126 || *b == b':')
 }
 
-/// The lesser by bytes of a path and what may be another.
+/// Returns the lesser by bytes of a path and an optional other one.
 fn lesser<'a>(path: &'a PathText, other: Option<&'a PathText>) -> &'a PathText
     ensures { Some result.now ≡ lesser_of path.now (option_copied other.entry) }
 {

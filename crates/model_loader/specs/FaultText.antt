@@ -1,4 +1,4 @@
--- The texts of refused loads, as they stand in a line on standard error behind the name of the module.
+-- The texts of refused loads, as they follow the name of the module in a line on standard error.
 use Rattle.std.specs.Prelude.{ℕ, List, ◌++◌, codes}
 use Rattle.std.specs.Fmt.{decimal}
 use Rattle.image_layout.specs.declared.fault.LayFault.{LayFault}
@@ -6,7 +6,7 @@ use Rattle.image_layout.specs.declared.fault.LayFault.TheVariants.{Overflow as T
 use Rattle.model_loader.specs.declared.fault.LoadFault.{LoadFault}
 use Rattle.model_loader.specs.declared.fault.LoadFault.TheVariants.{AlreadyLoaded, MissingSymbol, GplOnly, VersionDiffers, NotImported, ExportTaken, RegionFull, Overflow, Memory}
 
--- The text of what keeps a machine from taking a module.
+-- The text of a refused load.
 abbrev pub load_fault_text : LoadFault → List ℕ
 load_fault_text AlreadyLoaded = codes "already loaded"
 load_fault_text (MissingSymbol name) = codes "missing symbol " ++ name

@@ -1,4 +1,4 @@
--- What a machine keeps true of its parts.
+-- The invariant of a machine's parts.
 use Rattle.std.specs.Prelude.{All}
 use Rattle.std.specs.List.{IsDistinct}
 use Rattle.std.specs.Str.{bytes_eq}
@@ -7,8 +7,8 @@ use Rattle.model_loader.specs.Machine.{Machine}
 use Rattle.model_loader.specs.Sound.{IsPlaced, entry_names, exported_names}
 use Rattle.model_loader.specs.Standing.{Keeps}
 
--- The table keeps what stands under each name, no two modules have one name, no name is exported twice, and each image lies
--- in the region on whole pages.
+-- The table keeps the export of each name, no two modules have one name, no name is exported twice,
+-- and each image lies in the region on whole pages.
 pub record IsKept (machine : Machine) (t : ExportTable) : Type 0 where
   pub keeps : Keeps t machine
   pub names : IsDistinct bytes_eq (entry_names machine)

@@ -1,5 +1,6 @@
--- A machine: the symbols of a kernel with their addresses, a region for modules, and the modules that were loaded, oldest
--- first. The kernel's struct module, include/linux/module.h, and find_symbol, kernel/module/main.c.
+-- A machine: the symbols of a kernel with their addresses, a region for modules, and the modules
+-- that were loaded, oldest first. The kernel's struct module, include/linux/module.h, and
+-- find_symbol, kernel/module/main.c.
 use Rattle.std.specs.Prelude.{ℕ, List, [], ◌∷◌, map, find, Option, is_none, option_map, unwrap_or}
 use Rattle.std.specs.Str.{bytes_eq}
 use Rattle.km_names.specs.First.{first}
@@ -7,7 +8,7 @@ use Rattle.symbol_binding.specs.Symbols.{Export, Need, Face, Kernel}
 use Rattle.provider_rel.specs.declared.kernel.Kernel.{Kernel as KernelTable}
 use Rattle.provider_rel.specs.declared.kernel.KernelExport.{KernelExport}
 use Rattle.provider_rel.specs.Faces.{kernel_of}
--- the same of a module that isn't loaded, by its facts
+-- A module that isn't loaded, by its facts, as symbol binding sees it.
 pub use Rattle.provider_rel.specs.Faces.{export_of_facts as facts_export, need_of_facts as facts_need, face_of as facts_face}
 use Rattle.model_loader.specs.declared.fault.MachineFault.{MachineFault}
 use Rattle.model_loader.specs.declared.fault.MachineFault.TheVariants.{KernelWithoutAddress}
@@ -22,15 +23,15 @@ pub record Machine : Type 0 where
   pub region : Region
   pub entries : List Entry
 
--- The machine of a kernel, into which nothing is loaded.
+-- The machine of a kernel, with no modules.
 abbrev pub new_machine : KernelTable → Region → Machine
 new_machine kernel region = record { kernel = kernel; region = region; entries = [] }
 
--- Why a kernel makes no machine: its first export without an address.
+-- Why a kernel has no machine: its first export without an address.
 abbrev pub kernel_fault : List KernelExport → Option MachineFault
 kernel_fault exports = option_map (λ e. KernelWithoutAddress e.name) (find (λ e. is_none e.address) exports)
 
--- What those see of an export, of a need, and of the module of an entry who bind symbols.
+-- An export, a need, and the module of an entry, as symbol binding sees them.
 abbrev pub export_face : PlacedExport → Export
 export_face e = record { name = e.name; crc = e.crc; gpl = e.gpl; space = e.space }
 
@@ -60,7 +61,8 @@ kernel_placed e = record { name = e.name; crc = e.crc; gpl = e.gpl; space = e.sp
 abbrev pub export_named : List ℕ → List PlacedExport → Option PlacedExport
 export_named x exports = find (λ e. bytes_eq e.name x) exports
 
--- What stands under a name: the kernel's export, else that of the module that was loaded first.
+-- What a name is bound to: the kernel's export, and else the export of the module that was loaded
+-- first.
 unfoldable pub placed_under : Machine → List ℕ → Option PlacedExport
 placed_under machine x =
     first (

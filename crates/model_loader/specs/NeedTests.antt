@@ -1,4 +1,5 @@
--- The tests of needs, as the code names them. No public contract cites it.
+-- The tests of needs, as the code names them.
+-- It belongs to the code: no public meaning rests on it.
 use Rattle.std.specs.Prelude.{ℕ, ◌==◌, Bool, List, find, Option, option_map, unwrap_or, if◌then◌else◌}
 use Rattle.std.specs.Option.{option_map_or}
 use Rattle.module_facts.specs.declared.facts.Export.{Export as FactsExport}
@@ -21,7 +22,7 @@ test_of Hidden = is_hidden
 test_of OtherVersion = is_other_version
 test_of Barred = is_barred
 
--- What a load is refused for where a need fails the test.
+-- The refusal of a load if a need fails the test.
 abbrev pub fault_of : Check → List ℕ → LoadFault
 fault_of Missing = MissingSymbol
 fault_of Hidden = GplOnly
@@ -37,11 +38,11 @@ need_fails check table f n =
 abbrev pub taken_by : ExportTable → FactsExport → Option LoadFault
 taken_by table e = option_map (λ s. ExportTaken e.name (unwrap_or s.owner vmlinux)) (standing_of table e.name)
 
--- The address that a need of a module stands for, by a table.
+-- The address of a need of a module, by a table.
 abbrev pub kept_address : ExportTable → Facts → FactsNeed → ℕ
 kept_address table f n =
     option_map_or (λ s. if is_seen f.free s.gpl then s.address else 0) (standing_of table n.name) 0
 
--- What the symbol k stands for by these needs, where it is defined elsewhere.
+-- The address of the symbol k by these needs, if it is defined elsewhere.
 abbrev pub given_by : ExportTable → Facts → List FactsNeed → ℕ → ℕ
 given_by table f needs k = option_map_or (kept_address table f) (find (λ n. n.symbol == k) needs) 0

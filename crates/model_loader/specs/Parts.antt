@@ -1,4 +1,5 @@
--- The parts of an entry and of a machine, as the code makes them. No public contract cites it.
+-- The parts of an entry and of a machine, as the code makes them.
+-- It belongs to the code: no public meaning rests on it.
 use Rattle.std.specs.Prelude.{◌≡◌, ℕ, List, length, map, slice_index}
 use Rattle.module_facts.specs.declared.facts.Export.{Export as FactsExport}
 use Rattle.module_facts.specs.declared.module.Module.{Module}

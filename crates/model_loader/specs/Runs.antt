@@ -1,4 +1,5 @@
--- The images of a machine's entries, as the search for a gap sees them. No public contract cites it.
+-- The images of a machine's entries, as the search for a gap sees them.
+-- It belongs to the code: no public meaning rests on it.
 use Rattle.std.specs.Prelude.{◌≡◌, ℕ, ◌%◌, ◌≤◌, ◌<◌, true, false, Bool, List, length}
 use Rattle.std.specs.List.{list_any}
 use Rattle.model_loader.specs.declared.entry.Entry.{Entry}
@@ -14,14 +15,14 @@ pub record IsPaged (r : Run) : Type 0 where
   pub begins : r.base % 4096 ≡ 0
   pub whole : r.size % 4096 ≡ 0
 
--- So many bytes from a place on meet a run, or one of these.
+-- Whether so many bytes from a place on meet a run, or one of these runs.
 abbrev pub meets_run : ℕ → ℕ → Run → Bool
 meets_run n at r = meets at n r.base r.size
 
 abbrev pub meets_any : List Run → ℕ → ℕ → Bool
 meets_any runs n at = list_any (meets_run n at) runs
 
--- The lowest page from a base on from which so many bytes meet no run.
+-- The lowest page from a base on such that so many bytes meet no run.
 pub record IsLowest (base : ℕ) (runs : List Run) (n at : ℕ) : Type 0 where
   pub low : base ≤ at
   pub page : at % 4096 ≡ 0

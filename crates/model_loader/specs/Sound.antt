@@ -1,4 +1,4 @@
--- Machines in which all is bound, and sound ones.
+-- Machines whose entries are bound, and sound machines.
 use Rattle.std.specs.Prelude.{◌≡◌, ℕ, ◌+◌, ◌%◌, ◌≤◌, ◌⊎◌, true, false, List, [], ◌∷◌, ◌++◌, length, map, flat_map, All, AllPairs, Some}
 use Rattle.std.specs.List.{IsDistinct}
 use Rattle.std.specs.Str.{bytes_eq}
@@ -11,8 +11,8 @@ use Rattle.model_loader.specs.declared.entry.Entry.{Entry}
 use Rattle.model_loader.specs.Machine.{Machine, entry_face, faces, machine_kernel}
 use Rattle.model_loader.specs.Step.{entry_at}
 
--- A need is bound in a machine: an export stands under its name, the module sees it and may use it, and its version
--- agrees.
+-- A need is bound in a machine: its name has an export, the module sees it and may use it, and its
+-- version agrees.
 pub record IsBound (machine : Machine) (m : Face) (n : Need) : Type 0 where
   pub export : Export
   pub found : export_under (table (machine_kernel machine) (faces machine) n.name) ≡ Some export
@@ -20,23 +20,24 @@ pub record IsBound (machine : Machine) (m : Face) (n : Need) : Type 0 where
   pub agreeing : agree n.crc export.crc ≡ true
   pub allowed : may_use m export ≡ true
 
--- A need agrees with a machine: the export that stands under its name, if the module sees it, has an agreeing version,
--- and may be used.
+-- A need agrees with a machine: if the module sees the export of its name, the version agrees and
+-- the module may use it.
 abbrev pub Agrees : Machine → Face → Need → Type 0
 Agrees machine m n =
     (e : Export) → export_under (table (machine_kernel machine) (faces machine) n.name) ≡ Some e → sees m e ≡ true
     → (agree n.crc e.crc ≡ true) × (may_use m e ≡ true)
 
--- An entry is that of a module over a machine, and the needs of the module are bound there.
+-- An entry is a module's over a machine, and each strong need of the module is bound there.
 pub record IsEntryOf (machine : Machine) (m : Module) (e : Entry) : Type 0 where
-  -- its names, its exports at their addresses, and its image, with the word of each relocation at its place
+  -- Its names, its exports at their addresses, and its image, with the word of each relocation at
+  -- its place.
   pub entry : e ≡ entry_at machine m e.loaded.base
-  -- each strong need is bound
+  -- Each strong need is bound.
   pub strong : All (λ (n : Need). n.weak ≡ false → IsBound machine (entry_face e) n) (entry_face e).needs
-  -- each need that is exported and seen agrees in version, and may be used
+  -- Each need that is exported and seen agrees in version, and may be used.
   pub agreeing : All (Agrees machine (entry_face e)) (entry_face e).needs
 
--- Each of these entries is that of its module, over the machine with the entries before it.
+-- Each of these entries is its module's, over the machine with the entries before it.
 abbrev pub AreBoundAfter : Machine → List Entry → List Module → List Entry → Type 0
 AreBoundAfter machine before [] [] = Unit {0}
 AreBoundAfter machine before [] (e ∷ es) = ⊥
@@ -44,11 +45,11 @@ AreBoundAfter machine before (m ∷ ms) [] = ⊥
 AreBoundAfter machine before (m ∷ ms) (e ∷ es) =
     IsEntryOf (record machine { entries = before }) m e × AreBoundAfter machine (before ++ e ∷ []) ms es
 
--- All is bound in a machine of these modules.
+-- All entries of a machine of these modules are bound.
 abbrev pub AllBound : Machine → List Module → Type 0
 AllBound machine ms = AreBoundAfter machine [] ms machine.entries
 
--- The names of modules, and those that the kernel and modules export.
+-- The names of modules, and the names that the kernel and modules export.
 abbrev pub entry_names : Machine → List (List ℕ)
 entry_names machine = map (λ e. e.loaded.name) machine.entries
 
@@ -68,8 +69,8 @@ pub record IsPlaced (machine : Machine) (e : Entry) : Type 0 where
 abbrev pub AreApart : Entry → Entry → Type 0
 AreApart a b = (a.loaded.base + length a.image ≤ b.loaded.base) ⊎ (b.loaded.base + length b.image ≤ a.loaded.base)
 
--- A machine of these modules is sound: all is bound, no two modules have one name, no name is exported twice, and the
--- images lie in the region on whole pages, and apart.
+-- A machine of these modules is sound: all entries are bound, no two modules have one name, no name
+-- is exported twice, and the images lie in the region on whole pages, and apart.
 pub record IsSound (machine : Machine) (ms : List Module) : Type 0 where
   pub bound : AllBound machine ms
   pub names : IsDistinct bytes_eq (entry_names machine)

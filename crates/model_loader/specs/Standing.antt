@@ -1,4 +1,5 @@
--- What a machine keeps of each exported name, so that a name is looked up in one step. No public contract cites it.
+-- What a machine keeps of each exported name, so that a name is looked up in one step.
+-- It belongs to the code: no public meaning rests on it.
 use Rattle.std.specs.Prelude.{◌≡◌, ℕ, List, [], ◌∷◌, map, find, Option, None, Some, option_map}
 use Rattle.std.specs.HashMap.{get_by}
 use Rattle.std.specs.Str.{bytes_eq}
@@ -10,11 +11,12 @@ use Rattle.model_loader.specs.declared.standing.Named.{Named}
 use Rattle.model_loader.specs.declared.standing.ExportTable.{ExportTable}
 use Rattle.model_loader.specs.Machine.{Machine, export_named, kernel_placed}
 
--- What is kept of an export of an owner: a module by its name, or the kernel.
+-- What is kept of an export of an owner, which is a module by its name or the kernel.
 abbrev pub standing : Option (List ℕ) → PlacedExport → Standing
 standing owner e = record { crc = e.crc; gpl = e.gpl; space = e.space; address = e.address; owner = owner }
 
--- What is kept of a name: of the kernel's export, else of that of the module that was loaded first.
+-- What is kept of a name: of the kernel's export, and else of the export of the module that was
+-- loaded first.
 unfoldable pub standing_under : Machine → List ℕ → Option Standing
 standing_under machine x =
     first (
@@ -22,7 +24,7 @@ standing_under machine x =
     ∷ first (map (λ e. option_map (standing (Some e.loaded.name)) (export_named x e.exports)) machine.entries)
     ∷ [])
 
--- The export of this name of which that is kept.
+-- The export of this name, from what is kept of it.
 abbrev pub standing_export : List ℕ → Standing → Export
 standing_export x s = record { name = x; crc = s.crc; gpl = s.gpl; space = s.space }
 
@@ -34,7 +36,7 @@ standing_of t x = get_by (λ k. bytes_eq x k.items) t.standings
 abbrev pub standing_in : List ℕ → List Named → Option Standing
 standing_in x named = option_map (λ n. n.standing) (find (λ n. bytes_eq n.name.items x) named)
 
--- The table has what is to be kept.
+-- The table has what a machine keeps of each name.
 pub record Keeps (t : ExportTable) (machine : Machine) : Type 0 where
   pub at : (x : List ℕ) → standing_of t x ≡ standing_under machine x
 

@@ -1,5 +1,5 @@
--- A load: why a machine refuses a module, and the machine after it took one. The kernel's load_module and
--- resolve_symbol, kernel/module/main.c.
+-- A load: why a machine refuses a module, and the machine with the module. The kernel's load_module
+-- and resolve_symbol, kernel/module/main.c.
 use Rattle.std.specs.Prelude.{ℕ, ◌/◌, ◌-◌, ◌^◌, ◌==◌, nat_lt, Bool, List, [], ◌∷◌, ◌++◌, map, find, length, Option, Some, None, is_none, option_map, unwrap_or, option_and_then, Result, Ok, Err, if◌then◌else◌}
 use Rattle.std.specs.List.{range_with_len}
 use Rattle.std.specs.Option.{option_map_or}
@@ -26,22 +26,22 @@ use Rattle.model_loader.specs.declared.entry.Entry.{Entry}
 use Rattle.model_loader.specs.Machine.{Machine, faces, machine_kernel, facts_face, placed_under}
 use Rattle.model_loader.specs.Gap.{gap}
 
--- A test that fails with this fault where the condition holds.
+-- A test that fails with this fault if the condition holds.
 abbrev pub fault_if : Bool → LoadFault → Option LoadFault
 fault_if failed fault = if failed then Some fault else None
 
--- The address that a need stands for: that of the export under its name, where one stands there that the module sees;
--- else 0.
+-- The address of a need: the address of its export, if there is one that the module sees, and else
+-- 0.
 abbrev pub need_address : Machine → Facts → FactsNeed → ℕ
 need_address machine f n =
     option_map_or (λ e. if is_seen f.free e.gpl then e.address else 0) (placed_under machine n.name) 0
 
--- What the symbol k stands for where it is defined elsewhere: the address of the need that it states. Symbol 0 and
--- `_GLOBAL_OFFSET_TABLE_` state none, and stand for 0.
+-- The address of the symbol k if it is defined elsewhere: the address of the need that it states.
+-- Symbol 0 and `_GLOBAL_OFFSET_TABLE_` state none, and have 0.
 abbrev pub given_address : Machine → Facts → ℕ → ℕ
 given_address machine f k = option_map_or (need_address machine f) (find (λ n. n.symbol == k) f.needs) 0
 
--- The same of all symbols of a module.
+-- The addresses of all symbols of a module that are defined elsewhere.
 unfoldable pub given_addresses : Machine → Module → List ℕ
 given_addresses machine m = map (given_address machine m.facts) (range_with_len 0 (length m.object.symbols))
 
@@ -49,11 +49,11 @@ given_addresses machine m = map (given_address machine m.facts) (range_with_len 
 abbrev pub symbol_addresses : Machine → Module → ℕ → List ℕ
 symbol_addresses machine m base = addresses m.object base (given_addresses machine m)
 
--- How many bytes the image of a module has.
+-- The size of the image of a module in bytes.
 abbrev pub module_size : Module → ℕ
 module_size m = image_size m.object.sections
 
--- A number of pages as a refusal names it: 2^64 - 1 stands for any greater one.
+-- A number of pages as a refusal states it: 2^64 - 1 for any greater one.
 abbrev pub named_pages : ℕ → ℕ
 named_pages n = if nat_lt n (2 ^ 64) then n else 2 ^ 64 - 1
 
@@ -62,12 +62,12 @@ abbrev pub owner_name : Owner Face → List ℕ
 owner_name ByKernel = vmlinux
 owner_name (ByModule m) = m.name
 
--- The test that the test of a need finds none of a module.
+-- The test that no need of a module fails the test of needs.
 abbrev pub need_test : Machine → Facts → NeedTest → (List ℕ → LoadFault) → Option LoadFault
 need_test machine f test fault =
     option_map fault (first_need (machine_kernel machine) (faces machine) (facts_face f) test)
 
--- The test that nothing stands under the name of an export.
+-- The test that the name of an export isn't bound yet.
 abbrev pub taken_test : Machine → Export → Option LoadFault
 taken_test machine e =
     option_map (λ t. ExportTaken t.0 (owner_name t.1.owner)) (taken (machine_kernel machine) (faces machine) e)
@@ -88,14 +88,15 @@ abbrev pub overflow_fault : Machine → Module → ℕ → Option LoadFault
 overflow_fault machine m base =
     option_map (λ (o : TooWide). Overflow o.section o.entry) (overflow m.object base (symbol_addresses machine m base))
 
--- The tests of the place of a module, in order: a gap of the region has room, and all words fit there.
+-- The tests of the place of a module, in order: the region has a gap for it, and all words fit
+-- there.
 abbrev pub place_tests : Machine → Module → List (Option LoadFault)
 place_tests machine m =
     fault_if (is_none (gap machine (module_size m))) (RegionFull (named_pages (module_size m / PAGE)))
     ∷ option_and_then (overflow_fault machine m) (gap machine (module_size m))
     ∷ []
 
--- Why a machine refuses a module: the first of eight tests that fails.
+-- The refusal of a module: the first of eight tests that fails.
 unfoldable pub refusal : Machine → Module → Option LoadFault
 refusal machine m = first (name_tests machine m.facts ++ place_tests machine m)
 

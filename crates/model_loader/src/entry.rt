@@ -3,14 +3,14 @@
 use km_names::{List, Name, Names};
 use raw_image::Image;
 
-/// A loaded module: its name, where its image begins, and how many bytes the image has.
+/// A loaded module: its name, the base of its image, and the size of the image.
 #[derive(Debug, Drop)]
 pub struct LoadedModule {
     /// The name of the module.
     pub name: Name,
     /// The address of the first byte of its image.
     pub base: u64,
-    /// How many bytes the image has.
+    /// The size of the image in bytes.
     pub size: u64,
 }
 

@@ -1,4 +1,4 @@
-// Why a machine isn't made, and why it doesn't take a module.
+// Why a machine isn't made, and why it refuses a module.
 
 ghost use Rattle.std.specs.Prelude.{◌≡◌, ◌++◌, codes, IfOk};
 ghost use Rattle.std.specs.Fmt.{decimal};
@@ -15,12 +15,12 @@ pub enum MachineFault {
     /// The kernel's export `name` has no address.
     #[error("kernel without address {}", BStr::new(.name.as_bytes()))]
     KernelWithoutAddress { name: Name },
-    /// Memory ran out.
+    /// Out of memory.
     #[error("out of memory")]
     Memory,
 }
 
-/// Why a machine doesn't take a module.
+/// Why a machine refuses a module.
 #[derive(Debug, Drop, Error)]
 pub enum LoadFault {
     /// A module of this name is loaded.
@@ -48,7 +48,7 @@ pub enum LoadFault {
     /// The word of the relocation `entry` of the section `section` doesn't fit.
     #[error("overflow at section {section} entry {entry}")]
     Overflow { section: u32, entry: u32 },
-    /// Memory ran out.
+    /// Out of memory.
     #[error("out of memory")]
     Memory,
 }
@@ -119,7 +119,7 @@ fn joined(alloc: Global, before: &[u8], middle: &[u8], after: &[u8]) -> Result<B
     Ok(text)
 }
 
-/// Returns the text for a load that found no room.
+/// Returns the text for a load that finds no gap.
 fn full_text(alloc: Global, pages: u64) -> Result<Blob, AllocError>
     ensures { IfOk result (λ text. text ≡ codes "region full, " ++ (decimal pages ++ codes " pages")) }
 {

@@ -32,7 +32,7 @@ fn runs_of(alloc: Global, entries: &[Entry]) -> Result<Vec<Run>, AllocError>
     Ok(runs)
 }
 
-/// Returns true only if the runs are in order of rising address.
+/// Returns whether the runs are in order of rising address, and may return false if they are.
 fn are_sorted(runs: &[Run]) -> bool
     ensures { result ≡ true → IsNonDecreasingBy (λ (r : Run). r.base) runs.now }
 {
@@ -59,7 +59,7 @@ fn sorted_runs(alloc: Global, entries: &[Entry]) -> Result<Vec<Run>, AllocError>
     Ok(runs)
 }
 
-/// Returns the lowest page from `base` on where `size` bytes meet no run.
+/// Returns the lowest page from `base` on such that `size` bytes meet no run.
 fn lowest_free(base: u64, runs: &[Run], size: u128) -> u128
     requires base { base % 4096 ≡ 0 }
     requires size { size < 2 ^ 100 }
@@ -78,7 +78,8 @@ fn lowest_free(base: u64, runs: &[Run], size: u128) -> u128
     at
 }
 
-/// Returns the lowest page of a region from which `size` bytes are free, among these entries.
+/// Returns the lowest page of a region such that `size` bytes from there on are free, among these
+/// entries.
 pub(crate) fn lowest_gap(
     alloc: Global,
     region: &Region,

@@ -5,8 +5,8 @@
 //! to the exports of the kernel and of the modules before it, and writes the relocated words into
 //! its image. Otherwise it answers the first of eight refusals, and the machine is as before.
 //! Contracts see a machine as its kernel, its region and its entries, oldest first. They see a load
-//! as the step that the definitions give. Every load keeps the machine sound: all is bound, no name
-//! is taken twice, and no two images meet.
+//! as the step that the definitions give. Every load keeps the machine sound: each strong need is
+//! bound, no name is taken twice, and no two images overlap.
 //!
 //! The crate builds on `image_layout` for sizes, addresses and images, and on `indexmap` for the
 //! table of exported names. It tests needs with `symbol_binding`, whose tests the lines of

@@ -25,7 +25,7 @@ use provider_rel::{Kernel, KernelExport};
 use std::alloc::{AllocError, Global};
 use std::marker::Model;
 
-/// A machine into which modules are loaded: a kernel's table with an address for each export, a
+/// A machine that modules are loaded into: a kernel's table with an address for each export, a
 /// region for modules, and the loaded modules, oldest first. Contracts see these three.
 #[derive(Drop)]
 pub struct Machine {
@@ -47,12 +47,12 @@ impl Model for Machine {
     ghost invariant = { λ m. IsKept (record { kernel = m.kernel; region = m.region; entries = m.entries.items }) m.table };
 }
 
-/// Where a module was placed.
+/// The place of a loaded module.
 #[derive(Clone, Copy, Debug, PartialEq, Eq)]
 pub struct LoadedAt {
     /// The address of the first byte of its image.
     pub base: u64,
-    /// How many bytes the image has.
+    /// The size of the image in bytes.
     pub size: u64,
 }
 
@@ -103,7 +103,7 @@ fn kernel_table(alloc: Global, kernel: &Kernel) -> Result<ExportTable, MachineFa
     Ok(table)
 }
 
-/// Enters what was prepared for a module. There is room for it, so this takes no memory.
+/// Enters what was prepared for a module. Its memory is reserved, so this takes none.
 fn enter(entries: &mut Vec<Entry>, table: &mut ExportTable, prepared: Prepared)
     requires entries { vec_len entries.old < vec_capacity entries.old }
     requires names { length prepared.named.items ≤ spare table.old.standings }
@@ -116,11 +116,11 @@ fn enter(entries: &mut Vec<Entry>, table: &mut ExportTable, prepared: Prepared)
 }
 
 impl Machine {
-    /// Returns the machine of a kernel, with no module.
+    /// Returns the machine of a kernel, with no modules.
     ///
     /// # Errors
     ///
-    /// `KernelWithoutAddress` for the first export without an address, if there is one, or
+    /// `KernelWithoutAddress` with the first export without an address, if there is one, or
     /// `Memory`.
     pub fn new(alloc: Global, kernel: Kernel, region: Region) -> Result<Machine, MachineFault>
         ensures machine { IfOk result (λ m. m ≡ new_machine kernel region) }
@@ -137,7 +137,7 @@ impl Machine {
         })
     }
 
-    /// Returns what is to be entered for a module, after all tests that it must pass.
+    /// Returns the prepared entry of a module, after all tests that it must pass.
     fn ready(&self, module: &Module) -> Result<Prepared, LoadFault>
         ensures entry { IfOk result (λ p. p.entry ≡ entry_at self.now «module».now (module_base self.now «module».now)) }
         ensures named { IfOk result (λ p. map named_pair p.named.items ≡ map (export_pair (Some p.entry.loaded.name)) p.entry.exports) }
@@ -174,8 +174,9 @@ impl Machine {
         Ok(at)
     }
 
-    /// Whether the `k`-th loaded module binds to the `j`-th: it was loaded later, and the other
-    /// exports one of its needs with an export that it sees. Each need is looked up at most once.
+    /// Returns whether the `k`-th loaded module binds to the `j`-th. It does if it was loaded
+    /// later, and the other exports one of its needs with an export that it sees. Each need is
+    /// looked up at most once.
     pub fn binds(&self, k: usize, j: usize) -> bool
         requires user { k < length self.now.entries }
         requires other { j < length self.now.entries }
@@ -194,7 +195,7 @@ impl Machine {
         Ok(all)
     }
 
-    /// Takes out the `j`-th loaded module, to which no other binds. All others stay as they are,
+    /// Removes the `j`-th loaded module. No other module binds to it. All others stay as they are,
     /// and a sound machine stays sound. It takes no memory.
     pub fn drop_entry(&mut self, j: usize)
         requires inside { j < length self.old.entries }
@@ -218,7 +219,7 @@ impl Machine {
         None
     }
 
-    /// Returns how many modules are loaded.
+    /// Returns the number of loaded modules.
     pub fn module_count(&self) -> usize
         ensures { result ≡ length self.now.entries }
     {

@@ -19,7 +19,7 @@ use km_names::Name;
 use module_facts::{Export, Facts};
 use std::alloc::{AllocError, Global};
 
-/// Whether a module of this name is among these entries.
+/// Returns whether a module of this name is among these entries.
 pub(crate) fn is_loaded(entries: &[Entry], name: &[u8]) -> bool
     ensures { result ≡ list_any (λ e. bytes_eq e.loaded.name name.now) entries.now }
 {
@@ -59,7 +59,8 @@ pub(crate) fn check_exports(
     Ok(())
 }
 
-/// Tests the names of a module, over the machine that has these entries and whose exported names are in a table.
+/// Tests the names of a module, over the machine that has these entries and whose exported names
+/// are in a table.
 pub(crate) fn check_names(
     alloc: Global,
     entries: &[Entry],

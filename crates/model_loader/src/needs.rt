@@ -13,7 +13,7 @@ use module_facts::{Facts, Need};
 use std::alloc::Global;
 use symbol_binding::{agree, may_use, sees};
 
-/// What can be wrong with a need, in the order in which a load looks for it.
+/// What can be wrong with a need, in the order of a load's tests.
 #[derive(Clone, Copy, Debug)]
 pub(crate) enum Check {
     /// It is strong, and nobody exports it.
@@ -26,7 +26,7 @@ pub(crate) enum Check {
     Barred,
 }
 
-/// Whether an exported need of a module fails a test.
+/// Returns whether an exported need of a module fails a test.
 fn fails_found(check: Check, found: &Standing, facts: &Facts, need: &Need) -> bool
     ensures { result ≡ test_of check (Some (standing_export need.now.name found.now)) (facts_face facts.now) (facts_need need.now) }
 {
@@ -39,7 +39,7 @@ fn fails_found(check: Check, found: &Standing, facts: &Facts, need: &Need) -> bo
     }
 }
 
-/// Whether a need of a module fails a test, by what is exported under its name.
+/// Returns whether a need of a module fails a test, by what is exported under its name.
 fn fails(check: Check, found: Option<&Standing>, facts: &Facts, need: &Need) -> bool
     ensures { result ≡ test_of check (option_map (standing_export need.now.name) (option_copied found.entry)) (facts_face facts.now) (facts_need need.now) }
 {

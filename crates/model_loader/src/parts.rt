@@ -87,7 +87,7 @@ pub(crate) fn bound_needs(alloc: Global, needs: &Needs) -> Result<List<BoundNeed
     Ok(copy)
 }
 
-/// Returns what is to be kept of an export of an owner.
+/// Returns the table's entry for an export of an owner.
 fn named_export(alloc: Global, owner: &[u8], export: &PlacedExport) -> Result<Named, AllocError>
     ensures { IfOk result (λ n. named_pair n ≡ export_pair (Some owner.now) export.now) }
 {
@@ -102,7 +102,7 @@ fn named_export(alloc: Global, owner: &[u8], export: &PlacedExport) -> Result<Na
     Ok(Named { name, standing })
 }
 
-/// Returns what is to be kept of the exports of an owner.
+/// Returns the table's entries for the exports of an owner.
 pub(crate) fn named_exports(
     alloc: Global,
     owner: &[u8],

@@ -25,7 +25,7 @@ use raw_image::Image;
 use std::alloc::{AllocError, Global};
 use std::collections::VecDeque;
 
-/// The entry of a module, and what is to be kept of its exports.
+/// The entry of a module, and the table's entries for its exports.
 #[derive(Drop)]
 pub(crate) struct Prepared {
     pub(crate) entry: Entry,
@@ -83,7 +83,7 @@ fn entry_of(
     Ok(entry_with(alloc, module, base, image, &addresses)?)
 }
 
-/// Returns how many pages so many bytes have, as a refusal names it.
+/// Returns the number of pages of so many bytes, as a refusal states it.
 fn named_pages(size: u128) -> u64
     ensures { result ≡ pages_in_a_refusal (size / 4096) }
 {

@@ -5,8 +5,8 @@ ghost use Rattle.model_loader.specs.Regions.{IsRegion, is_region};
 
 use elf_format::PAGE;
 
-/// The addresses that a machine has for modules: whole pages, and at least one. MODULES_VADDR and MODULES_LEN of the
-/// kernel's arch/x86/include/asm/pgtable_64_types.h.
+/// The addresses that a machine has for modules: whole pages, and at least one. MODULES_VADDR and
+/// MODULES_LEN of the kernel's arch/x86/include/asm/pgtable_64_types.h.
 #[derive(Clone, Copy, Debug)]
 pub struct Region {
     pub(crate) base: u64,
@@ -18,8 +18,8 @@ impl Region {
     ghost use Rattle.std.specs.Option.{option_map};
     ghost use Rattle.model_loader.specs.Spans.{span_of};
 
-    /// Returns the region of `size` bytes from `base` on. It is `None` exactly if one of them isn't
-    /// a multiple of 4096, `size` is 0, or the bytes pass the last address of 64 bits.
+    /// Returns the region of `size` bytes from `base` on. The result is `None` exactly if one of
+    /// them isn't a multiple of 4096, `size` is 0, or the bytes exceed the last address of 64 bits.
     #[tactic(auto, using(crate::proofs::RegionLemmas::region_by))]
     pub fn new(base: u64, size: u64) -> Option<Region>
         ensures { option_map span_of result ≡ (if is_region base size then Some (record { base = base; size = size }) else None) }

@@ -15,8 +15,8 @@ use std::alloc::{AllocError, Global};
 use std::collections::VecDeque;
 use std::hash::BuildHasherDefault;
 
-/// What the table keeps of an exported name: what its users ask for, and who exports it, a module
-/// by its name or the kernel.
+/// What the table keeps of an exported name: the export, and its owner, which is a module by its
+/// name or the kernel.
 #[derive(Debug, Drop)]
 pub(crate) struct Standing {
     pub(crate) crc: Option<u64>,
@@ -56,7 +56,7 @@ impl ExportTable {
         self.standings.get(name)
     }
 
-    /// Makes room for `count` names more. No name is changed.
+    /// Reserves memory for `count` more names. No name is changed.
     pub(crate) fn reserve(&mut self, count: usize) -> Result<(), AllocError>
         ensures same { (x : List ℕ) → standing_of self.new x ≡ standing_of self.old x }
         ensures room { OnOk result (count ≤ spare self.new.standings) }
@@ -64,7 +64,7 @@ impl ExportTable {
         self.standings.reserve(count)
     }
 
-    /// Puts a name in, unless it is present. There is room for it, so this takes no memory.
+    /// Inserts a name, unless it is present. Its memory is reserved, so this takes none.
     pub(crate) fn enter(&mut self, named: Named)
         requires { 0 < spare self.old.standings }
         ensures at { (x : List ℕ) → standing_of self.new x
@@ -77,7 +77,7 @@ impl ExportTable {
         }
     }
 
-    /// Puts names in, each unless it is present. There is room for them, so this takes no memory.
+    /// Inserts names, each unless it is present. Their memory is reserved, so this takes none.
     pub(crate) fn enter_all(&mut self, named: VecDeque<Named>)
         requires { length named.items ≤ spare self.old.standings }
         ensures { (x : List ℕ) → standing_of self.new x ≡ option_or (standing_of self.old x) (standing_in x named.items) }
@@ -88,14 +88,14 @@ impl ExportTable {
         }
     }
 
-    /// Takes a name out, if present. It takes no memory.
+    /// Removes a name, if present. It takes no memory.
     pub(crate) fn forget(&mut self, name: &[u8])
         ensures { (x : List ℕ) → standing_of self.new x ≡ (if bytes_eq name.now x then None else standing_of self.old x) }
     {
         let _ = self.standings.swap_remove(name);
     }
 
-    /// Takes the names of exports out, each if present. It takes no memory.
+    /// Removes the names of exports, each if present. It takes no memory.
     pub(crate) fn forget_all(&mut self, exports: &[PlacedExport])
         ensures { (x : List ℕ) → standing_of self.new x
             ≡ (if is_some (export_named x exports.now) then None else standing_of self.old x) }

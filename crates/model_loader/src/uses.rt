@@ -1,5 +1,5 @@
-// Which modules in a machine use which. The table of exported names has who exports what a module
-// needs, so that each need is looked up once.
+// Which modules in a machine use which. The table of exported names has the exporter of each need,
+// so each need is looked up once.
 
 ghost use Rattle.std.specs.Prelude.{◌≡◌, ◌&&◌, ℕ, IfOk, map, nat_eq, nat_lt};
 ghost use Rattle.std.specs.List.{list_any};
@@ -12,7 +12,7 @@ use name_table::NameTable;
 use std::alloc::{AllocError, Global};
 use symbol_binding::sees;
 
-/// Whether the owner of an export is the module of this name.
+/// Returns whether the owner of an export is the module of this name.
 fn is_owner(standing: &Standing, name: &[u8]) -> bool
     ensures { result ≡ is_owner_of name.now standing.now }
 {
@@ -22,7 +22,8 @@ fn is_owner(standing: &Standing, name: &[u8]) -> bool
     }
 }
 
-/// Whether the module of this name exports a need of another, with an export that the other sees.
+/// Returns whether the module of this name exports a need of another, with an export that the other
+/// sees.
 fn is_met_by(table: &ExportTable, free: bool, name: &[u8], need: &BoundNeed) -> bool
     ensures { result ≡ is_met_named table.now free name.now need.now }
 {
@@ -32,7 +33,8 @@ fn is_met_by(table: &ExportTable, free: bool, name: &[u8], need: &BoundNeed) -> 
     }
 }
 
-/// Whether the module of this name exports any need of the user, with an export that the user sees.
+/// Returns whether the module of this name exports any need of the user, with an export that the
+/// user sees.
 fn uses_named(table: &ExportTable, user: &Entry, name: &[u8]) -> bool
     ensures { result ≡ list_any (is_met_named table.now user.now.free name.now) user.now.needs }
 {
@@ -42,7 +44,7 @@ fn uses_named(table: &ExportTable, user: &Entry, name: &[u8]) -> bool
         .any(|need| is_met_by(table, user.free, name, need))
 }
 
-/// Whether the module at the place `k` binds to the one at the place `j`.
+/// Returns whether the module at the place `k` binds to the one at the place `j`.
 pub(crate) fn binds_to(table: &ExportTable, user: &Entry, k: usize, other: &Entry, j: usize) -> bool
     ensures { result ≡ (nat_lt j k && list_any (is_met_named table.now user.now.free other.now.loaded.name) user.now.needs) }
 {

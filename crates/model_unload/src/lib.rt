@@ -1,7 +1,7 @@
-//! Modules taken out of the modelled machine.
+//! Modules removed from the modelled machine.
 //!
-//! The crate builds on `model_loader` for the machine, for which of its modules use which, and for
-//! a machine without one of them.
+//! The crate builds on `model_loader` for the machine, its modules' uses of each other, and a
+//! machine without one module.
 #![tactic(auto)]
 
 ghost use Rattle.std.specs.Prelude.{◌≡◌, ◌<◌, ℕ, List, Ok, Err, Some, OnOk, OnErr, IfErr, length, remove};
@@ -12,7 +12,7 @@ ghost use Rattle.model_unload.specs.Unload.{first_user as user_of, place_of as f
 use model_loader::Machine;
 use thiserror::Error;
 
-/// Why a module isn't taken out.
+/// Why a module isn't removed.
 #[derive(Clone, Copy, Debug, PartialEq, Eq, Error)]
 pub enum UnloadFault {
     /// No module of this name is loaded.
@@ -48,7 +48,7 @@ fn first_user(machine: &Machine, j: usize) -> Option<usize>
     None
 }
 
-/// Takes the module of this name out of a machine. All others stay as they are, and a sound machine
+/// Removes the module of this name from a machine. All others stay as they are, and a sound machine
 /// stays sound. It takes no memory. After a refusal the machine is as before.
 ///
 /// # Errors
@@ -72,7 +72,7 @@ pub fn unload(machine: &mut Machine, name: &[u8]) -> Result<(), UnloadFault>
     Ok(())
 }
 
-/// States that modules that are unused, each at its turn, are taken out by their names.
+/// States that modules that are unused, each at its turn, are removed by their names.
 pub fn unused_are_unloaded()
     ensures { UnusedAreUnloaded }
 {}

@@ -1,16 +1,17 @@
--- The texts of a `.modinfo` section, as the kernel's MODULE_INFO writes them (include/linux/moduleparam.h):
--- `key=value`, each ended by a NUL.
+-- The texts of a `.modinfo` section, as the kernel's MODULE_INFO writes them
+-- (include/linux/moduleparam.h): `key=value`, each ended by a NUL.
 use Rattle.std.specs.Prelude.{ℕ, ◌==◌, Bool, false, true, List, [], ◌∷◌, map, filter}
 use Rattle.std.specs.List.{slice_split, before_first, after_first}
 use Rattle.std.specs.Str.{bytes_eq}
 use Rattle.modinfo_fields.specs.declared.piece.Field.{Field}
 
--- whether a piece has a byte
+-- Whether a piece has a byte.
 abbrev pub is_text : List ℕ → Bool
 is_text [] = false
 is_text (byte ∷ bytes) = true
 
--- The field of a piece: its key up to the first `=`, and the value after it. A piece without `=` is a key.
+-- The field of a piece: its key up to the first `=`, and the value after it. A piece without `=` is
+-- a key.
 unfoldable pub field_of : List ℕ → Field
 field_of piece = record { key = before_first (λ b. b == 61) piece; value = after_first (λ b. b == 61) piece }
 
@@ -18,6 +19,6 @@ field_of piece = record { key = before_first (λ b. b == 61) piece; value = afte
 unfoldable pub fields_of : List ℕ → List Field
 fields_of bytes = map field_of (filter is_text (slice_split (λ b. b == 0) bytes))
 
--- the values of the fields with this key, in order
+-- The values of the fields with this key, in order.
 unfoldable pub values_of_key : List ℕ → List Field → List (List ℕ)
 values_of_key key fields = map (λ field. field.value) (filter (λ field. bytes_eq field.key key) fields)

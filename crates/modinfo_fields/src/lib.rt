@@ -1,6 +1,6 @@
 //! The fields of a module's `.modinfo` section: texts of the form `key=value`, each ended by a NUL.
 //!
-//! It stands on `km_names`.
+//! The crate uses `km_names`.
 #![tactic(auto)]
 
 mod list;

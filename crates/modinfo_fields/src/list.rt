@@ -24,7 +24,7 @@ impl Model for FieldList {
 }
 
 impl FieldList {
-    /// The empty list. It takes no memory.
+    /// Returns the empty list. It takes no memory.
     pub fn new(alloc: Global) -> Self
         ensures { result ≡ [] }
     {
@@ -41,7 +41,7 @@ impl FieldList {
         self.list.push(item)
     }
 
-    /// The field at place `i`, from 0.
+    /// Returns the field at place `i`, from 0.
     pub fn get(&self, i: usize) -> Option<&Field>
         ensures item { option_copied result ≡ slice_get self.now i }
         ensures past_end { IsNone result ↔ (length self.now ≤ i) }
@@ -49,21 +49,21 @@ impl FieldList {
         self.list.get(i)
     }
 
-    /// How many fields there are.
+    /// Returns the number of fields.
     pub fn len(&self) -> usize
         ensures { result ≡ length self.now }
     {
         self.list.len()
     }
 
-    /// Whether there is no field.
+    /// Returns whether there is no field.
     pub fn is_empty(&self) -> bool
         ensures { result ≡ (length self.now == 0) }
     {
         self.list.is_empty()
     }
 
-    /// The values of the fields with this key, in order.
+    /// Returns the values of the fields with this key, in order.
     #[tactic(auto, unfolding(crate::specs::Fields::values_of_key))]
     pub fn values_of(&self, alloc: Global, key: &[u8]) -> Result<Texts, AllocError>
         ensures { IfOk result (λ values. values ≡ values_of_key key.now self.now) }
@@ -78,7 +78,7 @@ impl FieldList {
     }
 }
 
-/// How many pieces between NULs aren't empty.
+/// Returns the number of pieces between NULs that aren't empty.
 fn piece_count(bytes: &[u8]) -> usize {
     let mut count = 0;
     let mut after_nul = true;
@@ -91,9 +91,9 @@ fn piece_count(bytes: &[u8]) -> usize {
     count
 }
 
-/// The fields of a `.modinfo` section's bytes: its texts between NULs that aren't empty, in order. The last
-/// text needs no NUL. The list has room for these fields and no more, since a section may have a field for each
-/// two of its bytes.
+/// Returns the fields of a `.modinfo` section's bytes: its pieces between NULs that aren't empty,
+/// in order. The last piece needs no NUL. The list has room for these fields and no more, since a
+/// section may have a field for each two of its bytes.
 pub fn fields(alloc: Global, bytes: &[u8]) -> Result<FieldList, AllocError>
     ensures { IfOk result (λ list. list ≡ fields_of bytes.now) }
 {
@@ -111,7 +111,7 @@ pub fn fields(alloc: Global, bytes: &[u8]) -> Result<FieldList, AllocError>
     })
 }
 
-/// The value of a piece between NULs, where it is a field with this key.
+/// Returns the value of a piece between NULs, if it is a field with this key.
 #[tactic(auto, unfolding(crate::specs::Fields::values_of_key, crate::specs::Fields::field_of))]
 fn value_of<'a>(piece: &'a [u8], key: &[u8]) -> Option<&'a [u8]>
     ensures { option_to_list (option_copied result)
@@ -127,8 +127,8 @@ fn value_of<'a>(piece: &'a [u8], key: &[u8]) -> Option<&'a [u8]>
     if name == key { Some(value) } else { None }
 }
 
-/// The values of the fields with this key in a `.modinfo` section's bytes, in order. They are those that
-/// [`FieldList::values_of`] gives, without the list of all fields.
+/// Returns the values of the fields with this key in a `.modinfo` section's bytes, in order. They
+/// are the same as from [`FieldList::values_of`], without the list of all fields.
 pub fn field_values(alloc: Global, bytes: &[u8], key: &[u8]) -> Result<Texts, AllocError>
     ensures { IfOk result (λ values. values ≡ values_of_key key.now (fields_of bytes.now)) }
 {

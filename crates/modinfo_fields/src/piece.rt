@@ -7,13 +7,13 @@ use std::alloc::{AllocError, Global};
 /// One field of a `.modinfo` section.
 #[derive(Debug, Drop)]
 pub struct Field {
-    /// What stands before the first `=`, or all where there is none.
+    /// The bytes before the first `=`, or all if there is none.
     pub key: Name,
-    /// What stands after it.
+    /// The bytes after the first `=`.
     pub value: Blob,
 }
 
-/// The field of a piece between NULs.
+/// Returns the field of a piece between NULs.
 #[tactic(auto, unfolding(crate::specs::Fields::field_of))]
 pub(crate) fn read_field(alloc: Global, piece: &[u8]) -> Result<Field, AllocError>
     ensures { IfOk result (λ field. field ≡ field_of piece.now) }

@@ -1,5 +1,6 @@
--- The parameters of a module, as its fields `parm` and `parmtype` tell of them: the kernel's MODULE_PARM_DESC and
--- module_param write these as `NAME:REST` (include/linux/moduleparam.h). modinfo(8), "parameters".
+-- The parameters of a module, as its fields `parm` and `parmtype` describe them: the kernel's
+-- MODULE_PARM_DESC and module_param write these as `NAME:REST` (include/linux/moduleparam.h).
+-- modinfo(8), "parameters".
 use Rattle.std.specs.Prelude.{ℕ, ◌==◌, ◌||◌, Bool, List, ◌++◌, Option, Some, None, option_map, codes, map, filter}
 use Rattle.std.specs.List.{find, before_first, after_first}
 use Rattle.std.specs.Str.{bytes_eq}
@@ -7,23 +8,23 @@ use Rattle.modinfo_fields.specs.declared.piece.Field.{Field}
 use Rattle.modinfo_fields.specs.Fields.{values_of_key}
 use Rattle.name_table.specs.FirstSeen.{first_seen}
 
--- The parameter that a value tells of: what stands before the first `:`, or all where there is none.
+-- The parameter that a value describes: the bytes before the first `:`, or all if there is none.
 abbrev pub name_of : List ℕ → List ℕ
 name_of value = before_first (λ b. b == 58) value
 
--- What a value tells of its parameter: what stands after the first `:`.
+-- The description in a value: the bytes after the first `:`.
 abbrev pub rest_of : List ℕ → List ℕ
 rest_of value = after_first (λ b. b == 58) value
 
--- Whether a field tells of a parameter.
+-- Whether a field describes a parameter.
 abbrev pub is_parameter : Field → Bool
 is_parameter field = bytes_eq field.key (codes "parm") || bytes_eq field.key (codes "parmtype")
 
--- The parameters that any field tells of, in the order in which they are first seen.
+-- The parameters that any field describes, in the order they are first seen in.
 unfoldable pub parameter_names : List Field → List (List ℕ)
 parameter_names fields = first_seen (map (λ (field : Field). name_of field.value) (filter is_parameter fields))
 
--- What the first of some values that tells of this parameter tells of it.
+-- The description of this parameter by the first of some values that describes it.
 unfoldable pub first_told : List (List ℕ) → List ℕ → Option (List ℕ)
 first_told values name = option_map rest_of (find (λ value. bytes_eq (name_of value) name) values)
 
@@ -34,8 +35,8 @@ described name (Some text) None = name ++ codes ":" ++ text
 described name None (Some kind) = name ++ codes ":" ++ kind
 described name None None = name ++ codes ":"
 
--- The values of the parameters, in the order in which they are first seen: the text is what the first `parm` tells, the type
--- what the first `parmtype` tells.
+-- The values of the parameters, in the order they are first seen in. The text is from the first
+-- `parm`, the type from the first `parmtype`.
 unfoldable pub parameter_values : List Field → List (List ℕ)
 parameter_values fields =
     map (λ name. described name (first_told (values_of_key (codes "parm") fields) name) (first_told (values_of_key (codes "parmtype") fields) name))

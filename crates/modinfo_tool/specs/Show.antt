@@ -7,12 +7,13 @@ use Rattle.modinfo_fields.specs.Fields.{values_of_key}
 use Rattle.modinfo_tool.specs.declared.text.ShowOptions.{ShowOptions}
 use Rattle.modinfo_tool.specs.Parameters.{is_parameter, parameter_values}
 
--- A line that shows a value under its key: the key, a colon, spaces up to column 16, and the value. After a key of 15 bytes or more
--- the value follows the colon.
+-- A line that shows a value under its key: the key, a colon, spaces up to column 16, and the value.
+-- After a key of 15 bytes or more the value follows the colon.
 abbrev pub labelled : List ℕ → List ℕ → List ℕ
 labelled key value = key ++ codes ":" ++ repeat (15 - length key) (codes " ") ++ value
 
--- All lines of a module: its path, its fields in order but those that tell of parameters, and a line for each parameter.
+-- All lines of a module: its path, its fields in order without those that describe parameters, and
+-- a line for each parameter.
 unfoldable pub all_lines : List ℕ → List Field → List (List ℕ)
 all_lines path fields =
     labelled (codes "filename") path ∷ []
@@ -34,7 +35,7 @@ lines_asked (Some key) path fields = values_under key path fields
 abbrev pub ended : ℕ → List (List ℕ) → List ℕ
 ended end lines = flat_map (λ line. line ++ end ∷ []) lines
 
--- The byte that ends a line: a NUL where that is asked for, else a line end.
+-- The byte that ends a line: a NUL if that is asked for, and else a line end.
 abbrev pub line_end : Bool → ℕ
 line_end zero = if zero then 0 else 10
 

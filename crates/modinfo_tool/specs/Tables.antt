@@ -1,4 +1,5 @@
--- Tables of what is told of parameters, as the code keeps them. No public meaning rests on this definition.
+-- Tables of the descriptions of parameters, as the code keeps them.
+-- It belongs to the code: no public meaning rests on it.
 use Rattle.std.specs.Prelude.{ℕ, List, Option, option_map}
 use Rattle.std.specs.Borrow.{Bor}
 use Rattle.std.specs.Str.{bytes_eq}

@@ -14,7 +14,7 @@ use std::hash::BuildHasherDefault;
 // Descriptions of parameters, by the parameters' names.
 type Told<'a> = IndexMap<NameKey<'a>, &'a [u8], NameHash>;
 
-/// Whether the field describes a parameter.
+/// Returns whether the field describes a parameter.
 pub(crate) fn is_parameter(field: &Field) -> bool
     ensures { result ≡ tells_of_parameter field.now }
 {
@@ -22,8 +22,8 @@ pub(crate) fn is_parameter(field: &Field) -> bool
     key == b"parm".as_slice() || key == b"parmtype".as_slice()
 }
 
-/// Returns the values of the parameters that the fields describe, in the order in which they are
-/// first seen.
+/// Returns the values of the parameters that the fields describe, in the order they are first seen
+/// in.
 #[tactic(auto, unfolding(crate::specs::Parameters::parameter_values))]
 pub(crate) fn parameter_values(alloc: Global, fields: &FieldList) -> Result<Texts, AllocError>
     ensures { IfOk result (λ values. values ≡ values_of_parameters fields.now) }
@@ -108,7 +108,7 @@ fn first_told<'a>(alloc: Global, values: &'a [Blob]) -> Result<Told<'a>, AllocEr
     Ok(told)
 }
 
-// Puts in a description under a name, unless the name has one.
+// Inserts a description under a name, unless the name has one.
 fn keep_first<'a>(told: &mut Told<'a>, name: &'a [u8], rest: &'a [u8]) -> Result<(), AllocError>
     ensures ok { OnOk result ((other : List ℕ) → told_in told.new other
         ≡ option_or (told_in told.old other) (if bytes_eq name.now other then Some rest.now else None)) }
@@ -120,7 +120,7 @@ fn keep_first<'a>(told: &mut Told<'a>, name: &'a [u8], rest: &'a [u8]) -> Result
     Ok(())
 }
 
-// Returns the parameters that any field describes, in the order in which they are first seen.
+// Returns the parameters that any field describes, in the order they are first seen in.
 fn parameter_names<'a>(alloc: Global, fields: &'a FieldList) -> Result<NameSet<'a>, AllocError>
     ensures { IfOk result (λ names. names ≡ names_of_parameters fields.now) }
 {

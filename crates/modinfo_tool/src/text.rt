@@ -9,22 +9,22 @@ use km_names::{Blob, Name, PathText, Texts};
 use modinfo_fields::FieldList;
 use std::alloc::{AllocError, Global};
 
-/// What modinfo is to show of a module, and how.
+/// The options of what modinfo shows of a module.
 #[derive(Debug, Drop)]
 pub struct ShowOptions {
     /// The only key whose values are shown: `filename` is the path, `parm` are the parameters.
     /// `None` shows all.
     pub field: Option<Name>,
-    /// Whether a line ends with a NUL in place of a line end.
+    /// Whether a line ends with a NUL instead of a line end.
     pub zero: bool,
 }
 
 /// Returns the text that modinfo shows of the module at a path, with these fields. modinfo(8).
 ///
 /// Without a key it has a line for the path, and one for each field except `parm` and `parmtype`,
-/// in order. Then it has one for each parameter, in the order in which they are first seen. The
-/// value of a parameter is `NAME:TEXT (TYPE)`, by its first `parm` and its first `parmtype`. With a
-/// key it has only the values of that key.
+/// in order. Then it has one for each parameter, in the order they are first seen in. The value of
+/// a parameter is `NAME:TEXT (TYPE)`, by its first `parm` and its first `parmtype`. With a key it
+/// has only the values of that key.
 #[tactic(auto, unfolding(crate::specs::Show::shown))]
 pub fn show(
     alloc: Global,
@@ -50,7 +50,7 @@ fn line_end(zero: bool) -> u8
     if zero { 0 } else { b'\n' }
 }
 
-// Returns all that is known of a module.
+// Returns all lines of a module.
 #[tactic(auto, unfolding(crate::specs::Show::all_lines))]
 fn all_text(alloc: Global, path: &PathText, fields: &FieldList, end: u8) -> Result<Blob, AllocError>
     ensures { IfOk result (λ text. text ≡ ended end (all_lines path.now fields.now)) }

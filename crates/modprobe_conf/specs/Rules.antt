@@ -15,7 +15,7 @@ use Rattle.modprobe_conf.specs.declared.rule.Named.{Named}
 use Rattle.modprobe_conf.specs.declared.rule.Rule.{Rule}
 use Rattle.modprobe_conf.specs.declared.rule.Rule.TheVariants.{Alias, Blacklist, Options, Install, Remove, Softdep}
 
--- Something, where a text isn't empty.
+-- A value, unless the text is empty.
 abbrev pub unless_empty : {X : Type 0} → List ℕ → Option X → Option X
 unless_empty [] x = None
 unless_empty (b ∷ bs) x = x
@@ -30,12 +30,12 @@ alias_rule rest =
 unfoldable pub blacklist_rule : List ℕ → Option Rule
 blacklist_rule rest = unless_empty (first_word rest) (Some (Blacklist (underscored (first_word rest))))
 
--- A name, and a rest that isn't empty and is kept as it stands.
+-- A name, and a rest that isn't empty and is kept unchanged.
 unfoldable pub name_with_rest : List ℕ → Option Named
 name_with_rest rest =
     unless_empty (rest_after_word rest) (Some (record { name = underscored (first_word rest); text = rest_after_word rest }))
 
--- Whether a word says where the words after it belong, in a line of soft dependencies.
+-- Whether a word in a line of soft dependencies is one of the markers `pre:` and `post:`.
 abbrev pub is_marker : List ℕ → Bool
 is_marker word = bytes_eq word (codes "pre:") || bytes_eq word (codes "post:")
 
@@ -45,7 +45,8 @@ words_after marker [] = []
 words_after marker (word ∷ words) =
     if bytes_eq word marker then take_while (λ w. not (is_marker w)) words ++ words_after marker words else words_after marker words
 
--- `softdep NAME WORDS`: one word after the name; the names after `pre:` and those after `post:`.
+-- `softdep NAME WORDS`: at least one word after the name. The names are those after `pre:` and
+-- those after `post:`.
 unfoldable pub softdep_rule : List ℕ → Option Rule
 softdep_rule rest =
     let list = rest_after_word rest in
@@ -63,8 +64,8 @@ command_of word =
     else (if bytes_eq word (codes "softdep") then Some commands.Softdep
     else None)))))
 
--- What a line of a command states, from what follows the command: `options NAME REST`, `install NAME REST` and
--- `remove NAME REST` are a name with a rest.
+-- What a line of a command states, from what follows the command: `options NAME REST`,
+-- `install NAME REST` and `remove NAME REST` are a name with a rest.
 abbrev pub rule_of_command : Command → List ℕ → Option Rule
 rule_of_command commands.Alias rest = alias_rule rest
 rule_of_command commands.Blacklist rest = blacklist_rule rest

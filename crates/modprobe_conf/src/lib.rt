@@ -1,7 +1,7 @@
-//! The rules of modprobe.d(5): aliases, blacklists, options, commands to install and remove, and soft
-//! dependencies, one rule for each line of the configuration files.
+//! The rules of modprobe.d(5): aliases, blacklists, options, commands to install and remove, and
+//! soft dependencies, one rule for each line of the configuration files.
 //!
-//! It stands on `km_names`, which joins the lines and names the first one that isn't understood.
+//! The crate uses `km_names`, which joins the lines and names the first one that isn't understood.
 #![tactic(auto)]
 
 ghost use Rattle.std.specs.Prelude.{◌≡◌, ◌≤◌, ◌⊎◌, length, All, IfOk, IfErr};
@@ -14,9 +14,10 @@ use km_names::{ConfFault, ConfFiles, parse_files};
 pub use rule::{Rule, Rules};
 use std::alloc::Global;
 
-/// The rules of the files, one for each line that states something, in order: the files in their order,
-/// and each file's lines. `BadLine` comes exactly at the first line whose command isn't one of
-/// modprobe.d(5) that this crate knows, or that has too little after it. modprobe.d(5).
+/// Returns the rules of the files, one for each line that states something, in order: the files in
+/// their order, and each file's lines. It answers `BadLine` with the first line that isn't
+/// understood. Such a line has a command that isn't one of modprobe.d(5) known here, or too little
+/// after it. modprobe.d(5).
 pub fn parse(alloc: Global, files: &ConfFiles) -> Result<Rules, ConfFault>
     requires { All (λ file. length file.bytes ≤ file_limit) files.now }
     ensures ok { IfOk result (λ rules. rules_of files.now ≡ Ok rules) }

@@ -6,20 +6,22 @@ ghost use Rattle.modprobe_conf.specs.Rules.{command_of as command_of_word, rule_
 use km_names::{Alias, Blob, List, Name, Names, Statement, normal_alias, split_word, underscored};
 use std::alloc::{AllocError, Global};
 
-/// What a line of modprobe.d(5) states. Names have `_` for each `-`, and patterns their normal form.
+/// What a line of modprobe.d(5) states. Names have `_` for each `-`, and patterns their normal
+/// form.
 #[derive(Drop)]
 pub enum Rule {
-    /// `alias PATTERN NAME`: names that match the pattern stand for the module.
+    /// `alias PATTERN NAME`: names that match the pattern mean the module.
     Alias { pattern: Alias, name: Name },
     /// `blacklist NAME`: the module's own aliases aren't used.
     Blacklist { name: Name },
-    /// `options NAME TEXT`: parameters that the module is loaded with.
+    /// `options NAME TEXT`: parameters for loading the module.
     Options { name: Name, text: Blob },
-    /// `install NAME COMMAND`: what is run instead of loading the module.
+    /// `install NAME COMMAND`: a command that is run instead of loading the module.
     Install { name: Name, command: Blob },
-    /// `remove NAME COMMAND`: what is run instead of removing the module.
+    /// `remove NAME COMMAND`: a command that is run instead of removing the module.
     Remove { name: Name, command: Blob },
-    /// `softdep NAME pre: NAMES post: NAMES`: what is loaded before the module and after it, where it can be.
+    /// `softdep NAME pre: NAMES post: NAMES`: modules that are loaded before the module and after
+    /// it, if they can be.
     Softdep { name: Name, pre: Names, post: Names },
 }
 
@@ -40,7 +42,7 @@ impl Statement for Rule {
     }
 }
 
-/// What a line of modprobe.d(5) begins with.
+/// The first word of a line of modprobe.d(5).
 #[derive(Clone, Copy)]
 pub(crate) enum Command {
     Alias,
@@ -51,7 +53,7 @@ pub(crate) enum Command {
     Softdep,
 }
 
-/// The command of this name.
+/// Returns the command of this name.
 #[tactic(auto, unfolding(crate::specs::Rules::command_of))]
 fn command_of(word: &[u8]) -> Option<Command>
     ensures { result ≡ command_of_word word.now }
@@ -73,7 +75,7 @@ fn command_of(word: &[u8]) -> Option<Command>
     }
 }
 
-/// What a line of this command states, from what follows the command.
+/// Returns what a line of this command states, from what follows the command.
 fn rule_of_command(alloc: Global, command: Command, rest: &[u8]) -> Result<Option<Rule>, AllocError>
     ensures { IfOk result (λ rule. rule ≡ rule_of_rest command rest.now) }
 {
@@ -87,14 +89,14 @@ fn rule_of_command(alloc: Global, command: Command, rest: &[u8]) -> Result<Optio
     }
 }
 
-/// A module's name, and the rest of a line as it stands.
+/// A module's name, and the rest of a line, unchanged.
 #[derive(Drop)]
 pub(crate) struct Named {
     pub(crate) name: Name,
     pub(crate) text: Blob,
 }
 
-/// The rule of `options NAME TEXT`.
+/// Returns the rule of `options NAME TEXT`.
 fn options_rule(named: Named) -> Rule
     ensures { result ≡ Rule.Options named.name named.text }
 {
@@ -102,7 +104,7 @@ fn options_rule(named: Named) -> Rule
     Rule::Options { name, text }
 }
 
-/// The rule of `install NAME COMMAND`.
+/// Returns the rule of `install NAME COMMAND`.
 fn install_rule(named: Named) -> Rule
     ensures { result ≡ Rule.Install named.name named.text }
 {
@@ -113,7 +115,7 @@ fn install_rule(named: Named) -> Rule
     }
 }
 
-/// The rule of `remove NAME COMMAND`.
+/// Returns the rule of `remove NAME COMMAND`.
 fn remove_rule(named: Named) -> Rule
     ensures { result ≡ Rule.Remove named.name named.text }
 {
@@ -124,7 +126,8 @@ fn remove_rule(named: Named) -> Rule
     }
 }
 
-/// The rule of `alias PATTERN NAME`, from what follows the command. Further words are passed over.
+/// Returns the rule of `alias PATTERN NAME`, from what follows the command. Further words are
+/// ignored.
 fn alias_rule(alloc: Global, rest: &[u8]) -> Result<Option<Rule>, AllocError>
     ensures { IfOk result (λ rule. rule ≡ alias_of rest.now) }
 {
@@ -142,7 +145,7 @@ fn alias_rule(alloc: Global, rest: &[u8]) -> Result<Option<Rule>, AllocError>
     }
 }
 
-/// The rule of `blacklist NAME`, from what follows the command. Further words are passed over.
+/// Returns the rule of `blacklist NAME`, from what follows the command. Further words are ignored.
 fn blacklist_rule(alloc: Global, rest: &[u8]) -> Result<Option<Rule>, AllocError>
     ensures { IfOk result (λ rule. rule ≡ blacklist_of rest.now) }
 {
@@ -155,7 +158,7 @@ fn blacklist_rule(alloc: Global, rest: &[u8]) -> Result<Option<Rule>, AllocError
     }))
 }
 
-/// A name, and the rest after it, which has to be there.
+/// Returns a name and the rest after it. The result is `None` if the rest is empty.
 fn name_with_rest(alloc: Global, rest: &[u8]) -> Result<Option<Named>, AllocError>
     ensures { IfOk result (λ both. both ≡ name_with_rest_of rest.now) }
 {
@@ -169,7 +172,7 @@ fn name_with_rest(alloc: Global, rest: &[u8]) -> Result<Option<Named>, AllocErro
     }))
 }
 
-/// The rule of `softdep NAME pre: NAMES post: NAMES`, from what follows the command.
+/// Returns the rule of `softdep NAME pre: NAMES post: NAMES`, from what follows the command.
 fn softdep_rule(alloc: Global, rest: &[u8]) -> Result<Option<Rule>, AllocError>
     ensures { IfOk result (λ rule. rule ≡ softdep_of rest.now) }
 {
@@ -184,14 +187,15 @@ fn softdep_rule(alloc: Global, rest: &[u8]) -> Result<Option<Rule>, AllocError>
     }))
 }
 
-/// Whether a word of a line of soft dependencies says where the words after it belong.
+/// Returns whether a word of a line of soft dependencies is one of the markers `pre:` and `post:`.
 fn is_marker(word: &[u8]) -> bool
     ensures { result ≡ is_marker_word word.now }
 {
     word == b"pre:".as_slice() || word == b"post:".as_slice()
 }
 
-/// The names after each such marker in a text of words, up to the next marker of either kind.
+/// Returns the names after each such marker in a text of words, up to the next marker of either
+/// kind.
 fn names_after(alloc: Global, text: &[u8], marker: &[u8]) -> Result<Names, AllocError>
     requires { IsTrue (is_marker_word marker.now) }
     ensures { IfOk result (λ names. names ≡ map underscored_bytes (words_after marker.now (words_of text.now))) }
@@ -211,7 +215,8 @@ fn names_after(alloc: Global, text: &[u8], marker: &[u8]) -> Result<Names, Alloc
     Ok(names)
 }
 
-/// Adds the name that a word states. A text that begins with white space has an empty word there, which states none.
+/// Adds the name that a word states. A text that begins with white space has an empty word there,
+/// which states none.
 fn push_name(alloc: Global, names: &mut Names, word: &[u8]) -> Result<(), AllocError>
     ensures { OnOk result (names.new ≡ names.old ++ map underscored_bytes (nonempty (word.now ∷ []))) }
 {

@@ -8,7 +8,7 @@ use Rattle.elf_object.specs.declared.section.Section.{Section}
 use Rattle.elf_object.specs.Object.{FileObject}
 use Rattle.elf_object.specs.Sections.{bytes_of}
 
--- The bytes of the section i; none where there is no such section.
+-- The bytes of the section i, and none if there is no such section.
 unfoldable pub section_contents : FileObject → ℕ → List ℕ
 section_contents o i = option_map_or (bytes_of o.file) (slice_get o.sections i) []
 
@@ -16,11 +16,11 @@ section_contents o i = option_map_or (bytes_of o.file) (slice_get o.sections i) 
 unfoldable pub named_section : FileObject → List ℕ → Option Section
 named_section o name = option_and_then (slice_get o.sections) (position (λ s. bytes_eq s.name name) o.sections)
 
--- What the file has of a section: its bytes, maybe an empty list of them, and nothing where it is of type NOBITS.
+-- The file's bytes of a section, maybe an empty list. It is None if the section is of type NOBITS.
 abbrev pub bytes_in : List ℕ → Section → Option (List ℕ)
 bytes_in file s = if s.kind == SHT_NOBITS then None else Some (bytes_of file s)
 
--- What the file has of the first section of this name; nothing too where no section has the name.
+-- The file's bytes of the first section of this name. It is None also if no section has the name.
 unfoldable pub named_bytes : FileObject → List ℕ → Option (List ℕ)
 named_bytes o name = option_and_then (bytes_in o.file) (named_section o name)
 

@@ -1,4 +1,4 @@
--- What a module exports, with the versions and the namespaces of its exports. The kernel's include/linux/export.h.
+-- The exports of a module, with their versions and namespaces. The kernel's include/linux/export.h.
 use Rattle.std.specs.Prelude.{ℕ, ◌+◌, ◌==◌, nat_le, Bool, false, List, [], length, map, codes, slice_get, Option, Some, None, unwrap_or, option_and_then, if◌then◌else◌}
 use Rattle.std.specs.List.{filter_map}
 use Rattle.std.specs.Option.{option_map_or}
@@ -13,8 +13,8 @@ use Rattle.module_facts.specs.declared.role.Role.TheVariants.{Export as OfExport
 use Rattle.module_facts.specs.Contents.{section_contents}
 use Rattle.module_facts.specs.Roles.{first_symbol, stated_name, symbol_of}
 
--- The version that a symbol gives: its value where it is absolute, else the number in the 4 bytes at its value
--- in its section, where that one has them.
+-- The version that a symbol gives: its value if it is absolute, and else the number in the 4 bytes
+-- at its value in its section, if the section has them.
 unfoldable pub given_version : FileObject → Symbol → Option ℕ
 given_version o s =
     let bytes = section_contents o s.section in
@@ -22,17 +22,17 @@ given_version o s =
     else if nat_le (s.value + 4) (length bytes) then Some (le bytes s.value 4)
     else None
 
--- The symbol lies in a section for exports that modules of a free license alone may use.
+-- Whether the symbol lies in a section for GPL-only exports.
 unfoldable pub is_gpl_entry : FileObject → Symbol → Bool
 is_gpl_entry o s = option_map_or (λ x. bytes_eq x.name (codes "__ksymtab_gpl")) (slice_get o.sections s.section) false
 
--- The namespace that a symbol gives: the text at its value in its section, up to the next NUL. An absolute symbol gives
--- none, nor does one whose section has no bytes in the file.
+-- The namespace that a symbol gives: the text at its value in its section, up to the next NUL. An
+-- absolute symbol gives none, nor does one whose section has no bytes in the file.
 unfoldable pub given_space : FileObject → Symbol → Option (List ℕ)
 given_space o s = string_at (section_contents o s.section) s.value
 
--- The export of this name: its symbol is the first that defines the name, 0 where none does; it is GPL-only by its first
--- `__ksymtab_N`; its namespace is empty where no symbol gives one.
+-- The export of this name. Its symbol is the first that defines the name, and 0 if none does. It is
+-- GPL-only by its first `__ksymtab_N`. Its namespace is empty if no symbol gives one.
 unfoldable pub export_of : FileObject → List ℕ → Export
 export_of o name = record {
   name = name;

@@ -1,4 +1,5 @@
--- The facts of a module. The kernel's include/linux/module.h, MODULE_LICENSE and MODULE_IMPORT_NS; modprobe.d(5).
+-- The facts of a module. The kernel's include/linux/module.h, MODULE_LICENSE and MODULE_IMPORT_NS;
+-- modprobe.d(5).
 use Rattle.std.specs.Prelude.{ℕ, Bool, false, List, [], ◌∷◌, codes, slice_get}
 use Rattle.std.specs.List.{list_any}
 use Rattle.std.specs.Option.{option_map_or}
@@ -15,17 +16,17 @@ use Rattle.module_facts.specs.Needs.{needs_of}
 unfoldable pub texts_of : FileObject → List ℕ → List (List ℕ)
 texts_of o key = values_of_key key (fields_of (modinfo_bytes o))
 
--- The licenses under which a module may use what is GPL-only. include/linux/license.h.
+-- The licenses that permit a module to use GPL-only symbols. include/linux/license.h.
 abbrev pub free_licenses : List (List ℕ)
 free_licenses =
     codes "GPL" ∷ codes "GPL v2" ∷ codes "GPL and additional rights" ∷ codes "Dual BSD/GPL" ∷ codes "Dual MIT/GPL"
     ∷ codes "Dual MPL/GPL" ∷ []
 
--- The license is one of these.
+-- Whether the license is one of these.
 unfoldable pub is_free_license : List ℕ → Bool
 is_free_license license = list_any (bytes_eq license) free_licenses
 
--- The first of these licenses is free; without one none is.
+-- Whether the first of these licenses is free. Without a license it isn't.
 unfoldable pub is_free : List (List ℕ) → Bool
 is_free licenses = option_map_or is_free_license (slice_get licenses 0) false
 

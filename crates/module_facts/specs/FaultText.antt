@@ -1,4 +1,4 @@
--- The texts of faults, as they stand in a line on standard error.
+-- The texts of faults, as they are in a line on standard error.
 use Rattle.std.specs.Prelude.{ℕ, List, ◌++◌, codes}
 use Rattle.elf_object.specs.declared.fault.ObjectFault.{ObjectFault}
 use Rattle.elf_object.specs.declared.fault.ObjectFault.TheVariants.{Memory as ObjectMemory}
@@ -6,7 +6,7 @@ use Rattle.elf_object.specs.FaultText.{object_fault_text}
 use Rattle.module_facts.specs.declared.fault.ModuleFault.{ModuleFault}
 use Rattle.module_facts.specs.declared.fault.ModuleFault.TheVariants.{Compressed, Object, NameTooLong, BadName, ExportTwice, ExportUndefined, BadVersions, BadNamespace, Memory}
 
--- The text of what is wrong with a module.
+-- The text of a fault of a module.
 abbrev pub module_fault_text : ModuleFault → List ℕ
 module_fault_text Compressed = codes "compressed"
 module_fault_text (Object fault) = object_fault_text fault

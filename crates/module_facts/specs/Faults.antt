@@ -1,4 +1,4 @@
--- What is wrong with a module.
+-- The faults of a module.
 use Rattle.std.specs.Prelude.{ℕ, ◌&&◌, ◌||◌, nat_lt, not, Bool, false, List, [], ◌∷◌, length, find, Option, is_none, option_map}
 use Rattle.std.specs.List.{count_by, list_all, list_any}
 use Rattle.std.specs.Option.{option_map_or}
@@ -19,41 +19,43 @@ use Rattle.module_facts.specs.Versions.{is_bad_list}
 use Rattle.module_facts.specs.Exports.{given_space, given_version}
 use Rattle.module_facts.specs.Facts.{object_facts}
 
--- The module, its exports and its needs have names that can stand as words of a line: none is empty, and all bytes are
--- visible characters of ASCII.
+-- Whether the names of the module, its exports and its needs can be words of a line: none is empty,
+-- and all bytes are visible characters of ASCII.
 unfoldable pub has_good_names : Facts → Bool
 has_good_names f =
     is_graphic f.name && list_all (λ (e : Export). is_graphic e.name) f.exports && list_all (λ (n : Need). is_graphic n.name) f.needs
 
--- Two of the exports, or more, have this one's name.
+-- Whether two or more of the exports have this one's name.
 unfoldable pub is_twice : List Export → Export → Bool
 is_twice exports e = nat_lt 1 (count_by (λ other. bytes_eq other.name e.name) exports)
 
--- The test that no two exports have one name; the first that another has too is named.
+-- The test that no two exports have one name. The fault names the first export whose name another
+-- has too.
 abbrev pub twice_test : List Export → Option ModuleFault
 twice_test exports = option_map (λ e. ExportTwice e.name) (find (is_twice exports) exports)
 
--- No symbol defines the export.
+-- Whether no symbol defines the export.
 unfoldable pub is_undefined : FileObject → Export → Bool
 is_undefined o e = is_none (first_symbol Definition o e.name)
 
--- The test that each export is defined; the first that isn't is named.
+-- The test that each export is defined. The fault names the first that isn't.
 abbrev pub undefined_test : FileObject → List Export → Option ModuleFault
 undefined_test o exports = option_map (λ e. ExportUndefined e.name) (find (is_undefined o) exports)
 
--- The symbol that gives the export's version lies where its section has no 4 bytes in the file.
+-- Whether the symbol that gives the export's version has no 4 bytes in its section of the file.
 unfoldable pub has_bad_version : FileObject → Export → Bool
 has_bad_version o e = option_map_or (λ s. is_none (given_version o s)) (symbol_of Version o e.name) false
 
--- The versions of the needs or of the exports can't be as they are.
+-- Whether the versions of the needs or of the exports are invalid.
 unfoldable pub has_bad_versions : FileObject → List Export → Bool
 has_bad_versions o exports = is_bad_list o || list_any (has_bad_version o) exports
 
--- The symbol that is to give the export's namespace gives none.
+-- Whether the symbol for the export's namespace gives none.
 unfoldable pub has_bad_space : FileObject → Export → Bool
 has_bad_space o e = option_map_or (λ s. is_none (given_space o s)) (symbol_of Space o e.name) false
 
--- The test that each symbol for a namespace gives one; the first export for which it doesn't is named.
+-- The test that each symbol for a namespace gives one. The fault names the first export whose
+-- symbol doesn't.
 abbrev pub space_test : FileObject → List Export → Option ModuleFault
 space_test o exports = option_map (λ e. BadNamespace e.name) (find (has_bad_space o) exports)
 
@@ -75,6 +77,6 @@ module_tests path b =
     ∷ option_map (λ fault. Object fault) (object_fault b)
     ∷ facts_tests (file_object b) (object_facts path (file_object b))
 
--- What is wrong with the module at a path: the first test that fails.
+-- The fault of the module at a path: the first test that fails.
 unfoldable pub fact_fault : List ℕ → List ℕ → Option ModuleFault
 fact_fault path b = first (module_tests path b)

@@ -1,7 +1,8 @@
--- The versions that a reader keeps.
+-- Version lists, as a reader keeps them.
+-- It belongs to the code: no public meaning rests on it.
 use Rattle.std.specs.Prelude.{ℕ, List}
 use Rattle.module_facts.specs.declared.versions.Version.{Version}
 
--- An entry, by its name and its number.
+-- An entry of a version list: its name and its number.
 abbrev pub shown : Version → List ℕ × ℕ
 shown v = (v.name.now, v.number)

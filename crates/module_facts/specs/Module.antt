@@ -8,14 +8,15 @@ use Rattle.module_facts.specs.declared.facts.Need.{Need}
 use Rattle.module_facts.specs.Facts.{facts_of}
 use Rattle.module_facts.specs.Faults.{fact_fault}
 
--- The object and the facts are those of a file at a path, and nothing is wrong with the module there.
+-- The object and the facts are the ones of a file at a path, and no test of the module there fails.
 pub record IsModule (o : FileObject) (f : Facts) : Type 0 where
   pub object : o ≡ file_object o.file
   pub facts : f ≡ facts_of f.path o.file
   pub passed : fact_fault f.path o.file ≡ None
 
--- What is known of the facts of a module: its name has at most 55 bytes, all names are words of visible characters of
--- ASCII, no two exports have one name, and exports and needs stand for symbols of the object.
+-- What is known of the facts of a module. Its name has at most 55 bytes, all names are words of
+-- visible characters of ASCII, and no two exports have one name. Exports and needs have symbols of
+-- the object.
 pub record IsSound (o : FileObject) (f : Facts) : Type 0 where
   pub short : length f.name ≤ 55
   pub name : IsTrue (is_graphic f.name)

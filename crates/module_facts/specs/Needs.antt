@@ -1,4 +1,4 @@
--- What a module needs from the kernel or other modules.
+-- The needs of a module from the kernel or other modules.
 use Rattle.std.specs.Prelude.{ℕ, ◌==◌, ◌&&◌, nat_lt, not, Bool, List, map, filter, codes}
 use Rattle.std.specs.List.{enumerate_from}
 use Rattle.std.specs.Str.{bytes_eq}
@@ -9,8 +9,9 @@ use Rattle.module_facts.specs.declared.facts.Need.{Need}
 use Rattle.module_facts.specs.Roles.{is_defined}
 use Rattle.module_facts.specs.Versions.{stated_version, version_list}
 
--- The symbol i is needed from elsewhere: it is undefined, and not the table of offsets, which the linker
--- makes. Symbol 0 stands for no symbol. gABI 4, "Symbol Table"; x86-64 psABI, "Global Offset Table".
+-- Whether the symbol i is needed from elsewhere: it is undefined, and isn't the global offset
+-- table, which the linker makes. Symbol 0 is no symbol. gABI 4, "Symbol Table"; x86-64 psABI,
+-- "Global Offset Table".
 unfoldable pub is_need : ℕ → Symbol → Bool
 is_need i s = nat_lt 0 i && not (is_defined s) && not (bytes_eq s.name (codes "_GLOBAL_OFFSET_TABLE_"))
 

@@ -1,4 +1,5 @@
 -- How often a table has seen each name.
+-- It belongs to the code: no public meaning rests on it.
 use Rattle.std.specs.Prelude.{◌≡◌, ℕ, zero, suc, List, Option, Some, None}
 use Rattle.std.specs.List.{count_by}
 use Rattle.std.specs.HashMap.{get_by}
@@ -6,17 +7,17 @@ use Rattle.std.specs.Str.{bytes_eq}
 use Rattle.module_facts.specs.declared.facts.Export.{Export}
 use Rattle.module_facts.specs.declared.seen.SeenNames.{SeenNames}
 
--- What a table has for a name.
+-- The count that a table has for a name.
 abbrev pub times_seen : SeenNames → List ℕ → Option ℕ
 times_seen t name = get_by (λ k. bytes_eq name k.bytes.now) t.times
 
--- What it has for a name that was seen so often: nothing, 1, or 2 for more.
+-- The count that a table has for a name that was seen so often: none, 1, or 2 for more.
 abbrev pub seen : ℕ → Option ℕ
 seen zero = None
 seen (suc zero) = Some 1
 seen (suc (suc n)) = Some 2
 
--- How many of the exports have this name.
+-- The number of exports with this name.
 abbrev pub times : List Export → List ℕ → ℕ
 times exports name = count_by (λ e. bytes_eq e.name name) exports
 

@@ -18,24 +18,24 @@ use elf_object::ObjectView;
 use km_names::{Name, is_graphic};
 use std::alloc::{AllocError, Global};
 
-/// The most bytes that the name of a module can have: the kernel's MODULE_NAME_LEN, less the NUL.
+/// The greatest length of a module's name in bytes: the kernel's MODULE_NAME_LEN, less the NUL.
 const MODULE_NAME_LIMIT: usize = 55;
 
-/// Whether the names of exports can stand as words of a line.
+/// Returns whether the names of exports can be words of a line.
 fn have_good_names(exports: &[Export]) -> bool
     ensures { result ≡ list_all (λ e. is_graphic e.name) exports.now }
 {
     exports.iter().all(|e| is_graphic(e.name.as_bytes()))
 }
 
-/// Whether those of needs can.
+/// Returns whether the names of needs can be words of a line.
 fn needs_have_good_names(needs: &[Need]) -> bool
     ensures { result ≡ list_all (λ n. is_graphic n.name) needs.now }
 {
     needs.iter().all(|n| is_graphic(n.name.as_bytes()))
 }
 
-/// Whether the names of the module, its exports and its needs can.
+/// Returns whether the names of the module, its exports and its needs can be words of a line.
 #[tactic(auto, unfolding(crate::specs::Faults::has_good_names))]
 fn has_good_names(facts: &Facts) -> bool
     ensures { result ≡ has_good_names facts.now }
@@ -45,7 +45,7 @@ fn has_good_names(facts: &Facts) -> bool
         && needs_have_good_names(facts.needs.as_slice())
 }
 
-/// A table that has seen the names of the exports.
+/// Returns a table that has seen the names of the exports.
 fn seen_names<'a>(alloc: Global, exports: &'a [Export]) -> Result<SeenNames<'a>, AllocError>
     ensures { IfOk result (λ table. HasSeen table exports.now) }
 {
@@ -58,7 +58,7 @@ fn seen_names<'a>(alloc: Global, exports: &'a [Export]) -> Result<SeenNames<'a>,
     Ok(table)
 }
 
-/// The first export whose name another has too.
+/// Returns the first export whose name another export has too.
 fn first_twice<'a>(alloc: Global, exports: &'a [Export]) -> Result<Option<&'a Export>, AllocError>
     ensures { IfOk result (λ found. option_copied found ≡ find (is_twice exports.now) exports.now) }
 {
@@ -84,7 +84,7 @@ fn check_once(alloc: Global, exports: &[Export]) -> Result<(), ModuleFault>
     }
 }
 
-/// Whether no symbol defines an export.
+/// Returns whether no symbol defines an export.
 #[tactic(auto, unfolding(crate::specs::Faults::is_undefined))]
 fn is_undefined(object: &ObjectView, tables: &SymbolTables, export: &Export) -> bool
     requires { HasTables tables.now object.now }
@@ -95,7 +95,7 @@ fn is_undefined(object: &ObjectView, tables: &SymbolTables, export: &Export) -> 
         .is_none()
 }
 
-/// The first export that no symbol defines.
+/// Returns the first export that no symbol defines.
 fn first_undefined<'a>(
     object: &ObjectView,
     tables: Option<&SymbolTables>,
@@ -129,7 +129,7 @@ fn check_defined(
     }
 }
 
-/// Whether the symbol that gives the export's version lies where its section has no 4 bytes.
+/// Returns whether the symbol that gives the export's version has no 4 bytes in its section.
 #[tactic(auto, unfolding(crate::specs::Faults::has_bad_version))]
 fn has_bad_version(object: &ObjectView, tables: &SymbolTables, export: &Export) -> bool
     requires { HasTables tables.now object.now }
@@ -141,7 +141,7 @@ fn has_bad_version(object: &ObjectView, tables: &SymbolTables, export: &Export) 
     }
 }
 
-/// Whether one of the exports has such a version.
+/// Returns whether one of the exports has a bad version.
 fn has_bad_export_version(
     object: &ObjectView,
     tables: Option<&SymbolTables>,
@@ -158,7 +158,7 @@ fn has_bad_export_version(
         .any(|export| has_bad_version(object, tables, export))
 }
 
-/// Whether the versions of the needs or of the exports can't be as they are.
+/// Returns whether the versions of the needs or of the exports are invalid.
 #[tactic(auto, unfolding(crate::specs::Faults::has_bad_versions))]
 fn has_bad_versions(object: &ObjectView, tables: Option<&SymbolTables>, exports: &[Export]) -> bool
     requires { AreTablesFor exports.now object.now (option_copied tables) }
@@ -167,7 +167,7 @@ fn has_bad_versions(object: &ObjectView, tables: Option<&SymbolTables>, exports:
     is_bad_list(object) || has_bad_export_version(object, tables, exports)
 }
 
-/// Whether the symbol that is to give the export's namespace gives none.
+/// Returns whether the symbol for the export's namespace gives none.
 #[tactic(auto, unfolding(crate::specs::Faults::has_bad_space))]
 fn has_bad_space(object: &ObjectView, tables: &SymbolTables, export: &Export) -> bool
     requires { HasTables tables.now object.now }
@@ -179,7 +179,7 @@ fn has_bad_space(object: &ObjectView, tables: &SymbolTables, export: &Export) ->
     }
 }
 
-/// The first export of which that is so.
+/// Returns the first export whose symbol for a namespace gives none.
 fn first_bad_space<'a>(
     object: &ObjectView,
     tables: Option<&SymbolTables>,

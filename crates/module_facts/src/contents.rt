@@ -7,7 +7,7 @@ ghost use Rattle.module_facts.specs.Contents.{modinfo_bytes, named_bytes, sectio
 use elf_format::SHT_NOBITS;
 use elf_object::ObjectView;
 
-/// The bytes of the section `i`; none where there is no such section.
+/// Returns the bytes of the section `i`, and none if there is no such section.
 #[tactic(auto, unfolding(crate::specs::Contents::section_contents))]
 pub(crate) fn section_contents<'a>(object: &ObjectView<'a>, i: u32) -> &'a [u8]
     ensures { result.now ≡ section_contents object.now i }
@@ -19,8 +19,8 @@ pub(crate) fn section_contents<'a>(object: &ObjectView<'a>, i: u32) -> &'a [u8]
     }
 }
 
-/// The bytes of the first section of this name; `None` where no section has the name, and where that one is of type
-/// NOBITS.
+/// Returns the bytes of the first section of this name. The result is `None` if no section has the
+/// name, and if the first one that has it is of type NOBITS.
 #[tactic(auto, unfolding(crate::specs::Contents::named_section, crate::specs::Contents::named_bytes))]
 pub(crate) fn named_bytes<'a>(object: &ObjectView<'a>, name: &[u8]) -> Option<&'a [u8]>
     ensures bytes { option_copied result ≡ named_bytes object.now name.now }
@@ -33,7 +33,7 @@ pub(crate) fn named_bytes<'a>(object: &ObjectView<'a>, name: &[u8]) -> Option<&'
     Some(object.section_bytes(i))
 }
 
-/// The bytes of the section `.modinfo`.
+/// Returns the bytes of the section `.modinfo`.
 #[tactic(auto, unfolding(crate::specs::Contents::modinfo_bytes))]
 pub(crate) fn modinfo_bytes<'a>(object: &ObjectView<'a>) -> &'a [u8]
     ensures { result.now ≡ modinfo_bytes object.now }

@@ -1,4 +1,4 @@
-// What a module exports.
+// The exports of a module.
 
 ghost use Rattle.std.specs.Prelude.{◌≡◌, ◌≤◌, [], false, length, IfOk, option_and_then, option_copied, unwrap_or};
 ghost use Rattle.std.specs.Option.{option_map_or};
@@ -16,8 +16,8 @@ use elf_object::{ObjectView, SymbolRef};
 use km_names::{FILE_LIMIT, Name, le_u32_at, string_at};
 use std::alloc::{AllocError, Global};
 
-/// The version that a symbol gives: its value where it is absolute, else the number in the 4 bytes at its
-/// value in its section, where that one has them.
+/// Returns the version that a symbol gives: its value if it is absolute, and else the number in the
+/// 4 bytes at its value in its section, if the section has them.
 #[tactic(auto, unfolding(crate::specs::Exports::given_version))]
 pub(crate) fn given_version(object: &ObjectView, symbol: SymbolRef) -> Option<u64>
     ensures { result ≡ given_version object.now (owned_symbol symbol.entry) }
@@ -34,7 +34,7 @@ pub(crate) fn given_version(object: &ObjectView, symbol: SymbolRef) -> Option<u6
     }
 }
 
-/// Whether a symbol lies in the section for exports that modules of a free license alone may use.
+/// Returns whether a symbol lies in the section for GPL-only exports.
 #[tactic(auto, unfolding(crate::specs::Exports::is_gpl_entry))]
 fn is_gpl_entry(object: &ObjectView, symbol: SymbolRef) -> bool
     ensures { result ≡ is_gpl_entry object.now (owned_symbol symbol.entry) }
@@ -43,8 +43,8 @@ fn is_gpl_entry(object: &ObjectView, symbol: SymbolRef) -> bool
     i < object.section_count() && object.section(i).name == b"__ksymtab_gpl".as_slice()
 }
 
-/// The namespace that a symbol gives: the text at its value in its section. An absolute symbol gives none, nor does
-/// one whose section has no bytes in the file.
+/// Returns the namespace that a symbol gives: the text at its value in its section. An absolute
+/// symbol gives none, nor does one whose section has no bytes in the file.
 #[tactic(auto, unfolding(crate::specs::Exports::given_space))]
 pub(crate) fn given_space<'a>(object: &ObjectView<'a>, symbol: SymbolRef) -> Option<&'a [u8]>
     ensures { option_copied result ≡ given_space object.now (owned_symbol symbol.entry) }
@@ -53,7 +53,7 @@ pub(crate) fn given_space<'a>(object: &ObjectView<'a>, symbol: SymbolRef) -> Opt
     string_at(bytes, symbol.value as usize)
 }
 
-/// The namespace of an export, empty where no symbol gives one.
+/// Returns the namespace of an export, which is empty if no symbol gives one.
 fn space_of<'a>(object: &ObjectView<'a>, tables: &SymbolTables, name: &[u8]) -> &'a [u8]
     requires { HasTables tables.now object.now }
     ensures { result.now ≡ unwrap_or (option_and_then (given_space object.now) (symbol_of Role.Space object.now name.now)) [] }
@@ -64,7 +64,7 @@ fn space_of<'a>(object: &ObjectView<'a>, tables: &SymbolTables, name: &[u8]) -> 
     }
 }
 
-/// The version of an export, where a symbol gives one.
+/// Returns the version of an export, if a symbol gives one.
 fn version_of(object: &ObjectView, tables: &SymbolTables, name: &[u8]) -> Option<u64>
     requires { HasTables tables.now object.now }
     ensures { result ≡ option_and_then (given_version object.now) (symbol_of Role.Version object.now name.now) }
@@ -73,7 +73,7 @@ fn version_of(object: &ObjectView, tables: &SymbolTables, name: &[u8]) -> Option
     given_version(object, symbol)
 }
 
-/// Whether an export is for modules of a free license alone.
+/// Returns whether an export is GPL-only.
 fn is_gpl(object: &ObjectView, tables: &SymbolTables, name: &[u8]) -> bool
     requires { HasTables tables.now object.now }
     ensures { result ≡ option_map_or (is_gpl_entry object.now) (symbol_of Role.Export object.now name.now) false }
@@ -84,11 +84,11 @@ fn is_gpl(object: &ObjectView, tables: &SymbolTables, name: &[u8]) -> bool
     }
 }
 
-/// The export of a name, whose namespace has at most so many bytes.
+/// Returns the export of a name, whose namespace has at most so many bytes.
 ///
 /// # Errors
 ///
-/// Want of memory, also where the namespace is longer.
+/// Out of memory, also if the namespace is longer.
 #[tactic(auto, unfolding(crate::specs::Exports::export_of))]
 fn read_export(
     alloc: Global,
@@ -114,9 +114,9 @@ fn read_export(
     })
 }
 
-/// The exports, in the order of the symbols that state them. Namespaces may share their bytes in the file, so a small
-/// file can ask for any number of them: where they would have more bytes together than a file may have, memory is
-/// wanting.
+/// Returns the exports, in the order of the symbols that state them. Namespaces may share their
+/// bytes in the file, so a small file can ask for any number of them. If together they would have
+/// more bytes than a file may have, the answer is out of memory.
 #[tactic(auto, unfolding(crate::specs::Exports::exports_of))]
 fn read_exports(
     alloc: Global,
@@ -138,7 +138,7 @@ fn read_exports(
     Ok(exports)
 }
 
-/// The exports, by the tables of the object; without tables there are none.
+/// Returns the exports, by the tables of the object. Without tables there are none.
 pub(crate) fn exports_by(
     alloc: Global,
     object: &ObjectView,

@@ -2,34 +2,34 @@
 
 use km_names::{List, Name, Names, PathText, Texts};
 
-/// A symbol that a module offers to others. The kernel's EXPORT_SYMBOL, include/linux/export.h.
+/// A symbol that a module exports. The kernel's EXPORT_SYMBOL, include/linux/export.h.
 #[derive(Debug, Drop)]
 pub struct Export {
-    /// The name that others know it by.
+    /// The name that others use for it.
     pub name: Name,
-    /// The number of the symbol that it stands for.
+    /// The number of the symbol that defines it.
     pub symbol: u32,
-    /// Its version, where it states one.
+    /// Its version, if it states one.
     pub crc: Option<u64>,
-    /// Whether only modules of a free license may use it. EXPORT_SYMBOL_GPL.
+    /// Whether only GPL-compatible modules may use it. EXPORT_SYMBOL_GPL.
     pub gpl: bool,
-    /// Its namespace, empty where it is in none. EXPORT_SYMBOL_NS.
+    /// Its namespace, which is empty if it has none. EXPORT_SYMBOL_NS.
     pub space: Name,
 }
 
 /// The exports of a module, in the order of the symbols that state them.
 pub type Exports = List<Export>;
 
-/// A symbol that a module wants from the kernel or from another module. gABI 4, "Symbol Table".
+/// A symbol that a module needs from the kernel or from another module. gABI 4, "Symbol Table".
 #[derive(Debug, Drop)]
 pub struct Need {
     /// Its name.
     pub name: Name,
     /// The number of its symbol.
     pub symbol: u32,
-    /// Whether the module runs without it too.
+    /// Whether the module also runs without it.
     pub weak: bool,
-    /// The version that the module was built against, where it states one.
+    /// The version that the module was built against, if it states one.
     pub crc: Option<u64>,
 }
 
@@ -43,15 +43,15 @@ pub struct Facts {
     pub path: PathText,
     /// Its name.
     pub name: Name,
-    /// What it offers to others.
+    /// The symbols that it exports.
     pub exports: Exports,
-    /// What it wants from others.
+    /// The symbols that it needs.
     pub needs: Needs,
-    /// The values of the key `alias` of its section `.modinfo`, as they stand there.
+    /// The values of the key `alias` in its section `.modinfo`, unchanged.
     pub aliases: Texts,
-    /// The values of the key `softdep`, as they stand there. modprobe.d(5), "softdep".
+    /// The values of the key `softdep`, unchanged. modprobe.d(5), "softdep".
     pub softdeps: Texts,
-    /// Whether its license lets it use what is GPL-only. The kernel's include/linux/license.h.
+    /// Whether its license permits GPL-only symbols. The kernel's include/linux/license.h.
     pub free: bool,
     /// The namespaces whose exports it may use. MODULE_IMPORT_NS.
     pub imports: Names,

@@ -1,4 +1,4 @@
-// What is wrong with a module.
+// Faults of a module.
 
 ghost use Rattle.std.specs.Prelude.{◌≡◌, ◌++◌, codes, IfOk};
 
@@ -8,19 +8,19 @@ use km_names::{Blob, Name};
 use std::alloc::{AllocError, AllocFailed, Global};
 use thiserror::Error;
 
-/// Why a file isn't taken for a kernel module.
+/// Why a file isn't accepted as a kernel module.
 #[derive(Debug, Drop, Error)]
 pub enum ModuleFault {
-    /// Its path is that of a compressed module.
+    /// Its path is of a compressed module.
     #[error("compressed")]
     Compressed,
-    /// It is no object file that can be read; never for want of memory.
+    /// It is no object file that can be read. Never out of memory.
     #[error("{0}")]
     Object(ObjectFault),
     /// The module's name has over 55 bytes.
     #[error("name too long")]
     NameTooLong,
-    /// The module's name, or that of an export or a need, is empty, or has a byte that isn't a visible
+    /// The name of the module, an export or a need is empty, or has a byte that isn't a visible
     /// character of ASCII.
     #[error("bad name")]
     BadName,
@@ -30,13 +30,13 @@ pub enum ModuleFault {
     /// The module exports `name`, and doesn't define it.
     #[error("export {} undefined", BStr::new(.name.as_bytes()))]
     ExportUndefined { name: Name },
-    /// The versions of the needs or of the exports can't be as they are.
+    /// The versions of the needs or of the exports are invalid.
     #[error("bad versions")]
     BadVersions,
-    /// The symbol that is to give the namespace of the export `name` gives none.
+    /// The symbol for the namespace of the export `name` gives none.
     #[error("bad namespace of {}", BStr::new(.name.as_bytes()))]
     BadNamespace { name: Name },
-    /// Memory ran out.
+    /// Out of memory.
     #[error("out of memory")]
     Memory,
 }
@@ -77,7 +77,7 @@ impl From<ObjectFault> for ModuleFault {
 impl ModuleFault {
     ghost use Rattle.module_facts.specs.FaultText.{module_fault_text};
 
-    /// The text of the fault, as it stands in a line on standard error.
+    /// Returns the text of the fault, as it is in a line on standard error.
     pub fn text(&self, alloc: Global) -> Result<Blob, AllocError>
         ensures { IfOk result (λ text. text ≡ module_fault_text self.now) }
     {
@@ -99,7 +99,7 @@ impl ModuleFault {
     }
 }
 
-/// The text that says how an export is wrong.
+/// Returns the text of a fault of an export, which ends in `how`.
 fn export_text(alloc: Global, name: &Name, how: &[u8]) -> Result<Blob, AllocError>
     ensures { IfOk result (λ text. text ≡ codes "export " ++ name.now ++ how.now) }
 {

@@ -1,4 +1,4 @@
-// What a module needs.
+// The needs of a module.
 
 ghost use Rattle.std.specs.Prelude.{◌≡◌, map, Some, IfOk};
 ghost use Rattle.name_table.specs.NameTable.{IsTableOf};
@@ -14,7 +14,7 @@ use km_names::Name;
 use name_table::NameTable;
 use std::alloc::{AllocError, Global};
 
-/// Whether the symbol `i` is needed from elsewhere.
+/// Returns whether the symbol `i` is needed from elsewhere.
 #[tactic(auto, unfolding(crate::specs::Needs::is_need))]
 fn is_need(i: u32, symbol: SymbolRef) -> bool
     ensures { result ≡ is_need i (owned_symbol symbol.entry) }
@@ -22,7 +22,7 @@ fn is_need(i: u32, symbol: SymbolRef) -> bool
     i > 0 && symbol.section == SHN_UNDEF && symbol.name != b"_GLOBAL_OFFSET_TABLE_".as_slice()
 }
 
-/// The need that the symbol `i` states, by a version list and the table of its names.
+/// Returns the need that the symbol `i` states, by a version list and the table of its names.
 #[tactic(auto, unfolding(crate::specs::Needs::need_of))]
 fn read_need(
     alloc: Global,
@@ -42,14 +42,14 @@ fn read_need(
     })
 }
 
-/// The needs, in the order of their symbols.
+/// Returns the needs, in the order of their symbols.
 #[tactic(auto, unfolding(crate::specs::Needs::needs_of))]
 pub(crate) fn read_needs(alloc: Global, object: &ObjectView) -> Result<Needs, AllocError>
     ensures { IfOk result (λ needs. needs ≡ needs_of object.now) }
 {
     let versions = version_list(alloc, object)?;
     let table = version_table(alloc, versions.as_slice())?;
-    // Most needs have a version, so that the list seldom grows.
+    // Most needs have a version, so the list seldom grows.
     let expected = versions.len().min(object.symbol_count() as usize);
     let mut needs = Needs::from_vec(Vec::with_capacity(alloc, expected)?);
     for i in 0..object.symbol_count() {

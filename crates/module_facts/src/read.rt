@@ -1,4 +1,4 @@
-// A module from the bytes of its file.
+// Reads a module from the bytes of its file.
 
 ghost use Rattle.std.specs.Prelude.{◌≡◌, ◌≤◌, ◌⊎◌, length, None, Some, IfOk, IfErr, OnOk, option_copied};
 ghost use Rattle.km_names.specs.First.{first};
@@ -22,7 +22,8 @@ use km_names::{Blob, PathText, is_compressed, module_name};
 use modinfo_fields::field_values;
 use std::alloc::{AllocError, Global};
 
-/// The facts of the module at a path, by its object and the tables of that, where it exports something.
+/// Returns the facts of the module at a path, by its object and the object's tables, if it exports
+/// something.
 #[tactic(auto, unfolding(crate::specs::Facts::object_facts, crate::specs::Facts::texts_of))]
 fn facts_by(
     alloc: Global,
@@ -47,7 +48,7 @@ fn facts_by(
     })
 }
 
-/// The facts of the module at a path, after all tests that they must pass.
+/// Returns the facts of the module at a path, after all tests that they must pass.
 fn checked_facts(alloc: Global, path: &PathText, object: &ObjectView) -> Result<Facts, ModuleFault>
     ensures facts { IfOk result (λ facts. facts ≡ object_facts path.now object.now) }
     ensures passed { OnOk result (first (facts_tests object.now (object_facts path.now object.now)) ≡ None) }
@@ -60,7 +61,7 @@ fn checked_facts(alloc: Global, path: &PathText, object: &ObjectView) -> Result<
     Ok(facts)
 }
 
-/// The facts of the module at a path, by its object.
+/// Returns the facts of the module at a path, by its object.
 fn facts_of_object(alloc: Global, path: &PathText, object: &Object) -> Result<Facts, ModuleFault>
     ensures facts { IfOk result (λ facts. facts ≡ object_facts path.now object.now) }
     ensures passed { OnOk result (first (facts_tests object.now (object_facts path.now object.now)) ≡ None) }
@@ -71,8 +72,8 @@ fn facts_of_object(alloc: Global, path: &PathText, object: &Object) -> Result<Fa
     checked_facts(alloc, path, &view)
 }
 
-/// Reads the module at a path from the bytes of its file, which it keeps. After a refusal the bytes are
-/// given up. modinfo(8), depmod(8).
+/// Reads the module at a path from the bytes of its file, and keeps the bytes. After a refusal they
+/// are dropped. modinfo(8), depmod(8).
 ///
 /// # Errors
 ///
@@ -95,12 +96,13 @@ pub fn read_module(alloc: Global, path: &PathText, bytes: Blob) -> Result<Module
     Ok(Module { object, facts })
 }
 
-/// Reads the facts of the module at a path from the bytes of its file. All that [`read_module`](crate::read_module) tests
-/// of the file is tested, and only the facts are kept, so that it takes less time and memory. modinfo(8), depmod(8).
+/// Reads the facts of the module at a path from the bytes of its file. All tests of
+/// [`read_module`](crate::read_module) are made, and only the facts are kept, so this takes less
+/// time and memory. modinfo(8), depmod(8).
 ///
 /// # Errors
 ///
-/// Those of [`read_module`](crate::read_module).
+/// The same as of [`read_module`](crate::read_module).
 #[tactic(auto, unfolding(crate::specs::Faults::fact_fault, crate::specs::Faults::module_tests))]
 pub fn read_facts(alloc: Global, path: &PathText, bytes: &[u8]) -> Result<Facts, ModuleFault>
     requires { length bytes.now ≤ file_limit }

@@ -16,16 +16,16 @@ pub(crate) enum Role {
     Version,
     /// `__kstrtabns_N` gives the namespace of N.
     Space,
-    /// A global or weak symbol N is what N stands for.
+    /// A global or weak symbol N defines N.
     Definition,
 }
 
-/// What follows a prefix in a name that begins with it.
+/// Returns the rest of a name after a prefix, if the name begins with it.
 #[inline(always)]
 fn after_prefix<'a>(prefix: &[u8], name: &'a [u8]) -> Option<&'a [u8]>
     ensures { option_copied result ≡ after_prefix prefix.now name.now }
 {
-    // Most names differ from it in their first byte, and are passed over at once.
+    // Most names differ from the prefix in their first byte, and are skipped at once.
     if let (Some(first), Some(wanted)) = (name.first(), prefix.first()) {
         if *first != *wanted {
             return None;
@@ -34,7 +34,7 @@ fn after_prefix<'a>(prefix: &[u8], name: &'a [u8]) -> Option<&'a [u8]>
     name.strip_prefix(prefix)
 }
 
-/// The name that a symbol states in a role.
+/// Returns the name that a symbol states in a role.
 #[tactic(auto, unfolding(crate::specs::Roles::stated_name))]
 #[inline]
 pub(crate) fn stated_name<'a>(role: Role, symbol: SymbolRef<'a>) -> Option<&'a [u8]>

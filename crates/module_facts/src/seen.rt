@@ -17,7 +17,7 @@ pub(crate) struct SeenNames<'a> {
 impl<'a> SeenNames<'a> {
     ghost use Rattle.module_facts.specs.Times.{times_seen};
 
-    /// No name was seen.
+    /// Returns a table that has seen no name.
     pub(crate) fn new(alloc: Global) -> Self
         ensures { (name : List ℕ) → times_seen result name ≡ None }
     {
@@ -26,7 +26,7 @@ impl<'a> SeenNames<'a> {
         }
     }
 
-    /// Puts in how often a name was seen.
+    /// Stores how often a name was seen.
     pub(crate) fn put(&mut self, name: &'a [u8], times: u8) -> Result<(), AllocError>
         ensures { OnOk result ((other : List ℕ) → times_seen self.new other
             ≡ (if bytes_eq name.now other then Some times else times_seen self.old other)) }
@@ -35,7 +35,7 @@ impl<'a> SeenNames<'a> {
         Ok(())
     }
 
-    /// How often a name was seen, if it was.
+    /// Returns how often a name was seen, if it was seen.
     pub(crate) fn get(&self, name: &[u8]) -> Option<u8>
         ensures { result ≡ times_seen self.now name.now }
     {

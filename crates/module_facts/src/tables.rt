@@ -22,7 +22,7 @@ pub(crate) struct SymbolTables<'a> {
     pub(crate) definitions: NameTable<'a>,
 }
 
-/// The table of the names that symbols state in a role.
+/// Returns the table of the names that symbols state in a role.
 fn table_of<'a>(
     alloc: Global,
     object: &ObjectView<'a>,
@@ -38,7 +38,7 @@ fn table_of<'a>(
 }
 
 impl<'a> SymbolTables<'a> {
-    /// The tables of an object.
+    /// Returns the tables of an object.
     pub(crate) fn new(
         alloc: Global,
         object: &ObjectView<'a>,
@@ -53,7 +53,7 @@ impl<'a> SymbolTables<'a> {
         })
     }
 
-    /// The number of the first symbol that states a name in a role.
+    /// Returns the number of the first symbol that states a name in a role.
     pub(crate) fn first_symbol(&self, role: Role, name: &[u8]) -> Option<u32>
         ensures { (object : FileObject) → HasTables self.now object → result ≡ first_symbol role object name.now }
     {
@@ -66,7 +66,7 @@ impl<'a> SymbolTables<'a> {
     }
 }
 
-/// Whether no symbol states an export.
+/// Returns whether no symbol states an export.
 fn exports_nothing(object: &ObjectView) -> bool
     ensures { IsTrue result → exports_of object.now ≡ [] }
 {
@@ -78,7 +78,8 @@ fn exports_nothing(object: &ObjectView) -> bool
     true
 }
 
-/// The tables of an object that exports something. Most modules export nothing, and need none.
+/// Returns the tables of an object that exports something. Most modules export nothing, and need no
+/// tables.
 pub(crate) fn tables_of<'a>(
     alloc: Global,
     object: &ObjectView<'a>,
@@ -91,7 +92,7 @@ pub(crate) fn tables_of<'a>(
     Ok(Some(SymbolTables::new(alloc, object)?))
 }
 
-/// The first symbol that states a name in a role.
+/// Returns the first symbol that states a name in a role.
 #[tactic(auto, unfolding(crate::specs::Roles::symbol_of))]
 pub(crate) fn symbol_of<'a>(
     object: &ObjectView<'a>,

@@ -8,7 +8,8 @@ use km_names::{Name, Names, Texts};
 use modinfo_fields::field_values;
 use std::alloc::{AllocError, Global};
 
-/// Whether a module of this license may use what is GPL-only. The kernel's include/linux/license.h.
+/// Returns whether a module of this license may use GPL-only symbols. The kernel's
+/// include/linux/license.h.
 #[tactic(auto, unfolding(crate::specs::Facts::is_free_license))]
 fn is_free_license(license: &[u8]) -> bool
     ensures { result ≡ is_free_license license.now }
@@ -21,7 +22,7 @@ fn is_free_license(license: &[u8]) -> bool
         || license == b"Dual MPL/GPL".as_slice()
 }
 
-/// Whether the first of these licenses is free; without one none is.
+/// Returns whether the first of these licenses is free. Without a license it isn't.
 #[tactic(auto, unfolding(crate::specs::Facts::is_free))]
 pub(crate) fn is_free(licenses: &Texts) -> bool
     ensures { result ≡ is_free licenses.now }
@@ -32,7 +33,7 @@ pub(crate) fn is_free(licenses: &Texts) -> bool
     }
 }
 
-/// The values of a key in the bytes of the section, as names.
+/// Returns the values of a key in the bytes of the section, as names.
 pub(crate) fn names_of(alloc: Global, bytes: &[u8], key: &[u8]) -> Result<Names, AllocError>
     ensures { IfOk result (λ names. names ≡ values_of_key key.now (fields_of bytes.now)) }
 {

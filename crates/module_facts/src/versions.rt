@@ -13,11 +13,11 @@ use km_names::{List, first_string, le_u32_at, le_u64_at};
 use name_table::NameTable;
 use std::alloc::{AllocError, Global};
 
-/// The bytes of an entry of the section `__versions`. The kernel's struct modversion_info,
+/// The size of an entry of the section `__versions` in bytes. The kernel's struct modversion_info,
 /// include/linux/module.h.
 const ENTRY: usize = 64;
 
-/// The bytes of a number of the section `__version_ext_crcs`.
+/// The size of a number of the section `__version_ext_crcs` in bytes.
 const NUMBER: usize = 4;
 
 /// A version that a module states of a symbol.
@@ -37,7 +37,7 @@ pub(crate) struct Extended<'a> {
     names: &'a [u8],
 }
 
-/// The name of the entry `k`: what stands before the NUL in its last 56 bytes.
+/// Returns the name of the entry `k`: the bytes before the NUL in its last 56 bytes.
 fn entry_name(bytes: &[u8], k: u32) -> Option<&[u8]>
     requires { 64 * k + 64 ≤ length bytes.now }
     ensures { option_copied result ≡ entry_name bytes.now k }
@@ -46,7 +46,7 @@ fn entry_name(bytes: &[u8], k: u32) -> Option<&[u8]>
     first_string(&bytes[start..start + 56])
 }
 
-/// Whether the entries can't be as they are: the last isn't whole, or a name has no NUL.
+/// Returns whether the entries are invalid: the last isn't whole, or a name has no NUL.
 #[tactic(auto, unfolding(crate::specs::Versions::are_bad_entries))]
 fn are_bad_entries(bytes: &[u8]) -> bool
     requires { length bytes.now ≤ file_limit }
@@ -63,7 +63,7 @@ fn are_bad_entries(bytes: &[u8]) -> bool
     false
 }
 
-/// The list that entries give.
+/// Returns the version list of the entries.
 #[tactic(auto, unfolding(crate::specs::Versions::entry_list))]
 fn entry_list<'a>(alloc: Global, bytes: &'a [u8]) -> Result<Versions<'a>, AllocError>
     requires { length bytes.now ≤ file_limit }
@@ -80,14 +80,15 @@ fn entry_list<'a>(alloc: Global, bytes: &'a [u8]) -> Result<Versions<'a>, AllocE
     Ok(list)
 }
 
-/// How many NULs there are.
+/// Returns the number of NULs.
 fn nul_count(bytes: &[u8]) -> usize
     ensures { result ≡ count_by (λ b. b == 0) bytes.now }
 {
     bytes.iter().filter(|b| **b == 0).count()
 }
 
-/// Whether extended versions can't be as they are: the numbers aren't whole, or are more than the names.
+/// Returns whether extended versions are invalid: the last number isn't whole, or there are more
+/// numbers than NULs.
 #[tactic(auto, unfolding(crate::specs::Versions::is_bad_extended))]
 fn is_bad_extended(crcs: &[u8], names: &[u8]) -> bool
     ensures { result ≡ is_bad_extended crcs.now names.now }
@@ -95,7 +96,7 @@ fn is_bad_extended(crcs: &[u8], names: &[u8]) -> bool
     crcs.len() % NUMBER != 0 || nul_count(names) < crcs.len() / NUMBER
 }
 
-/// What follows a name and the NUL after it.
+/// Returns the bytes after a name and its NUL.
 fn after_name<'a>(bytes: &'a [u8], name: &[u8]) -> &'a [u8]
     requires { length name.now < length bytes.now }
     ensures { result.now ≡ drop (length name.now + 1) bytes.now }
@@ -103,7 +104,7 @@ fn after_name<'a>(bytes: &'a [u8], name: &[u8]) -> &'a [u8]
     &bytes[name.len() + 1..]
 }
 
-/// The list that extended versions give.
+/// Returns the version list of the extended form.
 fn extended_list<'a>(
     alloc: Global,
     crcs: &[u8],
@@ -126,7 +127,7 @@ fn extended_list<'a>(
     Ok(list)
 }
 
-/// The sections of extended versions, where both stand in the file.
+/// Returns the sections of extended versions, if both are in the file.
 #[tactic(auto, unfolding(crate::specs::Versions::extended_bytes))]
 fn extended_sections<'a>(object: &ObjectView<'a>) -> Option<Extended<'a>>
     ensures bytes { option_map (λ x. (x.crcs.now, x.names.now)) result ≡ extended_bytes object.now }
@@ -137,7 +138,7 @@ fn extended_sections<'a>(object: &ObjectView<'a>) -> Option<Extended<'a>>
     Some(Extended { crcs, names })
 }
 
-/// The version list of a module.
+/// Returns the version list of a module.
 #[tactic(auto, unfolding(crate::specs::Versions::version_list))]
 pub(crate) fn version_list<'a>(
     alloc: Global,
@@ -155,7 +156,7 @@ pub(crate) fn version_list<'a>(
     }
 }
 
-/// Whether what gives the version list can't be as it is.
+/// Returns whether the sections with the version list are invalid.
 #[tactic(auto, unfolding(crate::specs::Versions::is_bad_list))]
 pub(crate) fn is_bad_list(object: &ObjectView) -> bool
     ensures { result ≡ is_bad_list object.now }
@@ -169,7 +170,7 @@ pub(crate) fn is_bad_list(object: &ObjectView) -> bool
     }
 }
 
-/// The table of the names of a version list.
+/// Returns the table of the names of a version list.
 pub(crate) fn version_table<'a>(
     alloc: Global,
     list: &[Version<'a>],
@@ -184,7 +185,7 @@ pub(crate) fn version_table<'a>(
     Ok(table)
 }
 
-/// The version that a list has for a name: that of the first entry of the name.
+/// Returns the version that a list has for a name, from the first entry of the name.
 #[tactic(auto, unfolding(crate::specs::Versions::stated_version))]
 pub(crate) fn stated_version(list: &Versions, table: &NameTable, name: &[u8]) -> Option<u64>
     requires { IsTableOf table.now (map (λ v. Some v.name.now) list.now) }

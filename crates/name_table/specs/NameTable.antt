@@ -5,7 +5,7 @@ use Rattle.std.specs.Map.{lookup}
 use Rattle.std.specs.Option.{option_map_or}
 use Rattle.std.specs.Str.{bytes_eq}
 
--- An item that states a name, or none, states this one.
+-- Whether an item that states a name, or none, states this one.
 abbrev pub states : List ℕ → Option (List ℕ) → Bool
 states name stated = option_map_or (λ n. bytes_eq n name) stated false
 

@@ -10,8 +10,8 @@ use std::alloc::{AllocError, Global};
 use std::hash::BuildHasherDefault;
 use std::marker::Model;
 
-/// For each of some names the place of the first item that states it. The names stand elsewhere. Contracts see the
-/// names with their places, and the count of items.
+/// For each of some names the place of the first item that states it. The names are borrowed.
+/// Contracts see the names with their places, and the count of items.
 #[derive(Drop)]
 pub struct NameTable<'a> {
     places: IndexMap<NameKey<'a>, u32, NameHash>,
@@ -27,8 +27,8 @@ impl<'a> Model for NameTable<'a> {
     ghost view = { λ t. record { entries = map (λ e. (e.0.bytes.now, e.1)) t.places.entries; count = t.count } };
 }
 
-// Puts a name in with its place; one that was there gets back the place that it had. So a new name, as most are, is
-// looked up once.
+// Inserts a name with its place. A name that is already there gets back its old place. So a new
+// name, as most are, is looked up once.
 fn keep_first<'a>(
     places: &mut IndexMap<NameKey<'a>, u32, NameHash>,
     name: &'a [u8],
@@ -46,7 +46,7 @@ fn keep_first<'a>(
 }
 
 impl<'a> NameTable<'a> {
-    /// The table of no item. It takes no memory.
+    /// Returns the table of no items. It takes no memory.
     pub fn new(alloc: Global) -> Self
         ensures empty { IsTableOf result [] }
         ensures count { result.count ≡ 0 }
@@ -57,7 +57,7 @@ impl<'a> NameTable<'a> {
         }
     }
 
-    /// The table of no item, with room for so many names.
+    /// Returns the table of no items, with room for so many names.
     pub fn with_capacity(alloc: Global, names: usize) -> Result<Self, AllocError>
         ensures empty { IfOk result (λ table. IsTableOf table []) }
         ensures count { IfOk result (λ table. table.count ≡ 0) }
@@ -83,7 +83,7 @@ impl<'a> NameTable<'a> {
         Ok(())
     }
 
-    /// The place of the first item that states this name.
+    /// Returns the place of the first item that states this name.
     pub fn place(&self, name: &[u8]) -> Option<u32>
         ensures { result ≡ place_of self.now name.now }
     {

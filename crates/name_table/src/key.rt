@@ -1,4 +1,4 @@
-// Names as keys of tables, and how they are hashed.
+// Names as keys of tables, and their hash.
 ghost use Rattle.std.specs.Prelude.{◌≡◌, nat_eq, [], ◌∷◌};
 ghost use Rattle.std.specs.Cmp.Lexicographic.{bytes_decides, pointwise, nat_list_eq_equiv};
 ghost use Rattle.std.specs.Cmp.{partial_equiv_from_equiv, on_per, on_equiv};
@@ -7,13 +7,14 @@ ghost use Rattle.name_table.specs.Keys.{name_of};
 
 use std::hash::{BuildHasherDefault, DefaultHasher, Hash, Hasher};
 
-/// What hashes the names of a table: SipHash-1-3 with both keys 0. Names come from files, which anybody may have written.
-/// The library's fast hasher joins what it is given by a product that can be made 0, so names that all have one hash can
-/// be computed; for SipHash nothing better than trying is known.
+/// The hasher of the names of a table: SipHash-1-3 with both keys 0. Names come from files, which
+/// anybody may have written. The library's fast hasher multiplies its input by a product that can
+/// be made 0, so names with one hash can be computed. For SipHash nothing better than trying is
+/// known.
 pub type NameHash = BuildHasherDefault<DefaultHasher>;
 
-/// A name as a key of a table that borrows its names. The hasher is given the name whole; a slice gives it the length
-/// and then each byte alone, which takes twice as long.
+/// A name as a key of a table that borrows its names. The hasher gets the name as a whole. A slice
+/// would give it the length and then each byte by itself, which takes twice as long.
 #[derive(Clone, Copy)]
 pub struct NameKey<'a> {
     /// The name.
@@ -21,7 +22,7 @@ pub struct NameKey<'a> {
 }
 
 impl<'a> NameKey<'a> {
-    /// The key of a name.
+    /// Returns the key of a name.
     pub fn new(bytes: &'a [u8]) -> Self
         ensures { result.bytes.now ≡ bytes.now }
     {
@@ -53,17 +54,18 @@ impl<'a> Hash for NameKey<'a> {
     }
 }
 
-/// A name as a key of a table that owns its names. The hasher is given the name whole, as by [`NameKey`].
+/// A name as a key of a table that owns its names. The hasher gets the name as a whole, as with
+/// [`NameKey`].
 #[derive(Drop)]
 pub enum OwnedNameKey<'a> {
     /// A name that the table owns.
     Owned(Vec<u8>),
-    /// A name that the table is asked for.
+    /// A name that is looked up in the table.
     Asked(&'a [u8]),
 }
 
 impl<'a> OwnedNameKey<'a> {
-    /// The name.
+    /// Returns the name.
     pub fn bytes(&self) -> &[u8]
         ensures { result.now ≡ name_of self.now }
     {

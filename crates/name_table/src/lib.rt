@@ -1,13 +1,15 @@
 //! Tables of names: for each name the place of the first item of a list that states it.
 //!
-//! A table is filled item by item, from the first on, and keeps each name once, in the order in which it was first
-//! stated. `NameTable` borrows the names from what states them; `OwnedNameTable` keeps copies, for tables that stay
-//! when that is gone. Other tables of names take `NameKey` or `OwnedNameKey` for keys and `NameHash` for the hasher.
+//! A table is filled item by item, from the first on. It keeps each name once, in the order the
+//! names are first stated in. `NameTable` borrows the names from the items. `OwnedNameTable` keeps
+//! copies, for tables that outlive the items. Other tables of names take `NameKey` or
+//! `OwnedNameKey` for keys and `NameHash` for the hasher.
 //!
-//! The crate stands on `indexmap` and hashes names by SipHash-1-3: putting a name in and looking one up take the same
-//! time however many there are, but for names that were searched for. The keys of the hash are fixed, so names that
-//! meet in one place of a table can be found, each by as many trials as the table has places; no way is known to compute
-//! them. Only memory can be wanting.
+//! The crate uses `indexmap` and hashes names by SipHash-1-3. Inserting a name and looking one up
+//! take the same time however many there are, except for names that were chosen against the hash.
+//! The keys of the hash are fixed, so names that collide in a table can be found. Each takes as
+//! many trials as the table has places; no way is known to compute them. The only error is out of
+//! memory.
 #![tactic(auto)]
 
 mod borrowed;

@@ -11,8 +11,8 @@ use std::alloc::{AllocError, Global};
 use std::hash::BuildHasherDefault;
 use std::marker::Model;
 
-/// For each of some names the place of the first item that states it. The table has copies of the names. Contracts
-/// see the names with their places, and the count of items.
+/// For each of some names the place of the first item that states it. The table has copies of the
+/// names. Contracts see the names with their places, and the count of items.
 #[derive(Drop)]
 pub struct OwnedNameTable {
     places: IndexMap<OwnedNameKey<'static>, u32, NameHash>,
@@ -29,7 +29,7 @@ impl Model for OwnedNameTable {
     ghost view = { λ t. record { entries = map (λ e. (name_of e.0, e.1)) t.places.entries; count = t.count } };
 }
 
-// Puts a copy of a name in with its place, unless the name is there.
+// Inserts a copy of a name with its place, unless the name is already there.
 fn keep_first(
     alloc: Global,
     places: &mut IndexMap<OwnedNameKey<'static>, u32, NameHash>,
@@ -48,7 +48,7 @@ fn keep_first(
 }
 
 impl OwnedNameTable {
-    /// The table of no item. It takes no memory.
+    /// Returns the table of no items. It takes no memory.
     pub fn new(alloc: Global) -> Self
         ensures empty { IsTableOf result [] }
         ensures count { result.count ≡ 0 }
@@ -74,7 +74,7 @@ impl OwnedNameTable {
         Ok(())
     }
 
-    /// The place of the first item that states this name. It takes no memory.
+    /// Returns the place of the first item that states this name. It takes no memory.
     pub fn place(&self, name: &[u8]) -> Option<u32>
         ensures { result ≡ place_of self.now name.now }
     {

@@ -8,8 +8,8 @@ use std::alloc::{AllocError, Global};
 use std::hash::BuildHasherDefault;
 use std::marker::Model;
 
-/// Names without repeats, in the order in which they were first put in. The names stand elsewhere. Contracts see the
-/// list of names.
+/// Names without repeats, in the order they were first inserted in. The names are borrowed.
+/// Contracts see the list of names.
 #[derive(Drop)]
 pub struct NameSet<'a> {
     names: IndexSet<NameKey<'a>, NameHash>,
@@ -24,7 +24,7 @@ impl<'a> Model for NameSet<'a> {
 }
 
 impl<'a> NameSet<'a> {
-    /// The set of no name. It takes no memory.
+    /// Returns the empty set. It takes no memory.
     pub fn new(alloc: Global) -> Self
         ensures { result ≡ [] }
     {
@@ -33,7 +33,8 @@ impl<'a> NameSet<'a> {
         }
     }
 
-    /// Puts a name in, behind the others, unless it is there. After a refusal the set is as before.
+    /// Inserts a name behind the others, unless it is already there. After a refusal the set is as
+    /// before.
     pub fn insert(&mut self, name: &'a [u8]) -> Result<(), AllocError>
         ensures ok { OnOk result (self.new ≡ with_name self.old name.now) }
         ensures seen { OnOk result ((names : List (List ℕ)) → self.old ≡ first_seen names →
@@ -45,14 +46,14 @@ impl<'a> NameSet<'a> {
         Ok(())
     }
 
-    /// Whether the name is there.
+    /// Returns whether the name is in the set.
     pub fn contains(&self, name: &[u8]) -> bool
         ensures { result ≡ is_among self.now name.now }
     {
         self.names.contains(&NameKey::new(name))
     }
 
-    /// The name at a place, from 0.
+    /// Returns the name at a place, from 0.
     pub fn get(&self, place: usize) -> Option<&'a [u8]>
         ensures { option_map (λ name. name.now) result ≡ slice_get self.now place }
     {
@@ -60,7 +61,7 @@ impl<'a> NameSet<'a> {
         Some(key.bytes)
     }
 
-    /// How many names there are.
+    /// Returns the number of names.
     pub fn len(&self) -> usize
         ensures { result ≡ length self.now }
     {

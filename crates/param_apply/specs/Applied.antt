@@ -1,4 +1,4 @@
--- An image with the values of its parameters, or why it has none.
+-- An image with the values of its parameters, or the fault of its options.
 use Rattle.std.specs.Prelude.{ℕ, ◌-◌, ◌==◌, Bool, List, [], ◌∷◌, map, find, reverse, take, length, slice_get, slice_index, Option, Some, None, is_none, option_and_then, option_map, unwrap_or}
 use Rattle.std.specs.List.{count_by, list_any, range_with_len}
 use Rattle.std.specs.Option.{option_map_or}
@@ -19,39 +19,39 @@ abbrev pub value_test : Setting → Parameter → Option Kind → Option ParamFa
 value_test s p None = Some (UnknownParamType p.name)
 value_test s p (Some kind) = fault_if (is_none (number_of kind s.text)) (BadValue p.name)
 
--- What is wrong with a word, after those before it: it states no value, or the value can't be where it is.
+-- The fault of a word, after the words before it: it states no value, or the value is misplaced.
 unfoldable pub setting_fault : FileObject → List Parameter → ℕ → List Setting → Setting → Option ParamFault
 setting_fault o params len before s =
     option_map_or
     (λ p. first (value_test s p p.kind ∷ fault_if (is_misplaced o params len before s.number p) (BadParamPlace p.name) ∷ []))
     (slice_get params s.number) None
 
--- What is wrong with the word j.
+-- The fault of the word j.
 abbrev pub fault_at : FileObject → List Parameter → ℕ → List Setting → ℕ → Option ParamFault
 fault_at o params len ss j = option_map_or (setting_fault o params len (take j ss)) (slice_get ss j) None
 
--- What is wrong with the words: the first fault of one.
+-- The fault of the words: the first fault of one.
 unfoldable pub words_fault : FileObject → List Parameter → ℕ → List Setting → Option ParamFault
 words_fault o params len ss = first (each (length ss) (fault_at o params len ss))
 
--- Why options can't be written into an image at a base: the table is at fault, or else a word.
+-- Why options can't be written into an image at a base: the fault of the table, or else of a word.
 unfoldable pub param_fault : FileObject → ℕ → List ℕ → List ℕ → Option ParamFault
 param_fault o base image options =
     let params = parameters o base image in
     first (table_fault image base (table_of o) ∷ words_fault o params (length image) (settings params options) ∷ [])
 
--- The bytes of the value that a word states for its parameter; none where it states none.
+-- The bytes of the value that a word states for its parameter, and none if it states none.
 abbrev pub value_bytes : Setting → Parameter → List ℕ
 value_bytes s p = unwrap_or (option_and_then (λ kind. option_map (bytes_of kind) (number_of kind s.text)) p.kind) []
 
--- These bytes, at the place of the parameter.
+-- The bytes of a setting, at the place of its parameter.
 unfoldable pub piece : List Parameter → Setting → Piece
 piece params s = record {
   at = option_map_or (λ (p : Parameter). p.at) (slice_get params s.number) 0;
   bytes = option_map_or (value_bytes s) (slice_get params s.number) [];
 }
 
--- The byte at x: that of the last of some pieces which has it, else that of the image.
+-- The byte at x: from the last of some pieces that covers it, and else from the image.
 abbrev pub byte_of : List ℕ → List Piece → ℕ → ℕ
 byte_of image ps x = option_map_or (λ p. slice_index p.bytes (x - p.at)) (find (has_place x) (reverse ps)) (slice_index image x)
 
@@ -59,20 +59,20 @@ byte_of image ps x = option_map_or (λ p. slice_index p.bytes (x - p.at)) (find 
 unfoldable pub with_pieces : List ℕ → List Piece → List ℕ
 with_pieces image ps = map (byte_of image ps) (range_with_len 0 (length image))
 
--- The image at a base with the options written into it: each byte is that of the last word whose parameter's place has
--- it, and any other byte is as it was.
+-- The image at a base with the options written into it. Each byte is from the last word whose
+-- parameter's place covers it, and any other byte is as it was.
 unfoldable pub finished : FileObject → ℕ → List ℕ → List ℕ → List ℕ
 finished o base image options =
     let params = parameters o base image in with_pieces image (map (piece params) (settings params options))
 
--- A word names the parameter k.
+-- Whether a word names the parameter k.
 abbrev pub is_named : List Setting → ℕ → Bool
 is_named ss k = list_any (λ (s : Setting). s.number == k) ss
 
--- How many parameters the words name.
+-- The number of parameters that the words name.
 abbrev pub named_count : List Parameter → List Setting → ℕ
 named_count params ss = count_by (is_named ss) (range_with_len 0 (length params))
 
--- How many parameters the options name.
+-- The number of parameters that the options name.
 unfoldable pub count_of : FileObject → ℕ → List ℕ → List ℕ → ℕ
 count_of o base image options = let params = parameters o base image in named_count params (settings params options)

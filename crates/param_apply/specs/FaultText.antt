@@ -1,10 +1,11 @@
--- The texts of the faults of parameters, as they stand in a line on standard error behind the name of the module.
+-- The texts of the faults of parameters, as they follow the name of the module in a line on
+-- standard error.
 use Rattle.std.specs.Prelude.{ℕ, List, ◌++◌, codes}
 use Rattle.std.specs.Fmt.{decimal}
 use Rattle.param_apply.specs.declared.fault.ParamFault.{ParamFault}
 use Rattle.param_apply.specs.declared.fault.ParamFault.TheVariants.{BadParamTable, UnknownParamType, BadValue, BadParamPlace, Memory}
 
--- The text of what keeps parameters from being written.
+-- The text of a fault of parameters.
 abbrev pub param_fault_text : ParamFault → List ℕ
 param_fault_text (BadParamTable entry) = codes "bad parameter table at entry " ++ decimal entry
 param_fault_text (UnknownParamType name) = codes "unknown type of " ++ name

@@ -21,7 +21,7 @@ kind_of text =
     else if bytes_eq text (codes "bool") then Some Truth
     else None
 
--- How many bytes its values have.
+-- The number of bytes of its values.
 abbrev pub width_of : Kind → ℕ
 width_of (Unsigned w) = bytes_in w
 width_of (Signed w) = bytes_in w
@@ -33,7 +33,7 @@ stated (Unsigned w) text = unsigned w text
 stated (Signed w) text = signed w text
 stated Truth text = truth text
 
--- The number that a word without a text is.
+-- The number of a word without a text.
 abbrev pub unstated : Kind → Option ℕ
 unstated Truth = Some 1
 unstated kind = None
@@ -43,6 +43,6 @@ unfoldable pub number_of : Kind → Option (List ℕ) → Option ℕ
 number_of kind None = unstated kind
 number_of kind (Some text) = stated kind text
 
--- The bytes of that number, the lowest first.
+-- The bytes of the number, the lowest first.
 unfoldable pub bytes_of : Kind → ℕ → List ℕ
 bytes_of kind n = take (width_of kind) (to_le_bytes w64 n)

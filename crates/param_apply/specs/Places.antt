@@ -1,4 +1,4 @@
--- Where values may stand in an image.
+-- The places in an image that values may have.
 use Rattle.std.specs.Prelude.{ℕ, ◌+◌, ◌==◌, ◌&&◌, ◌||◌, nat_le, nat_lt, not, Bool, false, List, slice_get}
 use Rattle.std.specs.List.{list_any, range_with_len}
 use Rattle.std.specs.Option.{option_map_or}
@@ -10,32 +10,33 @@ use Rattle.param_apply.specs.Kinds.{width_of}
 use Rattle.param_apply.specs.Table.{table_of}
 use Rattle.param_apply.specs.Words.{Parameter, Setting}
 
--- The byte at x is one of so many from a place on.
+-- Whether the byte at x is one of so many from a place on.
 abbrev pub is_among : ℕ → ℕ → ℕ → Bool
 is_among at size x = nat_le at x && nat_lt x (at + size)
 
--- A relocation changes the byte at x of the image.
+-- Whether a relocation changes the byte at x of the image.
 abbrev pub is_relocated_by : FileObject → ℕ → RelaPlace → Bool
 is_relocated_by o x p = is_among (offset o.sections p.target + p.offset) (place_width p) x
 
--- The byte at x isn't one of a value: a relocation changes it, or it is of the table of parameters.
+-- Whether no value may have the byte at x: a relocation changes it, or it is in the table of
+-- parameters.
 unfoldable pub is_reserved : FileObject → ℕ → Bool
 is_reserved o x = list_any (is_relocated_by o x) o.places || is_among (table_of o).at (table_of o).size x
 
--- How many bytes the value of a parameter has; one whose type isn't known has none.
+-- The number of bytes of a parameter's value, and 0 if its type isn't known.
 abbrev pub value_width : Parameter → ℕ
 value_width p = option_map_or width_of p.kind 0
 
--- The byte at x is one of the value of the parameter k.
+-- Whether the byte at x is in the value of the parameter k.
 unfoldable pub is_in_value : List Parameter → ℕ → ℕ → Bool
 is_in_value params k x = option_map_or (λ p. is_among p.at (value_width p) x) (slice_get params k) false
 
--- A word names another parameter than k, whose value has the byte at x.
+-- Whether a word names another parameter than k whose value has the byte at x.
 abbrev pub is_of_other : List Parameter → ℕ → ℕ → Setting → Bool
 is_of_other params k x s = not (s.number == k) && is_in_value params s.number x
 
--- The value of the parameter k can't be where it is, after these words: its bytes leave the image, or one of them is
--- reserved or is of another parameter that one of the words names.
+-- Whether the value of the parameter k is misplaced, after these words: its bytes leave the image,
+-- or one of them is reserved or belongs to another parameter that one of the words names.
 unfoldable pub is_misplaced : FileObject → List Parameter → ℕ → List Setting → ℕ → Parameter → Bool
 is_misplaced o params len before k p =
     nat_lt len (p.at + value_width p)

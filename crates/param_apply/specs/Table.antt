@@ -1,6 +1,6 @@
--- The table of a module's parameters, in its image. The kernel's include/linux/moduleparam.h, struct kernel_param, has an
--- entry for each parameter; that an entry has 40 bytes, with the address of the name at 0 and that of the value at 32, is
--- this project's own reading of it.
+-- The table of a module's parameters, in its image. The kernel's include/linux/moduleparam.h,
+-- struct kernel_param, has an entry for each parameter. An entry has 40 bytes, with the address of
+-- the name at 0 and the address of the value at 32. This is the project's own reading of it.
 use Rattle.std.specs.Prelude.{ℕ, ◌+◌, ◌-◌, ◌*◌, ◌/◌, ◌%◌, ◌^◌, ◌==◌, not, if◌then◌else◌, List, [], ◌∷◌, ◌++◌, length, map, slice_get, codes, Option, is_none, unwrap_or}
 use Rattle.std.specs.List.{position, range_with_len}
 use Rattle.std.specs.Option.{option_map_or}
@@ -17,31 +17,31 @@ use Rattle.param_apply.specs.declared.fault.ParamFault.{ParamFault}
 use Rattle.param_apply.specs.declared.fault.ParamFault.TheVariants.{BadParamTable}
 use Rattle.param_apply.specs.declared.table.ParamTable.{ParamTable}
 
--- The table that a section is which begins at a place of the image: as many bytes as it has in the file. One that isn't
--- in memory is an empty table.
+-- A section as a table, at its place of the image: as many bytes as it has in the file. A section
+-- that isn't in memory is an empty table.
 abbrev pub table_at : FileObject → ℕ → Section → ParamTable
 table_at o at s =
     if s.kept then record { at = at; size = length (bytes_of o.file s) } else record { at = 0; size = 0 }
 
--- The table of an object: the first section named `__param`; an empty one where there is none.
+-- The table of an object: the first section named `__param`, and an empty one if there is none.
 unfoldable pub table_of : FileObject → ParamTable
 table_of o =
     option_map_or (λ i. option_map_or (table_at o (offset o.sections i)) (slice_get o.sections i) (record { at = 0; size = 0 }))
     (position (λ s. bytes_eq s.name (codes "__param")) o.sections) (record { at = 0; size = 0 })
 
--- How many whole entries it has.
+-- The number of its whole entries.
 abbrev pub entry_count : ParamTable → ℕ
 entry_count t = t.size / 40
 
--- The place in an image at a base that the word at q of the image is the address of, modulo 2^64.
+-- The place in an image at a base whose address is in the word at q of the image, modulo 2^64.
 unfoldable pub place_of : List ℕ → ℕ → ℕ → ℕ
 place_of image base q = (le image q 8 + 2 ^ 64 - base) % 2 ^ 64
 
--- The name of the entry k: the bytes from its place up to a NUL, where one follows in the image.
+-- The name of the entry k: the bytes from its place up to a NUL, if one follows in the image.
 unfoldable pub entry_name : List ℕ → ℕ → ParamTable → ℕ → Option (List ℕ)
 entry_name image base t k = string_at image (place_of image base (t.at + 40 * k))
 
--- The test of the entry k: its name stands in the image.
+-- The test of the entry k: its name is in the image.
 abbrev pub entry_fault : List ℕ → ℕ → ParamTable → ℕ → Option ParamFault
 entry_fault image base t k = fault_if (is_none (entry_name image base t k)) (BadParamTable k)
 
@@ -49,11 +49,11 @@ entry_fault image base t k = fault_if (is_none (entry_name image base t k)) (Bad
 abbrev pub end_fault : ParamTable → Option ParamFault
 end_fault t = fault_if (not (t.size % 40 == 0)) (BadParamTable (entry_count t))
 
--- What is wrong with the table: the first of these tests that fails.
+-- The fault of the table: the first of these tests that fails.
 unfoldable pub table_fault : List ℕ → ℕ → ParamTable → Option ParamFault
 table_fault image base t = first (each (entry_count t) (entry_fault image base t) ++ end_fault t ∷ [])
 
--- An entry of a table without fault: its name, and where its value stands.
+-- An entry of a table without fault: its name, and the place of its value.
 pub record Entry : Type 0 where
   pub name : List ℕ
   pub at : ℕ

@@ -1,5 +1,6 @@
--- The parameters of a module, and the words that name them. The kernel's parse_args, kernel/params.c; modprobe(8). That
--- words stand between spaces alone, without quotes, is this project's choice.
+-- The parameters of a module, and the words that name them. The kernel's parse_args,
+-- kernel/params.c; modprobe(8). That only spaces separate words, without quotes, is this project's
+-- choice.
 use Rattle.std.specs.Prelude.{ℕ, ◌==◌, not, Bool, if◌then◌else◌, List, map, filter, take_while, slice_get, codes, Option, Some, None, option_map, option_and_then}
 use Rattle.std.specs.List.{slice_split, before_first, after_first, filter_map, list_any, position}
 use Rattle.std.specs.Str.{bytes_eq}
@@ -11,11 +12,12 @@ use Rattle.param_apply.specs.declared.kind.Kind.{Kind}
 use Rattle.param_apply.specs.Kinds.{kind_of}
 use Rattle.param_apply.specs.Table.{Entry, entries, table_of}
 
--- Two names are one, with each `-` read as `_`.
+-- Whether two names are the same, with each `-` replaced by `_`.
 abbrev pub is_same : List ℕ → List ℕ → Bool
 is_same name other = bytes_eq (underscored name) (underscored other)
 
--- The texts of a module that say of which type a parameter is: each is the parameter's name, `:`, and the type.
+-- The texts of a module that state the types of parameters: each is the parameter's name, `:`, and
+-- the type.
 abbrev pub type_texts : FileObject → List (List ℕ)
 type_texts o = values_of_key (codes "parmtype") (fields_of (modinfo_bytes o))
 
@@ -26,13 +28,13 @@ text_name text = before_first (λ b. b == 58) text
 abbrev pub text_type : List ℕ → List ℕ
 text_type text = after_first (λ b. b == 58) text
 
--- The type of the parameter of a name: that of the first text with the name, where it is one that is known.
+-- The type of the parameter of a name, from the first text with the name, if the type is known.
 unfoldable pub kind_named : List (List ℕ) → List ℕ → Option Kind
 kind_named texts name =
     option_and_then (λ text. kind_of (text_type text))
     (option_and_then (slice_get texts) (position (λ text. is_same (text_name text) name) texts))
 
--- A parameter: its name, where its value stands in the image, and its type.
+-- A parameter: its name, the place of its value in the image, and its type.
 pub record Parameter : Type 0 where
   pub name : List ℕ
   pub at : ℕ
@@ -45,15 +47,15 @@ parameter texts e = record { name = e.name; at = e.at; kind = kind_named texts e
 unfoldable pub parameters : FileObject → ℕ → List ℕ → List Parameter
 parameters o base image = map (parameter (type_texts o)) (entries image base (table_of o))
 
--- The words of a text, which stand between spaces.
+-- The words of a text, which are between spaces.
 abbrev pub words : List ℕ → List (List ℕ)
 words text = filter is_text (slice_split (λ b. b == 32) text)
 
--- Those that state options: the ones before a word `--`.
+-- The words that state options: the ones before a word `--`.
 abbrev pub stating : List ℕ → List (List ℕ)
 stating text = take_while (λ word. not (bytes_eq word (codes "--"))) (words text)
 
--- The name in a word, which ends at its first `=`, and the text after that, where there is one.
+-- The name in a word, which ends at its first `=`, and the text after that, if there is one.
 abbrev pub word_name : List ℕ → List ℕ
 word_name word = before_first (λ b. b == 61) word
 
@@ -72,6 +74,7 @@ pub record Setting : Type 0 where
 abbrev pub setting : List Parameter → List ℕ → Option Setting
 setting params word = option_map (λ k. record { number = k; text = word_text word }) (number_named params (word_name word))
 
--- Which words name which parameters, in order. Words that name none are left out.
+-- The settings of the words of options that name parameters, in order. Words that name none are
+-- left out.
 unfoldable pub settings : List Parameter → List ℕ → List Setting
 settings params options = filter_map (setting params) (stating options)

@@ -1,4 +1,5 @@
--- What is kept while words are written into an image. No public contract cites it.
+-- What is kept while words are written into an image.
+-- It belongs to the code: no public meaning rests on it.
 use Rattle.std.specs.Prelude.{◌≡◌, ℕ, ◌<◌, ◌||◌, Bool, true, false, List, length, map, take, slice_get, Some, None, get_or}
 use Rattle.std.specs.List.{list_any}
 use Rattle.elf_object.specs.Object.{FileObject}
@@ -10,12 +11,12 @@ use Rattle.param_apply.specs.Words.{Parameter, Setting}
 use Rattle.param_apply.specs.Places.{is_in_value, is_misplaced, is_reserved}
 use Rattle.param_apply.specs.Applied.{fault_at, is_named, piece, with_pieces}
 
--- The byte at x is of the value of a parameter that one of the words names.
+-- Whether the byte at x is in the value of a parameter that one of the words names.
 abbrev pub is_of_any : List Parameter → ℕ → List Setting → Bool
 is_of_any params x ss = list_any (λ (s : Setting). is_in_value params s.number x) ss
 
--- After these words the flags are those of the bytes and of the parameters, and the value of each parameter that is named
--- can be where it is.
+-- After these words the flags are the ones of the bytes and of the parameters, and the value of
+-- each named parameter isn't misplaced.
 pub record AreClaims (c : Claims) (o : FileObject) (params : List Parameter) (done : List Setting) : Type 0 where
   pub taken : (x : ℕ) → x < length c.taken.items → get_or c.taken.items x false ≡ (is_reserved o x || is_of_any params x done)
   pub count : length c.named.items ≡ length params

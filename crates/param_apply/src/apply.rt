@@ -18,7 +18,7 @@ use std::alloc::Global;
 pub struct Params {
     /// The image.
     pub image: Image,
-    /// How many parameters the options name.
+    /// The number of parameters that the options name.
     pub count: u32,
 }
 
@@ -26,8 +26,8 @@ pub struct Params {
 /// at `base`.
 ///
 /// A word of the options that names a parameter states a value for the parameter's place, in as
-/// many bytes as the parameter's type has, the lowest first. Each byte of the copy is that of the
-/// last such word whose parameter's place has it. Every other byte is as in the image. The kernel's
+/// many bytes as the parameter's type has, the lowest first. Each byte of the copy is from the last
+/// such word whose parameter's place covers it. Every other byte is as in the image. The kernel's
 /// kernel/params.c and include/linux/moduleparam.h.
 ///
 /// # Errors

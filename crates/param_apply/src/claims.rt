@@ -1,4 +1,5 @@
-// Which bytes of an image are taken while words are written into it, and which parameters they name.
+// The bytes of an image that are taken while words are written into it, and the parameters that
+// words name.
 
 ghost use Rattle.std.specs.Prelude.{◌≡◌, ℕ, ◌+◌, ◌<◌, ◌≤◌, ◌⊎◌, List, [], ◌∷◌, ◌++◌, true, false, length, slice_get, get_or, None, Some, IfErr, IfOk, OnOk};
 ghost use Rattle.std.specs.List.{count_by};
@@ -16,7 +17,7 @@ use crate::taken::{are_free, mark};
 use km_names::Name;
 use std::alloc::{AllocError, Global};
 
-/// A value: its number, and how many bytes of it are written.
+/// A value: its number, and how many of its bytes are written.
 #[derive(Clone, Copy)]
 pub(crate) struct Value {
     pub(crate) number: u64,
@@ -30,7 +31,7 @@ fn name_of(alloc: Global, param: &ParamRef) -> Result<Name, AllocError>
     Name::from_slice(alloc, param.name)
 }
 
-/// Returns the fault of a value that can't be where it is, or `Memory`.
+/// Returns the fault of a misplaced value, or `Memory`.
 fn bad_place(alloc: Global, param: &ParamRef) -> ParamFault
     ensures { (result ≡ Memory) ⊎ (result ≡ BadParamPlace param.now.name) }
 {
@@ -70,7 +71,8 @@ pub(crate) fn value_of(
     })
 }
 
-/// Which bytes of an image are reserved or of a named parameter, and which parameters are named.
+/// The bytes of an image that are reserved or belong to a named parameter, and the parameters that
+/// are named.
 #[derive(Drop)]
 pub(crate) struct Claims {
     pub(crate) taken: Vec<bool>,
@@ -89,11 +91,11 @@ impl Claims {
         Ok(Claims { taken, named })
     }
 
-    /// Takes the bytes of a parameter's value, unless the parameter has them.
+    /// Claims the bytes of a parameter's value, unless the parameter has them already.
     ///
     /// # Errors
     ///
-    /// `BadParamPlace` if the value can't be where it is, or `Memory`.
+    /// `BadParamPlace` if the value is misplaced, or `Memory`.
     pub(crate) fn claim(
         &mut self,
         alloc: Global,
@@ -128,7 +130,7 @@ impl Claims {
         Ok(())
     }
 
-    /// Returns how many parameters are named.
+    /// Returns the number of named parameters.
     pub(crate) fn count(&self) -> usize
         ensures { result ≡ count_by (λ b. b) self.now.named.items }
     {

@@ -15,16 +15,16 @@ pub enum ParamFault {
     /// entry.
     #[error("bad parameter table at entry {entry}")]
     BadParamTable { entry: u32 },
-    /// The parameter `name` is of no type that is known.
+    /// The type of the parameter `name` isn't known.
     #[error("unknown type of {}", BStr::new(.name.as_bytes()))]
     UnknownParamType { name: Name },
-    /// What a word states for the parameter `name` is no value of its type.
+    /// The text that a word states for the parameter `name` is no value of its type.
     #[error("bad value of {}", BStr::new(.name.as_bytes()))]
     BadValue { name: Name },
-    /// The value of the parameter `name` leaves the image, or shares a byte with what isn't its own.
+    /// The value of the parameter `name` leaves the image, or shares a byte with something else.
     #[error("bad place of {}", BStr::new(.name.as_bytes()))]
     BadParamPlace { name: Name },
-    /// Memory ran out.
+    /// Out of memory.
     #[error("out of memory")]
     Memory,
 }
@@ -58,7 +58,7 @@ fn joined(alloc: Global, before: &[u8], after: &[u8]) -> Result<Blob, AllocError
     Ok(text)
 }
 
-/// Returns the text for a table that can't be as it is.
+/// Returns the text for an invalid table.
 fn table_text(alloc: Global, entry: u32) -> Result<Blob, AllocError>
     ensures { IfOk result (λ text. text ≡ codes "bad parameter table at entry " ++ decimal entry) }
 {

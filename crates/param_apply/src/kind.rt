@@ -6,7 +6,7 @@ ghost use Rattle.param_apply.specs.Kinds.{kind_of as the_kind_of, number_of as t
 
 use crate::number::{signed, truth, unsigned};
 
-/// How many bytes a number has.
+/// The number of bytes of a number.
 #[derive(Clone, Copy, Debug)]
 pub(crate) enum Width {
     /// 1.
@@ -20,7 +20,7 @@ pub(crate) enum Width {
 }
 
 impl Width {
-    /// Returns how many bytes the number has.
+    /// Returns the number of bytes.
     pub(crate) fn bytes(self) -> usize
         ensures { result ≡ bytes_in self }
     {
@@ -32,7 +32,7 @@ impl Width {
         }
     }
 
-    /// Returns how many numbers those bytes have.
+    /// Returns how many numbers these bytes have.
     pub(crate) fn numbers(self) -> u128
         ensures numbers { result ≡ numbers_in self }
         ensures few { result ≤ 2 ^ 64 }
@@ -87,7 +87,7 @@ pub(crate) fn kind_of(text: &[u8]) -> Option<Kind>
 }
 
 impl Kind {
-    /// Returns how many bytes its values have.
+    /// Returns the number of bytes of its values.
     pub(crate) fn width(self) -> usize
         ensures width { result ≡ width_of self }
         ensures small { result ≤ 8 }

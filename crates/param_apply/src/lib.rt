@@ -1,10 +1,10 @@
 //! The parameters of a module, written into a copy of its image.
 //!
 //! A module's section `__param` has an entry for each parameter, whose relocated words are the
-//! addresses of the name and of the value. The module's texts say of which type each is.
+//! addresses of the name and of the value. The module's texts state the type of each.
 //! [`apply_params`] reads the options of a module by them. It answers a copy of the image with the
 //! values in it, or the first of four refusals. The machine's own image stays as it was. Contracts
-//! see the copy byte by byte. Each byte is that of the last word whose parameter's place has it,
+//! see the copy byte by byte. Each byte is from the last word whose parameter's place covers it,
 //! and every other byte is as before.
 //!
 //! The crate builds on `image_layout` for the places of sections, on `module_facts` and

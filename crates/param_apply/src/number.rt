@@ -11,7 +11,7 @@ use crate::kind::Width;
 /// How many numbers 64 bits have.
 const NUMBERS: u128 = 1 << 64;
 
-/// Whether a text has only digits of a radix.
+/// Returns whether a text has only digits of a radix.
 fn are_digits(radix: u32, text: &[u8]) -> bool
     requires some { 2 ≤ radix }
     requires radix { radix ≤ 16 }
@@ -38,7 +38,7 @@ fn digit_value(digit: u8) -> u32
     }
 }
 
-/// Returns a number with one more digit behind it.
+/// Returns a number with one more digit at its end.
 fn with_digit(radix: u32, number: u64, digit: u8) -> u128
     requires radix { radix ≤ 16 }
     requires digit { IsTrue (is_digit digit 16) }
@@ -47,7 +47,7 @@ fn with_digit(radix: u32, number: u64, digit: u8) -> u128
     u128::from(number) * u128::from(radix) + u128::from(digit_value(digit))
 }
 
-/// Returns the number that the digits state, the first the highest, if it has at most 64 bits.
+/// Returns the number that the digits state, the highest digit first, if it has at most 64 bits.
 fn digits_value(radix: u32, digits: &[u8]) -> Option<u64>
     requires some { 1 ≤ radix }
     requires radix { radix ≤ 16 }
@@ -78,7 +78,7 @@ fn digits(radix: u32, text: &[u8]) -> Option<u64>
     digits_value(radix, text)
 }
 
-/// Whether a text begins as a number in hexadecimal does.
+/// Returns whether a text begins as a number in hexadecimal does.
 fn is_hexadecimal(text: &[u8]) -> bool
     ensures { result ≡ begins_hexadecimal text.now }
 {
@@ -155,7 +155,7 @@ pub(crate) fn signed(width: Width, text: &[u8]) -> Option<u64>
     }
 }
 
-/// Whether what a text begins with means true.
+/// Returns whether the front of a text means true.
 fn is_on(text: &[u8]) -> bool
     ensures { result ≡ means_on text.now }
 {
@@ -168,7 +168,7 @@ fn is_on(text: &[u8]) -> bool
         || text.starts_with(b"ON")
 }
 
-/// Whether what a text begins with means false.
+/// Returns whether the front of a text means false.
 fn is_off(text: &[u8]) -> bool
     ensures { result ≡ means_off text.now }
 {

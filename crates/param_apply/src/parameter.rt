@@ -16,8 +16,8 @@ use name_table::OwnedNameTable;
 use std::alloc::{AllocError, Global};
 use std::marker::Model;
 
-/// A parameter: its name, where its value is in the image, and its type, if known. Contracts see
-/// the name as its bytes.
+/// A parameter: its name, the place of its value in the image, and its type, if known. Contracts
+/// see the name as its bytes.
 #[derive(Drop)]
 pub(crate) struct ParamRef<'a> {
     pub(crate) name: &'a [u8],
@@ -44,7 +44,7 @@ fn texts_section(object: &Object) -> &[u8]
     }
 }
 
-/// Returns the place that a table has for a name, with each `-` read as `_`.
+/// Returns the place that a table has for a name, with each `-` replaced by `_`.
 fn place_named(
     alloc: Global,
     table: &OwnedNameTable,
@@ -68,7 +68,7 @@ struct Types {
 fn text_names(alloc: Global, texts: &[Blob]) -> Result<OwnedNameTable, AllocError>
     ensures { IfOk result (λ t. IsTableOf t (map (λ text. Some (underscored_bytes (text_name text))) texts.now)) }
 {
-    // No file has so many.
+    // No file has so many texts.
     if u32::MAX as usize <= texts.len() {
         return Err(AllocError);
     }
@@ -133,7 +133,7 @@ fn params_of<'a>(
 fn param_names(alloc: Global, list: &[ParamRef]) -> Result<OwnedNameTable, AllocError>
     ensures { IfOk result (λ t. IsTableOf t (map (λ p. Some (underscored_bytes p.name)) list.now)) }
 {
-    // No file has so many.
+    // No file has so many parameters.
     if u32::MAX as usize <= list.len() {
         return Err(AllocError);
     }

@@ -11,8 +11,8 @@ use km_names::split_at_byte;
 use std::alloc::{AllocError, Global};
 use std::marker::Model;
 
-/// A word that names a parameter: the parameter's number, and the text that the word states for it. Contracts see the
-/// text as its bytes.
+/// A word that names a parameter: the parameter's number, and the text that the word states for it.
+/// Contracts see the text as its bytes.
 #[derive(Drop)]
 pub(crate) struct SettingRef<'a> {
     pub(crate) number: u32,
@@ -77,7 +77,7 @@ fn setting_of<'a>(
     Ok(setting)
 }
 
-/// Returns which words of a text of options name which parameters, in order. modprobe(8).
+/// Returns the settings of the words of options that name parameters, in order. modprobe(8).
 pub(crate) fn settings<'a>(
     alloc: Global,
     params: &Parameters,

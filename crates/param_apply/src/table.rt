@@ -15,20 +15,20 @@ use km_names::{le_u64_at, string_at};
 use std::alloc::{AllocError, Global};
 use std::marker::Model;
 
-/// How many bytes an entry has.
+/// The size of an entry in bytes.
 const ENTRY_SIZE: usize = 40;
 
-/// Where an entry has the address of the value. The address of the name is at its beginning.
+/// The place of the address of the value in an entry. The address of the name is at its beginning.
 const VALUE_FIELD: usize = 32;
 
-/// The table of parameters: where it begins in the image, and how many bytes it has.
+/// The table of parameters: its place in the image, and its size in bytes.
 #[derive(Clone, Copy, Debug)]
 pub(crate) struct ParamTable {
     pub(crate) at: u64,
     pub(crate) size: u64,
 }
 
-/// Returns the table that the section `i` is, an empty one if the section isn't in memory.
+/// Returns the section `i` as a table, which is empty if the section isn't in memory.
 fn table_at(object: &Object, i: u32) -> ParamTable
     requires section { i < length object.now.sections }
     requires fits { image_size object.now.sections < 2 ^ 63 }
@@ -45,7 +45,7 @@ fn table_at(object: &Object, i: u32) -> ParamTable
     }
 }
 
-/// Returns the table of an object's parameters, an empty one if it has none.
+/// Returns the table of an object's parameters, which is empty if it has none.
 #[tactic(auto, unfolding(crate::specs::Table::table_of))]
 pub(crate) fn table_of(object: &Object) -> ParamTable
     requires { image_size object.now.sections < 2 ^ 63 }
@@ -59,8 +59,8 @@ pub(crate) fn table_of(object: &Object) -> ParamTable
     }
 }
 
-/// An entry of the table: the name of a parameter, and where its value is in the image. Contracts
-/// see the name as its bytes.
+/// An entry of the table: the name of a parameter, and the place of its value in the image.
+/// Contracts see the name as its bytes.
 #[derive(Drop)]
 pub(crate) struct EntryRef<'a> {
     pub(crate) name: &'a [u8],
@@ -75,7 +75,7 @@ impl<'a> Model for EntryRef<'a> {
     ghost view = { λ e. record { name = e.name.now; at = e.at } };
 }
 
-/// Returns the place in an image at a base that the word at `at` is the address of.
+/// Returns the place in an image at a base whose address is in the word at `at`.
 #[tactic(auto, unfolding(crate::specs::Table::place_of))]
 fn place_of(image: &[u8], base: u64, at: usize) -> u64
     requires { at + 8 ≤ length image.now }
@@ -84,12 +84,12 @@ fn place_of(image: &[u8], base: u64, at: usize) -> u64
     le_u64_at(image, at).wrapping_sub(base)
 }
 
-/// Returns the string at a place of an image, where strings may have `left` bytes more. At most one
-/// byte past those is looked at.
+/// Returns the string at a place of an image. Strings may have `left` bytes more, and at most one
+/// byte past those is read.
 ///
 /// # Errors
 ///
-/// If the string is longer.
+/// The string is longer than `left` bytes.
 fn string_within(image: &[u8], at: u64, left: usize) -> Result<Option<&[u8]>, AllocError>
     requires { left ≤ NAME_LIMIT }
     ensures string { IfOk result (λ string. option_copied string ≡ string_of image.now at) }
@@ -107,7 +107,7 @@ fn string_within(image: &[u8], at: u64, left: usize) -> Result<Option<&[u8]>, Al
     }
 }
 
-/// Returns the entry `k` of a table in an image at a base, where names may have `left` bytes more.
+/// Returns the entry `k` of a table in an image at a base. Names may have `left` bytes more.
 ///
 /// # Errors
 ///

@@ -1,4 +1,4 @@
-// The bytes of an image where no value may be.
+// The bytes of an image that no value may have.
 
 ghost use Rattle.std.specs.Prelude.{◌≡◌, ℕ, ◌+◌, ◌<◌, ◌≤◌, ◌^◌, ◌||◌, ◌⊎◌, true, false, length, get_or, IfOk};
 ghost use Rattle.elf_object.specs.Object.{FileObject};
@@ -60,7 +60,7 @@ pub(crate) fn reserved(
     Ok(taken)
 }
 
-/// Whether so many bytes from a place on are among these, and none of them is marked.
+/// Returns whether so many bytes from a place on are among these, and none of them is marked.
 pub(crate) fn are_free(taken: &[bool], at: u64, size: usize) -> bool
     requires { size ≤ 8 }
     ensures inside { result ≡ true → at + size ≤ length taken.now }

@@ -1,4 +1,4 @@
-// The words of options, written into a copy of an image.
+// Writes the words of options into a copy of an image.
 
 ghost use Rattle.std.specs.Prelude.{◌≡◌, ℕ, ◌+◌, ◌<◌, ◌≤◌, ◌^◌, ◌⊎◌, List, ◌∷◌, [], ◌++◌, All, length, map, None, Some, IfErr, IfOk, OnOk};
 ghost use Rattle.elf_object.specs.Object.{FileObject};

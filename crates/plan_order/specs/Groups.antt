@@ -1,5 +1,6 @@
--- What the code keeps between groups: all that was found is listed, and with each module what comes before it. No public
--- meaning rests on this definition.
+-- What the code keeps between groups: all that was found is listed, and with each module what comes
+-- before it.
+-- It belongs to the code: no public meaning rests on it.
 use Rattle.std.specs.Prelude.{ℕ, List, true, ◌≡◌, length}
 use Rattle.relation_order.specs.Sets.{Relation, has}
 use Rattle.relation_order.specs.Search.{Marks}

@@ -10,12 +10,12 @@ use Rattle.plan_order.specs.declared.needs.Planned.{Planned}
 abbrev pub items_of : List (Vec ℕ) → List (List ℕ)
 items_of lists = map (λ (v : Vec ℕ). v.items) lists
 
--- Each module goes to those in its list.
+-- Each module goes to the modules in its list.
 abbrev pub among : (ℕ → List ℕ) → Relation
 among before x y = has (before x) y
 
--- Exactly what is planned is marked, and for each module that is planned the lists have what it needs. All lists have
--- modules below a number alone.
+-- Exactly what is planned is marked, and for each planned module the lists have what it needs. All
+-- lists have only modules below a number.
 pub record IsPlanned (count : ℕ) (before : ℕ → List ℕ) (set : List ℕ) (after : ℕ → List ℕ) (requests : List (List ℕ)) (p : Planned) : Type 0 where
   pub marks : marked p.marks.items ≡ planned (among before) set after requests
   pub comes_before : (x : ℕ) → has (planned (among before) set after requests) x ≡ true → successors p.before.items x ≡ before x
@@ -26,7 +26,7 @@ pub record IsPlanned (count : ℕ) (before : ℕ → List ℕ) (set : List ℕ) 
   pub before_inside : Inside count p.before.items
   pub after_inside : Inside count p.after.items
 
--- There are such needs.
+-- There are needs such that this is what is planned.
 abbrev pub AreKnown : ℕ → List ℕ → List (List ℕ) → Planned → Type 0
 AreKnown count set requests p =
     (before : ℕ → List ℕ) × ((after : ℕ → List ℕ) × IsPlanned count before set after requests p)

@@ -1,9 +1,10 @@
--- Modules by their places among some rising ones, as the code names them. No public meaning rests on these definitions.
+-- Modules by their places among some rising ones, as the code names them.
+-- It belongs to the code: no public meaning rests on it.
 use Rattle.std.specs.Prelude.{ℕ, List, false, ◌≡◌, ◌<◌, length, slice_index, Option, Some, None}
 use Rattle.std.specs.Global.{Vec}
 use Rattle.relation_order.specs.Sets.{Relation, has, goes}
 
--- The place has the item, or no place has.
+-- The place has the item, or no place has it.
 abbrev pub IsPlaceIn : List ℕ → ℕ → Option ℕ → Type 0
 IsPlaceIn members item (Some place) = (place < length members) × (slice_index members place ≡ item)
 IsPlaceIn members item None = has members item ≡ false

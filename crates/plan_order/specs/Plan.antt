@@ -1,6 +1,6 @@
--- Plans: which modules, and in which order. Relation `r` says what comes before a module, `set` has the modules that
--- aren't loaded, `post` those that are wanted after a module, and a request is a list of modules. modprobe(8),
--- modprobe.d(5), "softdep".
+-- Plans: which modules are loaded, and in which order. The relation `r` says what comes before a
+-- module. `set` has the modules that aren't loaded, and `post` the modules that are asked for after
+-- a module. A request is a list of modules. modprobe(8), modprobe.d(5), "softdep".
 use Rattle.std.specs.Prelude.{ℕ, zero, suc, List, [], ◌∷◌, ◌++◌, Bool, ◌||◌, not, map, length, filter, slice_index_or}
 use Rattle.std.specs.List.{fold, list_any}
 use Rattle.relation_order.specs.Sets.{Relation, has}
@@ -11,7 +11,7 @@ use Rattle.relation_order.specs.Least.{least_order}
 abbrev pub requested : List (List ℕ) → ℕ → Bool
 requested requests x = list_any (λ request. has request x) requests
 
--- Whether a module comes before another, or is wanted after it.
+-- Whether a module comes before another, or is asked for after it.
 abbrev pub needs : Relation → (ℕ → List ℕ) → Relation
 needs r post x y = r x y || has (post x) y
 
@@ -23,11 +23,13 @@ planned r set post requests = spread (needs r post) set (requested requests)
 abbrev pub undone : List ℕ → List ℕ → List ℕ
 undone set done = filter (λ x. not (has done x)) set
 
--- The members of a request's group: its modules and all that is reached from them, less what is done.
+-- The members of a request's group: its modules and all that is reached from them, without what is
+-- done.
 abbrev pub members : Relation → List ℕ → List ℕ → List ℕ → List ℕ
 members r set done request = spread r (undone set done) (has request)
 
--- The group of a request, after what is done: again and again the least member before which none is left.
+-- The group of a request, after what is done: again and again the least member such that nothing
+-- left comes before it.
 abbrev pub group : Relation → List ℕ → List ℕ → List ℕ → List ℕ
 group r set done request = least_order r (members r set done request)
 
@@ -43,16 +45,18 @@ with_groups r set done requests = fold (with_group r set) done requests
 abbrev pub singles : List ℕ → List (List ℕ)
 singles xs = map (λ x. x ∷ []) xs
 
--- What is wanted after the module at a place of a plan, and nothing past it.
+-- What is asked for after the module at a place of a plan, and nothing past its end.
 abbrev pub post_at : (ℕ → List ℕ) → List ℕ → ℕ → List ℕ
 post_at post plan k = slice_index_or (map post plan) k []
 
--- The plan so far: the groups of the requests, and of what is wanted after the first modules of the plan.
+-- The plan so far: the groups of the requests, and of what is asked for after the first modules of
+-- the plan.
 abbrev pub plan_after : Relation → List ℕ → (ℕ → List ℕ) → List (List ℕ) → ℕ → List ℕ
 plan_after r set post requests zero = with_groups r set [] requests
 plan_after r set post requests (suc k) =
     with_groups r set (plan_after r set post requests k) (singles (post_at post (plan_after r set post requests k) k))
 
--- The plan: the groups of the requests, and then those of what is wanted after the plan's modules, in the plan's order.
+-- The plan: the groups of the requests, and then the groups of what is asked for after the plan's
+-- modules, in the plan's order.
 unfoldable pub plan : Relation → List ℕ → (ℕ → List ℕ) → List (List ℕ) → List ℕ
 plan r set post requests = plan_after r set post requests (length set)

@@ -1,4 +1,4 @@
--- The facts of modules and the tables of kernels, as those who bind symbols see them.
+-- The facts of modules and the tables of kernels, as symbol binding sees them.
 use Rattle.std.specs.Prelude.{List, map}
 use Rattle.module_facts.specs.declared.facts.Export.{Export as StatedExport}
 use Rattle.module_facts.specs.declared.facts.Need.{Need as StatedNeed}
@@ -7,15 +7,15 @@ use Rattle.symbol_binding.specs.Symbols.{Export, Need, Face, Module, Kernel as S
 use Rattle.provider_rel.specs.declared.kernel.Kernel.{Kernel}
 use Rattle.provider_rel.specs.KernelTable.{seen_export}
 
--- What a module exports, without the number of its symbol.
+-- An export of a module, without the number of its symbol.
 abbrev pub export_of_facts : StatedExport → Export
 export_of_facts e = record { name = e.name; crc = e.crc; gpl = e.gpl; space = e.space }
 
--- What a module needs, without the number of its symbol.
+-- A need of a module, without the number of its symbol.
 abbrev pub need_of_facts : StatedNeed → Need
 need_of_facts n = record { name = n.name; weak = n.weak; crc = n.crc }
 
--- What is seen of a module by its facts.
+-- The face of a module, by its facts.
 abbrev pub face_of : Facts → Face
 face_of f = record {
   name = f.name;

@@ -1,5 +1,5 @@
--- Everything that is exported, as the code lists it: the kernel's exports, and then those of each module in the order of
--- the tree.
+-- All exports, as the code lists them: the kernel's, and then each module's in the order of the
+-- tree.
 use Rattle.std.specs.Prelude.{ℕ, Bool, false, List, [], ◌∷◌, ◌++◌, map, filter, slice_get, Option, Some, None, unwrap_or, option_map, option_and_then, codes, if◌then◌else◌}
 use Rattle.std.specs.List.{filter_map, flat_map}
 use Rattle.std.specs.Option.{option_or, option_map_or}
@@ -29,7 +29,7 @@ by_module m = map (λ e. record { owner = ByModule m; export = e }) m.face.expor
 unfoldable pub all_provided : List Module → Kernel → List (Provided Module)
 all_provided tree kernel = map by_kernel kernel.exports ++ flat_map by_module tree
 
--- An export with its owner's place, none for the kernel, and its owner's path.
+-- An export with its owner's place, which is None for the kernel, and its owner's path.
 pub record Item : Type 0 where
   pub place : Option ℕ
   pub path : List ℕ
@@ -46,7 +46,7 @@ item_of tree p = record { place = place_of_owner tree p.owner; path = owner_path
 unfoldable pub items : List Module → Kernel → List Item
 items tree kernel = map (item_of tree) (all_provided tree kernel)
 
--- An item exports this name.
+-- Whether an item exports this name.
 abbrev pub is_named : List ℕ → Item → Bool
 is_named x i = bytes_eq i.export.name x
 
@@ -54,16 +54,17 @@ is_named x i = bytes_eq i.export.name x
 abbrev pub item_name : Item → Option (List ℕ)
 item_name i = Some i.export.name
 
--- What is seen under a name where this was found: a kernel of which nothing is known gives anything.
+-- The export that is seen under a name if this was found. A kernel that isn't known exports every
+-- name.
 abbrev pub seen_under : Bool → List ℕ → Option Item → Option Export
 seen_under known x found =
     option_or (option_map (λ i. i.export) found) (if known then None else Some (record { name = x; crc = None; gpl = false; space = [] }))
 
--- The path of who provides it.
+-- The path of the provider.
 abbrev pub path_under : Bool → Option Item → List ℕ
 path_under known found = option_map_or (λ i. i.path) found (if known then [] else codes "vmlinux")
 
--- The double lines of items: of each with those before it that have its name.
+-- The double lines of items: of each item with the earlier ones that have its name.
 abbrev pub doubles_with : List Item → Item → List Unbound
 doubles_with before i = map (λ b. Double i.export.name b.path i.path) (filter (is_named i.export.name) before)
 
@@ -78,7 +79,7 @@ kernel_item e = record { place = None; path = codes "vmlinux"; export = seen_exp
 abbrev pub module_item : ℕ → List ℕ → StatedExport → Item
 module_item at path e = record { place = Some at; path = path; export = export_of_facts e }
 
--- For each need the place that a table of names has for it.
+-- The place that a table of names has for each need.
 abbrev pub bound_of : Table → List StatedNeed → List (Option ℕ)
 bound_of names needs = map (λ (n : StatedNeed). place_of names n.name) needs
 
@@ -86,11 +87,11 @@ bound_of names needs = map (λ (n : StatedNeed). place_of names n.name) needs
 abbrev pub item_under : List Item → Option ℕ → Option Item
 item_under is at = option_and_then (slice_get is) at
 
--- The place of the module that owns the item at a place, if one does.
+-- The place of the module that owns the item at a place, if a module does.
 abbrev pub owner_under : List Item → Option ℕ → Option ℕ
 owner_under is at = option_and_then (λ (i : Item). i.place) (item_under is at)
 
--- The places of the modules among what needs are bound to.
+-- The places of the modules among the items that needs are bound to.
 abbrev pub used_places : List Item → List (Option ℕ) → List ℕ
 used_places is bound = filter_map (owner_under is) bound
 

@@ -1,4 +1,4 @@
--- What a kernel exports, by the tables that its build writes.
+-- The exports of a kernel, by the tables that its build writes.
 use Rattle.std.specs.Prelude.{ℕ, ◌≡◌, not, false, List, [], ◌∷◌, ◌++◌, AllPairs, nat_eq, map, filter, drop, codes, Option, Some, None, option_map, Result, if◌then◌else◌}
 use Rattle.std.specs.List.{filter_map, list_any, starts_with}
 use Rattle.std.specs.Option.{option_or}
@@ -16,7 +16,7 @@ use Rattle.provider_rel.specs.SymversLines.{SymversExport, symvers_line}
 pub record IsTable (exports : List KernelExport) : Type 0 where
   pub distinct : AllPairs (λ (a b : KernelExport). a.name ≡ b.name → ⊥) exports
 
--- Of the exports of one name the first.
+-- The first export of each name.
 abbrev pub first_of_each : List KernelExport → List KernelExport
 first_of_each [] = []
 first_of_each (e ∷ es) = e ∷ filter (λ other. not (bytes_eq other.name e.name)) (first_of_each es)
@@ -34,14 +34,15 @@ pub record AreFirst (names : Table) (exports : List KernelExport) : Type 0 where
   pub named : IsTableOf names (map export_name exports)
   pub distinct : IsTable exports
 
--- An export with the address that symbols of a map state, or its own where they state none.
+-- An export with the address that symbols of a map state, or its own if they state none.
 abbrev pub with_its_address : List MapSymbol → KernelExport → KernelExport
 with_its_address symbols e = record e { address = option_or (address_of symbols e.name) e.address }
 
 abbrev pub with_addresses : List MapSymbol → List KernelExport → List KernelExport
 with_addresses symbols exports = map (with_its_address symbols) exports
 
--- The name that an entry is for: N where its own is `__ksymtab_N`. The kernel's include/linux/export.h.
+-- The name that an entry is for: N if its own name is `__ksymtab_N`. The kernel's
+-- include/linux/export.h.
 abbrev pub exported_name : List ℕ → Option (List ℕ)
 exported_name name = if starts_with nat_eq name (codes "__ksymtab_") then Some (drop 10 name) else None
 
@@ -49,7 +50,7 @@ exported_name name = if starts_with nat_eq name (codes "__ksymtab_") then Some (
 abbrev pub export_of_entry : List ℕ → KernelExport
 export_of_entry name = record { name = name; crc = None; address = None; gpl = false; space = [] }
 
--- The export that a symbol of a map stands for.
+-- The export that a symbol of a map is an entry for.
 abbrev pub export_of_symbol : MapSymbol → Option KernelExport
 export_of_symbol s = option_map export_of_entry (exported_name s.name)
 
@@ -57,7 +58,7 @@ export_of_symbol s = option_map export_of_entry (exported_name s.name)
 abbrev pub stated_export : SymversExport → KernelExport
 stated_export l = record { name = l.name; crc = Some l.crc; address = None; gpl = l.gpl; space = l.space }
 
--- The same, where the kernel itself exports it: the line has `vmlinux` for the one who does.
+-- The export of a line whose owner is the kernel itself: the line has `vmlinux` as its owner.
 abbrev pub export_of_line : SymversExport → Option KernelExport
 export_of_line l = if bytes_eq l.owner (codes "vmlinux") then Some (stated_export l) else None
 
@@ -77,6 +78,6 @@ unfoldable pub exports_with_addresses : List ℕ → List KernelExport → Resul
 exports_with_addresses bytes exports =
     unless_fault (table_fault map_line bytes) (with_addresses (stated map_line bytes) exports)
 
--- An export as those who bind symbols see it.
+-- An export as symbol binding sees it.
 abbrev pub seen_export : KernelExport → Export
 seen_export e = record { name = e.name; crc = e.crc; gpl = e.gpl; space = e.space }

@@ -1,4 +1,5 @@
 -- The kinds of lines on needs, in the order of modules.unmet.
+-- It belongs to the code: no public meaning rests on it.
 use Rattle.std.specs.Prelude.{ℕ, Bool, List, [], ◌∷◌, Option, if◌then◌else◌}
 use Rattle.std.specs.List.{flat_map}
 use Rattle.module_facts.specs.declared.facts.Facts.{Facts}
@@ -19,20 +20,20 @@ test_of Gpl = is_hidden
 test_of Version = is_other_version
 test_of Namespace = is_barred
 
--- The line of a kind: of the module at a path, on a name, and who provides it.
+-- The line of a kind: of the module at a path, on a name, and its provider.
 abbrev pub line_of : Kind → List ℕ → List ℕ → List ℕ → Unbound
 line_of Missing m x by = MissingLine m x
 line_of Gpl m x by = GplLine m x by
 line_of Version m x by = VersionLine m x by
 line_of Namespace m x by = NamespaceLine m x by
 
--- The line of a kind of a need, by what was found under its name, where it has one.
+-- The line of a kind of a need, by what was found under its name, if it has one.
 unfoldable pub line_if : Kind → Bool → Facts → StatedNeed → Option Item → List Unbound
 line_if kind known f n found =
     if test_of kind (seen_under known n.name found) (face_of f) (need_of_facts n)
     then line_of kind f.path n.name (path_under known found) ∷ []
     else []
 
--- The same of all needs of a module, by the table of names.
+-- The lines of a kind of all needs of a module, by the table of names.
 abbrev pub lines_by : Kind → Bool → List Item → Table → Facts → List Unbound
 lines_by kind known is names f = flat_map (λ (n : StatedNeed). line_if kind known f n (item_under is (place_of names n.name))) f.needs

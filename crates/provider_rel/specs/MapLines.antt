@@ -7,21 +7,21 @@ use Rattle.std.specs.Str.{bytes_eq}
 use Rattle.km_names.specs.Ascii.{is_graphic, hexadecimal}
 use Rattle.name_table.specs.NameTable.{Table, IsTableOf}
 
--- What a line states of a symbol: its address, the letter of its kind, and its name.
+-- A symbol that a line states: its address, the letter of its kind, and its name.
 pub record MapSymbol : Type 0 where
   pub address : ℕ
   pub letter : ℕ
   pub name : List ℕ
 
--- What stands before the first space, and what follows it.
+-- The bytes before the first space, and the bytes after it.
 abbrev pub front : List ℕ → List ℕ
 front text = before_first (λ b. b == 32) text
 
 abbrev pub rest : List ℕ → List ℕ
 rest text = after_first (λ b. b == 32) text
 
--- What a line states, if it is understood: a number of 1 to 16 hexadecimal digits, one visible character and a word of
--- such, with one space between.
+-- What a line states, if it is understood: a number of 1 to 16 hexadecimal digits, one visible
+-- character and a word of visible characters, with one space between them.
 unfoldable pub map_line : List ℕ → Option MapSymbol
 map_line text =
     let kind = front (rest text) in
@@ -30,20 +30,20 @@ map_line text =
     then option_map (λ address. record { address = address; letter = slice_index kind 0; name = name }) (hexadecimal (front text))
     else None
 
--- The symbol is a global one: its letter is A to Z. nm(1).
+-- Whether the symbol is global: its letter is A to Z. nm(1).
 abbrev pub is_global : MapSymbol → Bool
 is_global s = is_ascii_uppercase s.letter
 
--- The symbol of a name: the first global one that has it, else the first that has it.
+-- The symbol of a name: the first global one that has it, and else the first that has it.
 abbrev pub symbol_of : List MapSymbol → List ℕ → Option MapSymbol
 symbol_of symbols name =
     option_or (find (λ s. is_global s && bytes_eq s.name name) symbols) (find (λ s. bytes_eq s.name name) symbols)
 
--- The address of a name: that of its symbol.
+-- The address of a name, from its symbol.
 abbrev pub address_of : List MapSymbol → List ℕ → Option ℕ
 address_of symbols name = option_map (λ s. s.address) (symbol_of symbols name)
 
--- What a symbol states for the table of the global names, and for that of all names.
+-- The name of a symbol in the table of the global names, and in the table of all names.
 abbrev pub global_name : MapSymbol → Option (List ℕ)
 global_name s = if is_global s then Some s.name else None
 

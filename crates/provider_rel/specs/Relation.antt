@@ -1,5 +1,5 @@
--- The relation of a tree over a kernel: who provides a name, what a module depends on, and what keeps a tree from having
--- a relation. modules.dep(5), depmod(8).
+-- The relation of a tree over a kernel: who provides a name, what a module depends on, and why a
+-- tree may have no relation. modules.dep(5), depmod(8).
 use Rattle.std.specs.Prelude.{ℕ, false, nat_lt, List, [], ◌∷◌, length, map, min, slice_get, Option, Some, None, if◌then◌else◌}
 use Rattle.std.specs.List.{position_or_len, sum_by}
 use Rattle.std.specs.Option.{option_map_or}
@@ -16,7 +16,7 @@ use Rattle.provider_rel.specs.declared.provider.Provider.TheVariants.{Nobody, Ke
 use Rattle.provider_rel.specs.declared.fault.RelationFault.{RelationFault}
 use Rattle.provider_rel.specs.declared.fault.RelationFault.TheVariants.{Cycle, TooManyDeps, TooManyDoubles}
 
--- The place of a module in a tree: that of the first of its name.
+-- The place of a module in a tree: the place of the first module of its name.
 abbrev pub place : List Module → Module → ℕ
 place tree m = position_or_len (λ n. bytes_eq n.face.name m.face.name) tree
 
@@ -25,7 +25,7 @@ abbrev pub owner_answer : List Module → Owner Module → Provider
 owner_answer tree ByKernel = TheKernel
 owner_answer tree (ByModule m) = TheModule (record { 0 = place tree m })
 
--- What provides a name, as an answer.
+-- The provider of a name, as an answer.
 abbrev pub answer : List Module → Option (Provided Module) → Provider
 answer tree found = option_map_or (λ p. owner_answer tree p.owner) found Nobody
 
@@ -33,7 +33,8 @@ answer tree found = option_map_or (λ p. owner_answer tree p.owner) found Nobody
 abbrev pub provider_of : List Module → Kernel → List ℕ → Provider
 provider_of tree kernel x = answer tree (provider tree kernel x)
 
--- The module at a place uses the one at another: a need of the first, weak or strong, is provided by the second.
+-- Whether the module at a place uses the one at another: the second provides a need of the first,
+-- weak or strong.
 abbrev pub uses_at : List Module → Kernel → Goes
 uses_at tree kernel i j = option_map_or (λ m. has (map (place tree) (uses tree kernel m)) j) (slice_get tree i) false
 
@@ -41,25 +42,25 @@ uses_at tree kernel i j = option_map_or (λ m. has (map (place tree) (uses tree 
 abbrev pub name_at : List Module → ℕ → List ℕ
 name_at tree i = option_map_or (λ m. m.face.name) (slice_get tree i) []
 
--- The names of the modules at places, where there is one at the least.
+-- The cycle of the modules at these places, if there are any.
 abbrev pub cycle_fault : List Module → List ℕ → Option RelationFault
 cycle_fault tree [] = None
 cycle_fault tree (i ∷ is) = Some (Cycle (map (name_at tree) (i ∷ is)))
 
--- What each module depends on: what walks of uses reach from it, in the least order.
+-- What each module depends on: the modules that walks of uses reach from it, in the least order.
 unfoldable pub dependencies : List Module → Kernel → List (List ℕ)
 dependencies tree kernel = closures (uses_at tree kernel) (length tree)
 
--- More than 2,000,000 dependencies of all modules together.
+-- The fault of more than 2,000,000 dependencies of all modules together.
 abbrev pub deps_fault : ℕ → Option RelationFault
 deps_fault count = if nat_lt 2000000 count then Some (TooManyDeps count) else None
 
--- More than 100,000 double lines; a count past 64 bits is given as the greatest of 64.
+-- The fault of more than 100,000 double lines. A count past 64 bits is given as the greatest of 64.
 abbrev pub doubles_fault : ℕ → Option RelationFault
 doubles_fault count = if nat_lt 100000 count then Some (TooManyDoubles (min count 18446744073709551615)) else None
 
--- What keeps a tree from having a relation: its named cycle, too many dependencies, or too many double lines; the first
--- that holds.
+-- Why a tree has no relation: its named cycle, too many dependencies, or too many double lines; the
+-- first that holds.
 unfoldable pub relation_fault : List Module → Kernel → Option RelationFault
 relation_fault tree kernel =
     first (

@@ -10,7 +10,7 @@ use Rattle.provider_rel.specs.declared.relation.Relation.{Relation}
 use Rattle.provider_rel.specs.Relation.{provider_of, dependencies}
 use Rattle.provider_rel.specs.Items.{answer_at}
 
--- Who provides a name by a relation.
+-- The provider of a name by a relation.
 unfoldable pub provider_by : Relation → List ℕ → Provider
 provider_by r x = answer_at r.known r.owners.items (place_of r.names x)
 
@@ -26,8 +26,8 @@ closures_by r = map places_of r.closures.items
 unfoldable pub obstacles_by : Relation → List Unbound
 obstacles_by r = r.unmet
 
--- The relation of a tree over a kernel: it has the provider of each name, for each module in the order of the tree what
--- it depends on in the least order, and the lines of modules.unmet.
+-- The relation of a tree over a kernel. It has the provider of each name, the dependencies of each
+-- module in the least order, in the order of the tree, and the lines of modules.unmet.
 pub record IsRelation (tree : List Module) (kernel : Kernel) (r : Relation) : Type 0 where
   pub provider : (x : List ℕ) → provider_by r x ≡ provider_of tree kernel x
   pub closures : closures_by r ≡ dependencies tree kernel

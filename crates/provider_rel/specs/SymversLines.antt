@@ -1,12 +1,13 @@
--- The lines of a Module.symvers: fields between tabs, of which the first five are the version, the symbol, who exports
--- it, how, and in which namespace. The kernel's Documentation/kbuild/modules.rst, "Symbols From the Kernel".
+-- The lines of a Module.symvers: fields between tabs. The first five are the version, the symbol,
+-- its exporter, the kind of export, and the namespace. The kernel's
+-- Documentation/kbuild/modules.rst, "Symbols From the Kernel".
 use Rattle.std.specs.Prelude.{ℕ, ◌==◌, ◌&&◌, Bool, List, [], nat_eq, drop, codes, slice_get, Option, None, unwrap_or, option_map, if◌then◌else◌}
 use Rattle.std.specs.List.{slice_split, starts_with}
 use Rattle.std.specs.Str.{bytes_eq}
 use Rattle.km_names.specs.Ascii.{is_graphic, hexadecimal}
 
--- What a line states of an export: its version, its name, who exports it, whether it is for GPL-compatible modules
--- alone, and its namespace, empty for none.
+-- An export that a line states: its version, its name, its exporter, whether it is GPL-only, and
+-- its namespace, which is empty for none.
 pub record SymversExport : Type 0 where
   pub crc : ℕ
   pub name : List ℕ
@@ -14,7 +15,7 @@ pub record SymversExport : Type 0 where
   pub gpl : Bool
   pub space : List ℕ
 
--- The field at a place, from 0; empty where there are fewer.
+-- The field at a place, from 0. It is empty if there are fewer fields.
 abbrev pub field : List ℕ → ℕ → List ℕ
 field text k = unwrap_or (slice_get (slice_split (λ b. b == 9) text) k) []
 
@@ -22,7 +23,8 @@ field text k = unwrap_or (slice_get (slice_split (λ b. b == 9) text) k) []
 unfoldable pub version : List ℕ → Option ℕ
 version text = if starts_with nat_eq text (codes "0x") then hexadecimal (drop 2 text) else None
 
--- What a line states, if it is understood: its first three fields are a version and two words of visible characters.
+-- What a line states, if it is understood: its first three fields are a version and two words of
+-- visible characters.
 unfoldable pub symvers_line : List ℕ → Option SymversExport
 symvers_line text =
     if is_graphic (field text 1) && is_graphic (field text 2)

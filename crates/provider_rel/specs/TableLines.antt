@@ -1,4 +1,5 @@
--- The text tables that a kernel's build writes, a line at a time: each states something, is blank, or isn't understood.
+-- The text tables that a kernel's build writes, line by line. Each line states something, is blank,
+-- or isn't understood.
 use Rattle.std.specs.Prelude.{ℕ, ◌+◌, ◌&&◌, not, Bool, List, Option, is_none, option_map}
 use Rattle.std.specs.List.{list_all, position, filter_map}
 use Rattle.km_names.specs.Lines.{lines_of}
@@ -6,11 +7,11 @@ use Rattle.km_names.specs.Space.{is_space}
 use Rattle.provider_rel.specs.declared.fault.KernelFault.{KernelFault}
 use Rattle.provider_rel.specs.declared.fault.KernelFault.TheVariants.{BadKernelLine}
 
--- A line is blank: it has nothing but white space.
+-- Whether a line is blank: it has only white space.
 abbrev pub is_blank : List ℕ → Bool
 is_blank line = list_all is_space line
 
--- A line is refused: it isn't blank, and isn't read as one that states something.
+-- Whether a line is refused: it isn't blank, and isn't understood.
 abbrev pub is_refused : {X : Type 0} → (List ℕ → Option X) → List ℕ → Bool
 is_refused read line = not (is_blank line) && is_none (read line)
 

@@ -1,4 +1,4 @@
--- What facts are those of a tree. depmod.d(5), modules.dep(5).
+-- The facts of a tree. depmod.d(5), modules.dep(5).
 use Rattle.std.specs.Prelude.{◌≡◌, ◌≤◌, ◌==◌, not, List, length, All, AllPairs, IsTrue}
 use Rattle.std.specs.List.{list_any}
 use Rattle.km_names.specs.Ascii.{is_graphic}
@@ -6,8 +6,8 @@ use Rattle.module_facts.specs.declared.facts.Export.{Export}
 use Rattle.module_facts.specs.declared.facts.Need.{Need}
 use Rattle.module_facts.specs.declared.facts.Facts.{Facts}
 
--- A module of a tree: it exports no name twice; its path, its name, and the names that it exports and needs are words of
--- visible characters; and its path has no `:`.
+-- A module of a tree. It exports no name twice. Its path, its name, and the names that it exports
+-- and needs are words of visible characters, and its path has no `:`.
 pub record IsTreeModule (f : Facts) : Type 0 where
   pub distinct : AllPairs (λ (a b : Export). a.name ≡ b.name → ⊥) f.exports
   pub path : IsTrue (is_graphic f.path)

@@ -1,4 +1,4 @@
-// One block of bytes from the heap. This is the one file with a pointer.
+// One block of bytes from the heap. This is the only file with a pointer.
 ghost use Rattle.std.specs.Prelude.{◌≡◌, ℕ, List, length, ◌+◌, ◌^◌, ◌<◌, ◌≤◌, replicate, IfOk};
 ghost use Rattle.raw_image.specs.Bytes.{with_bytes};
 ghost use Rattle.raw_image.specs.Ownership.{block_owns, block_shares};
@@ -21,7 +21,7 @@ impl Model for Block {
 }
 
 impl Block {
-    /// A block of `len` zero bytes.
+    /// Returns a block of `len` zero bytes.
     pub(crate) fn zeroed(alloc: &Global, len: usize) -> Result<Block, AllocError>
         requires { len < 2 ^ 63 }
         ensures { IfOk result (λ b. b.bytes ≡ replicate len 0) }
@@ -38,13 +38,13 @@ impl Block {
         Ok(Block { ptr, len })
     }
 
-    /// Gives the block back.
+    /// Frees the block.
     pub(crate) fn free(self, alloc: &Global) {
         let Block { ptr, len } = self;
         unsafe { alloc.deallocate(ptr, len, 1) };
     }
 
-    /// Puts the bytes at place `at`.
+    /// Writes the bytes at place `at`.
     pub(crate) fn copy_in(&mut self, at: usize, bytes: &[u8])
         requires { at + length bytes.now ≤ length self.old.bytes }
         ensures { self.new.bytes ≡ with_bytes self.old.bytes at bytes.now }
@@ -57,7 +57,7 @@ impl Block {
         }
     }
 
-    /// Puts four bytes at place `at`, by one write.
+    /// Writes four bytes at place `at`, by one write.
     pub(crate) fn put_four(&mut self, at: usize, four: [u8; 4])
         requires { at + 4 ≤ length self.old.bytes }
         ensures { self.new.bytes ≡ with_bytes self.old.bytes at four }
@@ -65,7 +65,7 @@ impl Block {
         unsafe { (self.ptr.add(at) as *mut [u8; 4]).write(four) };
     }
 
-    /// Puts eight bytes at place `at`, by one write.
+    /// Writes eight bytes at place `at`, by one write.
     pub(crate) fn put_eight(&mut self, at: usize, eight: [u8; 8])
         requires { at + 8 ≤ length self.old.bytes }
         ensures { self.new.bytes ≡ with_bytes self.old.bytes at eight }
@@ -73,7 +73,7 @@ impl Block {
         unsafe { (self.ptr.add(at) as *mut [u8; 8]).write(eight) };
     }
 
-    /// The bytes.
+    /// Returns the bytes.
     pub(crate) fn as_bytes(&self) -> &[u8]
         ensures { result.now ≡ self.now.bytes }
     {

@@ -6,7 +6,8 @@ use crate::block::Block;
 use std::alloc::{AllocError, Global};
 use std::marker::Model;
 
-/// The bytes of a module in memory. Contracts see it as the list of its bytes, and its length stays the same.
+/// The bytes of a module in memory. Contracts see it as the list of its bytes, and its length stays
+/// the same.
 pub struct Image {
     block: Option<Block>,
     alloc: Global,
@@ -31,7 +32,7 @@ impl Drop for Image {
 }
 
 impl Image {
-    /// An image of `len` zero bytes.
+    /// Returns an image of `len` zero bytes.
     pub fn zeroed(alloc: Global, len: usize) -> Result<Self, AllocError>
         ensures { IfOk result (λ i. i ≡ replicate len 0) }
     {
@@ -45,7 +46,7 @@ impl Image {
         Ok(Image { block, alloc })
     }
 
-    /// Puts the bytes at place `at`. Every other byte is as before.
+    /// Writes the bytes at place `at`. Every other byte is as before.
     pub fn copy_in(&mut self, at: usize, bytes: &[u8])
         requires { at + length bytes.now ≤ length self.old }
         ensures bytes { self.new ≡ with_bytes self.old at bytes.now }
@@ -56,7 +57,8 @@ impl Image {
         }
     }
 
-    /// Puts the four bytes of `v`, the lowest first, at place `at`. Every other byte is as before.
+    /// Writes the four bytes of `v`, the lowest first, at place `at`. Every other byte is as
+    /// before.
     pub fn put_u32(&mut self, at: usize, v: u32)
         requires { at + 4 ≤ length self.old }
         ensures bytes { self.new ≡ with_bytes self.old at (to_le_bytes w32 v) }
@@ -67,7 +69,8 @@ impl Image {
         }
     }
 
-    /// Puts the eight bytes of `v`, the lowest first, at place `at`. Every other byte is as before.
+    /// Writes the eight bytes of `v`, the lowest first, at place `at`. Every other byte is as
+    /// before.
     pub fn put_u64(&mut self, at: usize, v: u64)
         requires { at + 8 ≤ length self.old }
         ensures bytes { self.new ≡ with_bytes self.old at (to_le_bytes w64 v) }
@@ -78,7 +81,7 @@ impl Image {
         }
     }
 
-    /// The bytes of the image.
+    /// Returns the bytes of the image.
     pub fn as_bytes(&self) -> &[u8]
         ensures { result.now ≡ self.now }
     {

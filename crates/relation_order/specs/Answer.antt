@@ -6,12 +6,13 @@ use Rattle.relation_order.specs.Cycle.{cycle}
 use Rattle.relation_order.specs.declared.placed.OrderOrCycle.{OrderOrCycle}
 use Rattle.relation_order.specs.declared.placed.OrderOrCycle.TheVariants.{Order, Cycle}
 
--- Each item of the order stands after those members of the set that it goes to.
+-- Each item of the order comes after the members of the set that it goes to.
 abbrev pub After : Relation → List ℕ → List ℕ → Type 0
 After r set order = (i : ℕ) → i < length order → (y : ℕ) → has set y ≡ true
     → r (slice_index order i) y ≡ true → has (take i order) y ≡ true
 
--- The order has just the members of the set, each once, and each after those that it goes to.
+-- The order has exactly the members of the set, each once, and each after the members that it goes
+-- to.
 pub record IsOrder (r : Relation) (set order : List ℕ) : Type 0 where
   pub members : (x : ℕ) → has order x ≡ has set x
   pub long : length order ≡ length set
@@ -27,7 +28,7 @@ abbrev pub Closes : Relation → List ℕ → Type 0
 Closes r [] = ⊥
 Closes r (first ∷ rest) = Goes r first rest first
 
--- The order is the least one, where there is no cycle; else the cycle is the named one.
+-- The order is the least one, if there is no cycle. Otherwise the cycle is the named one.
 abbrev pub IsAnswer : Relation → List ℕ → OrderOrCycle → Type 0
 IsAnswer r set (Order order) = (cycle r set ≡ []) × (order.items ≡ least_order r set)
     × IsOrder r set order.items

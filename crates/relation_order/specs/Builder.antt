@@ -5,12 +5,12 @@ use Rattle.std.specs.Global.{Vec}
 use Rattle.relation_order.specs.Sets.{has, successors}
 use Rattle.relation_order.specs.declared.order.OrderBuilder.{OrderBuilder}
 
--- Those of some items that are members are listed.
+-- The members among some items are listed.
 abbrev pub AllListed : List Bool → List Bool → List ℕ → Type 0
 AllListed members listed items = All (λ y. slice_index_or members y false ≡ true
     → slice_index_or listed y false ≡ true) items
 
--- Exactly the listed ones are marked; what was looked at of an item's list is listed; and there is
+-- Exactly the listed items are marked. The items of a list that were checked are listed. There is
 -- room for each place.
 pub record Fits (lists : List (Vec ℕ)) (members : List Bool) (b : OrderBuilder) : Type 0 where
   pub marks : (y : ℕ) → slice_index_or b.listed.items y false ≡ has b.order.items y

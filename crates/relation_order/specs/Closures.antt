@@ -4,7 +4,7 @@ use Rattle.relation_order.specs.Sets.{Relation, below}
 use Rattle.relation_order.specs.Reached.{reached}
 use Rattle.relation_order.specs.Least.{least_order}
 
--- The closure of an item: what walks within the set reach from it, in the least order.
+-- The closure of an item: the items that walks within the set reach from it, in the least order.
 abbrev pub closure : Relation → List ℕ → ℕ → List ℕ
 closure r set x = least_order r (reached r set x)
 

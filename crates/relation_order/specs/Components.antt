@@ -1,4 +1,5 @@
--- What a search for strongly connected components keeps. Only private contracts cite this file.
+-- The state of a search for strongly connected components.
+-- It belongs to the code: no public meaning rests on it.
 use Rattle.std.specs.Prelude.{ℕ, List, [], ◌∷◌, ◌++◌, Bool, true, false, ◌≡◌, ◌⊎◌, ◌<◌, ◌≤◌, ◌+◌}
 use Rattle.std.specs.Prelude.{◌-◌, ◌*◌, ◌||◌, ◌&&◌, length, take, nat_eq, nat_lt, slice_index}
 use Rattle.std.specs.Prelude.{slice_index_or, slice_set, ◌≢◌}
@@ -31,7 +32,7 @@ is_on_cycle New = false
 is_on_cycle (Open p) = false
 is_on_cycle (Done b) = b
 
--- Whether a first item's step to a second was looked at.
+-- Whether a first item's step to a second was checked.
 abbrev pub looked_at : List (Vec ℕ) → List ℕ → Relation
 looked_at lists looked x y = has (take (slice_index looked x) (successors lists x)) y
 
@@ -39,19 +40,19 @@ looked_at lists looked x y = has (take (slice_index looked x) (successors lists 
 abbrev pub with_step : Relation → ℕ → ℕ → Relation
 with_step r from to x y = r x y || (nat_eq x from && nat_eq y to)
 
--- The component of a second place is that of a first, or a later one.
+-- The component of a second place is the same as of a first, or a later one.
 abbrev pub IsNoEarlier : List ℕ → ℕ → ℕ → Type 0
 IsNoEarlier starts p q = (b : ℕ) → has starts b ≡ true → b ≤ p → b ≤ q
 
--- A list has a number as its last.
+-- A list ends in a number.
 abbrev pub EndsIn : List ℕ → ℕ → Type 0
 EndsIn xs x = (front : List ℕ) × (xs ≡ front ++ x ∷ [])
 
--- The open items stand at their places. Walks lead from each to those after it, and back to those
--- before it in its component. What was looked at from an open item is done, or in its component or
--- a later one; and all was that it goes to, unless it is on the path. The path has the first item
--- of each component. What is done goes to nothing but what is done, and is known to lie on a cycle
--- or not.
+-- The open items are at their places. Walks lead from each to the ones after it, and back to the
+-- ones before it in its component. What was checked from an open item is done, or in its component
+-- or a later one. All that it goes to was checked, unless it is on the path. The path has the first
+-- item of each component. Items that are done go only to items that are done, and are known to lie
+-- on a cycle or not.
 pub record Searching (r looked : Relation) (set : List ℕ) (states : List State)
     (stack starts path : List ℕ) : Type 0 where
   pub members : (p : ℕ) → p < length stack → has set (slice_index stack p) ≡ true
@@ -77,7 +78,7 @@ pub record Searching (r looked : Relation) (set : List ℕ) (states : List State
       → is_done (state_of states y) ≡ true
   pub done_known : (x : ℕ) (b : Bool) → state_of states x ≡ Done b → b ≡ has (reached r set x) x
 
--- How a search has come along when its path is this one.
+-- The state of a search whose path is this one.
 pub record SearchOf (lists : List (Vec ℕ)) (members : List Bool) (search : CycleSearch)
     (path : List ℕ) : Type 0 where
   pub states_long : length search.states.items ≡ length lists
@@ -85,7 +86,7 @@ pub record SearchOf (lists : List (Vec ℕ)) (members : List Bool) (search : Cyc
   pub searching : Searching (goes lists) (looked_at lists search.looked.items) (marked members)
       search.states.items search.stack.items search.starts.items path
 
--- How many steps weren't looked at.
+-- The number of steps that weren't checked.
 abbrev pub steps_left : List (Vec ℕ) → List ℕ → ℕ
 steps_left [] looked = 0
 steps_left (v ∷ vs) [] = length v.items + steps_left vs []
@@ -95,7 +96,7 @@ steps_left (v ∷ vs) (k ∷ ks) = (length v.items - k) + steps_left vs ks
 abbrev pub work : List (Vec ℕ) → CycleSearch → ℕ
 work lists search = 2 * steps_left lists search.looked.items + length search.path.items
 
--- What was met stays so.
+-- Items that were met stay met.
 abbrev pub KeepsMet : List State → List State → Type 0
 KeepsMet old new = (x : ℕ) → is_new (state_of old x) ≡ false → is_new (state_of new x) ≡ false
 
@@ -107,14 +108,14 @@ pub record Enters (old new : CycleSearch) (item : ℕ) : Type 0 where
   pub path : new.path.items ≡ old.path.items ++ length old.stack.items ∷ []
   pub looked : new.looked.items ≡ old.looked.items
 
--- A first part of a list, the last of which isn't above a number, and after which all are.
+-- A front of a list, whose last item isn't above a number. All items after the front are.
 pub record DropsAbove (old new : List ℕ) (place : ℕ) : Type 0 where
   pub front : new ≡ take (length new) old
   pub above : (i : ℕ) → length new ≤ i → i < length old → place < slice_index old i
   pub below : (k : ℕ) → k + 1 ≡ length new → slice_index old k ≤ place
 
--- The open items from a place on are done; they lie on a cycle if there is more than one, or one
--- goes to itself. The rest stay as they were.
+-- The open items from a place on are done. They lie on a cycle if there is more than one, or one
+-- goes to itself. The others stay as they were.
 pub record Finishes (r : Relation) (stack : List ℕ) (from : ℕ) (old new : List State) : Type 0 where
   pub finished : (p : ℕ) → from ≤ p → p < length stack → state_of new (slice_index stack p)
       ≡ Done (nat_lt (from + 1) (length stack) || r (slice_index stack p) (slice_index stack p))

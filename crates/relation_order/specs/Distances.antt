@@ -3,9 +3,9 @@ use Rattle.std.specs.Prelude.{ℕ, List, ◌≡◌, ◌≢◌, ◌<◌, ◌≤�
 use Rattle.relation_order.specs.Sets.{Relation}
 use Rattle.relation_order.specs.Walks.{Walk, steps_of}
 
--- The goal is no steps from itself. Another item is as many steps from it as the shortest walk
--- between them within the set has, which are fewer than the set has members. Where no walk leads
--- to the goal, the distance is the number of members, and so greater than any other.
+-- The goal has the distance 0. The distance of another item is the number of steps of the shortest
+-- walk within the set from it to the goal, which is less than the number of members. If no walk
+-- leads to the goal, the distance is the number of members, and so greater than any other.
 pub data IsDistance (r : Relation) (set : List ℕ) (goal x : ℕ) : ℕ → Type 0 where
   none : x ≡ goal → IsDistance r set goal x 0
   shortest : x ≢ goal → (w : Walk r set x goal)

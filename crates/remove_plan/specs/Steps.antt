@@ -11,7 +11,7 @@ use Rattle.remove_plan.specs.declared.step.RemoveFault.{RemoveFault}
 use Rattle.remove_plan.specs.declared.step.RemoveFault.TheVariants.{InUse}
 use Rattle.remove_plan.specs.Removal.{Places, in_use, is_asked, removed_by}
 
--- The module for which a rule has a command in place of removing it, and that command.
+-- The module that a rule has a remove command for, and the command.
 abbrev pub removed_name : Rule → Option (List ℕ)
 removed_name (Remove name command) = Some name
 removed_name _ = None
@@ -24,7 +24,8 @@ removing_command _ = None
 abbrev pub remove_command : List Rule → List ℕ → Option (List ℕ)
 remove_command rules name = option_and_then removing_command (find (λ rule. states name (removed_name rule)) rules)
 
--- The command that is run in place of removing the entry k; those of the entries that are asked for can be ignored.
+-- The command that is run instead of removing the entry k. Commands for entries that are asked for
+-- can be ignored.
 abbrev pub chosen_command : Machine → List Rule → Bool → Places → ℕ → Option (List ℕ)
 chosen_command machine rules ignored r k = if ignored && r k then None else remove_command rules (name_at machine k)
 
@@ -40,8 +41,8 @@ abbrev pub removal_steps : Machine → List Rule → Bool → List (List ℕ) �
 removal_steps machine rules ignored names =
     map (remove_step machine rules ignored (is_asked machine names)) (removed_by machine names)
 
--- Why nothing is removed: a module that is asked for is used by one that isn't. The oldest such module, and its oldest such
--- user.
+-- Why nothing is removed: a module that is asked for is used by one that isn't. The fault names the
+-- oldest such module, and its oldest such user.
 abbrev pub removal_fault : Machine → List (List ℕ) → Option RemoveFault
 removal_fault machine names =
     option_map (λ p. InUse (name_at machine p.0) (name_at machine p.1)) (in_use machine (is_asked machine names))

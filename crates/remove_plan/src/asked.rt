@@ -1,4 +1,4 @@
-// Which modules are asked for.
+// The modules that are asked for.
 ghost use Rattle.std.specs.Prelude.{◌≡◌, ◌<◌, ℕ, List, IfOk, length};
 ghost use Rattle.name_table.specs.FirstSeen.{is_among};
 ghost use Rattle.remove_plan.specs.Marks.{AreAsked};
@@ -20,7 +20,7 @@ fn set_of<'a>(alloc: Global, names: &'a Names) -> Result<NameSet<'a>, AllocError
     Ok(set)
 }
 
-/// Tests whether the name of the module that was loaded `k`-th is in a set.
+/// Returns whether the name of the module that was loaded `k`-th is in a set.
 fn is_asked(machine: &Machine, set: &NameSet, k: usize) -> bool
     requires { k < length machine.now.entries }
     ensures { result ≡ is_asked_at machine.now set.now k }

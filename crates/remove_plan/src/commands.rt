@@ -1,4 +1,4 @@
-// The commands that are run in place of removing a module.
+// The commands that are run instead of removing a module.
 ghost use Rattle.std.specs.Prelude.{◌≡◌, ◌<◌, ℕ, List, IfOk, map, option_and_then, option_copied, option_map, slice_get};
 ghost use Rattle.name_table.specs.NameTable.{IsTableOf};
 ghost use Rattle.remove_plan.specs.Steps.{removed_name as removed_name_of, removing_command as command_of, remove_command};
@@ -7,7 +7,7 @@ use modprobe_conf::{Rule, Rules};
 use name_table::NameTable;
 use std::alloc::{AllocError, Global};
 
-/// Returns the module that the rule has a command for removing.
+/// Returns the name of the module that the rule has a remove command for.
 fn removed_name(rule: &Rule) -> Option<&[u8]>
     ensures { option_map (λ name. name.now) result ≡ removed_name_of rule.now }
 {
@@ -17,7 +17,7 @@ fn removed_name(rule: &Rule) -> Option<&[u8]>
     Some(name.as_bytes())
 }
 
-/// Returns the command that the rule has for removing a module.
+/// Returns the remove command of the rule.
 fn removing_command(rule: &Rule) -> Option<&[u8]>
     ensures { option_map (λ command. command.now) result ≡ command_of rule.now }
 {
@@ -27,7 +27,7 @@ fn removing_command(rule: &Rule) -> Option<&[u8]>
     Some(command.as_bytes())
 }
 
-/// Returns the places of the rules that have a command for removing a module, by the module's name.
+/// Returns the places of the rules that have a remove command, by the module's name.
 pub(crate) fn table_of<'a>(alloc: Global, rules: &'a Rules) -> Result<NameTable<'a>, AllocError>
     ensures { IfOk result (λ t. IsTableOf t (map removed_name_of rules.now)) }
 {
@@ -52,7 +52,7 @@ fn rule_at(rules: &[Rule], place: Option<u32>) -> Option<&Rule>
     }
 }
 
-/// Returns the command that the rule at a place has for removing a module.
+/// Returns the remove command of the rule at a place.
 fn command_at(rules: &[Rule], place: Option<u32>) -> Option<&[u8]>
     ensures { option_map (λ command. command.now) result ≡ option_and_then command_of (option_and_then (slice_get rules.now) place) }
 {

@@ -1,10 +1,12 @@
-//! What `modprobe -r` takes out of the modelled machine: the modules that are asked for, and those that only they used.
+//! What `modprobe -r` removes from the modelled machine: the modules that are asked for, and those
+//! that only they used.
 //!
-//! The machine tells once which modules use which, with one lookup for each need. Who uses a module is younger than it, so
-//! one pass from the youngest module down finds those that are removed.
+//! The machine reports once which modules use which, with one lookup for each need. A module's
+//! users are younger than it, so one pass from the youngest module down finds all that are removed.
 //!
-//! The crate stands on `model_loader` for the machine and for which of its modules use which, on `modprobe_conf` for the
-//! commands that are run in place of removing a module, and on `name_table` for tables of names.
+//! The crate uses `model_loader` for the machine and its modules' uses of each other. It uses
+//! `modprobe_conf` for the commands that are run instead of removing a module, and `name_table` for
+//! tables of names.
 #![tactic(auto)]
 
 mod asked;

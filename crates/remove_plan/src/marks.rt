@@ -15,7 +15,7 @@ pub(crate) fn mark(marks: &mut [bool], places: &[usize])
     }
 }
 
-/// Notes a user at each of these places that has none.
+/// Notes a user at each of these places without one.
 pub(crate) fn note(users: &mut [Option<usize>], places: &[usize], user: usize)
     requires { All (λ (j : ℕ). j < length users.old) places.now }
     ensures counted { length users.new ≡ length users.old }

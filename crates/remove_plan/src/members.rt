@@ -1,4 +1,4 @@
-// Which modules are removed.
+// The modules that are removed.
 ghost use Rattle.std.specs.Prelude.{◌≡◌, ◌<◌, ◌&&◌, ◌||◌, ℕ, not, All, IfOk, length, map};
 ghost use Rattle.model_loader.specs.Use.{AreUses};
 ghost use Rattle.remove_plan.specs.Marks.{is_marked};
@@ -8,7 +8,7 @@ use crate::marks::mark;
 use model_loader::Machine;
 use std::alloc::{AllocError, Global};
 
-/// Tests whether a module is removed: it is asked for, or only removed modules use it.
+/// Returns whether a module is removed: it is asked for, or only removed modules use it.
 fn goes(asked: &[bool], used: &[bool], kept: &[bool], k: usize) -> bool
     requires asked { k < length asked.now }
     requires used { k < length used.now }
@@ -18,8 +18,8 @@ fn goes(asked: &[bool], used: &[bool], kept: &[bool], k: usize) -> bool
     asked[k] || used[k] && !kept[k]
 }
 
-/// Returns the places of the modules that are removed where these are asked for, youngest first. Who uses a module is younger
-/// than it, so its users are decided when its turn comes.
+/// Returns the places of the modules that are removed if these are asked for, youngest first. A
+/// module's users are younger than it, so they are decided when its turn comes.
 pub(crate) fn removed(
     alloc: Global,
     machine: &Machine,

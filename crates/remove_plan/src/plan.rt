@@ -25,7 +25,8 @@ fn name_of(machine: &Machine, k: usize) -> &[u8]
     machine.module_at(k).name.as_bytes()
 }
 
-/// The rules for removing modules, and whether those of the modules that are asked for are ignored.
+/// The rules for removing modules, and whether the commands for the modules that are asked for are
+/// ignored.
 #[derive(Drop)]
 struct Choice<'a> {
     rules: &'a Rules,
@@ -93,14 +94,15 @@ fn used_by(alloc: Global, machine: &Machine, j: usize, k: usize) -> Result<Remov
     })
 }
 
-/// Returns the steps that remove the modules of these names, and those that only removed modules use, youngest first. Each
-/// module is taken out, or the first command that a rule has for it is run instead. Names that aren't loaded are skipped.
-/// If `ignore_remove`, the modules that are asked for are taken out whatever the rules say. modprobe(8), `-r`.
+/// Returns the steps that remove the modules of these names, and those that only removed modules
+/// use, youngest first. Each module is removed, or the first command that a rule has for it is run
+/// instead. Names that aren't loaded are skipped. If `ignore_remove`, the modules that are asked
+/// for are removed whatever the rules say. modprobe(8), `-r`.
 ///
 /// # Errors
 ///
-/// Reports `InUse` exactly if a module that isn't asked for binds to one that is. It names the oldest such module and its
-/// oldest such user. Reports `Memory` if it runs out of memory.
+/// Reports `InUse` exactly if a module that isn't asked for binds to one that is. It names the
+/// oldest such module and its oldest such user. Reports `Memory` if it runs out of memory.
 pub fn plan_removal(
     alloc: Global,
     names: &Names,

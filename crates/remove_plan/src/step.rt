@@ -7,9 +7,9 @@ use std::alloc::AllocError;
 /// A step of a removal.
 #[derive(Debug, Drop)]
 pub enum RemoveStep {
-    /// The module is taken out.
+    /// The module is removed.
     Rmmod { name: Name },
-    /// The command is run in place of taking the module out.
+    /// The command is run instead of removing the module.
     Command { name: Name, command: Blob },
 }
 

@@ -1,4 +1,4 @@
-// Who uses the modules that are asked for.
+// The users of the modules that are asked for.
 ghost use Rattle.std.specs.Prelude.{◌≡◌, ◌<◌, ◌&&◌, ℕ, not, All, None, Some, IfOk, IfSome, length, map, nat_eq, option_map, slice_index_or, if◌then◌else◌};
 ghost use Rattle.std.specs.List.{list_any};
 ghost use Rattle.std.specs.Option.{option_or};
@@ -10,7 +10,7 @@ use crate::marks::note;
 use model_loader::Machine;
 use std::alloc::{AllocError, Global};
 
-/// Notes a module at the places of those that it binds to, unless it is asked for.
+/// Notes a module at the places that it binds to, unless it is asked for.
 fn note_outside(asked: &[bool], users: &mut [Option<usize>], uses: &[usize], k: usize)
     requires asked { k < length asked.now }
     requires uses { All (λ (j : ℕ). j < length users.old) uses.now }
@@ -54,7 +54,8 @@ fn used(asked: &[bool], users: &[Option<usize>], j: usize) -> Option<(usize, usi
     Some((j, user))
 }
 
-/// Returns the oldest module that is asked for to which one binds that isn't, by the oldest such user of each.
+/// Returns the oldest module that is asked for and has a user that isn't, with the oldest such
+/// user. `users` has that user of each module.
 fn first_used(machine: &Machine, asked: &[bool], users: &[Option<usize>]) -> Option<(usize, usize)>
     requires asked { length asked.now ≡ length machine.now.entries }
     requires users { AreUsers machine.now (is_marked asked.now) (length machine.now.entries) users.now }
@@ -69,7 +70,7 @@ fn first_used(machine: &Machine, asked: &[bool], users: &[Option<usize>]) -> Opt
     None
 }
 
-/// Returns the oldest module that is asked for to which one binds that isn't, and the oldest such user.
+/// Returns the oldest module that is asked for and has a user that isn't, and the oldest such user.
 pub(crate) fn in_use(
     alloc: Global,
     machine: &Machine,

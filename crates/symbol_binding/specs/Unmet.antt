@@ -1,5 +1,5 @@
--- The lines of modules.unmet: what stands in the way of loading modules of a tree. This file of depmod is this
--- project's own; missing symbols and versions are what depmod(8) warns of with `-e`.
+-- The lines of modules.unmet: the obstacles to loading modules of a tree. This file of depmod is
+-- this project's own. depmod(8) warns of missing symbols and other versions with `-e`.
 use Rattle.std.specs.Prelude.{ℕ, Bool, false, List, [], ◌∷◌, ◌++◌, length, take, slice_get, map, filter, flat_map, codes, Option, is_some, if◌then◌else◌}
 use Rattle.std.specs.List.{range_with_len}
 use Rattle.std.specs.Option.{option_map_or}
@@ -19,36 +19,36 @@ abbrev pub owner_path : Owner Module → List ℕ
 owner_path ByKernel = vmlinux
 owner_path (ByModule m) = m.path
 
--- The path of who provides; nobody has the empty one.
+-- The path of the provider, which is empty if there is none.
 abbrev pub provider_path : Option (Provided Module) → List ℕ
 provider_path found = option_map_or (λ p. owner_path p.owner) found []
 
--- The lines of one kind of one module: per need that the test finds, in order.
+-- The lines of one kind of one module: one for each need that the test finds, in order.
 abbrev pub lines_of : NeedTest → (List ℕ → List ℕ → List ℕ → Unbound) → List Module → Kernel → Module → List Unbound
 lines_of test line tree kernel m =
     map (λ n. line m.path n.name (provider_path (provider tree kernel n.name)))
     (filter (λ n. test (export_under (provider tree kernel n.name)) m.face n) m.face.needs)
 
--- The lines of one kind: per module in tree order.
+-- The lines of one kind: module by module in tree order.
 abbrev pub lines : NeedTest → (List ℕ → List ℕ → List ℕ → Unbound) → List Module → Kernel → List Unbound
 lines test line tree kernel = flat_map (lines_of test line tree kernel) tree
 
--- The paths of who exports a name before a module does: the kernel, then modules.
+-- The paths of the exporters of a name before a module: the kernel, then modules.
 abbrev pub exporters : Kernel → List Module → List ℕ → List (List ℕ)
 exporters kernel earlier x =
     (if is_some (of_kernel {M = Module} kernel x) then vmlinux ∷ [] else [])
     ++ map (λ p. p.path) (filter (λ p. is_some (of_one module_exports x p)) earlier)
 
--- The lines of a module on what these export before it: per export, in order.
+-- The double lines of a module over these earlier exporters: export by export, in order.
 abbrev pub doubles_of : Kernel → List Module → Module → List Unbound
 doubles_of kernel earlier m =
     flat_map (λ e. map (λ path. Double e.name path m.path) (exporters kernel earlier e.name)) m.face.exports
 
--- The double lines on the module at a place of a tree, and what is exported before it.
+-- The double lines of the module at a place of a tree.
 abbrev pub doubles_at : Kernel → List Module → ℕ → List Unbound
 doubles_at kernel tree i = option_map_or (doubles_of kernel (take i tree)) (slice_get tree i) []
 
--- The double lines of a tree: per module in tree order.
+-- The double lines of a tree: module by module in tree order.
 abbrev pub doubles : Kernel → List Module → List Unbound
 doubles kernel tree = flat_map (doubles_at kernel tree) (range_with_len 0 (length tree))
 
@@ -61,7 +61,7 @@ unmet tree kernel =
     ++ lines is_barred Namespace tree kernel
     ++ doubles kernel tree
 
--- The line is one on a need of the module at this path.
+-- Whether the line is about a need of the module at this path.
 abbrev pub belongs : List ℕ → Unbound → Bool
 belongs path (Missing m x) = bytes_eq m path
 belongs path (Gpl m x by) = bytes_eq m path

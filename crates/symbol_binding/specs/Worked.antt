@@ -1,8 +1,8 @@
--- Small trees, whose lines of modules.unmet can be told by hand.
+-- Small trees, whose lines of modules.unmet can be worked out by hand.
 use Rattle.std.specs.Prelude.{ℕ, Bool, true, false, List, [], ◌∷◌, Option, Some, None, codes}
 use Rattle.symbol_binding.specs.Symbols.{Export, Need, Module, Kernel}
 
--- A kernel that exports `printk` at a version, and one of which nothing is known.
+-- A kernel that exports `printk` at a version, and a kernel that isn't known.
 abbrev pub printing : Kernel
 printing = record { known = true; exports = record { name = codes "printk"; crc = Some 0x11111111; gpl = false; space = [] } ∷ [] }
 
@@ -15,7 +15,8 @@ plain name crc = record { name = name; crc = crc; gpl = false; space = [] }
 abbrev pub strong : List ℕ → Option ℕ → Need
 strong name crc = record { name = name; weak = false; crc = crc }
 
--- A module at its path that exports these and needs those; it is free, or not, and imports these namespaces.
+-- A module at its path that exports these and needs those; it is free, or not, and imports these
+-- namespaces.
 abbrev pub at : List ℕ → List Export → List Need → Bool → List (List ℕ) → Module
 at path exports needs free imports = record {
   path = path;
@@ -32,11 +33,11 @@ b_gives_x = at (codes "kernel/b.ko") (plain (codes "x") (Some 2) ∷ []) [] true
 abbrev pub c_needs_x : Module
 c_needs_x = at (codes "kernel/c.ko") [] (strong (codes "x") (Some 1) ∷ strong (codes "printk") (Some 0x11111111) ∷ []) true []
 
--- A module that nothing provides for: it needs `x` and, weakly, `y`.
+-- A module without a provider: it needs `x` and, weakly, `y`.
 abbrev pub n_needs_two : Module
 n_needs_two = at (codes "kernel/n.ko") [] (strong (codes "x") None ∷ record { name = codes "y"; weak = true; crc = None } ∷ []) true []
 
--- A module that exports `fa` for GPL-compatible modules alone, and one that exports it in a namespace.
+-- A module that exports `fa` as GPL-only, and one that exports it in a namespace.
 abbrev pub gives_gpl : Module
 gives_gpl = at (codes "kernel/a.ko") (record { name = codes "fa"; crc = None; gpl = true; space = [] } ∷ []) [] true []
 
@@ -51,7 +52,8 @@ needs_fa is_weak free imports = at (codes "kernel/b.ko") [] (record { name = cod
 abbrev pub gives_printk : Module
 gives_printk = at (codes "kernel/p.ko") (plain (codes "printk") None ∷ []) [] true []
 
--- A module that isn't free and needs `fa` weakly, in another version than that of an export that it doesn't see.
+-- A module that isn't free and needs `fa` weakly, in another version than the export's, which it
+-- doesn't see.
 abbrev pub gives_gpl_1 : Module
 gives_gpl_1 = at (codes "kernel/a.ko") (record { name = codes "fa"; crc = Some 1; gpl = true; space = codes "NS" } ∷ []) [] true []
 

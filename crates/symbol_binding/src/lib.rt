@@ -1,9 +1,9 @@
-//! How the symbols of modules are bound: who provides a name, what a module sees and may use of what is provided, what
-//! can be wrong with a need, and the lines that say what stands in the way of loading modules of a tree.
+//! How the symbols of modules are bound: who provides a name, which exports a module sees and may
+//! use, what can be wrong with a need, and the lines of modules.unmet.
 //!
-//! These are definitions, with the few tests on single exports that code makes: the relation over a whole tree and the
-//! modelled loader cite the same ones, so that an obstacle line and a refusal of a load are one test in two places. The
-//! crate stands on `km_names` for names and paths.
+//! These are definitions, with the few tests on single exports that code makes. The relation over a
+//! whole tree and the modelled loader cite the same ones, so an obstacle line and a refusal of a
+//! load are the same test. The crate uses `km_names` for names and paths.
 #![tactic(auto)]
 
 mod needs;

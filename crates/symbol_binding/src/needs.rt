@@ -6,8 +6,8 @@ ghost use Rattle.symbol_binding.specs.Needs.{agree as versions_agree, is_seen, i
 
 use km_names::{Name, Names};
 
-/// Whether two versions of a symbol agree: they are equal, or one of them isn't stated. It takes no memory.
-/// The kernel's CONFIG_MODVERSIONS, kernel/module/version.c.
+/// Returns whether two versions of a symbol agree: they are equal, or one of them isn't stated. It
+/// takes no memory. The kernel's CONFIG_MODVERSIONS, kernel/module/version.c.
 #[tactic(auto, unfolding(crate::specs::Needs::agree))]
 pub fn agree(a: Option<u64>, b: Option<u64>) -> bool
     ensures { result ≡ versions_agree a b }
@@ -18,16 +18,17 @@ pub fn agree(a: Option<u64>, b: Option<u64>) -> bool
     }
 }
 
-/// Whether a module sees an export: it isn't for GPL-compatible modules alone, or the module is one. The kernel's
-/// EXPORT_SYMBOL_GPL, include/linux/export.h.
+/// Returns whether a module sees an export: it isn't GPL-only, or the module is GPL-compatible. The
+/// kernel's EXPORT_SYMBOL_GPL, include/linux/export.h.
 pub fn sees(free: bool, gpl: bool) -> bool
     ensures { result ≡ is_seen free gpl }
 {
     !gpl || free
 }
 
-/// Whether a module that imports these namespaces may use an export in the namespace `space`, empty for none. The
-/// kernel's MODULE_IMPORT_NS, Documentation/core-api/symbol-namespaces.rst.
+/// Returns whether a module that imports these namespaces may use an export in the namespace
+/// `space`, which is empty for none. The kernel's MODULE_IMPORT_NS,
+/// Documentation/core-api/symbol-namespaces.rst.
 pub fn may_use(imports: &Names, space: &[u8]) -> bool
     ensures { result ≡ is_allowed imports.now space.now }
 {

@@ -1,7 +1,7 @@
 use km_names::{List, Name, PathText};
 
-/// Something that stands in the way of loading a module of a tree: a line of modules.unmet. Paths are those of the tree;
-/// the kernel is written `vmlinux`.
+/// An obstacle to loading a module of a tree: a line of modules.unmet. Paths are the tree's; the
+/// kernel is written `vmlinux`.
 #[derive(Debug, Drop)]
 pub enum Unbound {
     /// The module at the path needs a symbol that nobody exports.
@@ -9,13 +9,14 @@ pub enum Unbound {
         path: PathText,
         symbol: Name,
     },
-    /// The module needs a symbol that its provider exports for GPL-compatible modules alone, and it isn't one.
+    /// The module needs a symbol that its provider exports only for GPL-compatible modules, and it
+    /// isn't one.
     Gpl {
         path: PathText,
         symbol: Name,
         provider: PathText,
     },
-    /// The module needs the symbol in another version than that of its provider.
+    /// The module needs the symbol in another version than its provider's.
     Version {
         path: PathText,
         symbol: Name,
@@ -27,7 +28,7 @@ pub enum Unbound {
         symbol: Name,
         provider: PathText,
     },
-    /// Two export the symbol: the first in the order of the tree, and a later module.
+    /// The symbol has two exporters: one that comes first, and a later module of the tree.
     Double {
         symbol: Name,
         first: PathText,
@@ -35,5 +36,5 @@ pub enum Unbound {
     },
 }
 
-/// What stands in the way of loading modules of a tree, in the order of modules.unmet.
+/// The obstacles to loading modules of a tree, in the order of modules.unmet.
 pub type Obstacles = List<Unbound>;

@@ -1,11 +1,11 @@
-// Small trees as laws that the check computes.
+// Laws on small trees that the check computes.
 ghost use Rattle.std.specs.Prelude.{◌≡◌, ◌∷◌, [], true, false, codes};
 ghost use Rattle.symbol_binding.specs.Provider.{uses};
 ghost use Rattle.symbol_binding.specs.Unmet.{unmet};
 ghost use Rattle.symbol_binding.specs.Worked.{printing, unknown, a_gives_x, b_gives_x, c_needs_x, n_needs_two, gives_gpl, gives_in_space, needs_fa, gives_printk, gives_gpl_1, needs_fa_2};
 ghost use Rattle.symbol_binding.specs.declared.unbound.Unbound.TheVariants.{Missing, Gpl, Version, Namespace, Double};
 
-/// The lines of modules.unmet of small trees, one for each kind, and what none is written for.
+/// States the lines of modules.unmet of small trees, one for each kind, and trees without a line.
 #[tactic(auto, unfolding(crate::specs::Unmet::unmet, crate::specs::Needs::agree))]
 pub fn lines_of_small_trees()
     ensures double { unmet (a_gives_x ∷ b_gives_x ∷ c_needs_x ∷ []) printing ≡ Double (codes "x") (codes "kernel/a.ko") (codes "kernel/b.ko") ∷ [] }

@@ -1,4 +1,4 @@
--- The sections that a sheet has for what is more, each only where its list isn't empty: extended versions, GPL-only
+-- The further sections of a sheet, each only if its list isn't empty: extended versions, GPL-only
 -- exports and the texts of namespaces. The kernel's include/linux/export.h, scripts/mod/modpost.c.
 use Rattle.std.specs.Prelude.{ℕ, ◌+◌, ◌*◌, List, [], ◌∷◌, ◌++◌, length, take, codes, Option, option_map, position}
 use Rattle.std.specs.List.{flat_map}
@@ -12,27 +12,31 @@ use Rattle.tree_gen.specs.declared.sheet.SheetSpace.{SheetSpace}
 use Rattle.tree_gen.specs.declared.sheet.SheetVersion.{SheetVersion}
 use Rattle.tree_gen.specs.Number.{word, zeros, with_nul}
 
--- Of `__version_ext_crcs`: the numbers of extended versions, 4 bytes each. The kernel's scripts/mod/modpost.c.
+-- The content of `__version_ext_crcs`: the numbers of extended versions, 4 bytes each. The kernel's
+-- scripts/mod/modpost.c.
 abbrev pub crc_bytes : List SheetVersion → List ℕ
 crc_bytes ext = flat_map (λ (v : SheetVersion). word v.crc) ext
 
--- Of `__version_ext_names`: their names, each with its NUL. The kernel's scripts/mod/modpost.c.
+-- The content of `__version_ext_names`: the names of extended versions, each with its NUL. The
+-- kernel's scripts/mod/modpost.c.
 abbrev pub name_bytes : List SheetVersion → List ℕ
 name_bytes ext = flat_map (λ (v : SheetVersion). with_nul v.name) ext
 
--- Of `__ksymtab_strings`: the texts of namespaces, each with its NUL. The kernel's include/linux/export.h.
+-- The content of `__ksymtab_strings`: the texts of namespaces, each with its NUL. The kernel's
+-- include/linux/export.h.
 abbrev pub space_bytes : List SheetSpace → List ℕ
 space_bytes spaces = flat_map (λ (p : SheetSpace). with_nul p.space) spaces
 
--- What the headers of these sections say: they have bytes in the file, and are loaded. gABI 4, "Sections".
+-- The attributes of the further sections: they have bytes in the file, and are loaded. gABI 4,
+-- "Sections".
 abbrev pub further_attributes : Attributes
 further_attributes = record { kind = SHT_PROGBITS; flags = SHF_ALLOC; link = 0; info = 0; align = 8; entry_size = 0 }
 
--- One of these sections, by its name and its content.
+-- A further section, by its name and its content.
 abbrev pub further_part : List ℕ → List ℕ → Part
 further_part name content = record { name = name; attributes = further_attributes; content = content }
 
--- Sections that stand only where a list isn't empty.
+-- Sections that are present only if a list isn't empty.
 abbrev pub unless_empty : {X : Type 0} → List X → List Part → List Part
 unless_empty [] parts = []
 unless_empty (x ∷ xs) parts = parts
@@ -42,7 +46,8 @@ abbrev pub version_parts : SheetMore → List Part
 version_parts m =
     unless_empty m.ext (further_part (codes "__version_ext_crcs") (crc_bytes m.ext) ∷ further_part (codes "__version_ext_names") (name_bytes m.ext) ∷ [])
 
--- The section of GPL-only exports, 8 zeros for each. The kernel's include/linux/export.h, EXPORT_SYMBOL_GPL.
+-- The section of GPL-only exports, 8 zeros for each. The kernel's include/linux/export.h,
+-- EXPORT_SYMBOL_GPL.
 abbrev pub gpl_parts : SheetMore → List Part
 gpl_parts m = unless_empty m.gpl (further_part (codes "__ksymtab_gpl") (zeros (8 * length m.gpl)) ∷ [])
 
@@ -62,10 +67,10 @@ gpl_section m = FURTHER + length (version_parts m)
 unfoldable pub strings_section : SheetMore → ℕ
 strings_section m = FURTHER + length (version_parts m) + length (gpl_parts m)
 
--- Where in `__ksymtab_strings` the text k begins.
+-- The place in `__ksymtab_strings` of the text k.
 abbrev pub text_place : List SheetSpace → ℕ → ℕ
 text_place spaces k = length (space_bytes (take k spaces))
 
--- Where in `__ksymtab_strings` the namespace of an export begins, if it has one.
+-- The place in `__ksymtab_strings` of the namespace of an export, if it has one.
 unfoldable pub space_place : SheetMore → List ℕ → Option ℕ
 space_place m name = option_map (text_place m.spaces) (position (λ (p : SheetSpace). bytes_eq p.name name) m.spaces)

@@ -1,4 +1,4 @@
--- Numbers, zeros and texts as they stand in object files. gABI 4, "Data Representation".
+-- Numbers, zeros and texts as object files have them. gABI 4, "Data Representation".
 use Rattle.std.specs.Prelude.{ℕ, List, [], ◌∷◌, ◌++◌, replicate}
 use Rattle.std.specs.Int.{w16, w32, w64, to_le_bytes}
 

@@ -1,4 +1,5 @@
--- The object of a sheet: its sections, and the file of these. gABI 4, "Sections", "Special Sections".
+-- The object of a sheet: its sections, and the file of the sections. gABI 4, "Sections", "Special
+-- Sections".
 use Rattle.std.specs.Prelude.{ℕ, ◌+◌, List, [], ◌∷◌, ◌++◌, map, codes}
 use Rattle.std.specs.List.{flat_map}
 use Rattle.elf_format.specs.declared.section.TheConstants.{SHT_PROGBITS, SHT_RELA, SHT_SYMTAB, SHT_STRTAB, SHF_WRITE, SHF_ALLOC, SHF_EXECINSTR, SHF_INFO_LINK}
@@ -14,11 +15,12 @@ use Rattle.tree_gen.specs.Further.{further_parts}
 use Rattle.tree_gen.specs.Symbols.{local_count}
 use Rattle.tree_gen.specs.Contents.{text_bytes, data_bytes, modinfo_bytes, versions_bytes, rela_bytes, symtab_bytes, strtab_bytes}
 
--- A section of bytes, by its type, flags and alignment.
+-- The attributes of a section of bytes, by its type, flags and alignment.
 abbrev pub plain : ℕ → ℕ → ℕ → Attributes
 plain kind flags align = record { kind = kind; flags = flags; link = 0; info = 0; align = align; entry_size = 0 }
 
--- A section of entries of 24 bytes, by its type and flags, the section that belongs to it, and its further number.
+-- The attributes of a section of entries of 24 bytes, by its type and flags, the section that
+-- belongs to it, and its further number.
 abbrev pub table : ℕ → ℕ → ℕ → ℕ → Attributes
 table kind flags link info = record { kind = kind; flags = flags; link = link; info = info; align = 8; entry_size = 24 }
 
@@ -31,7 +33,8 @@ loaded_parts s =
     ∷ record { name = codes "__versions"; attributes = plain SHT_PROGBITS SHF_ALLOC 32; content = versions_bytes s }
     ∷ []
 
--- The sections 5 to 7, which serve to link: the relocations of the words by the symbols, the symbols, and their names.
+-- The sections 5 to 7, which are for linking: the relocations of the words, the symbols, and their
+-- names.
 unfoldable pub linked_parts : Sheet → SheetMore → List Part
 linked_parts s m =
     record { name = codes ".rela.data"; attributes = table SHT_RELA SHF_INFO_LINK SYMTAB DATA; content = rela_bytes s m }
@@ -43,20 +46,21 @@ linked_parts s m =
 abbrev pub section_names : List (List ℕ) → List ℕ
 section_names names = 0 ∷ flat_map with_nul names
 
--- The sections, with the one that has the names of all of them, section 8, after those before it and before those from 9 on.
+-- The sections with section 8, which has the names of all of them, between the sections before it
+-- and those from 9 on.
 abbrev pub with_names : List Part → List Part → List Part
 with_names before after =
     let names = map (λ (p : Part). p.name) before ++ codes ".shstrtab" ∷ map (λ (p : Part). p.name) after in
     before ++ record { name = codes ".shstrtab"; attributes = plain SHT_STRTAB 0 1; content = section_names names } ∷ after
 
--- The sections of a sheet, and of what is more.
+-- The sections of a sheet with its additions.
 unfoldable pub parts_of : Sheet → SheetMore → List Part
 parts_of s m = with_names (loaded_parts s ++ linked_parts s m) (further_parts m)
 
--- The object file of a sheet with more.
+-- The object file of a sheet with its additions.
 unfoldable pub object_more_of : Sheet → SheetMore → List ℕ
 object_more_of s m = file_of SECTION_NAMES (parts_of s m)
 
--- The object file of a sheet alone.
+-- The object file of a sheet without additions.
 abbrev pub object_of : Sheet → List ℕ
 object_of s = object_more_of s no_more

@@ -1,4 +1,4 @@
--- The object of parameters: a module that has these and nothing else. The kernel's include/linux/moduleparam.h; gABI 4,
+-- The object of a module with only parameters. The kernel's include/linux/moduleparam.h; gABI 4,
 -- "Sections", "Symbol Table", "Relocation".
 use Rattle.std.specs.Prelude.{ℕ, ◌+◌, ◌*◌, List, [], ◌∷◌, ◌++◌, length, take, codes}
 use Rattle.std.specs.List.{flat_map, range_with_len}
@@ -14,31 +14,34 @@ use Rattle.tree_gen.specs.Object.{plain, table, with_names}
 abbrev pub names_of_params : List SheetParam → List ℕ
 names_of_params ps = flat_map (λ (p : SheetParam). with_nul p.name) ps
 
--- Of `.data`, section 1: 8 bytes for each value, and then the names.
+-- The content of `.data`, section 1: 8 bytes for each value, and then the names.
 abbrev pub param_data : List SheetParam → List ℕ
 param_data ps = zeros (8 * length ps) ++ names_of_params ps
 
--- Where in `.data` the name of the parameter k stands.
+-- The place in `.data` of the name of the parameter k.
 abbrev pub name_place : List SheetParam → ℕ → ℕ
 name_place ps k = 8 * length ps + length (names_of_params (take k ps))
 
--- Of `.modinfo`, section 3: for each parameter the text that says of which type it is.
+-- A text of `.modinfo`, section 3: the type of a parameter.
 abbrev pub type_text : SheetParam → List ℕ
 type_text p = codes "parmtype=" ++ p.name ++ codes ":" ++ p.kind ++ 0 ∷ []
 
--- A relocation of the word at an offset of `__param`: the address of a place in `.data`, by the symbol 1. Elf64_Rela.
+-- A relocation of the word at an offset of `__param`: the address of a place in `.data`, by the
+-- symbol 1. Elf64_Rela.
 unfoldable pub data_address : ℕ → ℕ → List ℕ
 data_address offset place = xword offset ++ word R_X86_64_64 ++ word 1 ++ xword place
 
--- Those of the entry k, which has 40 bytes: the address of its name at 0, and that of its value at 32.
+-- The relocations of the entry k, which has 40 bytes: the address of its name at 0, and the address
+-- of its value at 32.
 abbrev pub entry_addresses : List SheetParam → ℕ → List ℕ
 entry_addresses ps k = data_address (40 * k) (name_place ps k) ++ data_address (40 * k + 32) (8 * k)
 
--- Of `.rela__param`, section 4: those of all entries.
+-- The content of `.rela__param`, section 4: the relocations of all entries.
 abbrev pub addresses_of_params : List SheetParam → List ℕ
 addresses_of_params ps = flat_map (entry_addresses ps) (range_with_len 0 (length ps))
 
--- Of `.symtab`, section 5: an entry of zeros, and the symbol of the section `.data`, which has no name. Elf64_Sym.
+-- The content of `.symtab`, section 5: an entry of zeros, and the symbol of the section `.data`,
+-- which has no name. Elf64_Sym.
 unfoldable pub section_symbol : List ℕ
 section_symbol = zeros 24 ++ word 0 ++ 3 ∷ 0 ∷ half 1 ++ zeros 16
 

@@ -1,4 +1,4 @@
--- What a sheet may have, and what more.
+-- The conditions of a sheet and its additions.
 use Rattle.std.specs.Prelude.{ℕ, ◌++◌, ◌^◌, ◌&&◌, ◌==◌, Bool, true, not, nat_le, nat_lt, List, [], ◌∷◌, length, map}
 use Rattle.std.specs.List.{list_all, list_any}
 use Rattle.std.specs.Str.{bytes_eq}
@@ -26,63 +26,66 @@ place_names s = map (λ (p : SheetPlace). p.symbol) s.places
 abbrev pub spaced_names : SheetMore → List (List ℕ)
 spaced_names m = map (λ (p : SheetSpace). p.name) m.spaces
 
--- A list has at most 65,535 items.
+-- Whether a list has at most 65,535 items.
 abbrev pub is_few : {X : Type 0} → List X → Bool
 is_few items = nat_le (length items) 65535
 
--- A text has no NUL, so that one can end it.
+-- Whether a text has no NUL, so that one can end it.
 abbrev pub has_no_nul : List ℕ → Bool
 has_no_nul text = not (list_any (λ b. b == 0) text)
 
--- A text of a sheet has no NUL and at most 4096 bytes.
+-- Whether this is a text of a sheet: it has no NUL and at most 4096 bytes.
 unfoldable pub is_text : List ℕ → Bool
 is_text text = nat_le (length text) 4096 && has_no_nul text
 
--- The name of an entry of `__versions` is a text of at most 55 bytes, since a NUL follows it in 56.
+-- Whether the name of an entry of `__versions` is a text of at most 55 bytes. A NUL follows it in
+-- 56.
 abbrev pub is_version : SheetVersion → Bool
 is_version v = is_text v.name && nat_le (length v.name) 55
 
--- The name of an extended version has no NUL, however long it is, and its number has 32 bits.
+-- Whether the name of an extended version has no NUL, however long it is, and its number has 32
+-- bits.
 abbrev pub is_extended : SheetVersion → Bool
 is_extended v = has_no_nul v.name && nat_lt v.crc (2 ^ 32)
 
--- A namespace has no NUL and isn't empty.
+-- Whether a namespace has no NUL and isn't empty.
 abbrev pub is_space : SheetSpace → Bool
 is_space p = has_no_nul p.space && nat_lt 0 (length p.space)
 
--- A name is one of these.
+-- Whether a name is one of these.
 abbrev pub is_among : List (List ℕ) → List ℕ → Bool
 is_among names name = list_any (bytes_eq name) names
 
--- No name stands twice.
+-- Whether no name occurs twice.
 abbrev pub are_distinct : List (List ℕ) → Bool
 are_distinct [] = true
 are_distinct (name ∷ names) = not (is_among names name) && are_distinct names
 
--- No list of a sheet is too long.
+-- Whether no list of a sheet is too long.
 unfoldable pub are_few : Sheet → Bool
 are_few s = is_few s.texts && is_few s.versions && is_few s.exports && is_few s.needs && is_few s.places
 
--- Texts and names are texts, and numbers and namespaces can be written.
+-- Whether texts and names are texts, and numbers and namespaces can be written.
 unfoldable pub are_texts : Sheet → SheetMore → Bool
 are_texts s m =
     list_all is_text s.texts && list_all is_version s.versions && list_all is_text (symbol_names s)
     && list_all is_extended m.ext && list_all is_space m.spaces
 
--- Names are distinct, and each is one of the others.
+-- Whether names are distinct, and each is one of the others.
 abbrev pub are_chosen : List (List ℕ) → List (List ℕ) → Bool
 are_chosen others names = are_distinct names && list_all (is_among others) names
 
--- The names of symbols are distinct, places are by them, and GPL-only names and those in namespaces by exports.
+-- Whether the names of symbols are distinct, places name symbols, and GPL-only names and names in
+-- namespaces are exports.
 unfoldable pub are_known : Sheet → SheetMore → Bool
 are_known s m =
     are_distinct (symbol_names s) && list_all (is_among (symbol_names s)) (place_names s)
     && are_chosen (export_names s) m.gpl && are_chosen (export_names s) (spaced_names m)
 
--- A sheet, with more, of which an object can be made.
+-- Whether an object can be made of a sheet with its additions.
 unfoldable pub is_sheet : Sheet → SheetMore → Bool
 is_sheet s m = are_few s && are_texts s m && are_known s m
 
--- Nothing more.
+-- The empty additions.
 abbrev pub no_more : SheetMore
 no_more = record { ext = []; gpl = []; spaces = [] }

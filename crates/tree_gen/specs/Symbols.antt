@@ -43,13 +43,14 @@ abbrev pub space_symbols : List ℕ → ℕ → Option ℕ → List SymbolEntry
 space_symbols name section None = []
 space_symbols name section (Some at) = local_symbol (codes "__kstrtabns_" ++ name) section at ∷ []
 
--- The local symbols of an export, of which `__ksymtab_N` is the first.
+-- The local symbols of an export. `__ksymtab_N` is the first.
 unfoldable pub local_symbols : SheetMore → SheetExport → List SymbolEntry
 local_symbols m e =
     local_symbol (codes "__ksymtab_" ++ e.name) (table_section m e.name) 0
     ∷ version_symbols e.name e.crc ++ space_symbols e.name (strings_section m) (space_place m e.name)
 
--- The symbols of the exports from number j on, each a global function of 16 bytes after the one before it.
+-- The symbols of the exports from number j on, each a global function of 16 bytes after the one
+-- before it.
 abbrev pub export_symbols : ℕ → List SheetExport → List SymbolEntry
 export_symbols j [] = []
 export_symbols j (e ∷ exports) =
@@ -67,15 +68,15 @@ need_symbol n = record { name = n.name; info = need_info n.weak; section = SHN_U
 unfoldable pub locals : Sheet → SheetMore → List SymbolEntry
 locals s m = flat_map (local_symbols m) s.exports
 
--- All symbols but the first, which is zeros: local ones first.
+-- All symbols except the first, which is zeros: local ones first.
 abbrev pub symbols : Sheet → SheetMore → List SymbolEntry
 symbols s m = locals s m ++ export_symbols 0 s.exports ++ map need_symbol s.needs
 
--- How many symbols are local, the first one among them.
+-- The number of local symbols, with the first one.
 abbrev pub local_count : Sheet → SheetMore → ℕ
 local_count s m = 1 + length (locals s m)
 
--- The number of the symbol of this name: exports and needs stand after the local symbols.
+-- The number of the symbol of this name: exports and needs are after the local symbols.
 unfoldable pub symbol_number : Sheet → SheetMore → List ℕ → ℕ
 symbol_number s m name = local_count s m + unwrap_or (position (λ other. bytes_eq other name) (symbol_names s)) 0
 
@@ -83,11 +84,11 @@ symbol_number s m name = local_count s m + unwrap_or (position (λ other. bytes_
 abbrev pub names_bytes : List SymbolEntry → List ℕ
 names_bytes symbols = flat_map (λ (e : SymbolEntry). with_nul e.name) symbols
 
--- An entry of 24 bytes, whose name stands at this place of the string table. Elf64_Sym.
+-- An entry of 24 bytes, whose name is at this place of the string table. Elf64_Sym.
 abbrev pub symbol_bytes : ℕ → SymbolEntry → List ℕ
 symbol_bytes at e = word at ++ e.info ∷ 0 ∷ half e.section ++ xword e.value ++ xword e.size
 
--- The entries of symbols whose names stand from this place on.
+-- The entries of symbols whose names begin at this place.
 abbrev pub entries_bytes : ℕ → List SymbolEntry → List ℕ
 entries_bytes at [] = []
 entries_bytes at (e ∷ symbols) = symbol_bytes at e ++ entries_bytes (at + (length e.name + 1)) symbols

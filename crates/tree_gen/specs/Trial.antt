@@ -1,4 +1,5 @@
--- The made tree of a trial: files in memory, drawn from a seed. The tree is this project's own.
+-- The generated tree of a trial: files in memory, drawn from a seed. The tree is this project's
+-- own.
 use Rattle.std.specs.Prelude.{ℕ, ◌+◌, ◌-◌, ◌*◌, ◌/◌, ◌%◌, ◌^◌, ◌==◌, if◌then◌else◌, zero, suc, false, pos, List, [], ◌∷◌, ◌++◌, map, fold, codes, Some}
 use Rattle.std.specs.List.{range_with_len}
 use Rattle.std.specs.FinMap.{empty, insert}
@@ -12,33 +13,35 @@ use Rattle.tree_gen.specs.declared.sheet.SheetPlace.{SheetPlace}
 use Rattle.tree_gen.specs.declared.sheet.SheetVersion.{SheetVersion}
 use Rattle.tree_gen.specs.Object.{object_of}
 
--- The number after x in the sequence that is drawn from: the linear congruential generator of Knuth's MMIX. Knuth, The
--- Art of Computer Programming, volume 2, section 3.3.4.
+-- The number after x in the sequence of draws: the linear congruential generator of Knuth's MMIX.
+-- Knuth, The Art of Computer Programming, volume 2, section 3.3.4.
 unfoldable pub next : ℕ → ℕ
 next x = (x * 6364136223846793005 + 1442695040888963407) % 2 ^ 64
 
--- The number that stands n steps after x.
+-- The number n steps after x.
 abbrev pub after : ℕ → ℕ → ℕ
 after zero x = x
 after (suc n) x = next (after n x)
 
--- The number below `end` that x gives: its low bits, which repeat soon, are left out.
+-- The number below `end` that x gives. The low bits of x repeat soon and are left out.
 abbrev pub draw : ℕ → ℕ → ℕ
 draw end x = (x / 2 ^ 33) % end
 
--- One number of two that are equal, and else both.
+-- One of two equal numbers, and else both.
 abbrev pub without_twin : ℕ → ℕ → List ℕ
 without_twin a b = if a == b then a ∷ [] else a ∷ b ∷ []
 
--- The modules before module i that it draws: none for the first module, and else those of the two numbers after x.
+-- The modules before module i that it draws: none for the first module, and else the modules of the
+-- two numbers after x.
 unfoldable pub drawn : ℕ → ℕ → List ℕ
 drawn i x = if i == 0 then [] else without_twin (draw i (after 1 x)) (draw i (after 2 x))
 
--- The number after which module i draws: each module from 1 on before it has drawn twice from the seed on.
+-- The number that module i draws after: each module from 1 on before it has drawn twice from the
+-- seed on.
 abbrev pub start_of : ℕ → ℕ → ℕ
 start_of seed i = after (2 * (i - 1)) seed
 
--- What each of so many modules draws from the seed, from module 0 on.
+-- The draws of so many modules from the seed, from module 0 on.
 abbrev pub drawn_from : ℕ → ℕ → List (List ℕ)
 drawn_from seed count = map (λ i. drawn i (start_of seed i)) (range_with_len 0 count)
 
@@ -66,7 +69,8 @@ exported i = record { name = symbol_name i; crc = 0x20000000 + i }
 abbrev pub printk : SheetVersion
 printk = record { name = codes "printk"; crc = 0x11111111 }
 
--- The symbols that a module needs, with their exporters' versions: the kernel's, and those of the modules that it draws.
+-- The symbols that a module needs, with their exporters' versions: the kernel's, and the ones of
+-- the modules that it draws.
 abbrev pub needed : List ℕ → List SheetVersion
 needed modules = printk ∷ map exported modules
 
@@ -86,7 +90,8 @@ address v = record { kind = R_X86_64_64; symbol = v.name; addend = pos 0 }
 abbrev pub texts : ℕ → List (List ℕ)
 texts i = codes "license=GPL" ∷ (codes "alias=trial:" ++ name_of i) ∷ []
 
--- Module i, which draws these modules: it exports one symbol, and each that it needs has a version and a word.
+-- Module i, which draws these modules: it exports one symbol, and each that it needs has a version
+-- and a word.
 unfoldable pub module_sheet : ℕ → List ℕ → Sheet
 module_sheet i modules = record {
   texts = texts i;
@@ -100,7 +105,7 @@ module_sheet i modules = record {
 unfoldable pub module_path : ℕ → List ℕ
 module_path i = codes "/t/lib/modules/trial/kernel/" ++ name_of i ++ codes ".ko"
 
--- The object file of module i, of the sheet with what it draws from the seed.
+-- The object file of module i, from the sheet with its draws from the seed.
 unfoldable pub module_file : ℕ → ℕ → List ℕ
 module_file seed i = object_of (module_sheet i (drawn i (start_of seed i)))
 
@@ -116,11 +121,12 @@ kernel_map = codes "ffffffff81000000 T printk" ++ 10 ∷ []
 unfoldable pub kernel_contents : Contents
 kernel_contents = insert (insert empty (codes "/t/Module.symvers") kernel_symvers) (codes "/t/System.map") kernel_map
 
--- These files, and that of module i.
+-- The files with module i's.
 abbrev pub with_module : ℕ → Contents → ℕ → Contents
 with_module seed files i = insert files (module_path i) (module_file seed i)
 
--- The tree of a seed and a count: the files of the kernel, and those of so many modules, from module 0 on.
+-- The tree of a seed and a count: the files of the kernel, and of so many modules, from module 0
+-- on.
 unfoldable pub trial_contents : ℕ → ℕ → Contents
 trial_contents seed count = fold (with_module seed) kernel_contents (range_with_len 0 count)
 

@@ -1,4 +1,5 @@
--- What the writer of an object keeps while it writes.
+-- The state of the writer of an object while it writes.
+-- It belongs to the code: no public meaning rests on it.
 use Rattle.std.specs.Prelude.{◌≡◌, ℕ, List, ◌++◌, length, map}
 use Rattle.std.specs.Borrow.{Bor}
 use Rattle.tree_gen.specs.declared.symbols.Symbol.{Symbol}
@@ -7,8 +8,8 @@ use Rattle.tree_gen.specs.declared.file.ObjectFile.{ObjectFile}
 use Rattle.tree_gen.specs.File.{Laid, header}
 use Rattle.tree_gen.specs.Symbols.{SymbolEntry, names_bytes, entries_bytes}
 
--- The file of so many sections, with the number of the one that has their names, has these in it, with 0 for the place of
--- the section header table.
+-- The file holds these sections, with 0 for the place of the section header table. It is for so
+-- many sections, and the section of the number `named` has their names.
 pub record IsFileOf (f : ObjectFile) (l : Laid) (count named : ℕ) : Type 0 where
   pub bytes : f.bytes.items ≡ header 0 count named ++ l.contents
   pub headers : f.headers.items ≡ l.headers

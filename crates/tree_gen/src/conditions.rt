@@ -10,26 +10,26 @@ use km_names::{Blob, List};
 use name_table::NameTable;
 use std::alloc::{AllocError, Global};
 
-/// The most items that a list has.
+/// The greatest number of items in a list.
 const ITEM_LIMIT: usize = 65535;
 
-/// The most bytes of a text or a name.
+/// The greatest length of a text or a name in bytes.
 const LONGEST_TEXT: usize = 4096;
 
-/// The most bytes of the name of a version.
+/// The greatest length of the name of a version in bytes.
 const LONGEST_VERSION_NAME: usize = 55;
 
 /// The greatest extended version.
 const GREATEST_EXTENDED: u64 = 0xffff_ffff;
 
-/// Whether a list isn't too long.
+/// Returns whether a list isn't too long.
 fn is_few<T: Drop>(items: &List<T>) -> bool
     ensures { result ≡ is_few items.now }
 {
     items.len() <= ITEM_LIMIT
 }
 
-/// Whether no list of a sheet is too long.
+/// Returns whether no list of a sheet is too long.
 #[tactic(auto, unfolding(crate::specs::Sheet::are_few))]
 fn are_few(sheet: &Sheet) -> bool
     ensures { result ≡ are_few sheet.now }
@@ -41,14 +41,14 @@ fn are_few(sheet: &Sheet) -> bool
         && is_few(&sheet.places)
 }
 
-/// Whether these bytes have no NUL.
+/// Returns whether these bytes have no NUL.
 fn has_no_nul(text: &[u8]) -> bool
     ensures { result ≡ has_no_nul text.now }
 {
     !text.contains(&0)
 }
 
-/// Whether these bytes are short and have no NUL.
+/// Returns whether these bytes are short and have no NUL.
 #[tactic(auto, unfolding(crate::specs::Sheet::is_text))]
 fn is_text(text: &[u8]) -> bool
     ensures { result ≡ is_text text.now }
@@ -56,64 +56,64 @@ fn is_text(text: &[u8]) -> bool
     text.len() <= LONGEST_TEXT && has_no_nul(text)
 }
 
-/// Whether the name of a version is a text that fits its entry.
+/// Returns whether the name of a version is a text that fits its entry.
 fn is_version(version: &SheetVersion) -> bool
     ensures { result ≡ is_version version.now }
 {
     is_text(version.name.as_bytes()) && version.name.len() <= LONGEST_VERSION_NAME
 }
 
-/// Whether an extended version has 32 bits, and its name has no NUL.
+/// Returns whether an extended version has 32 bits, and its name has no NUL.
 fn is_extended(version: &SheetVersion) -> bool
     ensures { result ≡ is_extended version.now }
 {
     has_no_nul(version.name.as_bytes()) && version.crc <= GREATEST_EXTENDED
 }
 
-/// Whether a namespace has no NUL and isn't empty.
+/// Returns whether a namespace has no NUL and isn't empty.
 fn is_space(space: &SheetSpace) -> bool
     ensures { result ≡ is_space space.now }
 {
     has_no_nul(space.space.as_bytes()) && !space.space.is_empty()
 }
 
-/// Whether each of these is a text.
+/// Returns whether each of these is a text.
 fn texts_are(texts: &[Blob]) -> bool
     ensures { result ≡ list_all is_text texts.now }
 {
     texts.iter().all(|text| is_text(text.as_bytes()))
 }
 
-/// Whether each of these names is a text.
+/// Returns whether each of these names is a text.
 fn names_are(names: &[&[u8]]) -> bool
     ensures { result ≡ list_all (λ n. is_text n.now) names.now }
 {
     names.iter().all(|name| is_text(name))
 }
 
-/// Whether each of these versions fits its entry.
+/// Returns whether each of these versions fits its entry.
 fn versions_are(versions: &[SheetVersion]) -> bool
     ensures { result ≡ list_all is_version versions.now }
 {
     versions.iter().all(is_version)
 }
 
-/// Whether each of these extended versions can be written.
+/// Returns whether each of these extended versions can be written.
 fn extended_are(versions: &[SheetVersion]) -> bool
     ensures { result ≡ list_all is_extended versions.now }
 {
     versions.iter().all(is_extended)
 }
 
-/// Whether each of these namespaces is one.
+/// Returns whether each of these namespaces is one.
 fn spaces_are(spaces: &[SheetSpace]) -> bool
     ensures { result ≡ list_all is_space spaces.now }
 {
     spaces.iter().all(is_space)
 }
 
-/// Whether texts and names are texts, and numbers and namespaces can be written, for these names of
-/// symbols.
+/// Returns whether texts and names are texts, and numbers and namespaces can be written, for these
+/// names of symbols.
 #[tactic(auto, using(crate::proofs::NameLemmas::names_are_texts), unfolding(crate::specs::Sheet::are_texts))]
 fn are_texts(sheet: &Sheet, more: &SheetMore, symbols: &[&[u8]]) -> bool
     requires { names_of symbols.now ≡ symbol_names sheet.now }
@@ -126,7 +126,7 @@ fn are_texts(sheet: &Sheet, more: &SheetMore, symbols: &[&[u8]]) -> bool
         && spaces_are(more.spaces.as_slice())
 }
 
-/// Whether no name occurs twice.
+/// Returns whether no name occurs twice.
 fn are_distinct(alloc: Global, names: &[&[u8]]) -> Result<bool, AllocError>
     requires { length names.now ≤ 131070 }
     ensures { IfOk result (λ b. b ≡ are_distinct (names_of names.now)) }
@@ -141,7 +141,7 @@ fn are_distinct(alloc: Global, names: &[&[u8]]) -> Result<bool, AllocError>
     Ok(true)
 }
 
-/// Whether each of the names is one of the others.
+/// Returns whether each of the names is one of the others.
 fn are_among(alloc: Global, others: &[&[u8]], names: &[&[u8]]) -> Result<bool, AllocError>
     requires { length others.now ≤ 131070 }
     ensures { IfOk result (λ b. b ≡ list_all (is_among (names_of others.now)) (names_of names.now)) }
@@ -155,7 +155,7 @@ fn are_among(alloc: Global, others: &[&[u8]], names: &[&[u8]]) -> Result<bool, A
     Ok(true)
 }
 
-/// Whether names are distinct, and each is one of the others.
+/// Returns whether names are distinct, and each is one of the others.
 fn are_chosen(alloc: Global, others: &[&[u8]], names: &[&[u8]]) -> Result<bool, AllocError>
     requires { length others.now ≤ 131070 }
     ensures { IfOk result (λ b. b ≡ are_chosen (names_of others.now) (names_of names.now)) }
@@ -168,15 +168,15 @@ fn are_chosen(alloc: Global, others: &[&[u8]], names: &[&[u8]]) -> Result<bool, 
     Ok(distinct && among)
 }
 
-/// Whether all four hold.
+/// Returns whether all four hold.
 fn all_of(first: bool, second: bool, third: bool, fourth: bool) -> bool
     ensures { result ≡ (first && second && third && fourth) }
 {
     first && second && third && fourth
 }
 
-/// Whether the names of symbols are distinct, places name symbols, and GPL-only names and those in
-/// namespaces are exports.
+/// Returns whether the names of symbols are distinct, places name symbols, and GPL-only names and
+/// names in namespaces are exports.
 #[tactic(auto, unfolding(crate::specs::Sheet::are_known))]
 fn are_known(
     alloc: Global,
@@ -199,15 +199,15 @@ fn are_known(
     Ok(all_of(distinct, placed, gpl, spaced))
 }
 
-/// Tests whether an object can be made of a sheet and of what is more.
+/// Returns whether an object can be made of a sheet and its additions.
 ///
 /// No list of the sheet has more than 65,535 items. Its texts and names have no NUL and at most
 /// 4096 bytes, the names of versions at most 55. The names of symbols are distinct, and places name
 /// them.
 ///
 /// The names of extended versions and the namespaces have no NUL, no namespace is empty, and
-/// extended versions have 32 bits. GPL-only names and the names of those in namespaces are exports,
-/// each at most once. The only error is out of memory.
+/// extended versions have 32 bits. GPL-only names and the names of exports in namespaces are
+/// exports, each at most once. The only error is out of memory.
 #[tactic(auto, unfolding(crate::specs::Sheet::is_sheet))]
 pub fn is_sheet(alloc: Global, sheet: &Sheet, more: &SheetMore) -> Result<bool, AllocError>
     ensures { IfOk result (λ b. b ≡ is_the_sheet sheet.now more.now) }

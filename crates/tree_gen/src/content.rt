@@ -9,7 +9,7 @@ use crate::sheet::SheetVersion;
 use km_names::Blob;
 use std::alloc::{AllocError, Global};
 
-/// The bytes of the name of a version, whose last byte is NUL.
+/// The size of the name of a version in bytes. The last byte is NUL.
 const VERSION_NAME: usize = 56;
 
 /// Returns the texts of `.modinfo`, each with its NUL.

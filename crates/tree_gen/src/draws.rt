@@ -4,13 +4,13 @@ ghost use Rattle.tree_gen.specs.Trial.{next, draw, drawn, start_of};
 
 use std::alloc::{AllocError, Global};
 
-/// What a number is multiplied by to make the next one.
+/// The factor that a number is multiplied by to make the next one.
 const MULTIPLIER: u64 = 6_364_136_223_846_793_005;
 
-/// What is added to the product.
+/// The number that is added to the product.
 const INCREMENT: u64 = 1_442_695_040_888_963_407;
 
-/// How many low bits of a number a draw leaves out, since they repeat soon.
+/// The number of low bits that a draw leaves out, since they repeat soon.
 const LOW_BITS: u32 = 33;
 
 /// Numbers of 64 bits, each made of the one before it, that are drawn from. Knuth's MMIX generator.
@@ -38,8 +38,8 @@ impl Draws {
         ((self.last >> LOW_BITS) % u64::from(end)) as u32
     }
 
-    /// Draws the modules that the module of this number needs: none for the first, else the two
-    /// numbers below its own that follow, or one if they are equal.
+    /// Draws the modules that the module of this number needs: none for the first, and else the
+    /// next two numbers below its own, or one if they are equal.
     #[tactic(auto, unfolding(crate::specs::Trial::drawn))]
     pub(crate) fn modules(&mut self, alloc: Global, number: u32) -> Result<Vec<u32>, AllocError>
         ensures modules { IfOk result (λ v. v.items ≡ drawn number self.old.last) }

@@ -12,10 +12,10 @@ use elf_format::{
 };
 use std::alloc::{AllocError, Global};
 
-/// Where the file header has the place of the section header table.
+/// The place of the section header table's offset in the file header.
 const TABLE_FIELD: usize = 40;
 
-/// A file while sections are put into it. It has the bytes, with 0 for the place of the section
+/// A file while sections are added to it. It has the bytes, with 0 for the place of the section
 /// header table, that table, and the total length of the names of sections.
 #[derive(Drop)]
 pub(crate) struct ObjectFile {
@@ -77,7 +77,7 @@ fn fill_up(file: &mut Vec<u8>) -> Result<(), AllocError>
     push_zeros(file, gap)
 }
 
-/// Puts the place of the section header table into a file.
+/// Writes the place of the section header table into a file.
 #[tactic(auto, unfolding(crate::specs::Number::xword))]
 fn put_table_place(file: &mut [u8], place: u64)
     requires { 48 ≤ length file.old }
@@ -87,7 +87,7 @@ fn put_table_place(file: &mut [u8], place: u64)
 }
 
 impl ObjectFile {
-    /// Returns the file of so many sections before any is put in. The section of the number `named`
+    /// Returns the file of so many sections before any is added. The section of the number `named`
     /// has their names.
     pub(crate) fn new(alloc: Global, count: u16, named: u16) -> Result<Self, AllocError>
         ensures { IfOk result (λ f. IsFileOf f start count named) }
@@ -103,7 +103,7 @@ impl ObjectFile {
         })
     }
 
-    /// Puts a section in.
+    /// Adds a section.
     pub(crate) fn push(&mut self, part: &Part) -> Result<(), AllocError>
         requires { self.old.names + length part.now.name + 1 < 2 ^ 32 }
         ensures file { OnOk result ((l : Laid) (count named : ℕ) → IsFileOf self.old l count named → IsFileOf self.new (with_part l part.now) count named) }
@@ -119,7 +119,7 @@ impl ObjectFile {
         Ok(())
     }
 
-    /// Puts sections in.
+    /// Adds sections.
     fn push_all(&mut self, parts: &[Part]) -> Result<(), AllocError>
         requires few { length parts.now ≤ 16 }
         requires short { All (λ p. length p.name ≤ 32) parts.now }

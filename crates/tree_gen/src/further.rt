@@ -1,4 +1,4 @@
-// The sections of what is more, and what symbols take from them.
+// The further sections of a sheet, and what symbols take from them.
 ghost use Rattle.std.specs.Prelude.{◌≡◌, ◌<◌, ◌≤◌, ◌*◌, ◌+◌, ◌^◌, ◌++◌, length, map, All, Some, OnOk, IfOk};
 ghost use Rattle.std.specs.List.{range_with_len};
 ghost use Rattle.name_table.specs.NameTable.{IsTableOf};
@@ -15,7 +15,7 @@ use km_names::List;
 use name_table::NameTable;
 use std::alloc::{AllocError, Global};
 
-/// The bytes of a table entry of a GPL-only export.
+/// The size of a table entry of a GPL-only export in bytes.
 const TABLE_ENTRY: usize = 8;
 
 /// Returns the numbers of extended versions.
@@ -120,7 +120,8 @@ pub(crate) fn further_parts(alloc: Global, more: &SheetMore) -> Result<Vec<Part>
     Ok(parts)
 }
 
-/// Returns the number of the section `__ksymtab_gpl`, which follows those of extended versions.
+/// Returns the number of the section `__ksymtab_gpl`, which follows the sections of extended
+/// versions.
 #[tactic(auto, unfolding(crate::specs::Further::gpl_section))]
 fn gpl_section(more: &SheetMore) -> u16
     ensures section { result ≡ gpl_section more.now }
@@ -133,7 +134,8 @@ fn gpl_section(more: &SheetMore) -> u16
     }
 }
 
-/// Returns the number of the section `__ksymtab_strings`, which follows these.
+/// Returns the number of the section `__ksymtab_strings`, which follows the sections of GPL-only
+/// exports.
 #[tactic(auto, unfolding(crate::specs::Further::gpl_section, crate::specs::Further::strings_section))]
 pub(crate) fn strings_section(more: &SheetMore) -> u16
     ensures { result ≡ strings_section more.now }
@@ -146,7 +148,7 @@ pub(crate) fn strings_section(more: &SheetMore) -> u16
     }
 }
 
-/// What is more, with tables of its names and of where each namespace begins.
+/// The additions to a sheet, with tables of their names and of the places of namespaces.
 #[derive(Drop)]
 pub(crate) struct Further<'a> {
     pub(crate) more: &'a SheetMore,
@@ -158,7 +160,7 @@ pub(crate) struct Further<'a> {
     ghost text_places: { places ≡ map (text_place more.now.spaces) (range_with_len 0 (length more.now.spaces)) },
 }
 
-/// Returns where each of the texts of namespaces begins.
+/// Returns the place of each text of a namespace.
 fn text_places(alloc: Global, spaces: &[SheetSpace]) -> Result<List<u64>, AllocError>
     ensures { IfOk result (λ l. l ≡ map (text_place spaces.now) (range_with_len 0 (length spaces.now))) }
 {
@@ -177,7 +179,7 @@ fn text_places(alloc: Global, spaces: &[SheetSpace]) -> Result<List<u64>, AllocE
 }
 
 impl<'a> Further<'a> {
-    /// Returns the tables of what is more.
+    /// Returns the tables of a sheet's additions.
     pub(crate) fn new(alloc: Global, more: &'a SheetMore) -> Result<Further<'a>, AllocError>
         requires gpl { length more.now.gpl ≤ 65535 }
         requires spaces { length more.now.spaces ≤ 65535 }
@@ -208,7 +210,7 @@ impl<'a> Further<'a> {
         }
     }
 
-    /// Returns where the namespace of an export begins, if it has one.
+    /// Returns the place of the namespace of an export, if it has one.
     #[tactic(auto, unfolding(crate::specs::Further::space_place))]
     pub(crate) fn space_place(&self, name: &[u8]) -> Option<u64>
         ensures { result ≡ space_place self.now.more.now name.now }

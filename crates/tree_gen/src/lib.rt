@@ -1,15 +1,15 @@
-//! Object files made from sheets. A sheet says which texts, versions, exports, needs and relocated
-//! words a module has, and `object` writes the relocatable object that has just these.
-//! `object_more` also writes extended versions, GPL-only exports and namespaces; `param_object`
+//! Object files made from sheets. A sheet lists the texts, versions, exports, needs and relocated
+//! words of a module, and `object` writes the relocatable object that has exactly these.
+//! `object_more` also writes extended versions, GPL-only exports and namespaces. `param_object`
 //! writes the object of a module that has only parameters. `generate` makes a tree of such objects
 //! in memory, whose modules need each other as numbers are drawn from a seed. Tests and trials read
 //! them back.
 //!
 //! It builds on `km_names` for lists and names, on `km_outside` for files in memory, and on
 //! `elf_format` for the numbers of the format. It builds on `name_table` for the places of names,
-//! and on `byteorder` for the place that is put in last. An object is the file of a list of
-//! sections. A section is its name, what its header says of it, and its content. The only error is
-//! out of memory.
+//! and on `byteorder` for the place that is written last. An object is the file of a list of
+//! sections. A section is its name, its attributes, and its content. The only error is out of
+//! memory.
 #![tactic(auto)]
 
 mod bytes;

@@ -68,7 +68,7 @@ pub(crate) fn names<T: Named>(alloc: Global, items: &[T]) -> Result<Vec<&[u8]>, 
     Ok(names)
 }
 
-/// Returns the names of the exported symbols, then those of the undefined symbols.
+/// Returns the names of the exported symbols, and then of the undefined symbols.
 pub(crate) fn symbol_names(alloc: Global, sheet: &Sheet) -> Result<Vec<&[u8]>, AllocError>
     ensures { IfOk result (λ v. names_of v.items ≡ symbol_names sheet.now) }
 {

@@ -15,10 +15,10 @@ use elf_format::{
 use km_names::{Blob, List, Name};
 use std::alloc::{AllocError, Global};
 
-/// How many bytes an entry of `__param` has.
+/// The size of an entry of `__param` in bytes.
 const ENTRY_SIZE: u64 = 40;
 
-/// Where an entry has the address of the value.
+/// The place of the address of the value in an entry.
 const VALUE_FIELD: u64 = 32;
 
 /// The numbers of the section of symbols and of the section of their names, by the order of
@@ -149,7 +149,7 @@ fn push_loaded(
     Ok(())
 }
 
-/// Puts the sections that serve to link at the end.
+/// Puts the sections for linking at the end.
 fn push_linked(alloc: Global, parts: &mut Vec<Part>, addresses: Vec<u8>) -> Result<(), AllocError>
     ensures { OnOk result (parts.new.items ≡ parts.old.items ++ linked_param_parts addresses.items) }
 {
@@ -173,7 +173,7 @@ pub fn param_object(alloc: Global, params: &SheetParams) -> Result<Blob, AllocEr
     ensures { IfOk result (λ bytes. bytes ≡ param_object_of params.now) }
 {
     let params = params.as_slice();
-    // No memory has so many.
+    // No memory has so many parameters.
     if u32::MAX as usize <= params.len() {
         return Err(AllocError);
     }

@@ -21,11 +21,11 @@ pub(crate) const STRTAB: u32 = 7;
 /// The number of the section of the names of sections.
 pub(crate) const SECTION_NAMES: u16 = 8;
 
-/// The number of the first section of what is more.
+/// The number of the first further section.
 pub(crate) const FURTHER: u16 = 9;
 
-/// What a section header says of its section, but for the places of its name and its content. gABI 4, "Sections",
-/// Elf64_Shdr.
+/// The attributes of a section in its header, without the places of its name and its content. gABI
+/// 4, "Sections", Elf64_Shdr.
 #[derive(Clone, Copy)]
 pub(crate) struct Attributes {
     pub(crate) kind: u32,
@@ -51,7 +51,7 @@ impl Attributes {
         }
     }
 
-    /// Returns the attributes of a section of entries, which are as long as those of symbols.
+    /// Returns the attributes of a section of entries, which are as long as symbol entries.
     pub(crate) fn table(kind: u32, flags: u64, link: u32, info: u32) -> Attributes
         ensures { result ≡ table kind flags link info }
     {
@@ -66,7 +66,7 @@ impl Attributes {
     }
 }
 
-/// A section: its name, what its header says of it, and its content.
+/// A section: its name, its attributes, and its content.
 #[derive(Drop)]
 pub(crate) struct Part {
     pub(crate) name: Name,

@@ -18,7 +18,7 @@ use elf_format::{
 };
 use std::alloc::{AllocError, Global};
 
-/// The section that has the names of all sections.
+/// The name of the section that has the names of all sections.
 const SECTION_NAMES_NAME: &[u8] = b".shstrtab";
 
 /// Puts a section at the end.
@@ -57,7 +57,7 @@ fn push_loaded(alloc: Global, parts: &mut Vec<Part>, sheet: &Sheet) -> Result<()
     Ok(())
 }
 
-/// Puts the sections that serve to link at the end.
+/// Puts the sections for linking at the end.
 fn push_linked(
     alloc: Global,
     parts: &mut Vec<Part>,
@@ -110,7 +110,7 @@ pub(crate) fn push_further(
     Ok(())
 }
 
-/// Returns the sections of a sheet, and of what is more.
+/// Returns the sections of a sheet with its additions.
 #[tactic(auto, unfolding(crate::specs::Object::parts_of))]
 pub(crate) fn parts_of(
     alloc: Global,

@@ -15,10 +15,10 @@ use crate::sheet::{Sheet, SheetExport, SheetPlace};
 use name_table::NameTable;
 use std::alloc::{AllocError, Global};
 
-/// The bytes of a word of `.data`.
+/// The size of a word of `.data` in bytes.
 pub(crate) const WORD_SIZE: usize = 8;
 
-/// Returns how many local symbols an export has.
+/// Returns the number of local symbols of an export.
 #[tactic(auto, unfolding(crate::specs::Symbols::local_symbols))]
 fn locals_of(export: &SheetExport, further: &Further) -> u32
     ensures count { result ≡ length (local_symbols further.now.more.now export.now) }
@@ -30,7 +30,7 @@ fn locals_of(export: &SheetExport, further: &Further) -> u32
     1 + version + space
 }
 
-/// Returns how many symbols are local, with the first symbol.
+/// Returns the number of local symbols, with the first symbol.
 pub(crate) fn local_count(exports: &[SheetExport], further: &Further) -> u32
     requires { length exports.now ≤ 65535 }
     ensures count { result ≡ 1 + length (flat_map (local_symbols further.now.more.now) exports.now) }
@@ -43,8 +43,7 @@ pub(crate) fn local_count(exports: &[SheetExport], further: &Further) -> u32
     count
 }
 
-/// Returns the number of a symbol by its name. The names of a sheet have the symbol of each
-/// relocation.
+/// Returns the number of a symbol by its name. The sheet has the symbol of each relocation.
 fn symbol_number(locals: u32, names: &NameTable, name: &[u8]) -> u32
     requires { (k : ℕ) → place_of names.now name.now ≡ Some k → locals + k < 2 ^ 32 }
     ensures { result ≡ locals + unwrap_or (place_of names.now name.now) 0 }

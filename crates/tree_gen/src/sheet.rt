@@ -4,7 +4,7 @@ ghost use Rattle.tree_gen.specs.Sheet.{no_more};
 use km_names::{Blob, List, Name, Names, Texts};
 use std::alloc::Global;
 
-/// What an object file is to have.
+/// The contents of an object file.
 #[derive(Drop)]
 pub struct Sheet {
     /// The texts of `.modinfo`, each `key=value`.
@@ -15,7 +15,7 @@ pub struct Sheet {
     pub exports: SheetExports,
     /// The undefined symbols.
     pub needs: SheetNeeds,
-    /// The words of `.data`, eight bytes each, and what relocates them.
+    /// The words of `.data`, eight bytes each, and their relocations.
     pub places: SheetPlaces,
 }
 
@@ -55,7 +55,7 @@ pub struct SheetNeed {
 /// A list of undefined symbols.
 pub type SheetNeeds = List<SheetNeed>;
 
-/// A relocation of the word in its place.
+/// The relocation of the word of `.data` at the same place in the list.
 #[derive(Drop)]
 pub struct SheetPlace {
     /// The relocation type. x86-64 psABI, "Relocation Types".
@@ -69,12 +69,13 @@ pub struct SheetPlace {
 /// A list of relocations, one for each word of `.data`.
 pub type SheetPlaces = List<SheetPlace>;
 
-/// What an object file is to have besides a sheet.
+/// The contents of an object file besides a sheet.
 #[derive(Drop)]
 pub struct SheetMore {
-    /// The versions of needed symbols in the extended form, with names of any length and versions below 2^32.
+    /// The versions of needed symbols in the extended form, with names of any length and versions
+    /// below 2^32.
     pub ext: SheetVersions,
-    /// The exports for modules with a free license only.
+    /// The GPL-only exports.
     pub gpl: Names,
     /// The namespaces of exports.
     pub spaces: SheetSpaces,
@@ -93,7 +94,7 @@ pub struct SheetSpace {
 pub type SheetSpaces = List<SheetSpace>;
 
 impl SheetMore {
-    /// Returns nothing more. It takes no memory.
+    /// Returns the empty additions. It takes no memory.
     pub fn none(alloc: Global) -> SheetMore
         ensures { result ≡ no_more }
     {

@@ -16,7 +16,8 @@ use elf_format::{
 };
 use std::alloc::{AllocError, Global};
 
-/// The info of a local symbol of no type, of a global function, and of global and weak symbols of no type.
+/// The info of a local symbol of no type, of a global function, and of global and weak symbols of
+/// no type.
 const LOCAL: u8 = 16 * STB_LOCAL + STT_NOTYPE;
 
 const GLOBAL_FUNCTION: u8 = 16 * STB_GLOBAL + STT_FUNC;
@@ -25,7 +26,7 @@ const GLOBAL: u8 = 16 * STB_GLOBAL + STT_NOTYPE;
 
 const WEAK: u8 = 16 * STB_WEAK + STT_NOTYPE;
 
-/// The bytes of code for each export.
+/// The size of the code of each export in bytes.
 pub(crate) const CODE_SIZE: usize = 16;
 
 /// The symbol table and the string table with its names.
@@ -35,7 +36,7 @@ pub(crate) struct SymbolTable {
     pub(crate) names: Vec<u8>,
 }
 
-/// What a symbol says, except for its name.
+/// The numbers of a symbol.
 #[derive(Clone, Copy)]
 struct Symbol {
     info: u8,

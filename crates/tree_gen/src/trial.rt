@@ -52,8 +52,8 @@ fn kernel_files(alloc: Global) -> Result<MemFiles, AllocError>
 
 /// Makes the tree of a trial, below `/t`: the kernel's `Module.symvers` and `System.map`, and
 /// `count` modules of the kernel `trial`, 1 to 2000. Each module needs the kernel's `printk`. Each
-/// but the first also needs the symbols of one or two modules before it, which are drawn from the
-/// seed. No call of the files fails. The only error is out of memory.
+/// except the first also needs the symbols of one or two modules before it, which are drawn from
+/// the seed. No call of the files fails. The only error is out of memory.
 #[tactic(auto, unfolding(crate::specs::Trial::trial_contents))]
 pub fn generate(alloc: Global, seed: u64, count: u32) -> Result<MemFiles, AllocError>
     requires { (1 ≤ count) × (count ≤ 2000) }

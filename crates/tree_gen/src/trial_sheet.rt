@@ -65,7 +65,7 @@ fn printk(alloc: Global) -> Result<SheetVersion, AllocError>
     })
 }
 
-/// Returns the symbols that a module needs which draws these modules, with their versions.
+/// Returns the symbols that a module needs, with their versions. The module draws these modules.
 fn needed(alloc: Global, modules: &[u32]) -> Result<SheetVersions, AllocError>
     ensures { IfOk result (λ versions. versions ≡ needed_of modules.now) }
 {

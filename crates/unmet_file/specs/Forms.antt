@@ -1,4 +1,5 @@
--- A line's form, and what it states by its form. No public meaning rests on these definitions.
+-- The form of a line, and what a line of each form states.
+-- It belongs to the code: no public meaning rests on it.
 use Rattle.std.specs.Prelude.{ℕ, List, Option, Some, None, option_map, if◌then◌else◌}
 use Rattle.std.specs.Str.{bytes_eq}
 use Rattle.symbol_binding.specs.declared.unbound.Unbound.{Unbound}
@@ -10,7 +11,7 @@ use Rattle.unmet_file.specs.declared.line.Kind.TheVariants.{Gpl, Version, Namesp
 use Rattle.unmet_file.specs.declared.kind.LineKind.TheVariants as kinds
 use Rattle.unmet_file.specs.Line.{first_word, two_words, three_words}
 
--- the form whose first word this is
+-- The form whose first word this is.
 unfoldable pub form_named : List ℕ → Option Form
 form_named word =
     if bytes_eq word (first_word kinds.Missing) then Some Missing
@@ -20,7 +21,7 @@ form_named word =
     else if bytes_eq word (first_word kinds.Double) then Some Double
     else None
 
--- what the words after the first state
+-- What the words after the first state.
 abbrev pub missing_of : List ℕ → Option Unbound
 missing_of words = option_map (λ w. unbound.Missing w.0 w.1) (two_words words)
 
@@ -35,7 +36,7 @@ line_of_kind Namespace path symbol provider = unbound.Namespace path symbol prov
 abbrev pub provided_of : Kind → List ℕ → Option Unbound
 provided_of kind words = option_map (λ w. line_of_kind kind w.0 w.1 w.2) (three_words words)
 
--- what the words after the first state in a line of this form
+-- What the words after the first state in a line of this form.
 abbrev pub stated : Form → List ℕ → Option Unbound
 stated Missing words = missing_of words
 stated (Provided kind) words = provided_of kind words

@@ -1,5 +1,5 @@
--- The lines of modules.unmet: what each states, and how it is written. This file of depmod is this project's own; missing
--- symbols and versions are what depmod(8) warns of with `-e`.
+-- The lines of modules.unmet: what each states, and how it is written. This file of depmod is this
+-- project's own. depmod(8) warns of missing symbols and other versions with `-e`.
 use Rattle.std.specs.Prelude.{ℕ, ◌==◌, ◌&&◌, Bool, List, [], ◌∷◌, ◌++◌, codes, Option, Some, None, option_map, if◌then◌else◌}
 use Rattle.std.specs.List.{list_all, before_first, after_first}
 use Rattle.std.specs.Str.{bytes_eq}
@@ -9,7 +9,7 @@ use Rattle.symbol_binding.specs.declared.unbound.Unbound.TheVariants.{Missing, G
 use Rattle.unmet_file.specs.declared.kind.LineKind.{LineKind}
 use Rattle.unmet_file.specs.declared.kind.LineKind.TheVariants as kinds
 
--- The first word of a line of a kind. All who write, read or print such lines cite it.
+-- The first word of a line of a kind. All writers, readers and printers of such lines cite it.
 abbrev pub first_word : LineKind → List ℕ
 first_word kinds.Missing = codes "missing"
 first_word kinds.Gpl = codes "gpl"
@@ -25,7 +25,7 @@ two_text first second = first ++ (codes " " ++ second)
 abbrev pub three_text : List ℕ → List ℕ → List ℕ → List ℕ
 three_text first second third = two_text first (two_text second third)
 
--- The text of a line, without its line end: its first word says what it states, and names follow.
+-- The text of a line, without its line end: its first word says its kind, and names follow.
 unfoldable pub line_text : Unbound → List ℕ
 line_text (Missing path symbol) = two_text (first_word kinds.Missing) (two_text path symbol)
 line_text (Gpl path symbol provider) = two_text (first_word kinds.Gpl) (three_text path symbol provider)
@@ -41,15 +41,15 @@ names_in (Version path symbol provider) = path ∷ symbol ∷ provider ∷ []
 names_in (Namespace path symbol provider) = path ∷ symbol ∷ provider ∷ []
 names_in (Double symbol first second) = symbol ∷ first ∷ second ∷ []
 
--- It can be told from its text: its names are words of visible characters.
+-- Whether the line can be read back from its text: its names are words of visible characters.
 unfoldable pub is_line : Unbound → Bool
 is_line line = list_all is_graphic (names_in line)
 
--- What stands before the first space of a text, and what follows it.
+-- The bytes before the first space of a text.
 abbrev pub front : List ℕ → List ℕ
 front text = before_first (λ b. b == 32) text
 
--- What follows the first space of a text.
+-- The bytes after the first space of a text.
 abbrev pub rest : List ℕ → List ℕ
 rest text = after_first (λ b. b == 32) text
 

@@ -1,4 +1,4 @@
--- The file modules.unmet: its text, and what is read of one.
+-- The file modules.unmet: its text, and what is read from one.
 use Rattle.std.specs.Prelude.{◌≡◌, ℕ, ◌+◌, true, All, List, [], ◌∷◌, ◌++◌, Option, Some, option_map, is_none, Result, Ok}
 use Rattle.std.specs.List.{flat_map, filter_map, position}
 use Rattle.km_names.specs.Lines.{lines_of}
@@ -12,7 +12,8 @@ use Rattle.unmet_file.specs.Line.{line_text, is_line, unmet_line}
 unfoldable pub file_text : List Unbound → List ℕ
 file_text lines = flat_map (λ line. line_text line ++ 10 ∷ []) lines
 
--- The first line of the text that isn't one, with the path of the file and the line's number from 1.
+-- The first line of the text that isn't understood, with the path of the file and the line's number
+-- from 1.
 unfoldable pub bad_line : List ℕ → List ℕ → Option ConfFault
 bad_line file text = option_map (λ i. BadLine file (i + 1)) (position (λ line. is_none (unmet_line line)) (lines_of text))
 
@@ -28,6 +29,6 @@ unmet_of file text = unless_fault (bad_line file text) (stated_lines text)
 abbrev pub AreReadBack : Type 0
 AreReadBack = (file : List ℕ) (lines : List Unbound) → All (λ line. is_line line ≡ true) lines → unmet_of file (file_text lines) ≡ Ok lines
 
--- What is read of a text is what it was written of.
+-- A line that is read from a text has visible words, and the text is its own.
 abbrev pub IsReadAsWritten : Type 0
 IsReadAsWritten = (text : List ℕ) (line : Unbound) → unmet_line text ≡ Some line → (line_text line ≡ text) × (is_line line ≡ true)

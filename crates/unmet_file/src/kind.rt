@@ -7,18 +7,18 @@ ghost use Rattle.unmet_file.specs.Line.{first_word};
 pub enum LineKind {
     /// A symbol that nobody exports.
     Missing,
-    /// A symbol that is exported for GPL-compatible modules alone.
+    /// A symbol that is exported only for GPL-compatible modules.
     Gpl,
     /// A symbol in another version.
     Version,
     /// A symbol in a namespace that isn't imported.
     Namespace,
-    /// A symbol that two export.
+    /// A symbol with two exporters.
     Double,
 }
 
 impl LineKind {
-    /// Gives the first word of a line of the kind, for who writes lines or reads them.
+    /// Returns the first word of a line of the kind, for writers and readers of lines.
     pub fn word(self) -> &'static [u8]
         ensures { result.now ≡ first_word self }
     {

@@ -1,17 +1,17 @@
-// What is written is read back, and the bytes of a line of each form.
+// What is written is read back, and the text of a line of each form.
 ghost use Rattle.std.specs.Prelude.{◌≡◌, codes};
 ghost use Rattle.unmet_file.specs.Line.{line_text};
 ghost use Rattle.unmet_file.specs.Unmet.{AreReadBack, IsReadAsWritten};
 ghost use Rattle.symbol_binding.specs.declared.unbound.Unbound.TheVariants.{Missing, Gpl, Version, Namespace, Double};
 
-/// The file that lists lines of visible words is read back as them. And a line states just what it is the text of: what
-/// is read of it has visible words, and its text is the line.
+/// States that a file with lines of visible words is read back as these lines. What is read from a
+/// line has visible words, and its text is the line.
 pub fn lines_are_read_back()
     ensures read_back { AreReadBack }
     ensures as_written { IsReadAsWritten }
 {}
 
-/// The texts of a line of each form, and lines that state nothing.
+/// States the text of a line of each form.
 #[tactic(auto, unfolding(crate::specs::Line::line_text))]
 pub fn texts_of_lines()
     ensures missing { line_text (Missing (codes "kernel/n.ko") (codes "nosuch")) ≡ codes "missing kernel/n.ko nosuch" }

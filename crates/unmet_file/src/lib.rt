@@ -1,8 +1,9 @@
-//! The file modules.unmet: what stands in the way of loading modules of a tree, a line each. `depmod` writes it, and
-//! `modprobe` reads it.
+//! The file modules.unmet: the obstacles to loading modules of a tree, a line each. `depmod` writes
+//! it, and `modprobe` reads it.
 //!
-//! The text of a line is defined once, for the writer and the reader, and what is written is read back. The crate stands
-//! on `symbol_binding`, which says what the lines are, and on `km_names` for lines and words.
+//! The text of a line is defined once, for the writer and the reader, and what is written is read
+//! back. The crate uses `symbol_binding` for the meaning of the lines, and `km_names` for lines and
+//! words.
 #![tactic(auto)]
 
 mod kind;

@@ -27,7 +27,7 @@ pub(crate) enum Kind {
     Namespace,
 }
 
-/// What a line states, or none where it isn't one of the forms.
+/// Returns what a line states. The result is `None` if the line has none of the forms.
 pub(crate) fn read_line(alloc: Global, line: &[u8]) -> Result<Option<Unbound>, AllocError>
     ensures { IfOk result (λ unbound. unbound ≡ unmet_line line.now) }
 {
@@ -38,7 +38,7 @@ pub(crate) fn read_line(alloc: Global, line: &[u8]) -> Result<Option<Unbound>, A
     }
 }
 
-/// The form whose first word this is.
+/// Returns the form whose first word this is.
 #[tactic(auto, unfolding(crate::specs::Forms::form_named))]
 fn form_named(word: &[u8]) -> Option<Form>
     ensures { result ≡ form_of word.now }
@@ -58,7 +58,7 @@ fn form_named(word: &[u8]) -> Option<Form>
     }
 }
 
-/// What a line of this form states, by the words after the first.
+/// Returns what a line of this form states, by the words after the first.
 fn stated(alloc: Global, form: Form, words: &[u8]) -> Result<Option<Unbound>, AllocError>
     ensures { IfOk result (λ unbound. unbound ≡ stated_by form words.now) }
 {
@@ -124,7 +124,7 @@ fn provided(alloc: Global, kind: Kind, words: &[u8]) -> Result<Option<Unbound>, 
     }
 }
 
-/// The two words of a text.
+/// Returns the two words of a text.
 fn two_words(text: &[u8]) -> Option<(&[u8], &[u8])>
     ensures { option_map (λ w. (w.0.now, w.1.now)) result ≡ two_words_of text.now }
 {
@@ -135,7 +135,7 @@ fn two_words(text: &[u8]) -> Option<(&[u8], &[u8])>
     Some((first, second))
 }
 
-/// The three words of a text.
+/// Returns the three words of a text.
 fn three_words(text: &[u8]) -> Option<(&[u8], &[u8], &[u8])>
     ensures { option_map (λ w. (w.0.now, w.1.now, w.2.now)) result ≡ three_words_of text.now }
 {

@@ -8,8 +8,9 @@ use std::alloc::{AllocError, Global};
 use std::marker::Model;
 use symbol_binding::{Obstacles, Unbound};
 
-/// What stands in the way of loading modules of a tree, as modules.unmet lists it. Contracts see it as the list of its
-/// lines. This file of `depmod` is this project's own; missing symbols and versions are what depmod(8) warns of with `-e`.
+/// The obstacles to loading modules of a tree, as modules.unmet lists them. Contracts see it as the
+/// list of its lines. This file of `depmod` is this project's own. depmod(8) warns of missing
+/// symbols and other versions with `-e`.
 #[derive(Debug, Drop)]
 pub struct Unmet {
     lines: Obstacles,
@@ -25,7 +26,7 @@ impl Model for Unmet {
 }
 
 impl Unmet {
-    /// No line. It takes no memory.
+    /// Returns the empty list. It takes no memory.
     pub fn new(alloc: Global) -> Unmet
         ensures { result ≡ [] }
     {
@@ -34,10 +35,17 @@ impl Unmet {
         }
     }
 
-    /// The lines of a modules.unmet, whose path is `file`. Each is one of `missing PATH SYMBOL`,
-    /// `gpl PATH SYMBOL PROVIDER`, `version PATH SYMBOL PROVIDER`, `namespace PATH SYMBOL PROVIDER` and
-    /// `double SYMBOL FIRST SECOND`, with one space between words that aren't empty and whose bytes are 33 to 126.
-    /// `BadLine` comes exactly at the first line that is none of them; a blank line is one.
+    /// Returns the lines of a modules.unmet, whose path is `file`. Each line has one of these
+    /// forms:
+    /// - `missing PATH SYMBOL`
+    /// - `gpl PATH SYMBOL PROVIDER`
+    /// - `version PATH SYMBOL PROVIDER`
+    /// - `namespace PATH SYMBOL PROVIDER`
+    /// - `double SYMBOL FIRST SECOND`
+    ///
+    /// There is one space between words, which aren't empty and whose bytes are 33 to 126. It
+    /// answers `BadLine` with the first line that has none of these forms. Blank lines are refused
+    /// too.
     pub fn read(alloc: Global, file: &PathText, bytes: &[u8]) -> Result<Unmet, ConfFault>
         requires { length bytes.now ≤ file_limit }
         ensures ok { IfOk result (λ unmet. unmet_of file.now bytes.now ≡ Ok unmet) }
@@ -64,7 +72,7 @@ impl Unmet {
         Ok(Unmet { lines })
     }
 
-    /// Puts a line at the end. A refused line is dropped, and the list is as before.
+    /// Puts a line at the end. If it is refused, the line is dropped and the list is as before.
     pub fn push(&mut self, line: Unbound) -> Result<(), AllocError>
         ensures ok { OnOk result (self.new ≡ self.old ++ line ∷ []) }
         ensures err { OnErr result (self.new ≡ self.old) }
@@ -72,7 +80,7 @@ impl Unmet {
         self.lines.push(line)
     }
 
-    /// The line at place `i`, from 0.
+    /// Returns the line at place `i`, from 0.
     pub fn get(&self, i: usize) -> Option<&Unbound>
         ensures item { option_copied result ≡ slice_get self.now i }
         ensures past_end { IsNone result ↔ (length self.now ≤ i) }
@@ -80,14 +88,14 @@ impl Unmet {
         self.lines.get(i)
     }
 
-    /// How many lines there are.
+    /// Returns the number of lines.
     pub fn len(&self) -> usize
         ensures { result ≡ length self.now }
     {
         self.lines.len()
     }
 
-    /// The lines as a slice.
+    /// Returns the lines as a slice.
     pub fn as_slice(&self) -> &[Unbound]
         ensures { result.now ≡ self.now }
     {

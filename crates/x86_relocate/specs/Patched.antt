@@ -1,5 +1,5 @@
--- An image with words put at places: each patch's bytes hold its word, the lowest byte first, and every other
--- byte is as before. System V ABI, x86-64 supplement, "Relocation".
+-- An image with words at places: each patch's bytes hold its word, the lowest byte first, and every
+-- other byte is as before. System V ABI, x86-64 supplement, "Relocation".
 use Rattle.std.specs.Prelude.{ℕ, ◌+◌, ◌-◌, ◌≤◌, ◌<◌, ◌&&◌, Bool, not, nat_le, nat_lt, List, [], length, map, slice_index, find, Option, Result, Ok, Err, is_ok}
 use Rattle.std.specs.Int.{to_le_bytes, w32, w64}
 use Rattle.std.specs.List.{range_with_len}
@@ -12,11 +12,11 @@ use Rattle.x86_relocate.specs.declared.word.TooWide.{TooWide}
 use Rattle.x86_relocate.specs.declared.word.Written.{Written}
 use Rattle.x86_relocate.specs.declared.word.Written.TheVariants.{Nothing, Four, Eight}
 
--- The patch has this place of the image.
+-- The patch covers this place of the image.
 abbrev pub Covers : Patch → ℕ → Type 0
 Covers patch place = (patch.at ≤ place) × (place < patch.at + known_width patch.kind)
 
--- Whether it has.
+-- Whether the patch covers this place of the image.
 abbrev pub covers : ℕ → Patch → Bool
 covers place patch = nat_le patch.at place && nat_lt place (patch.at + known_width patch.kind)
 
@@ -43,12 +43,13 @@ bytes_of (Ok (Four value)) = to_le_bytes w32 value
 bytes_of (Ok (Eight value)) = to_le_bytes w64 value
 bytes_of (Err too_wide) = []
 
--- The byte at a place: of the word of the patch that has the place, else what stood there.
+-- The byte at a place: from the word of the patch that covers the place, or else the byte that was
+-- there.
 abbrev pub byte_at : List ℕ → List Patch → ℕ → ℕ
 byte_at image patches place =
     option_map_or (λ patch. slice_index (bytes_of (word_of patch)) (place - patch.at)) (find (covers place) patches) (slice_index image place)
 
--- The image with the words of these patches, no two of which share a place.
+-- The image with the words of these patches. No two of them share a place.
 unfoldable pub patched : List ℕ → List Patch → List ℕ
 patched image patches = map (byte_at image patches) (range_with_len 0 (length image))
 

@@ -1,5 +1,5 @@
--- The words of the x86-64's relocations. System V ABI, x86-64 supplement, "Relocation", the table of types, with S
--- the address of the symbol, A the addend and P the address of the place.
+-- The words of the x86-64's relocations. System V ABI, x86-64 supplement, "Relocation", the table
+-- of types, with S the address of the symbol, A the addend and P the address of the place.
 use Rattle.std.specs.Prelude.{ℕ, ◌-◌, ◌%◌, ◌^◌, ◌==◌, ◌&&◌, ◌||◌, ℤ, pos, negsuc, neg_ℤ, ◌+ℤ◌, ◌-ℤ◌, int_le, nat_lt, if◌then◌else◌, Result, Ok, Err}
 use Rattle.elf_format.specs.declared.relocation.TheConstants.{R_X86_64_NONE, R_X86_64_64, R_X86_64_PC32, R_X86_64_PLT32, R_X86_64_32, R_X86_64_32S}
 use Rattle.km_names.specs.Number.{signed}
@@ -25,10 +25,10 @@ abbrev pub sign_extended : ℕ → Result Written TooWide
 sign_extended value =
     if int_le (neg_ℤ (pos (2 ^ 31))) (signed value) && int_le (signed value) (pos (2 ^ 31 - 1)) then Ok (Four (value % 2 ^ 32)) else Err (record {})
 
--- What a relocation writes: S + A, or S + A - P, in the field of its type. The table computes R_X86_64_PLT32 from
--- the entry of a procedure linkage table; there is none here, and as in Linux's loader the symbol itself
--- stands for it. That R_X86_64_PC32 may be too wide is this project's rule; Linux doesn't ask. Of the known types
--- the one that no test names is R_X86_64_PC64.
+-- What a relocation writes: S + A, or S + A - P, in the field of its type. The table computes
+-- R_X86_64_PLT32 from the entry of a procedure linkage table. There is none here, and as in Linux's
+-- loader the symbol itself is used. That R_X86_64_PC32 may be too wide is this project's rule;
+-- Linux doesn't test it. The one known type that no test names is R_X86_64_PC64.
 unfoldable pub word : ℕ → ℕ → ℤ → ℕ → Result Written TooWide
 word kind s a p =
     let absolute = modulo (pos s +ℤ a) in

@@ -10,14 +10,14 @@ use crate::{TooWide, Written, value};
 use km_names::List;
 use raw_image::Image;
 
-/// A word to be written into an image: what one relocation asks for.
+/// A word to be written into an image: the effect of one relocation.
 #[derive(Clone, Copy, PartialEq, Eq, Debug)]
 pub struct Patch {
     /// The index of the relocation section.
     pub section: u32,
     /// The index of the relocation in its section.
     pub entry: u32,
-    /// Where in the image its first byte is.
+    /// The place of its first byte in the image.
     pub at: usize,
     /// The type of the relocation.
     pub kind: u32,
@@ -29,7 +29,7 @@ pub struct Patch {
     pub p: u64,
 }
 
-/// Patches in the order in which they are applied.
+/// Patches in the order they are applied in.
 pub type Patches = List<Patch>;
 
 /// The first patch whose word doesn't fit its field.
@@ -41,7 +41,7 @@ pub struct Overflow {
     pub entry: u32,
 }
 
-/// Puts the word of one patch into the image, nothing where it is too wide.
+/// Writes the word of one patch into the image, and nothing if it is too wide.
 #[tactic(auto, using(crate::proofs::Applied::with_no_bytes))]
 fn put_word(image: &mut Image, patch: &Patch) -> Result<(), TooWide>
     requires known { IsKnown patch.now.kind }
@@ -59,12 +59,13 @@ fn put_word(image: &mut Image, patch: &Patch) -> Result<(), TooWide>
     Ok(())
 }
 
-/// Puts the word of one patch into the image, with no memory. What stood there isn't looked at. Where patches are put in
-/// one by one, and none shares a byte with an earlier one, the image is the one with the words of all.
+/// Writes the word of one patch into the image, without memory. The bytes that were there aren't
+/// read. If patches are written one by one, and none shares a byte with an earlier one, the image
+/// is the one with the words of all.
 ///
 /// # Errors
 ///
-/// [`TooWide`] exactly where the word doesn't fit its field. Then the image is as before.
+/// [`TooWide`] exactly if the word doesn't fit its field. Then the image is as before.
 pub fn put(image: &mut Image, patch: &Patch) -> Result<(), TooWide>
     requires known { IsKnown patch.now.kind }
     requires within { IsWithin (length image.old) patch.now }
@@ -80,12 +81,13 @@ pub fn put(image: &mut Image, patch: &Patch) -> Result<(), TooWide>
     Ok(())
 }
 
-/// Puts the words of the patches into the image, in one pass and with no memory. What stood at a place
-/// isn't looked at.
+/// Writes the words of the patches into the image, in one pass and without memory. The bytes that
+/// were there aren't read.
 ///
 /// # Errors
 ///
-/// [`Overflow`] names the first patch whose word is too wide; those before it are then applied, and no other.
+/// [`Overflow`] names the first patch whose word is too wide. Then the patches before it are
+/// applied, and no other.
 pub fn apply(image: &mut Image, patches: &Patches) -> Result<(), Overflow>
     requires known { All (λ patch. IsKnown patch.kind) patches.now }
     requires within { All (IsWithin (length image.old)) patches.now }

@@ -15,7 +15,7 @@ const GREATEST: i64 = i32::MAX as i64;
 /// What a relocation writes at its place, the lowest byte first.
 #[derive(Clone, Copy, PartialEq, Eq, Debug)]
 pub enum Written {
-    /// Nothing at all.
+    /// Nothing.
     Nothing,
     /// Four bytes.
     Four(u32),
@@ -27,7 +27,7 @@ pub enum Written {
 #[derive(Clone, Copy, PartialEq, Eq, Debug)]
 pub struct TooWide;
 
-/// The four bytes whose zero extension is the value.
+/// Returns the four bytes whose zero extension is the value.
 fn unsigned_four(value: u64) -> Result<Written, TooWide>
     ensures { result ≡ zero_extended value }
 {
@@ -37,7 +37,7 @@ fn unsigned_four(value: u64) -> Result<Written, TooWide>
     Ok(Written::Four(value as u32))
 }
 
-/// The four bytes whose sign extension is the value.
+/// Returns the four bytes whose sign extension is the value.
 fn signed_four(value: u64) -> Result<Written, TooWide>
     ensures { result ≡ sign_extended value }
 {
@@ -48,13 +48,14 @@ fn signed_four(value: u64) -> Result<Written, TooWide>
     Ok(Written::Four((value % (1 << 32)) as u32))
 }
 
-/// The word of a relocation of the type `kind`: from the address `s` of its symbol, the addend `a` and the
-/// address `p` of its place, as the x86-64 psABI's "Relocation" has it, with sums modulo 2^64. A
-/// R_X86_64_PLT32 is computed as a R_X86_64_PC32, since there is no procedure linkage table.
+/// Returns the word of a relocation of the type `kind`. It is computed from the address `s` of its
+/// symbol, the addend `a` and the address `p` of its place, as in the x86-64 psABI's "Relocation",
+/// with sums modulo 2^64. A R_X86_64_PLT32 is computed as a R_X86_64_PC32, since there is no
+/// procedure linkage table.
 ///
 /// # Errors
 ///
-/// [`TooWide`] exactly where the field's zero or sign extension, as its type has it, isn't the value.
+/// [`TooWide`] exactly if the zero or sign extension of the field, by the type, isn't the value.
 #[tactic(auto, using(crate::proofs::Words::relative_is), unfolding(crate::specs::Word::word))]
 pub fn value(kind: u32, s: u64, a: i64, p: u64) -> Result<Written, TooWide>
     requires { IsKnown kind }

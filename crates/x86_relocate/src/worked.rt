@@ -2,7 +2,8 @@ ghost use Rattle.std.specs.Prelude.{◌≡◌, negsuc, pos};
 ghost use Rattle.x86_relocate.specs.Word.{word};
 ghost use Rattle.x86_relocate.specs.declared.word.Written.TheVariants.{Eight, Four, Nothing};
 
-/// Words of the psABI's table at the edges of its fields, worked by hand: the definition computes each.
+/// States words of the psABI's table at the edges of its fields, worked by hand. The definition
+/// computes each.
 #[tactic(auto, unfolding(crate::specs::Word::word, km_names::specs::Number::signed))]
 pub fn worked_words()
     ensures signed_is_extended { word 11 0xffff_ffff_8000_0000 (pos 0) 0 ≡ Ok (Four 0x8000_0000) }
