@@ -27,7 +27,7 @@ _kmod() {
     COMPREPLY=()
     if [[ $command == kmod ]]; then
         if ((COMP_CWORD == 1)); then
-            _kmod_offer "depmod modprobe modinfo trial"
+            _kmod_offer "depmod modprobe modinfo trial static-nodes builtin-alias"
             return
         fi
         command=${COMP_WORDS[1]} first=2
@@ -40,7 +40,7 @@ _kmod() {
     done
     case $command:$previous in
     modprobe:-b) ;;
-    *:-b | *:-o | modprobe:-d | *:--basedir | *:--dirname | *:--outdir | *:--image)
+    *:-b | *:-o | modprobe:-d | static-nodes:-d | builtin-alias:-d | *:--basedir | *:--dirname | *:--outdir | *:--image)
         _kmod_offer_files -d
         return
         ;;
@@ -48,12 +48,16 @@ _kmod() {
         _kmod_offer_files -f
         return
         ;;
-    modprobe:-S | modinfo:-k | *:--set-version)
+    modprobe:-S | static-nodes:-S | builtin-alias:-S | modinfo:-k | *:--set-version)
         _kmod_offer "$(_kmod_versions "$root")"
         return
         ;;
     modinfo:-F | *:--field)
         _kmod_offer "alias author depends description filename firmware intree license name parm softdep srcversion vermagic version"
+        return
+        ;;
+    static-nodes:-f | *:--format)
+        _kmod_offer "devname"
         return
         ;;
     *:--region)
@@ -62,7 +66,7 @@ _kmod() {
         ;;
     esac
     case $command:$current in
-    depmod:-*) _kmod_offer "-a --all -b --basedir -C --config -E --symvers -e --errsyms -F --filesyms -n --dry-run -o --outdir" ;;
+    depmod:-*) _kmod_offer "-a --all -b --basedir -C --config -E --symvers -e --errsyms --extra -F --filesyms -n --dry-run -o --outdir" ;;
     modprobe:-*)
         _kmod_offer "-S --set-version -n --dry-run -D --show-depends -R --resolve-alias -a --all -b --use-blacklist
             -C --config -d --dirname -i --ignore-install --image --loaded --region --symvers --system-map"
@@ -71,6 +75,8 @@ _kmod() {
         _kmod_offer "-F --field -a --author -d --description -l --license -p --parameters -n --filename -0 --null
             -k --set-version -b --basedir"
         ;;
+    static-nodes:-*) _kmod_offer "-d -S -f --format" ;;
+    builtin-alias:-*) _kmod_offer "-d -S" ;;
     depmod:*) _kmod_offer "$(_kmod_versions "$root")" ;;
     modprobe:*) _kmod_offer "$(_kmod_names "$root" "$version")" ;;
     modinfo:*)

@@ -35,6 +35,7 @@ _kmod_depmod() {
         '(-C --config)'{-C,--config}'[configuration]:path:_files' \
         '(-E --symvers -F --filesyms)'{-E,--symvers}'[exports of the kernel]:Module.symvers:_files' \
         '(-e --errsyms)'{-e,--errsyms}'[warn about missing symbols]' \
+        '--extra[write the built-in aliases and the device nodes too]' \
         '(-E --symvers -F --filesyms)'{-F,--filesyms}'[exports of the kernel]:System.map:_files' \
         '(-n --dry-run)'{-n,--dry-run}'[print the text files]' \
         '(-o --outdir)'{-o,--outdir}'[root of the files that are written]:root:_files -/' \
@@ -86,7 +87,7 @@ _kmod() {
     local command=${service:t}
     if [[ $command == kmod ]]; then
         if (( CURRENT == 2 )); then
-            compadd depmod modprobe modinfo trial
+            compadd depmod modprobe modinfo trial static-nodes builtin-alias
             return
         fi
         command=${words[2]}
