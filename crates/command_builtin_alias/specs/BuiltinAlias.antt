@@ -25,12 +25,12 @@ names_found index (Some normal) = first_seen (map (λ v. v.1) (wild_values (cont
 abbrev pub lines_of_names : List (List ℕ) → List ℕ
 lines_of_names names = flat_map (λ name. name ++ 10 ∷ []) names
 
--- what names come to: their lines, and where there are none, that the name that stands for them isn't found
+-- what names result in: their lines, and if there are none, that the name that stands for them isn't found
 abbrev pub unless_none : List ℕ → List (List ℕ) → Outcome (List ℕ)
 unless_none asked [] = end (Refused (NotFound asked))
 unless_none asked (name ∷ names) = value (lines_of_names (name ∷ names))
 
--- What a name comes to. One that isn't found is told in its normal form, where it has one.
+-- What a name results in. One that isn't found is reported in its normal form, if it has one.
 abbrev pub found_outcome : Index → List ℕ → Outcome (List ℕ)
 found_outcome index name = unless_none (unwrap_or (normal_alias name) name) (names_found index (normal_alias name))
 

@@ -46,12 +46,12 @@ extra_refusal None = None
 extra_refusal (Some extra) =
     first (size_refusal BuiltinAliasBin extra.builtin_alias_bin ∷ size_refusal Devname extra.devname ∷ [])
 
--- what files come to, unless they are refused
+-- what files result in, unless they are refused
 abbrev pub unless_refused : Option Refusal → Option ExtraFiles → Outcome (Option ExtraFiles)
 unless_refused None made = value made
 unless_refused (Some refusal) made = end (Refused refusal)
 
--- What the modules of a tree come to, where modules.builtin.modinfo was read: the two files, or a refusal. Else there are
+-- What the modules of a tree result in, where modules.builtin.modinfo was read: the two files, or a refusal. Else there are
 -- no such files.
 unfoldable pub extra_outcome : List Facts → Option (List ℕ) → Outcome (Option ExtraFiles)
 extra_outcome tree info = unless_refused (extra_refusal (extra_made tree info)) (extra_made tree info)

@@ -16,12 +16,12 @@ use Rattle.command_depmod.specs.Extra.{extra_outcome, reads_info}
 use Rattle.command_depmod.specs.Files.{all_files, content, file_name, text_files}
 use Rattle.command_depmod.specs.Relation.{Tree}
 
--- what a fault of the files refuses; no files come to want of memory
+-- what a fault of the files refuses; no files result in want of memory
 abbrev pub output_refusal : OutputFault → Refusal
 output_refusal (faults.OutputTooLarge file length) = OutputTooLarge file
 output_refusal faults.Memory = InnerOutputFull
 
--- What a tree comes to that has these files: they, or the refusal of the first that is too large, by its bare name.
+-- What a tree results in that has these files: they, or the refusal of the first that is too large, by its bare name.
 unfoldable pub outputs_outcome : Result OutputFiles OutputFault → Outcome OutputFiles
 outputs_outcome (Ok made) = value made
 outputs_outcome (Err fault) = end (Refused (output_refusal fault))

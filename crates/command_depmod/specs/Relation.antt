@@ -33,11 +33,11 @@ relation_stop (faults.TooManyDeps count) = Ended (Refused TooManyDependencies)
 relation_stop (faults.TooManyDoubles count) = Ended (Refused TooManyDoubles)
 relation_stop faults.Memory = Memory
 
--- What a tree comes to that has this fault: the tree, or its refusal.
+-- What a tree results in that has this fault: the tree, or its refusal.
 abbrev pub tree_unless : Tree → Option RelationFault → Outcome Tree
 tree_unless tree None = value tree
 tree_unless tree (Some fault) = end (Refused (relation_refusal fault))
 
--- What a tree over a kernel comes to.
+-- What a tree over a kernel results in.
 unfoldable pub relation_outcome : Tree → Outcome Tree
 relation_outcome tree = tree_unless tree (relation_fault (modules_of tree.facts) tree.kernel)

@@ -14,7 +14,7 @@ use Rattle.km_course.specs.declared.refusal.Refusal.TheVariants.{BadPath, TooMan
 use Rattle.km_course.specs.declared.stop.Stop.{Stop}
 use Rattle.km_course.specs.declared.stop.Stop.TheVariants.{Ended, Memory}
 
--- what a fault of a tree refuses; no tree comes to want of memory
+-- what a fault of a tree refuses; no tree results in want of memory
 abbrev pub tree_refusal : TreeFault → Refusal
 tree_refusal (faults.BadPath path) = BadPath path
 tree_refusal (faults.TooManyModules count) = TooManyModules
@@ -26,7 +26,7 @@ tree_stop (faults.BadPath path) = Ended (Refused (BadPath path))
 tree_stop (faults.TooManyModules count) = Ended (Refused TooManyModules)
 tree_stop faults.Memory = Memory
 
--- What listed paths come to that have this tree: its paths, or a refusal.
+-- What listed paths result in that have this tree: its paths, or a refusal.
 unfoldable pub tree_outcome : Result (List (List ℕ)) TreeFault → Outcome (List (List ℕ))
 tree_outcome (Ok paths) = value paths
 tree_outcome (Err fault) = end (Refused (tree_refusal fault))

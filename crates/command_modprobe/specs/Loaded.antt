@@ -46,7 +46,7 @@ abbrev pub unless_install : Option (List ℕ) → List Insertion → Outcome (Li
 unless_install None inserts = value inserts
 unless_install (Some name) inserts = end (Refused (InstallChosen name))
 
--- What a plan that is to be loaded comes to: the modules that its steps load, or the refusal of the first step that runs a
+-- What a plan that is to be loaded results in: the modules that its steps load, or the refusal of the first step that runs a
 -- command.
 unfoldable pub inserts_outcome : List PlanStep → Outcome (List Insertion)
 inserts_outcome steps = unless_install (first (map command_owner steps)) (flat_map inserted steps)
@@ -70,7 +70,7 @@ loads_request folder images request known machine = do
   inserts ← given (inserts_outcome steps)
   loads_steps folder images known machine steps inserts
 
--- The course of a load into the machine of a System.map and a region, where there are both.
+-- The course of a load into the machine of a System.map and a region, if there are both.
 abbrev pub loads_into : ModprobeWords → Option (List ℕ) → Option Region → Stage ⊤
 loads_into asked None region = ends NotUnderstood
 loads_into asked (Some system_map) None = ends NotUnderstood

@@ -41,12 +41,12 @@ request_of asked = record {
 abbrev pub sources_with : Known → List (List ℕ) → Request → Sources
 sources_with known loaded request = sources known.rules known.indexes known.unmet loaded request
 
--- What a request with this first obstacle comes to.
+-- What a request with this first obstacle results in.
 abbrev pub plan_unless : Option Obstacle → List PlanStep → Outcome (List PlanStep)
 plan_unless None steps = value steps
 plan_unless (Some obstacle) steps = end (Refused (Unplanned (obstacle_text obstacle)))
 
--- What a request comes to, where these modules are loaded: its plan, or the refusal of its first obstacle.
+-- What a request results in, where these modules are loaded: its plan, or the refusal of its first obstacle.
 unfoldable pub plan_outcome : Known → List (List ℕ) → Request → Outcome (List PlanStep)
 plan_outcome known loaded request =
     plan_unless (obstacle_of (sources_with known loaded request) request) (plan_steps (sources_with known loaded request) request)

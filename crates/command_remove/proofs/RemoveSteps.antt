@@ -165,5 +165,5 @@ owner-none steps i past before = sym before ∙ ap first_owner (drop_all i steps
 -- ---- why there are no steps
 
 pub fault-of : (fault : RemoveFault) (o : Option RemoveFault) (name user : List ℕ) → fault ≡ faults.InUse name user → (fault ≡ faults.Memory) ⊎ (o ≡ Some fault) → o ≡ Some (faults.InUse name user)
-fault-of fault o name user is (inl wanting) = let wrong : faults.InUse name user ≡ faults.Memory = sym is ∙ wanting in cc
+fault-of fault o name user is (inl ran_out) = let wrong : faults.InUse name user ≡ faults.Memory = sym is ∙ ran_out in cc
 fault-of fault o name user is (inr met) = met ∙ ap Some is

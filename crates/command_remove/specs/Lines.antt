@@ -19,11 +19,11 @@ step_line (Command name command) = line_of_two (codes "remove ") command
 abbrev pub step_lines : List RemoveStep → List ℕ
 step_lines steps = flat_map step_line steps
 
--- What is said of a module that was unloaded.
+-- The line of a module that was unloaded.
 abbrev pub unloaded_line : List ℕ → List ℕ
 unloaded_line name = line_of_two (codes "unloaded ") name
 
--- What is said of an entry that the machine still has, in the form of the line of a load.
+-- The line of an entry that the machine still has, in the form of the line of a load.
 abbrev pub left_line : Entry → List ℕ
 left_line e = entry_line (codes "left") e.loaded e.image
 

@@ -31,12 +31,12 @@ use Rattle.command_remove.specs.Lines.{left_lines, step_lines, unloaded_line}
 
 -- ---- the steps
 
--- What a removal with these steps comes to, where one of what is asked for is in use by another, by their places, or none is.
+-- What a removal with these steps results in, where one of what is asked for is in use by another, by their places, or none is.
 abbrev pub steps_unless : Machine → Option (ℕ × ℕ) → List RemoveStep → Outcome (List RemoveStep)
 steps_unless machine None steps = value steps
 steps_unless machine (Some used) steps = end (Refused (InUse (name_at machine used.0) (name_at machine used.1)))
 
--- What the names of modules come to: the steps that take them out, or the refusal of the oldest that is in use, with its
+-- What the names of modules result in: the steps that take them out, or the refusal of the oldest that is in use, with its
 -- oldest user.
 unfoldable pub steps_outcome : Machine → List Rule → Bool → List (List ℕ) → Outcome (List RemoveStep)
 steps_outcome machine rules ignored names =
@@ -55,7 +55,7 @@ command_owner (Command name command) = Some name
 abbrev pub first_owner : List RemoveStep → Option (List ℕ)
 first_owner steps = first (map command_owner steps)
 
--- what steps come to, where a command is run for a module of this name, or for none
+-- what steps result in, where a command is run for a module of this name, or for none
 abbrev pub unless_owner : Option (List ℕ) → Outcome ⊤
 unless_owner None = value tt
 unless_owner (Some name) = end (Refused (RemoveChosen name))
@@ -71,13 +71,13 @@ abbrev pub machine_after : Machine → Result Machine UnloadFault → Machine
 machine_after machine (Ok after) = after
 machine_after machine (Err fault) = machine
 
--- The module of a step is taken out, and that is said. What it gives is the machine after it.
+-- The module of a step is taken out, and its line is printed. What it gives is the machine after it.
 abbrev pub unloads_one : Machine → RemoveStep → Stage Machine
 unloads_one machine step = do
   said ← says (unloaded_line (step_name step))
   gives (machine_after machine (unloaded machine (step_name step)))
 
--- The modules of the steps are taken out, one after the other, and then what is left is said, the oldest first.
+-- The modules of the steps are taken out, one after the other, and then what is left is printed, the oldest first.
 abbrev pub unloads_all : Machine → List RemoveStep → Stage ⊤
 unloads_all machine steps = do
   left ← each_from unloads_one machine steps
@@ -126,7 +126,7 @@ removes_listed folder removal known machine = do
   listed ← takes_listed folder known.indexes machine known.loaded
   removes_names removal known listed
 
--- The course of a removal from the machine of a System.map and a region, where there are both.
+-- The course of a removal from the machine of a System.map and a region, if there are both.
 abbrev pub removes_from : Bool → ModprobeWords → Option (List ℕ) → Option Region → Stage ⊤
 removes_from dry_run asked None region = ends NotUnderstood
 removes_from dry_run asked (Some system_map) None = ends NotUnderstood

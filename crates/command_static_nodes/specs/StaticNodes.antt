@@ -10,7 +10,7 @@ use Rattle.km_course.specs.declared.end.End.TheVariants.{NotUnderstood}
 use Rattle.stages_files.specs.Configuration.{stated_outcome}
 use Rattle.stages_files.specs.KernelModules.{modules_folder}
 
--- The nodes of the modules.devname at a path, which is needed. The first refused line is told.
+-- The nodes of the modules.devname at a path, which is needed. The first refused line is reported.
 abbrev pub reads_nodes : List ℕ → Stage (List Node)
 reads_nodes file = do
   bytes ← reads file

@@ -34,7 +34,7 @@ pub record HasNodes (left : Contents) (folder : List ℕ) (tree : List Facts) : 
   pub small : length bytes ≤ file_limit
   pub reads : (path : List ℕ) → read_of path bytes ≡ Ok (nodes_of tree)
 
--- Over the first files a request for both found this modules.builtin.modinfo, which counts as empty where there is none, and
+-- Over the first files a request for both found this modules.builtin.modinfo, which counts as empty if there is none, and
 -- this tree of valid modules. In the others both files stand in its target folder, of what it found.
 pub record LeavesExtra (asked : DepmodWords) (held left : Contents) : Type 0 where
   pub info : List ℕ

@@ -15,7 +15,7 @@ use Rattle.laws_depmod_leaves.specs.Loads.{IsLoadAfter}
 use Rattle.kmod_cli.specs.Headline.{Headline, Loading, LoadsBind, folder_asked}
 use Rattle.kmod_cli.specs.Indexes.{Indexes}
 
--- A depmod over files and outputs that told this replaced its files in the folder of the modules, by the table of a kernel,
+-- A depmod over files and outputs with these known contents replaced its files in the folder of the modules, by the table of a kernel,
 -- and answered status 0.
 pub record IsDepmodDone (words : List (List ℕ)) (asked : DepmodWords) (shown : Shown) (old new : World) : Type 0 where
   pub tells : Tells old shown
@@ -23,7 +23,7 @@ pub record IsDepmodDone (words : List (List ℕ)) (asked : DepmodWords) (shown :
   pub place : IsInPlace asked
   pub call : Indexes words old new 0
 
--- A modprobe over files and outputs that told this was asked to load, from the folder of that depmod and into a machine whose
+-- A modprobe over files and outputs with these known contents was asked to load, from the folder of that depmod and into a machine whose
 -- kernel has its table of the same bytes; no step of its plan runs a command, and the listed modules load.
 pub record IsLoadOver (held : Shown) (asked : DepmodWords) (words : List (List ℕ)) (loads : ModprobeWords) (l : Loading) (told : Shown) (old new : World) (status : ℕ) : Type 0 where
   pub tells : Tells old told

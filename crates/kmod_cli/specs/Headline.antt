@@ -76,10 +76,10 @@ pub data IsEndOfPlan (params : Bool) (machine : Machine) : List WentIn → List 
   all_loaded : (went : List WentIn) → All (AreWritable params) went → IsEndOfPlan params machine went [] 0 []
   -- the next one finds no room in the region, or has a word that doesn't fit there
   no_place : (went : List WentIn) → All (AreWritable params) went → (m : Module) (ms : List Module) (fault : LoadFault) → step machine m ≡ Err fault → IsPlaceFault fault → IsEndOfPlan params machine went (m ∷ ms) 1 (line (m.facts.name ++ (codes ": " ++ load_fault_text fault)))
-  -- with `--params` alone: the options of the last one that went in can't be written
+  -- only with `--params`: the options of the last one that went in can't be written
   unwritten : (went : List WentIn) → All (AreWritable params) went → (last : WentIn) → params ≡ true → (ms : List Module) (fault : ParamFault) → fault_of last ≡ Some fault → IsEndOfPlan params machine (went ++ last ∷ []) ms 1 (line (last.entry.loaded.name ++ (codes ": " ++ param_fault_text fault)))
 
--- What loading a plan comes to, whose steps load this, after listed modules were loaded and this was
+-- What loading a plan results in, whose steps load this, after listed modules were loaded and this was
 -- the machine; with `--params` or without.
 pub record ComesTo (params : Bool) (inserts : List Insertion) (start : Machine) (listed plan : List Module) : Type 0 where
   -- the first modules of the plan go in, one after the other, and the others are left
@@ -108,7 +108,7 @@ pub record ComesTo (params : Bool) (inserts : List Insertion) (start : Machine) 
 abbrev pub images_shown : ModprobeWords → List WentIn → List ShownImage
 images_shown asked went = all_images asked.params went
 
--- The files with each of these images in the folder for images, where one is named: that of an entry
+-- The files with each of these images in the folder for images, if one is named: that of an entry
 -- under the name of its module, and the finished one with `.params` after the name.
 abbrev pub with_images : Option (List ℕ) → List ShownImage → Contents → Contents
 with_images None ss files = files
@@ -120,7 +120,7 @@ with_images (Some images) (s ∷ ss) files =
 abbrev pub printed : ModprobeWords → Loading → List ShownImage → List ℕ
 printed asked l ss = plan_lines (folder_asked asked) l.steps ++ flat_map (λ (s : ShownImage). s.line) ss
 
--- What is told after these images were shown and this line was written on err, but for the count of
+-- What is known after these images were shown and this line was written on err, but for the count of
 -- calls on files.
 abbrev pub told_after : ModprobeWords → Loading → List ShownImage → List ℕ → Shown → Shown
 told_after asked l ss err_line shown = record {
@@ -142,7 +142,7 @@ pub record IsFirstPart (asked : ModprobeWords) (l : Loading) (ss : List ShownIma
 
 -- ---- the headline
 
--- What modprobe did over files and outputs that told this: it left new and answered this status.
+-- What modprobe did over files and outputs with these known contents: it left new and answered this status.
 pub record LoadsBind (asked : ModprobeWords) (l : Loading) (shown : Shown) (old new : World) (status : ℕ) : Type 0 where
   -- the listed modules, oldest first, are loaded: each is all of a valid file, that at the first
   -- path of its dependency line

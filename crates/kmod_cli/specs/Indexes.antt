@@ -40,7 +40,7 @@ abbrev pub warnings : DepmodWords → IndexedTree → List ℕ
 warnings asked i =
     if asked.errsyms then flat_map (λ obstacle. line_bytes (warning_line (is_some asked.symvers) obstacle)) (unmet (modules_of i.tree) (seen_kernel i.table)) else []
 
--- ---- what the call comes to
+-- ---- what the call results in
 
 -- The status: 0 of an index, else that of the end.
 abbrev pub status_of : Outcome IndexedTree → ℕ
@@ -70,9 +70,9 @@ abbrev pub IsPartOf : DepmodWords → Outcome IndexedTree → Shown → World �
 IsPartOf asked (value i) shown new = IsReplacedPart asked i shown new
 IsPartOf asked (end e) shown new = IsPrintedPart [] shown new
 
--- What depmod did over files and outputs that told this: it left new and answered this status.
+-- What depmod did over files and outputs with these known contents: it left new and answered this status.
 pub record IsIndexing (asked : DepmodWords) (shown : Shown) (old new : World) (status : ℕ) : Type 0 where
-  -- by the files that it found it comes to the index of the tree in the folder, whose modules are all valid and whose files
+  -- by the files that it found it results in the index of the tree in the folder, whose modules are all valid and whose files
   -- stand for it; or to the first thing that is in the way: a bad module after valid ones, the cycle of the tree, or another
   pub outcome : Outcome IndexedTree
   pub comes : ComesTo shown.files asked outcome

@@ -37,7 +37,7 @@ abbrev pub built_in_matching : List ℕ → Option (List ℕ) → List (List ℕ
 built_in_matching info None = []
 built_in_matching info (Some normal) = modules_matching info normal
 
--- A depmod over files and outputs that told this was asked for both files, replaced its files, and answered status 0.
+-- A depmod over files and outputs with these known contents was asked for both files, replaced its files, and answered status 0.
 pub record IsExtraDone (words : List (List ℕ)) (asked : DepmodWords) (shown : Shown) (old new : World) : Type 0 where
   pub tells : Tells old shown
   pub words_ask : depmod_request words ≡ Some asked
@@ -49,7 +49,7 @@ pub record IsExtraDone (words : List (List ℕ)) (asked : DepmodWords) (shown : 
 pub record AnswersLookups (asked : DepmodWords) (words : List (List ℕ)) (held told : Shown) (old new : World) (status : ℕ) : Type 0 where
   pub left : LeavesExtra asked held.files told.files
   -- `builtin-alias` of that folder prints a line for each built-in module with a matching alias; exactly if there is none, the
-  -- name is told as not found
+  -- name is reported as not found
   pub aliases : (rest : List (List ℕ)) (wanted : BuiltinAliasWords) → words ≡ codes "builtin-alias" ∷ rest → builtin_alias_request rest ≡ Some wanted → modules_folder wanted.dirname wanted.version ≡ target_of_request asked → PrintsOutcome (unless_none (unwrap_or (normal_alias wanted.name) wanted.name) (built_in_matching left.info (normal_alias wanted.name))) told old new status
   -- `static-nodes` of that folder prints the lines of the nodes of the tree's modules
   pub nodes : (rest : List (List ℕ)) (wanted : StaticNodesWords) → words ≡ codes "static-nodes" ∷ rest → static_nodes_request rest ≡ Some wanted → modules_folder wanted.dirname wanted.version ≡ target_of_request asked → PrintsOutcome (value (lines_text (nodes_of left.tree))) told old new status

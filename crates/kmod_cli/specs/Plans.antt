@@ -54,7 +54,7 @@ pub record IsPrintedPart (lines : List ℕ) (shown : Shown) (new : World) : Type
   pub files : new.files.contents ≡ Some shown.files
   pub out : new.out.told ≡ Some (shown.out ++ take bytes lines)
 
--- What modprobe did over files and outputs that told this: it left new and answered this status.
+-- What modprobe did over files and outputs with these known contents: it left new and answered this status.
 pub record IsPlanned (asked : ModprobeWords) (known : Known) (shown : Shown) (old new : World) (status : ℕ) : Type 0 where
   -- where no load is asked for and nothing is in the way, the lines of the plan are printed, and
   -- nothing else is written

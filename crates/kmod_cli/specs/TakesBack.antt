@@ -52,7 +52,7 @@ NoneInUse r = in_use r.listed (is_asked r.listed r.names) ≡ None
 abbrev pub first_command : ModprobeWords → Removing → Option (List ℕ)
 first_command asked r = first_owner (steps_asked asked r.known r.listed r.names)
 
--- What modprobe did over files and outputs that told this: it left new and answered this status. Files are as they were.
+-- What modprobe did over files and outputs with these known contents: it left new and answered this status. Files are as they were.
 pub record IsTakenBack (asked : ModprobeWords) (dry_run : Bool) (r : Removing) (shown : Shown) (old new : World) (status : ℕ) : Type 0 where
   -- the listed modules, oldest first, are loaded: each is all of a valid file, that at the first path of its dependency line
   pub listed : List Module

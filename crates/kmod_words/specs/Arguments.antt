@@ -16,7 +16,7 @@ with_value name = record (new_rule name) { action = Some Set; parser = Some NonE
 abbrev pub valued : Text → Text → Rule
 valued letter name = record (with_value name) { short = slice_get letter 0; long = Some name }
 
--- An option with a value that has a letter alone.
+-- An option with a value that has only a letter.
 abbrev pub lettered : Text → Text → Rule
 lettered letter name = record (with_value name) { short = slice_get letter 0 }
 

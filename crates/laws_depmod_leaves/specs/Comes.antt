@@ -75,11 +75,11 @@ pub record IsRead (held : Contents) (asked : DepmodWords) (tree : List Facts) (t
   pub found : HasTree held asked paths table
   pub modules : AreValid held (modules_of_request asked) paths tree []
 
--- The bytes of modules.builtin, or the end that it comes to. It counts as empty where there is none.
+-- The bytes of modules.builtin, or the end that it results in. It counts as empty if there is none.
 abbrev pub built_in : Contents → DepmodWords → Outcome (List ℕ)
 built_in held asked = ((reads_any (path_below (modules_of_request asked) (codes "modules.builtin"))).run held).outcome
 
--- The bytes of modules.builtin.modinfo, where they are asked for, or the end that it comes to. It counts as empty where there
+-- The bytes of modules.builtin.modinfo, where they are asked for, or the end that it results in. It counts as empty where there
 -- is none.
 abbrev pub built_in_info : Contents → DepmodWords → Outcome (Option (List ℕ))
 built_in_info held asked = ((reads_info asked.extra (modules_of_request asked)).run held).outcome
@@ -132,7 +132,7 @@ pub data IsEnded (held : Contents) (asked : DepmodWords) : End → Type 0 where
   bad_module : (paths : List (List ℕ)) (table : Table) → HasTree held asked paths table → (before : List Facts) (path : List ℕ) (later : List (List ℕ)) → AreValid held (modules_of_request asked) paths before (path ∷ later) → (e : End) → IsBadModule held (modules_of_request asked) path e → IsEnded held asked e
   -- a cycle, where all modules are valid
   has_cycle : (tree : List Facts) (table : Table) → IsRead held asked tree table → (i : ℕ) (is : List ℕ) → cycle_in tree table ≡ i ∷ is → IsEnded held asked (Refused (Cycle (map (name_at (modules_of tree)) (i ∷ is))))
-  -- where there is none, a limit of dependencies or of double lines
+  -- if there is none, a limit of dependencies or of double lines
   too_many : (tree : List Facts) (table : Table) → IsRead held asked tree table → cycle_in tree table ≡ [] → (fault : RelationFault) → relation_fault (modules_of tree) (seen_kernel table) ≡ Some fault → IsEnded held asked (Refused (relation_refusal fault))
   -- modules.builtin
   no_builtin : (tree : List Facts) (table : Table) → IsRead held asked tree table → relation_fault (modules_of tree) (seen_kernel table) ≡ None → (e : End) → built_in held asked ≡ end e → IsEnded held asked e
@@ -143,7 +143,7 @@ pub data IsEnded (held : Contents) (asked : DepmodWords) : End → Type 0 where
   -- where none of them is, the first of the two others
   extra_too_large : (i : IndexedTree) → IsRead held asked i.tree i.table → relation_fault (modules_of i.tree) (seen_kernel i.table) ≡ None → built_in held asked ≡ value i.builtin → built_in_info held asked ≡ value i.info → output_fault (files_of i) ≡ None → (refusal : Refusal) → extra_refusal (extra_made i.tree i.info) ≡ Some refusal → IsEnded held asked (Refused refusal)
 
--- What a depmod comes to over the files that it finds.
+-- What a depmod results in over the files that it finds.
 abbrev pub ComesTo : Contents → DepmodWords → Outcome IndexedTree → Type 0
 ComesTo held asked (value i) = IsIndexed held asked i
 ComesTo held asked (end e) = IsEnded held asked e

@@ -51,7 +51,7 @@ abbrev pub closes : Outcome IndexedTree → Outcome ⊤
 closes (value i) = value tt
 closes (end e) = end e
 
--- A course reads, comes to this, and then writes of it, and nothing more.
+-- A course reads, results in this, and then writes of it, and nothing more.
 pub record IsIndexingCourse (held : Contents) (asked : DepmodWords) (run : Run ⊤) : Type 0 where
   pub outcome : Outcome IndexedTree
   pub comes : ComesTo held asked outcome

@@ -1,4 +1,4 @@
--- What the course of a modprobe that loads comes to over a folder that stands as depmod indexed it. modprobe(8).
+-- What the course of a modprobe that loads results in over a folder that stands as depmod indexed it. modprobe(8).
 use Rattle.std.specs.Prelude.{◌≡◌, ℕ, Bool, true, List, ◌++◌, reverse, Option, Some, ⊤}
 use Rattle.std.specs.List.{list_all}
 use Rattle.km_outside.specs.Contents.{Contents}
@@ -59,7 +59,7 @@ pub record CameToLoads (held : Contents) (folder : List ℕ) (config listing : O
   pub planned : plan_outcome known known.loaded request ≡ value steps
   pub runs_none : inserts_outcome steps ≡ value inserts
 
--- what loads come to, as the end of a course
+-- what loads result in, as the end of a course
 abbrev pub ended : Outcome Machine → Outcome ⊤
 ended (value machine) = value tt
 ended (end e) = end e

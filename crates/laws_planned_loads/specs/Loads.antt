@@ -60,7 +60,7 @@ images_of params w =
 abbrev pub all_images : Bool → List WentIn → List ShownImage
 all_images params ws = flat_map (images_of params) ws
 
--- An image is put into the folder for images, where there is one, and its line is said.
+-- An image is put into the folder for images, if there is one, and its line is printed.
 abbrev pub image_acts : Option (List ℕ) → ShownImage → List Act
 image_acts None s = say s.line ∷ []
 image_acts (Some folder) s = put (path_below folder (s.name ++ codes ".img")) s.image ∷ say s.line ∷ []
@@ -75,9 +75,9 @@ load_acts folder images w =
 pub data IsEndOf (folder : List ℕ) (params : Bool) (machine : Machine) : List WentIn → List Insertion → List Module → List Act → Outcome Machine → Type 0 where
   -- all are loaded
   all_in : (went : List WentIn) → All (AreWritable params) went → IsEndOf folder params machine went [] [] [] (value machine)
-  -- the next one is read, and the machine refuses it: that is told, and nothing more is done
+  -- the next one is read, and the machine refuses it: that is reported, and nothing more is done
   refused : (went : List WentIn) → All (AreWritable params) went → (one : Insertion) (inserts : List Insertion) (m : Module) (ms : List Module) (fault : LoadFault) → step machine m ≡ Err fault → IsEndOf folder params machine went (one ∷ inserts) (m ∷ ms) (read (path_below folder one.path) ∷ []) (end (Refused (LoadRefused m.facts.name (load_fault_text fault))))
-  -- the options of the last one can't be written, though they are to be: that is told, and nothing more is done
+  -- the options of the last one can't be written, though they are to be: that is reported, and nothing more is done
   unwritable : (went : List WentIn) → All (AreWritable params) went → (last : WentIn) → params ≡ true → (inserts : List Insertion) (ms : List Module) (fault : ParamFault) → fault_of last ≡ Some fault → IsEndOf folder params machine (went ++ last ∷ []) inserts ms [] (end (Refused (ParamsRefused last.entry.loaded.name (param_fault_text fault))))
 
 -- Loads of modules are those of a machine: the first ones go in, one after the other, each is read and its images are

@@ -78,7 +78,7 @@ known_of tree kernel builtin stated loaded = record {
   loaded = loaded;
 }
 
--- What the reading before a lookup comes to: an end for the configuration or for the list of loaded modules, or what is
+-- What the reading before a lookup results in: an end for the configuration or for the list of loaded modules, or what is
 -- known of the tree.
 pub data IsReading (held : Contents) (config listing : Option (List ℕ)) (tree : List Facts) (kernel : Kernel) (builtin : List ℕ) : Outcome Known → Type 0 where
   no_configuration : (e : End) → ((reads_configuration Modprobe config).run held).outcome ≡ end e → IsReading held config listing tree kernel builtin (end e)
@@ -86,7 +86,7 @@ pub data IsReading (held : Contents) (config listing : Option (List ℕ)) (tree 
   no_list : (e : End) → ((reads_loaded listing).run held).outcome ≡ end e → IsReading held config listing tree kernel builtin (end e)
   is_known : (configuration : List ConfFile) (stated : List Rule) (loaded : List (List ℕ)) → ((reads_configuration Modprobe config).run held).outcome ≡ value configuration → rules_of configuration ≡ Ok stated → ((reads_loaded listing).run held).outcome ≡ value loaded → IsReading held config listing tree kernel builtin (value (known_of tree kernel builtin stated loaded))
 
--- Over a folder that stands as depmod indexed it, that is all that the reading comes to.
+-- Over a folder that stands as depmod indexed it, that is all that the reading results in.
 abbrev pub ReadingsEnd : Type 0
 ReadingsEnd =
     (held : Contents) (folder : List ℕ) (tree : List Facts) (kernel : Kernel) (builtin : List ℕ)

@@ -1,4 +1,4 @@
--- What the course of a modprobe that removes comes to. modprobe(8), -r.
+-- What the course of a modprobe that removes results in. modprobe(8), -r.
 use Rattle.std.specs.Prelude.{◌≡◌, ℕ, Bool, true, false, List, [], ◌∷◌, ◌++◌, flat_map, map, codes, Some, None, ⊤}
 use Rattle.std.specs.List.{list_all}
 use Rattle.km_outside.specs.Contents.{Contents}
@@ -64,7 +64,7 @@ taken_out_lines machine names =
     flat_map (line_of_two (codes "rmmod ")) (removed_names machine names)
     ++ (flat_map unloaded_line (removed_names machine names) ++ left_lines (left_after machine names).entries)
 
--- What such a course comes to, by its machine alone.
+-- What such a course results in, by its machine alone.
 pub record IsRemovalCourse (dry_run : Bool) (asked : ModprobeWords) (known : Known) (machine : Machine) (names : List (List ℕ)) (run : Run ⊤) : Type 0 where
   -- a module that is asked for is used by one that isn't: the oldest such module and its oldest such user are named
   pub used : (j k : ℕ) → in_use machine (is_asked machine names) ≡ Some (j, k)

@@ -35,7 +35,7 @@ reads_rules configuration folder = do
   bytes ← reads_any (path_below folder (codes "modules.softdep"))
   given (stated_outcome (rules_of (configuration ++ record { path = path_below folder (codes "modules.softdep"); bytes = bytes } ∷ [])))
 
--- The lines of the folder's modules.unmet, which is empty where there is none.
+-- The lines of the folder's modules.unmet, which is empty if there is none.
 abbrev pub reads_unmet : List ℕ → Stage (List Unbound)
 reads_unmet folder = do
   bytes ← reads_any (path_below folder (codes "modules.unmet"))

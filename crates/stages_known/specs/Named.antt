@@ -27,11 +27,11 @@ found_names known everywhere names = flat_map (λ name. (found_in known everywhe
 abbrev pub normal_or_itself : List ℕ → List ℕ
 normal_or_itself name = unwrap_or (normal_alias name) name
 
--- what a name that stands for nothing comes to, if there is one, and else the names
+-- what a name that stands for nothing results in, if there is one, and else the names
 abbrev pub unless_unknown : Option (List ℕ) → List (List ℕ) → Outcome (List (List ℕ))
 unless_unknown None names = value names
 unless_unknown (Some name) names = end (Refused (NotFound (normal_or_itself name)))
 
--- What the names come to: what they stand for, unless one stands for nothing, of which the first is told.
+-- What the names result in: what they stand for, unless one stands for nothing; then the first such name is reported.
 unfoldable pub names_outcome : Known → Bool → List (List ℕ) → Outcome (List (List ℕ))
 names_outcome known everywhere names = unless_unknown (find (is_unknown known everywhere) names) (found_names known everywhere names)

@@ -168,7 +168,7 @@ params_ok m options loaded image p bytes count passed =
 -- a fault that isn't want of memory is that of the options
 pub params_not : (m : Module) (options : List ℕ) (loaded : LoadedModule) (image named text : List ℕ) (fault : ParamFault) → (fault ≡ NoMemory) ⊎ (param_fault m.object loaded.base image options ≡ Some fault) → (fault ≡ NoMemory → ⊥) → text ≡ param_fault_text fault → named ≡ loaded.name → params_outcome m options loaded image ≡ end (Refused (ParamsRefused named text))
 unfolding params_outcome
-params_not m options loaded image named text fault (inl memory) wanting is same = absurd (wanting memory)
+params_not m options loaded image named text fault (inl ran_out) unlike is same = absurd (unlike ran_out)
 params_not m options loaded image named text fault (inr f) wanting is same =
     ap (λ o. params_unless loaded.name o (finished_params m options loaded image)) f
     ∙ ap (λ t. end (Refused (ParamsRefused loaded.name t))) (sym is)

@@ -12,7 +12,7 @@ use Rattle.stages_loads.specs.declared.load.Cause.TheVariants.{Listed}
 use Rattle.stages_loads.specs.Loads.{loads}
 use Rattle.stages_loads.specs.Modules.{reads_module}
 
--- what a listed name with this path comes to; where there is none, it isn't found
+-- what a listed name with this path results in; if there is none, it isn't found
 abbrev pub listed_outcome : List ℕ → Option (List ℕ) → Outcome (List ℕ)
 listed_outcome name None = end (Refused (ListedNotFound name))
 listed_outcome name (Some path) = value path

@@ -33,7 +33,7 @@ abbrev pub load_refusal : Cause → List ℕ → List ℕ → Refusal
 load_refusal Listed name text = ListedRefused name text
 load_refusal Planned name text = LoadRefused name text
 
--- What a step with this result comes to: the machine with the module, or the refusal of the load.
+-- What a step with this result results in: the machine with the module, or the refusal of the load.
 unfoldable pub load_outcome : Cause → List ℕ → Result Machine LoadFault → Outcome Machine
 load_outcome cause name (Ok after) = value after
 load_outcome cause name (Err fault) = end (Refused (load_refusal cause name (load_fault_text fault)))
@@ -53,18 +53,18 @@ entry_line word loaded image =
     word ++ (codes " " ++ (loaded.name ++ (codes " " ++ (encode_lower (to_be_bytes w64 loaded.base)
     ++ (codes " " ++ (decimal loaded.size ++ (codes " " ++ (encode_lower (sha256 image) ++ 10 ∷ []))))))))
 
--- What is said of a module that was loaded.
+-- The line of a module that was loaded.
 abbrev pub loaded_line : LoadedModule → List ℕ → List ℕ
 loaded_line loaded image = entry_line (codes "loaded") loaded image
 
--- What is said of a module whose parameters were written: its name, how many parameters the options name, and the digest
+-- The line of a module whose parameters were written: its name, how many parameters the options name, and the digest
 -- of the finished image.
 unfoldable pub params_line : List ℕ → ℕ → List ℕ → List ℕ
 params_line name count image =
     codes "params " ++ (name ++ (codes " " ++ (decimal count ++ (codes " " ++ (encode_lower (sha256 image) ++ 10 ∷ [])))))
 
--- An image that is shown: it is put into the folder for images, where there is one, under a name with `.img` after it;
--- and then a line is said.
+-- An image that is shown: it is put into the folder for images, if there is one, under a name with `.img` after it;
+-- and then a line is printed.
 pub record ShownImage : Type 0 where
   pub name : List ℕ
   pub image : List ℕ
@@ -85,22 +85,22 @@ finished_params m options loaded image = record {
   count = count_of m.object loaded.base image options;
 }
 
--- what options with this first fault come to
+-- what options with this first fault result in
 abbrev pub params_unless : List ℕ → Option ParamFault → Params → Outcome Params
 params_unless name None p = value p
 params_unless name (Some fault) p = end (Refused (ParamsRefused name (param_fault_text fault)))
 
--- What the options of a module come to: they are written into a copy of its image, or the first fault of them is told.
+-- What the options of a module result in: they are written into a copy of its image, or their first fault is reported.
 unfoldable pub params_outcome : Module → List ℕ → LoadedModule → List ℕ → Outcome Params
 params_outcome m options loaded image =
     params_unless loaded.name (param_fault m.object loaded.base image options) (finished_params m options loaded image)
 
--- An image is put into the folder for images, where there is one, under a name.
+-- An image is put into the folder for images, if there is one, under a name.
 abbrev pub puts_image : Option (List ℕ) → List ℕ → List ℕ → Stage ⊤
 puts_image None name image = gives tt
 puts_image (Some folder) name image = puts (path_below folder (name ++ codes ".img")) image
 
--- An image is put, and then its line is said.
+-- An image is put, and then its line is printed.
 abbrev pub shows_image : Option (List ℕ) → ShownImage → Stage ⊤
 shows_image folder shown = do
   put ← puts_image folder shown.name shown.image

@@ -36,13 +36,13 @@ module_at path bytes passed = record {
   sound = IsSound-passed path (file_object bytes) (facts_of path bytes) refl (facts-pass path bytes passed);
 }
 
--- What the file of a module with this first failing test comes to: the module at a path of the tree, or the refusal of
+-- What the file of a module with this first failing test results in: the module at a path of the tree, or the refusal of
 -- the file, by its whole path.
 unfoldable pub module_outcome : List ℕ → (path bytes : List ℕ) (fault : Option ModuleFault) → fact_fault path bytes ≡ fault → Outcome Module
 module_outcome file path bytes None passed = value (module_at path bytes passed)
 module_outcome file path bytes (Some fault) first = end (Refused (BadModule file (module_fault_text fault)))
 
--- What the file of these bytes comes to.
+-- What the file of these bytes results in.
 abbrev pub file_outcome : List ℕ → List ℕ → List ℕ → Outcome Module
 file_outcome file path bytes = module_outcome file path bytes (fact_fault path bytes) refl
 

@@ -46,18 +46,18 @@ kernel_with table = record {
   table = record { distinct = firsts-apart table.exports };
 }
 
--- the refusal of a kernel whose export of this name has no address; no kernel comes to want of memory
+-- the refusal of a kernel whose export of this name has no address; no kernel results in want of memory
 abbrev pub machine_refusal : MachineFault → Refusal
 machine_refusal (faults.KernelWithoutAddress name) = KernelWithoutAddress name
 machine_refusal faults.Memory = InnerOutputFull
 
--- What a table with this first export without an address comes to: the machine of its kernel, with no module, or the
+-- What a table with this first export without an address results in: the machine of its kernel, with no module, or the
 -- refusal of that export.
 unfoldable pub machine_outcome : Table → Region → Option MachineFault → Outcome Machine
 machine_outcome table region None = value (new_machine (kernel_with table) region)
 machine_outcome table region (Some fault) = end (Refused (machine_refusal fault))
 
--- What a file that states these addresses of exports comes to: the table with them, or the refusal of its first line that
+-- What a file that states these addresses of exports results in: the table with them, or the refusal of its first line that
 -- isn't understood.
 unfoldable pub addressed_outcome : List ℕ → Bool → Result (List KernelExport) KernelFault → Outcome Table
 addressed_outcome file known (Ok exports) = value (record { known = known; exports = exports })

@@ -10,7 +10,8 @@ use Rattle.km_course.proofs.Steps.{LeadsTo}
 use Rattle.command_remove.specs.Remove.{step_name, unloads_one}
 use Rattle.command_remove.proofs.unloads.unload_steps.Given as goal
 
--- Whatever takes out the other modules from here takes out all from the start, and what it comes to is what all come to.
+-- To take out the modules that are left, from the machine of this turn, results in what taking out all of them does from
+-- the start.
 abbrev pub invariant-loop-step : goal.invariant-loop-step
 invariant-loop-step g l = record {
   leads : (files : FilesSeen) (err : OutSeen) → LeadsTo (λ (x : Machine). x) (each_from unloads_one l.fn.machine l.steps)
