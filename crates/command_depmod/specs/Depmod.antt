@@ -16,7 +16,7 @@ use Rattle.command_depmod.specs.Relation.{Tree, relation_outcome}
 use Rattle.command_depmod.specs.Outputs.{makes_files, hands_out}
 use Rattle.command_depmod.specs.Warnings.{warns_unmet}
 
--- the folder in which the modules stand, and the one into which files are put
+-- the folder of the modules, and the one into which files are put
 abbrev pub modules_of_request : DepmodWords → List ℕ
 modules_of_request asked = modules_folder asked.basedir asked.version
 
@@ -24,8 +24,8 @@ modules_of_request asked = modules_folder asked.basedir asked.version
 abbrev pub target_of_request : DepmodWords → List ℕ
 target_of_request asked = modules_folder asked.outdir asked.version
 
--- The tree in a folder, with its relation: the configuration is read, the tree is chosen, the kernel's table is read, each
--- module of the tree is read and checked, and then they are related.
+-- The tree in a folder, with its relation. The configuration is read, the tree is chosen, and the
+-- kernel's table is read. Each module of the tree is read and checked, and then they are related.
 abbrev pub reads_related : List ℕ → Option (List ℕ) → Option (List ℕ) → Option (List ℕ) → Stage Tree
 reads_related folder config map symvers = do
   search ← reads_search config
@@ -34,16 +34,16 @@ reads_related folder config map symvers = do
   facts ← reads_modules_facts folder paths
   given (relation_outcome (record { facts = facts; kernel = seen_kernel kernel }))
 
--- what a request wants besides the index itself
+-- what a request asks for besides the index itself
 abbrev pub wanted_of : DepmodWords → Wanted
 wanted_of asked = record { dry_run = asked.dry_run; errsyms = asked.errsyms; extra = asked.extra; versions = is_some asked.symvers }
 
--- The warnings of a tree, where they are wanted.
+-- The warnings of a tree, if they are asked for.
 abbrev pub warns_of_tree : Wanted → Tree → Stage ⊤
 warns_of_tree wanted tree = warns_unmet wanted.errsyms wanted.versions (unmet (modules_of tree.facts) tree.kernel)
 
--- The course of a tree in a folder that was read: its files are made, and only then is anything written, the warnings
--- first, and then the files into the target.
+-- The course of a tree in a folder that was read. Its files are made, and only then is anything
+-- written: first the warnings, and then the files into the target.
 abbrev pub indexes_tree : Wanted → List ℕ → List ℕ → Tree → Stage ⊤
 indexes_tree wanted folder target tree = do
   made ← makes_files wanted.extra folder tree

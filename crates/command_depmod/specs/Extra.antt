@@ -1,5 +1,5 @@
--- The two files of `depmod --extra`: the index of the aliases of built-in modules, and the device nodes of modules. The
--- option is this project's own; kmod's depmod always makes both.
+-- The two files of `depmod --extra`: the index of the aliases of built-in modules, and the device
+-- nodes of modules. The option is this project's own; kmod's depmod always makes both.
 use Rattle.std.specs.Prelude.{ℕ, nat_lt, Bool, List, [], ◌∷◌, length, codes, Option, Some, None, option_map, if◌then◌else◌}
 use Rattle.km_names.specs.First.{first}
 use Rattle.km_names.specs.Limit.{file_limit}
@@ -21,7 +21,7 @@ use Rattle.command_depmod.specs.declared.files.DepmodFile.TheVariants.{BuiltinAl
 use Rattle.command_depmod.specs.declared.files.ExtraFiles.{ExtraFiles}
 use Rattle.command_depmod.specs.Files.{file_name}
 
--- The modules.builtin.modinfo in a folder, where it is asked for. It counts as empty where it isn't there.
+-- The modules.builtin.modinfo in a folder, if it is asked for. It counts as empty if it is missing.
 abbrev pub reads_info : Bool → List ℕ → Stage (Option (List ℕ))
 reads_info extra folder =
     when extra then (do
@@ -51,8 +51,8 @@ abbrev pub unless_refused : Option Refusal → Option ExtraFiles → Outcome (Op
 unless_refused None made = value made
 unless_refused (Some refusal) made = end (Refused refusal)
 
--- What the modules of a tree result in, where modules.builtin.modinfo was read: the two files, or a refusal. Else there are
--- no such files.
+-- What the modules of a tree result in, where modules.builtin.modinfo was read: the two files, or a
+-- refusal. Else there are no such files.
 unfoldable pub extra_outcome : List Facts → Option (List ℕ) → Outcome (Option ExtraFiles)
 extra_outcome tree info = unless_refused (extra_refusal (extra_made tree info)) (extra_made tree info)
 

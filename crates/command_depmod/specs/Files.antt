@@ -1,4 +1,5 @@
--- The files that `depmod` leaves: which there are, in which order, and what they have. depmod(8), modules.dep(5).
+-- The files that `depmod` leaves: which there are, in which order, and what they have. depmod(8),
+-- modules.dep(5).
 use Rattle.std.specs.Prelude.{ℕ, Bool, List, [], ◌∷◌, codes, Option, Some, None, if◌then◌else◌}
 use Rattle.depmod_core.specs.declared.file.OutputFile.TheVariants.{Dep, DepBin, Alias, AliasBin, Softdep, Symbols, SymbolsBin, BuiltinBin, Unmet}
 use Rattle.depmod_core.specs.Files.{content as usual_content, file_name as usual_name}

@@ -14,8 +14,8 @@ use Rattle.km_course.specs.Course.Outcome.{value, end}
 use Rattle.km_course.specs.declared.end.End.TheVariants.{Refused}
 use Rattle.km_course.specs.declared.refusal.Refusal.TheVariants.{BadModule, Compressed}
 
--- What the file of a module with this first failing test results in: the module's facts, or its refusal, which names its
--- path in the tree.
+-- What the file of a module with this first failing test results in: the module's facts, or its
+-- refusal, which names its path in the tree.
 unfoldable pub facts_outcome : List ℕ → List ℕ → Option ModuleFault → Outcome Facts
 facts_outcome path bytes None = value (facts_of path bytes)
 facts_outcome path bytes (Some fault) = end (Refused (BadModule path (module_fault_text fault)))

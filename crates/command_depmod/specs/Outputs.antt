@@ -16,18 +16,20 @@ use Rattle.command_depmod.specs.Extra.{extra_outcome, reads_info}
 use Rattle.command_depmod.specs.Files.{all_files, content, file_name, text_files}
 use Rattle.command_depmod.specs.Relation.{Tree}
 
--- what a fault of the files refuses; no files result in want of memory
+-- what a fault of the files refuses; no files result in out of memory
 abbrev pub output_refusal : OutputFault → Refusal
 output_refusal (faults.OutputTooLarge file length) = OutputTooLarge file
 output_refusal faults.Memory = InnerOutputFull
 
--- What a tree results in that has these files: they, or the refusal of the first that is too large, by its bare name.
+-- What a tree results in that has these files: they, or the refusal of the first that is too large,
+-- by its bare name.
 unfoldable pub outputs_outcome : Result OutputFiles OutputFault → Outcome OutputFiles
 outputs_outcome (Ok made) = value made
 outputs_outcome (Err fault) = end (Refused (output_refusal fault))
 
--- The files of a tree whose modules stand in the folder. Its modules.builtin is read, which counts as empty where it
--- isn't there, and with `--extra` its modules.builtin.modinfo. Then the nine files are checked, and then the two others.
+-- The files of a tree whose modules are in the folder. Its modules.builtin is read, which counts as
+-- empty if it is missing, and with `--extra` its modules.builtin.modinfo. Then the nine files are
+-- checked, and then the two others.
 abbrev pub makes_files : Bool → List ℕ → Tree → Stage DepmodFiles
 makes_files extra folder tree = do
   builtin ← reads_any (path_below folder (codes "modules.builtin"))
@@ -52,7 +54,8 @@ says_file made file = says_any (content made file)
 abbrev pub says_each : DepmodFiles → List DepmodFile → Stage ⊤
 says_each made files = each_from (λ _ file. says_file made file) tt files
 
--- With `-n` the text files are written to the output, and nothing is replaced; else all files are put into the folder.
+-- With `-n` the text files are written to the output, and nothing is replaced; else all files are
+-- put into the folder.
 abbrev pub hands_out : Bool → Bool → List ℕ → DepmodFiles → Stage ⊤
 hands_out extra dry_run folder made =
     when dry_run then says_each made (text_files extra) else puts_each folder made (all_files extra)

@@ -9,7 +9,7 @@ use Rattle.command_depmod.specs.Relation.{Tree}
 abbrev pub seen_tree : RelatedTree → Tree
 seen_tree t = record { facts = t.facts; kernel = kernel_of t.kernel }
 
--- Its facts are those of a tree, and its relation is that of the tree over its kernel.
+-- Its facts are facts of a tree, and its relation is the relation of that tree over its kernel.
 pub record IsRelated (t : RelatedTree) : Type 0 where
   pub tree : IsTree t.facts
   pub relation : IsRelation (modules_of t.facts) (kernel_of t.kernel) t.relation

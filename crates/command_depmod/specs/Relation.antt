@@ -1,4 +1,5 @@
--- The relation of a tree over a kernel, or what keeps it from having one. modules.dep(5), depmod(8).
+-- The relation of a tree over a kernel, or what keeps it from having one. modules.dep(5),
+-- depmod(8).
 use Rattle.std.specs.Prelude.{List, Option, Some, None}
 use Rattle.module_facts.specs.declared.facts.Facts.{Facts}
 use Rattle.symbol_binding.specs.Symbols.{Kernel}
@@ -19,7 +20,7 @@ pub record Tree : Type 0 where
   pub facts : List Facts
   pub kernel : Kernel
 
--- what keeps a tree from having a relation refuses it; that is never want of memory
+-- what keeps a tree from having a relation refuses it; that is never out of memory
 abbrev pub relation_refusal : RelationFault → Refusal
 relation_refusal (faults.Cycle names) = Cycle names
 relation_refusal (faults.TooManyDeps count) = TooManyDependencies

@@ -14,7 +14,7 @@ use Rattle.km_course.specs.declared.refusal.Refusal.TheVariants.{BadPath, TooMan
 use Rattle.km_course.specs.declared.stop.Stop.{Stop}
 use Rattle.km_course.specs.declared.stop.Stop.TheVariants.{Ended, Memory}
 
--- what a fault of a tree refuses; no tree results in want of memory
+-- what a fault of a tree refuses; no tree results in out of memory
 abbrev pub tree_refusal : TreeFault → Refusal
 tree_refusal (faults.BadPath path) = BadPath path
 tree_refusal (faults.TooManyModules count) = TooManyModules
@@ -31,16 +31,17 @@ unfoldable pub tree_outcome : Result (List (List ℕ)) TreeFault → Outcome (Li
 tree_outcome (Ok paths) = value paths
 tree_outcome (Err fault) = end (Refused (tree_refusal fault))
 
--- The paths of the tree in the folder, relative to it and in the order of the tree. The folder is listed, which is
--- needed, and then its modules.order is read, which counts as empty where it isn't there.
+-- The paths of the tree in the folder, relative to it and in the order of the tree. The folder is
+-- listed, which is needed, and then its modules.order is read, which counts as empty where it isn't
+-- there.
 abbrev pub reads_tree : List ℕ → List (List ℕ) → Stage (List (List ℕ))
 reads_tree folder search = do
   listed ← lists_tree folder
   order ← reads_any (path_below folder (codes "modules.order"))
   given (tree_outcome (tree_of listed order search))
 
--- What is known of the paths of a tree: there are at most 10,000, no two of modules of one name; each is a word of visible
--- characters, and has no `:`.
+-- What is known of the paths of a tree. There are at most 10,000, and no two are of modules of one
+-- name. Each is a word of visible characters, and has no `:`.
 pub record AreTreePaths (paths : List (List ℕ)) : Type 0 where
   pub few : length paths ≤ 10000
   pub distinct : AllPairs (λ (a b : List ℕ). module_name a ≡ module_name b → ⊥) paths

@@ -5,8 +5,8 @@ use Rattle.symbol_binding.specs.declared.unbound.Unbound.TheVariants.{Missing, G
 use Rattle.km_course.specs.Course.{Stage, gives, warns, each_from, when◌then◌else◌}
 use Rattle.km_course.specs.Lines.{line}
 
--- The line that warns of an obstacle: one of a symbol that nothing exports, and one of a version that differs, where
--- versions are known. The others are no warnings.
+-- The line that warns of an obstacle: one of a symbol that nothing exports, and one of a version
+-- that differs, where versions are known. The others are no warnings.
 abbrev pub warning_line : Bool → Unbound → Option (List ℕ)
 warning_line versions (Missing path symbol) =
     Some (line (codes "warning: " ++ (path ++ (codes " needs unknown symbol " ++ symbol))))
@@ -25,6 +25,6 @@ warns_any (Some text) = warns text
 abbrev pub warns_each : Bool → List Unbound → Stage ⊤
 warns_each versions obstacles = each_from (λ _ obstacle. warns_any (warning_line versions obstacle)) tt obstacles
 
--- The warnings, where they are asked for.
+-- The warnings, if they are asked for.
 abbrev pub warns_unmet : Bool → Bool → List Unbound → Stage ⊤
 warns_unmet errsyms versions obstacles = when errsyms then warns_each versions obstacles else gives tt

@@ -27,7 +27,7 @@ pub(crate) struct Wanted {
     dry_run: bool,
     /// Whether to warn of obstacles.
     errsyms: bool,
-    /// Whether the index of built-in aliases and the list of device nodes are wanted too.
+    /// Whether the index of built-in aliases and the list of device nodes are asked for too.
     extra: bool,
     /// Whether the kernel's versions are known, so that differing ones are warned of.
     versions: bool,

@@ -4,8 +4,8 @@
 //! kernel's table and each module in turn, relates them, and makes depmod's files. Nothing is
 //! written before the last check. It builds on `kmod_words` for what the words ask for, and on
 //! `stages_files` for the files that commands share. It builds on `mod_tree`, `module_facts` and
-//! `provider_rel` for the tree, and on `depmod_core` for its nine files. The two that `--extra` adds
-//! are made by `builtin_index` and `devname_nodes`.
+//! `provider_rel` for the tree, and on `depmod_core` for its nine files. The two that `--extra`
+//! adds are made by `builtin_index` and `devname_nodes`.
 #![tactic(auto)]
 
 mod course;

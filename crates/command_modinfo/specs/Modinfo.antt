@@ -14,8 +14,8 @@ use Rattle.stages_files.specs.ModuleFile.{reads_sections}
 use Rattle.command_modinfo.specs.ModuleInfo.{module_fields}
 use Rattle.stages_files.specs.KernelModules.{modules_folder, path_outcome, reads_modules}
 
--- What the words stand for: the names of modules of the kernel of this version below the root, where there is a
--- version. Its index is read once, before the first word. Else they are paths.
+-- What the words stand for. If there is a version, they are the names of modules of that kernel
+-- below the root, and its index is read once, before the first word. Otherwise they are paths.
 abbrev pub reads_source : Option (List ℕ) → List ℕ → Stage Source
 reads_source None root = gives Paths
 reads_source (Some version) root = do

@@ -7,12 +7,13 @@ use Rattle.elf_object.specs.Sections.{FileSections, bytes_of}
 use Rattle.modinfo_fields.specs.declared.piece.Field.{Field}
 use Rattle.modinfo_fields.specs.Fields.{fields_of}
 
--- the bytes of the first section of this name, or none where there is no such section
+-- the bytes of the first section of this name, or none if there is no such section
 abbrev pub bytes_if_any : List ℕ → Option Section → List ℕ
 bytes_if_any file None = []
 bytes_if_any file (Some section) = bytes_of file section
 
--- The bytes of the first section of this name, none where there is no such section. gABI 4, "Sections".
+-- The bytes of the first section of this name, or none if there is no such section. gABI 4,
+-- "Sections".
 unfoldable pub bytes_named : List ℕ → FileSections → List ℕ
 bytes_named name sections = bytes_if_any sections.file (find (λ s. bytes_eq s.name name) sections.list)
 

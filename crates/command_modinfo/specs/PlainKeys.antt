@@ -1,4 +1,5 @@
--- Keys whose values are those of the fields with that key. No public meaning rests on these definitions.
+-- Keys whose values are the values of the fields with that key. No public meaning rests on these
+-- definitions.
 use Rattle.std.specs.Prelude.{ℕ, ◌||◌, Bool, List, Option, Some, None, if◌then◌else◌, codes}
 use Rattle.std.specs.Str.{bytes_eq}
 

@@ -10,8 +10,9 @@ use modinfo_fields::{Field, FieldList, field_values, fields};
 use modinfo_tool::ShowOptions;
 use std::alloc::{AllocError, Global};
 
-/// Returns fields that decide what is shown of the module, from its first `.modinfo` section. For
-/// one key they needn't have those of others, since a section may have very many.
+/// Returns fields that decide what is shown of the module, from its first `.modinfo` section. If
+/// one key is asked for, the fields of other keys may be missing, since a section may have very
+/// many.
 pub(crate) fn fields_to_show(
     alloc: Global,
     sections: &Sections,

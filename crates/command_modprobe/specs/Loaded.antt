@@ -46,8 +46,8 @@ abbrev pub unless_install : Option (List ℕ) → List Insertion → Outcome (Li
 unless_install None inserts = value inserts
 unless_install (Some name) inserts = end (Refused (InstallChosen name))
 
--- What a plan that is to be loaded results in: the modules that its steps load, or the refusal of the first step that runs a
--- command.
+-- What a plan that is to be loaded results in: the modules that its steps load, or the refusal of
+-- the first step that runs a command.
 unfoldable pub inserts_outcome : List PlanStep → Outcome (List Insertion)
 inserts_outcome steps = unless_install (first (map command_owner steps)) (flat_map inserted steps)
 
@@ -55,7 +55,8 @@ inserts_outcome steps = unless_install (first (map command_owner steps)) (flat_m
 abbrev pub images_asked : ModprobeWords → Images
 images_asked asked = record { folder = asked.image; params = asked.params }
 
--- The listed modules go into the machine, the lines of the plan are said, and the modules of the plan are loaded.
+-- The listed modules go into the machine, the lines of the plan are printed, and the modules of the
+-- plan are loaded.
 abbrev pub loads_steps : List ℕ → Images → Known → Machine → List PlanStep → List Insertion → Stage ⊤
 loads_steps folder images known machine steps inserts = do
   listed ← loads_listed folder known.indexes.dep machine known.loaded

@@ -23,8 +23,8 @@ use Rattle.stages_known.specs.declared.known.Known.{Known}
 use Rattle.stages_known.specs.Known.{reads_known}
 use Rattle.command_modprobe.specs.Resolved.{names_asked}
 
--- Parameters for the module of the first word: the words after it with a space between each and the next; none where all
--- words are names.
+-- Parameters for the module of the first word: the words after it with a space between each and the
+-- next; none where all words are names.
 abbrev pub options_asked : ModprobeWords → List ℕ
 options_asked asked = if asked.all then [] else spaced (drop 1 asked.words)
 
@@ -46,12 +46,13 @@ abbrev pub plan_unless : Option Obstacle → List PlanStep → Outcome (List Pla
 plan_unless None steps = value steps
 plan_unless (Some obstacle) steps = end (Refused (Unplanned (obstacle_text obstacle)))
 
--- What a request results in, where these modules are loaded: its plan, or the refusal of its first obstacle.
+-- What a request results in, where these modules are loaded: its plan, or the refusal of its first
+-- obstacle.
 unfoldable pub plan_outcome : Known → List (List ℕ) → Request → Outcome (List PlanStep)
 plan_outcome known loaded request =
     plan_unless (obstacle_of (sources_with known loaded request) request) (plan_steps (sources_with known loaded request) request)
 
--- What follows a path in its line: the parameters after a space, where there are any.
+-- What follows a path in its line: the parameters after a space, if there are any.
 abbrev pub after_space : List ℕ → List ℕ
 after_space [] = []
 after_space (b ∷ bs) = 32 ∷ b ∷ bs

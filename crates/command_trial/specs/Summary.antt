@@ -1,4 +1,5 @@
--- What a trial says: five numbers, read off what its two commands left. The form is this project's own.
+-- What a trial says: five numbers, read off what its two commands left. The form is this project's
+-- own.
 use Rattle.std.specs.Prelude.{ℕ, ◌==◌, List, [], ◌∷◌, ◌++◌, length, codes, Option, Some, None, unwrap_or}
 use Rattle.std.specs.Fmt.{decimal}
 use Rattle.std.specs.List.{after_first, flat_map}
@@ -11,7 +12,7 @@ use Rattle.km_names.specs.Space.{first_word, words}
 use Rattle.km_outside.specs.Contents.{Contents, rest_after}
 use Rattle.km_course.specs.Inner.{Left}
 
--- the bytes of the file at the path, and none where nothing is there
+-- the bytes of the file at the path, or none if there is no file
 abbrev pub bytes_at : List ℕ → Contents → List ℕ
 bytes_at path files = unwrap_or (map.get files path) []
 
@@ -24,12 +25,13 @@ rest_if_any (Some rest) = rest ∷ []
 abbrev pub rests_of_lines : List ℕ → List ℕ → List (List ℕ)
 rests_of_lines start text = flat_map (λ line. rest_if_any (rest_after start line)) (lines_of text)
 
--- The paths after the colon of a line of modules.dep, which is a path, a colon, and the paths of those that it needs.
--- modules.dep(5).
+-- The paths after the colon of a line of modules.dep, which is a path, a colon, and the paths of
+-- those that it needs. modules.dep(5).
 abbrev pub paths_after_colon : List ℕ → List (List ℕ)
 paths_after_colon line = words (after_first (λ b. b == 58) line)
 
--- The dependencies that a modules.dep lists: the paths after the colons of all its lines. modules.dep(5).
+-- The dependencies that a modules.dep lists: the paths after the colons of all its lines.
+-- modules.dep(5).
 abbrev pub dependencies_in : List ℕ → List (List ℕ)
 dependencies_in text = flat_map paths_after_colon (lines_of text)
 
@@ -41,7 +43,8 @@ dependency_file = codes "/t/lib/modules/trial/modules.dep"
 unfoldable pub dependencies_left : Contents → ℕ
 dependencies_left files = length (dependencies_in (bytes_at dependency_file files))
 
--- Where the image of a module stands that a line says was loaded: its name is the first word that follows `loaded `.
+-- The path of the image of a module that a line reports as loaded: its name is the first word that
+-- follows `loaded `.
 abbrev pub image_path : List ℕ → List ℕ
 image_path rest = path_below (codes "/t/img") (first_word rest ++ codes ".img")
 
@@ -49,7 +52,8 @@ image_path rest = path_below (codes "/t/img") (first_word rest ++ codes ".img")
 abbrev pub images_of : Contents → List (List ℕ) → List ℕ
 images_of files rests = flat_map (λ rest. bytes_at (image_path rest) files) rests
 
--- The modules that an output of modprobe plans, and those that it says were loaded: what follows the word in each line.
+-- The modules that an output of modprobe plans, and those that it says were loaded: what follows
+-- the word in each line.
 abbrev pub planned : List ℕ → List (List ℕ)
 planned out = rests_of_lines (codes "insmod ") out
 
@@ -61,9 +65,10 @@ loaded out = rests_of_lines (codes "loaded ") out
 abbrev pub stated : List ℕ → List ℕ → List ℕ
 stated what shown = what ++ (codes " " ++ (shown ++ 10 ∷ []))
 
--- The five lines of a trial of so many modules with so many dependencies: how many modules and dependencies there are, how
--- many modules modprobe planned and loaded, and the digest of all images in the order of the loads, in hexadecimal digits.
--- SHA-256 is that of FIPS 180-4.
+-- The five lines of a trial of so many modules with so many dependencies:
+-- - how many modules and how many dependencies there are;
+-- - how many modules modprobe planned, and how many it loaded;
+-- - the SHA-256 of all images in the order of the loads, in hexadecimal digits. FIPS 180-4.
 unfoldable pub summary : ℕ → ℕ → Left → List ℕ
 summary modules dependencies left =
     stated (codes "modules") (decimal modules)

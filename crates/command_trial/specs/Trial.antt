@@ -1,5 +1,5 @@
--- The course of `trial`: a tree is made, indexed and loaded, and what came of it is said. The command is this project's
--- own.
+-- The course of `trial`: a tree is made, indexed and loaded, and a summary is printed. The command
+-- is this project's own.
 use Rattle.std.specs.Prelude.{ℕ, List, Option, Some, None, ⊤}
 use Rattle.km_outside.specs.Contents.{Contents}
 use Rattle.km_course.specs.Course.{Stage, ◌>>=◌, ends, says}
@@ -25,7 +25,8 @@ indexes_made files = inner inner_room (depmod_course depmod_words) files
 abbrev pub loads_made : ℕ → Contents → Stage Left
 loads_made count files = inner inner_room (modprobe_course (modprobe_words count)) files
 
--- The course of a request: the tree is made and indexed, its modules are loaded, and the summary is said.
+-- The course of a request: the tree is made and indexed, its modules are loaded, and the summary is
+-- printed.
 abbrev pub tries : TrialWords → Stage ⊤
 tries asked = do
   indexed ← indexes_made (trial_contents asked.seed asked.count)
@@ -37,6 +38,7 @@ abbrev pub trial_asked_for : Option TrialWords → Stage ⊤
 trial_asked_for None = ends NotUnderstood
 trial_asked_for (Some asked) = tries asked
 
--- The course of `trial` with these words after it. No act but the summary is done on the objects outside.
+-- The course of `trial` with these words after it. No act but the summary is done on the objects
+-- outside.
 abbrev pub trial_course : List (List ℕ) → Stage ⊤
 trial_course words = trial_asked_for (trial_request words)

@@ -7,7 +7,8 @@ use Rattle.tree_gen.specs.Trial.{name_of}
 unfoldable pub depmod_words : List (List ℕ)
 depmod_words = codes "-b" ∷ codes "/t" ∷ codes "-E" ∷ codes "/t/Module.symvers" ∷ codes "trial" ∷ []
 
--- The options of the `modprobe` that loads the modules of the made tree and puts their images into a folder.
+-- The options of the `modprobe` that loads the modules of the made tree and puts their images into
+-- a folder.
 unfoldable pub modprobe_options : List (List ℕ)
 modprobe_options =
     codes "-a" ∷ codes "-d" ∷ codes "/t" ∷ codes "-S" ∷ codes "trial"

@@ -25,7 +25,7 @@ abbrev pub c_ko : Facts
 c_ko = plain (codes "kernel/c.ko") (codes "c")
 
 -- A module with two aliases, one of them without a normal form, with four softdeps, only one of
--- which can be used, and with an export.
+-- them usable, and with an export.
 abbrev pub x_ko : Facts
 x_ko = record (plain (codes "kernel/x.ko") (codes "x")) {
   aliases = codes "pci-x:v0000[!a-f]d*" ∷ codes "bad[x" ∷ [];

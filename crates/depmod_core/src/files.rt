@@ -17,7 +17,8 @@ use km_names::Blob;
 use provider_rel::{Relation, TreeFacts};
 use std::alloc::Global;
 
-/// The contents of the files that depmod makes, in the order in which they are replaced. modules.dep(5), depmod(8).
+/// The contents of the files that depmod makes, in the order in which they are replaced.
+/// modules.dep(5), depmod(8).
 #[derive(Debug, Drop)]
 pub struct OutputFiles {
     /// modules.dep: for each module the modules on which it depends.
@@ -97,8 +98,8 @@ fn make(
 ///
 /// # Errors
 ///
-/// `OutputTooLarge` if a file would have more than 67,108,864 bytes, with the name of the first
-/// such file in the order of [`OutputFiles`], and how many bytes it would have. That is known
+/// `OutputTooLarge` if a file would have more than 67,108,864 bytes. It has the name of the first
+/// such file in the order of [`OutputFiles`], and how many bytes the file would have. That is known
 /// before the bytes of the file are written. Or `Memory`.
 #[tactic(auto, using(crate::proofs::FileSteps::closures_long))]
 pub fn outputs(

@@ -30,7 +30,8 @@ pub(crate) enum Kind {
     Symbol,
 }
 
-/// What a module states once: the text, and the key by which its kind's index has it, if it has it. Contracts see the two.
+/// What a module states once: the text, and the key by which its kind's index has it, if it has it.
+/// Contracts see the two.
 #[derive(Drop)]
 pub(crate) struct Statement<'a> {
     text: &'a [u8],
@@ -45,7 +46,8 @@ impl<'a> Model for Statement<'a> {
     ghost view = { λ s. (s.text.now, s.key) };
 }
 
-/// An alias with its normal form, where it can be used: it is a word of visible characters, and has a normal form.
+/// Returns an alias with its normal form, if it can be used: it is a word of visible characters,
+/// and has a normal form.
 #[tactic(auto, unfolding(crate::specs::Stated::is_usable_alias))]
 fn usable_alias(alloc: Global, alias: &[u8]) -> Result<Option<Statement<'_>>, AllocError>
     ensures { IfOk result (λ found. found ≡ (if is_usable alias.now then Some (statement Kind.Alias alias.now) else None)) }
@@ -74,8 +76,8 @@ fn is_spaces(text: &[u8]) -> bool
     text.iter().all(|b| *b == b' ')
 }
 
-/// Whether the text of a softdep can be used. It has only visible characters and spaces, at least
-/// one character that isn't a space, and no mark of continuation at its end.
+/// Returns whether the text of a softdep can be used. It has only visible characters and spaces, at
+/// least one character that isn't a space, and no mark of continuation at its end.
 #[tactic(auto, unfolding(crate::specs::Stated::is_usable_softdep))]
 fn is_usable_softdep(text: &[u8]) -> bool
     ensures { result ≡ is_usable_text text.now }
@@ -145,7 +147,7 @@ fn stated_by(alloc: Global, kind: Kind, facts: &Facts) -> Result<Vec<Statement<'
     }
 }
 
-/// What the modules of a tree state of a kind.
+/// Collects what the modules of a tree state of a kind.
 fn all_stated(
     alloc: Global,
     kind: Kind,
@@ -180,7 +182,7 @@ impl<'a> AllStated<'a> {
         })
     }
 
-    /// What the modules state of a kind.
+    /// Returns what the modules state of a kind.
     fn of(&self, kind: Kind) -> &[Vec<Statement<'a>>]
         ensures { (tree : List TreeModule) → AreAllStated tree self.now → AreStated kind tree result.now }
     {
@@ -288,8 +290,8 @@ fn add_values(
     Ok(())
 }
 
-/// The map of a kind's index: from the key of what is stated to the name of the module that does, the priority its place
-/// in the tree. depmod(8).
+/// Makes the map of a kind's index. Its keys are what is stated, and its values are the names of
+/// the modules that state it. The priority of a value is the module's place in the tree. depmod(8).
 pub(crate) fn stated_map(
     alloc: Global,
     kind: Kind,

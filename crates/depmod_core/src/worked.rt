@@ -6,8 +6,8 @@ ghost use Rattle.depmod_core.specs.Stated.{alias_text, softdep_text, symbols_tex
 ghost use Rattle.depmod_core.specs.BuiltIn.{built_in_names};
 ghost use Rattle.depmod_core.specs.Worked.{a_ko, b_ko, c_ko, x_ko};
 
-/// States the texts of small trees: one of three modules, each of which depends on those before it,
-/// and one of a module that states something.
+/// States the texts of small trees: one of three modules that each depend on those before it, and
+/// one of a module that states something.
 #[tactic(auto, unfolding(crate::specs::Dependencies::dep_text, crate::specs::Stated::alias_text, crate::specs::Stated::softdep_text, crate::specs::Stated::symbols_text, crate::specs::Stated::is_usable_alias, crate::specs::Stated::is_usable_softdep, crate::specs::BuiltIn::built_in_names, km_names::specs::Ascii::is_graphic, km_names::specs::AliasForm::normal_alias, km_names::specs::Lines::lines_of))]
 pub fn texts_of_small_trees()
     ensures dep { dep_text (a_ko ∷ b_ko ∷ c_ko ∷ []) ([] ∷ (0 ∷ []) ∷ (0 ∷ 1 ∷ []) ∷ [])
@@ -18,7 +18,7 @@ pub fn texts_of_small_trees()
     ensures built_in { built_in_names (codes "kernel/lib/b-c.ko\n\nkernel/b_c.ko\nkernel/d.ko") ≡ codes "b_c" ∷ codes "d" ∷ [] }
 {}
 
-/// States the map of modules.dep.bin for two modules, one of which depends on the other.
+/// States the map of modules.dep.bin for two modules, one depending on the other.
 pub fn index_of_a_small_tree()
     ensures { dep_map (a_ko ∷ b_ko ∷ []) ([] ∷ (0 ∷ []) ∷ []) ≡ two_modules }
 {}

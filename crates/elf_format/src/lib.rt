@@ -1,5 +1,5 @@
-//! The numbers of relocatable object files of x86-64, under the names of the standard. They are
-//! those of the file header, of sections and symbols, and of relocations with the widths of what
+//! The numbers of relocatable object files of x86-64, under the names of the standard. They are the
+//! numbers of the file header, of sections and symbols, and of relocations with the widths of what
 //! they change.
 //!
 //! Readers, writers and loaders of object files all cite these, in code and in contracts, so that

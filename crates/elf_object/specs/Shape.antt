@@ -37,9 +37,9 @@ name_table b = le b 62 2
 unfoldable pub is_class : List ℕ → Bool
 is_class b = slice_index b 4 == 2 && slice_index b 5 == 1 && slice_index b 6 == 1 && le b 20 4 == 1
 
--- Whether the numbers of the section header table are valid. Its entries have 64 bytes, there is at
--- least one and none with a reserved number, and the names are in a section other than the first.
--- gABI 4, "ELF Header", e_shentsize.
+-- Whether the numbers of the section header table are valid. Its entries have 64 bytes. There is at
+-- least one, and none with a reserved number. The names are in a section other than the first. gABI
+-- 4, "ELF Header", e_shentsize.
 unfoldable pub is_table : List ℕ → Bool
 is_table b =
     le b 58 2 == 64 && nat_lt 0 (section_count b) && nat_lt (section_count b) 0xff00 && nat_lt 0 (name_table b)

@@ -2,17 +2,17 @@
 //! places that its relocations change.
 //!
 //! `Sections::read` and `Object::read` keep the bytes that they get. A contract sees the file
-//! beside the lists that were read from it, and these are functions of the file: each number is the
-//! sum of its bytes at a computed place, and each name the bytes up to its NUL. Every refusal is
+//! beside the lists that were read from it, which are functions of the file. Each number is the sum
+//! of its bytes at a computed place, and each name has the bytes up to its NUL. Every refusal is
 //! the first failing test of one list of tests over the whole file, with its numbers. Only out of
 //! memory is free.
 //!
-//! A file may come from anywhere, so what may overlap in it is added up before it is kept: names
-//! share their bytes, and so do tables of relocations. The names of the sections together, and the
-//! names of the symbols together, have at most [`NAME_LIMIT`] bytes, and the tables no more than a
-//! file may have. Otherwise the answer is out of memory, before more than that was searched or
-//! copied. Time is linear in the file and those bytes, except for sorting places that aren't in
-//! order.
+//! A file may come from anywhere, and names may share their bytes in it, as may tables of
+//! relocations. So what may overlap is added up before it is kept. The names of the sections have
+//! at most [`NAME_LIMIT`] bytes together, and so have the names of the symbols. The tables have no
+//! more than a file may have. Otherwise the answer is out of memory, before more than that was
+//! searched or copied. Time is linear in the file and those bytes, except for sorting places that
+//! aren't in order.
 //!
 //! An `ObjectView` shows a file that passed the same tests to readers that don't load it: names
 //! stay in the file, and the places are tested and not kept.

@@ -31,7 +31,7 @@ pub struct Section {
     pub info: u32,
     /// The alignment of its place in memory; 0 counts as 1.
     pub align: u64,
-    /// Whether it is in the memory of the running module: it is a section, has the flag ALLOC, and
+    /// Whether it is in the memory of the running module. It is a section, has the flag ALLOC, and
     /// isn't only for loading, as the module's texts and the versions of its needs are.
     pub kept: bool,
 }

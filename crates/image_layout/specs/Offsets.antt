@@ -1,5 +1,5 @@
 -- The places of a module's sections in its image. gABI 4, "Sections", sh_addralign and sh_flags.
--- The three classes are those of the kernel's layout_sections, kernel/module/main.c. That each
+-- The three classes are the ones of the kernel's layout_sections, kernel/module/main.c. That each
 -- begins at a page is this project's choice.
 use Rattle.std.specs.Prelude.{ℕ, ◌+◌, ◌-◌, ◌*◌, ◌/◌, ◌==◌, ◌&&◌, nat_lt, not, Bool, true, false, if◌then◌else◌, List, [], ◌∷◌, map, length, filter, take, bit_and, slice_get}
 use Rattle.std.specs.List.{range_with_len}
@@ -61,8 +61,8 @@ class_start sections Variable = variable_start sections
 abbrev pub class_end : List Section → Class → ℕ
 class_end sections class = end_of (class_start sections class) (of_class class sections)
 
--- The place of a section after these sections, which are the first of all: after those of them that
--- are in its class.
+-- The place of a section after these sections, which are the first of all: it is after the ones of
+-- its class.
 unfoldable pub offset_after : List Section → List Section → Section → ℕ
 offset_after sections before s =
     aligned (end_of (class_start sections (class_of s)) (of_class (class_of s) before)) s.align

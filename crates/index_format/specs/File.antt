@@ -1,4 +1,4 @@
--- The bytes of an index, as kmod's depmod writes them: children before their parent, in rising
+-- The bytes of an index, as kmod's depmod writes them. Children come before their parent, in rising
 -- order of their bytes, each with all that is below it. kmod's index format 2.1.
 use Rattle.std.specs.Prelude.{ℕ, ◌+◌, ◌-◌, ◌==◌, List, [], ◌∷◌, ◌++◌, length, if◌then◌else◌}
 use Rattle.std.specs.List.{flat_map}
@@ -56,8 +56,8 @@ pub record Written : Type 0 where
   pub bytes : List ℕ
   pub links : Links
 
--- Nodes side by side with all that is below them, written from a place on: first what is below the
--- first one, then the first one itself, and then the nodes beside it.
+-- Nodes side by side with all that is below them, written from a place on. First comes what is
+-- below the first one, then the first one itself, and then the nodes beside it.
 unfoldable pub written : ℕ → Forest → Written
 written start End = record { bytes = []; links = [] }
 written start (Branch byte prefix values below beside) =

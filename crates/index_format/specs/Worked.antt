@@ -20,7 +20,7 @@ no_keys_file = head ++ (0 ∷ 0 ∷ 0 ∷ 0x0c ∷ [])
 abbrev pub one : List ℕ → ℕ → List ℕ → Entry
 one key priority text = (key, (priority, text) ∷ [])
 
--- Five keys, one of which begins others. Each has the text "x".
+-- Five keys; "on" begins two of the others. Each has the text "x".
 abbrev pub five_entries : List Entry
 five_entries =
     one (codes "ask") 0 (codes "x")
@@ -54,7 +54,7 @@ five_keys_file =
     ++ (0 ∷ 0 ∷ 0 ∷ 0 ∷ 0 ∷ 0 ∷ 0 ∷ 0 ∷ 0 ∷ 0 ∷ 0 ∷ 0 ∷ 0 ∷ 0 ∷ 0 ∷ 0 ∷ 0 ∷ 0 ∷ 0 ∷ 0 ∷ 0 ∷ 0 ∷ 0 ∷ 0 ∷ 0 ∷ 0 ∷ [])
     ++ (0xe0 ∷ 0 ∷ 0 ∷ 0x44 ∷ [])
 
--- Two modules, one of which depends on the other, with their lines of modules.dep.
+-- Two modules, one depending on the other, with their lines of modules.dep.
 abbrev pub two_modules_entries : List Entry
 two_modules_entries =
     one (codes "a") 0 (codes "kernel/a.ko:")

@@ -47,8 +47,8 @@ with_one es key v = put (slice_cmp nat_cmp) key (place (found es key) v) es
 abbrev pub IsStorable : Value → Type 0
 IsStorable v = (v.0 < 2 ^ 32) × IsText v.1
 
--- An entry that the lists can have: a key of the allowed bytes, and at least one value, all of
--- which a file can have.
+-- An entry that the lists can have. Its key has the allowed bytes, and it has at least one value. A
+-- file can have all its values.
 pub record IsStorableEntry (e : Entry) : Type 0 where
   pub key : IsKey e.0
   pub some : 0 < length e.1

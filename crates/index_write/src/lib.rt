@@ -1,9 +1,9 @@
 //! The writer of module indexes: a map from keys to values, and its file in kmod's index format
 //! 2.1.
 //!
-//! The crate uses `km_names` and the definitions of `index_format`: the bytes written are the file
-//! of the map by that format, and a reader of the format finds in them each key's values and
-//! nothing else.
+//! The crate uses `km_names` and the definitions of `index_format`. The bytes written are the file
+//! of the map by that format. A reader of the format finds in them each key's values and nothing
+//! else.
 #![tactic(auto)]
 
 mod bytes;

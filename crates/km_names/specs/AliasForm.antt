@@ -7,7 +7,7 @@ use Rattle.km_names.specs.Path.{underscored}
 abbrev pub opens : List ℕ → Bool
 opens part = list_any (λ b. b == 91) part
 
--- Whether brackets pair in a text that was cut at each `]`: each part but the last has a `[`, which
+-- Whether brackets pair in a text that was cut at each `]`. Each part but the last has a `[`, which
 -- the `]` after it closes, and the last has none.
 abbrev pub brackets_pair : List (List ℕ) → Bool
 brackets_pair [] = true

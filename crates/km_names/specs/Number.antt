@@ -1,8 +1,8 @@
 -- Numbers as files have them: bytes at a place, the lowest or the highest first.
 use Rattle.std.specs.Prelude.{ℕ, zero, suc, ◌+◌, ◌*◌, ◌^◌, List, slice_index, nat_lt, ℤ, pos, ◌-ℤ◌, if◌then◌else◌}
 
--- The number in the n bytes from place o of b, the lowest first: the sum of b[o + i] * 256^i over i
--- below n. gABI 4, "Data Encoding", ELFDATA2LSB.
+-- The number in the n bytes from place o of b, the lowest first. It is the sum of b[o + i] * 256^i
+-- over i below n. gABI 4, "Data Encoding", ELFDATA2LSB.
 unfoldable pub le : List ℕ → ℕ → ℕ → ℕ
 le b o zero = 0
 le b o (suc n) = le b o n + slice_index b (o + n) * 256 ^ n

@@ -1,5 +1,6 @@
--- What a depmod with `--extra` leaves: the index of the aliases of built-in modules, and the device nodes of the tree's
--- modules. modprobe.d(5), "alias"; kmod(8), "static-nodes". The option is this project's own.
+-- What a depmod with `--extra` leaves: the index of the aliases of built-in modules, and the device
+-- nodes of the tree's modules. modprobe.d(5), "alias"; kmod(8), "static-nodes". The option is this
+-- project's own.
 use Rattle.std.specs.Prelude.{◌≡◌, ◌≤◌, ℕ, true, false, List, length, codes, Some, Ok}
 use Rattle.km_names.specs.Limit.{file_limit}
 use Rattle.km_names.specs.Path.{path_below}
@@ -19,23 +20,25 @@ use Rattle.command_depmod.specs.Depmod.{modules_of_request, target_of_request}
 use Rattle.laws_indexed_folder.specs.Indexed.{HasFile}
 use Rattle.laws_depmod_leaves.specs.Comes.{IsRead}
 
--- The index of built-in aliases stands in a folder: a file that no reader refuses and that holds exactly the map of the
--- aliases that a modules.builtin.modinfo with these bytes states.
+-- A folder has the index of built-in aliases. No reader refuses this file, and it holds exactly the
+-- map of the aliases that a modules.builtin.modinfo with these bytes states.
 pub record HasAliases (left : Contents) (folder info : List ℕ) : Type 0 where
   pub bytes : List ℕ
   pub there : HasFile left (path_below folder (codes "modules.builtin.alias.bin")) bytes
   pub small : length bytes ≤ file_limit
   pub holds : Holds bytes (alias_map info)
 
--- The list of device nodes stands in a folder: it is read back as the nodes of these modules, in their order.
+-- A folder has the list of device nodes. It is read back as the nodes of these modules, in their
+-- order.
 pub record HasNodes (left : Contents) (folder : List ℕ) (tree : List Facts) : Type 0 where
   pub bytes : List ℕ
   pub there : HasFile left (path_below folder (codes "modules.devname")) bytes
   pub small : length bytes ≤ file_limit
   pub reads : (path : List ℕ) → read_of path bytes ≡ Ok (nodes_of tree)
 
--- Over the first files a request for both found this modules.builtin.modinfo, which counts as empty if there is none, and
--- this tree of valid modules. In the others both files stand in its target folder, of what it found.
+-- Over the first files a request for both found this modules.builtin.modinfo, which counts as empty
+-- if there is none, and this tree of valid modules. In the others its target folder has both files,
+-- made of what it found.
 pub record LeavesExtra (asked : DepmodWords) (held left : Contents) : Type 0 where
   pub info : List ℕ
   pub found : ((reads_any (path_below (modules_of_request asked) (codes "modules.builtin.modinfo"))).run held).outcome ≡ value info
@@ -45,8 +48,8 @@ pub record LeavesExtra (asked : DepmodWords) (held left : Contents) : Type 0 whe
   pub read : IsRead held asked tree table
   pub nodes : HasNodes left (target_of_request asked) tree
 
--- depmod with these words after its name, where files and outputs tell what they hold: if it was asked for both files, replaces
--- files, and answered status 0, it left them.
+-- depmod with these words after its name, over files and outputs with known contents. If it was
+-- asked for both files, replaces files, and answered status 0, it left them.
 abbrev pub Extra : List (List ℕ) → World → World → ℕ → Type 0
 Extra words old new status =
     (shown : Shown) → Tells old shown →

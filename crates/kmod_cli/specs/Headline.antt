@@ -1,6 +1,6 @@
--- The headline: while tree and kernel stand as depmod indexed them, no install command is chosen
--- and the listed modules load, the modules that modprobe plans, loaded, bind; and what it prints
--- and writes is of these loads. modprobe(8), depmod(8).
+-- The headline: what modprobe loads binds, and it prints and writes the lines and images of these
+-- loads. Its premises are that tree and kernel are as depmod indexed them, that no install command
+-- is chosen, and that the listed modules load. modprobe(8), depmod(8).
 use Rattle.std.specs.Prelude.{◌≡◌, ◌<◌, ◌≤◌, ℕ, Bool, true, All, List, [], ◌∷◌, ◌++◌, length, take, reverse, flat_map, codes, Option, Some, None, Ok, Err}
 use Rattle.std.specs.FinMap.{insert}
 use Rattle.km_names.specs.Path.{path_below}
@@ -41,9 +41,12 @@ use Rattle.kmod_cli.specs.CameTo.{CameTo}
 abbrev pub folder_asked : ModprobeWords → List ℕ
 folder_asked asked = modules_folder asked.dirname asked.version
 
--- What a load is about: the modules that were indexed, over which kernel and built-in modules; that
--- kernel with addresses, and the region; what is known of the folder and the configuration; the
--- machine after the listed modules; the plan, and what its steps load.
+-- What a load is about:
+-- - the modules that were indexed, over which kernel and built-in modules;
+-- - that kernel with addresses, and the region;
+-- - what is known of the folder and the configuration;
+-- - the machine after the listed modules;
+-- - the plan, and what its steps load.
 pub record Loading : Type 0 where
   pub tree : List Facts
   pub indexed : Kernel
@@ -55,7 +58,7 @@ pub record Loading : Type 0 where
   pub steps : List PlanStep
   pub inserts : List Insertion
 
--- Tree and kernel stand as indexed, no install command is chosen, and the listed modules load.
+-- Tree and kernel are as indexed, no install command is chosen, and the listed modules load.
 pub record StandsAsIndexed (held : Contents) (asked : ModprobeWords) (l : Loading) : Type 0 where
   -- a load is asked for
   pub mode : asked.mode ≡ Load
@@ -67,7 +70,7 @@ pub record StandsAsIndexed (held : Contents) (asked : ModprobeWords) (l : Loadin
   -- modules load
   pub came : CameToLoads held (folder_asked asked) asked.config asked.loaded (request_of asked) l.kernel l.region l.known l.listed l.steps l.inserts
 
--- ---- how far the loads of a plan go, by the machine and the options alone
+-- ---- how far the loads of a plan go, only by the machine and the options
 
 -- Why no more modules go into a machine, where these went in and these are left of the plan; with
 -- the status, and the line on err.
@@ -79,8 +82,8 @@ pub data IsEndOfPlan (params : Bool) (machine : Machine) : List WentIn → List 
   -- only with `--params`: the options of the last one that went in can't be written
   unwritten : (went : List WentIn) → All (AreWritable params) went → (last : WentIn) → params ≡ true → (ms : List Module) (fault : ParamFault) → fault_of last ≡ Some fault → IsEndOfPlan params machine (went ++ last ∷ []) ms 1 (line (last.entry.loaded.name ++ (codes ": " ++ param_fault_text fault)))
 
--- What loading a plan results in, whose steps load this, after listed modules were loaded and this was
--- the machine; with `--params` or without.
+-- What loading a plan results in, whose steps load this, after listed modules were loaded and this
+-- was the machine; with `--params` or without.
 pub record ComesTo (params : Bool) (inserts : List Insertion) (start : Machine) (listed plan : List Module) : Type 0 where
   -- the first modules of the plan go in, one after the other, and the others are left
   pub went : List WentIn
@@ -91,8 +94,8 @@ pub record ComesTo (params : Bool) (inserts : List Insertion) (start : Machine) 
   pub in_steps : inserts ≡ inserts_of went ++ later
   pub machine : Machine
   pub loads : load_all start (modules_of went) ≡ Ok machine
-  -- all that is loaded is bound: each strong need to an agreeing export that stands before it, and
-  -- words have the values of the ABI; the images lie apart in the region
+  -- all that is loaded is bound: each strong need to an agreeing export that comes before it. Words
+  -- have the values of the ABI. The images are in the region, and no two share a byte
   pub sound : IsSound machine (listed ++ modules_of went)
   -- each that goes in has one entry more, with its image
   pub newer : machine.entries ≡ start.entries ++ entries_of went
@@ -103,13 +106,13 @@ pub record ComesTo (params : Bool) (inserts : List Insertion) (start : Machine) 
 
 -- ---- what is printed and written of them
 
--- What is shown of the loads: the image of each entry; and with `--params`, after that of each, the
--- finished image, in which options stand as they state their parameters, where they can be written.
+-- What is shown of the loads: the image of each entry. With `--params` the finished image follows
+-- it, in which the parameters have the values that the options state, if they can be written.
 abbrev pub images_shown : ModprobeWords → List WentIn → List ShownImage
 images_shown asked went = all_images asked.params went
 
--- The files with each of these images in the folder for images, if one is named: that of an entry
--- under the name of its module, and the finished one with `.params` after the name.
+-- The files with each of these images in the folder for images, if one is named. An entry's image
+-- has the name of its module, and the finished one has `.params` after the name.
 abbrev pub with_images : Option (List ℕ) → List ShownImage → Contents → Contents
 with_images None ss files = files
 with_images (Some images) [] files = files
@@ -120,8 +123,8 @@ with_images (Some images) (s ∷ ss) files =
 abbrev pub printed : ModprobeWords → Loading → List ShownImage → List ℕ
 printed asked l ss = plan_lines (folder_asked asked) l.steps ++ flat_map (λ (s : ShownImage). s.line) ss
 
--- What is known after these images were shown and this line was written on err, but for the count of
--- calls on files.
+-- What is known after these images were shown and this line was written on err, but for the count
+-- of calls on files.
 abbrev pub told_after : ModprobeWords → Loading → List ShownImage → List ℕ → Shown → Shown
 told_after asked l ss err_line shown = record {
   files = with_images asked.image ss shown.files;
@@ -142,27 +145,28 @@ pub record IsFirstPart (asked : ModprobeWords) (l : Loading) (ss : List ShownIma
 
 -- ---- the headline
 
--- What modprobe did over files and outputs with these known contents: it left new and answered this status.
+-- What modprobe did over files and outputs with these known contents: it left new and answered this
+-- status.
 pub record LoadsBind (asked : ModprobeWords) (l : Loading) (shown : Shown) (old new : World) (status : ℕ) : Type 0 where
-  -- the listed modules, oldest first, are loaded: each is all of a valid file, that at the first
+  -- the listed modules, oldest first, are loaded: each is all of a valid file, the one at the first
   -- path of its dependency line
   pub listed : List Module
   pub listed_paths : List (List ℕ)
   pub listed_lines : AreListedPaths l.known.indexes.dep (reverse l.known.loaded) listed_paths
   pub listed_files : AreFileModules shown.files (folder_asked asked) listed_paths listed
   pub listed_load : IsLoaded l.kernel l.region listed l.listed
-  -- each module of the plan is all of a valid file, that at the path of its step; and they bind, as
-  -- far as they load
+  -- each module of the plan is all of a valid file, the one at the path of its step; and they bind,
+  -- as far as they load
   pub plan : List Module
   pub plan_files : AreFileModules shown.files (folder_asked asked) (paths_of l.inserts) plan
   pub loads : ComesTo asked.params l.inserts l.listed listed plan
-  -- the status is that of these loads, and never 2: their images are put, the lines of the plan
-  -- and theirs are printed, a refusal has its line on err, and all else is as it was; or a first
-  -- part of this was done, for a failed call on files or outputs, or for want of memory
+  -- the status is the one of these loads, and never 2. Their images are put, the lines of the plan
+  -- and of the loads are printed, a refusal has its line on err, and all else is as it was. Or a
+  -- first part of this was done, because a call on files or outputs failed, or memory ran out
   pub call : CameTo loads.status (told_after asked l (images_shown asked loads.went) loads.err_line shown) (IsFirstPart asked l (images_shown asked loads.went) shown) old new status
 
--- The headline, of modprobe with these words after its name, where files and outputs tell what they
--- hold.
+-- The headline, of modprobe with these words after its name, over files and outputs with known
+-- contents.
 abbrev pub Headline : List (List ℕ) → World → World → ℕ → Type 0
 Headline words old new status =
     (shown : Shown) → Tells old shown →

@@ -1,6 +1,6 @@
--- depmod's half of the headline: the files that it leaves are exactly those of the tree in the folder, over the kernel's
--- table that is named, and they decode; or it names the first bad module or the cycle, and leaves files as they were.
--- depmod(8), modules.dep(5).
+-- depmod's half of the headline. The files that it leaves are exactly the files of the tree in the
+-- folder, over the kernel's table that is named, and they decode. Or it names the first bad module
+-- or the cycle, and leaves files as they were. depmod(8), modules.dep(5).
 use Rattle.std.specs.Prelude.{◌≡◌, ℕ, List, [], ◌++◌, take, flat_map, Some, None, is_some, if◌then◌else◌}
 use Rattle.km_course.specs.Carries.{line_bytes}
 use Rattle.km_course.specs.Course.{Outcome}
@@ -23,7 +23,8 @@ use Rattle.kmod_cli.specs.Plans.{IsPrintedPart}
 
 -- ---- what is replaced and printed
 
--- The files that are replaced, in their order: all, which are nine, or eleven with `--extra`; or none with `-n`.
+-- The files that are replaced, in their order: all, which are nine, or eleven with `--extra`; or
+-- none with `-n`.
 abbrev pub files_replaced : DepmodWords → List DepmodFile
 files_replaced asked = if asked.dry_run then [] else all_files asked.extra
 
@@ -42,13 +43,14 @@ warnings asked i =
 
 -- ---- what the call results in
 
--- The status: 0 of an index, else that of the end.
+-- The status: 0 of an index, else the status of the end.
 abbrev pub status_of : Outcome IndexedTree → ℕ
 status_of (value i) = 0
 status_of (end e) = end_status e
 
--- What is told then, but for the count of calls on files: the files of the index stand in the target folder, each whole, or
--- their texts are printed; or the line of the end is on err. All else is as it was.
+-- What files and outputs then have, whatever the count of calls on files is. The target folder has
+-- the files of the index, each whole, or their texts are printed; or the line of the end is on err.
+-- All else is as it was.
 abbrev pub told_of : DepmodWords → Outcome IndexedTree → Shown → Shown
 told_of asked (value i) shown = record {
   files = with_files (target_of_request asked) (made_of i) (files_replaced asked) shown.files;
@@ -58,7 +60,8 @@ told_of asked (value i) shown = record {
 }
 told_of asked (end e) shown = record shown { err = shown.err ++ end_line e }
 
--- So many of the files of an index were replaced, the first ones, each whole; and so many bytes printed.
+-- So many of the files of an index were replaced, the first ones, each whole; and so many bytes
+-- printed.
 pub record IsReplacedPart (asked : DepmodWords) (i : IndexedTree) (shown : Shown) (new : World) : Type 0 where
   pub count : ℕ
   pub bytes : ℕ
@@ -70,17 +73,20 @@ abbrev pub IsPartOf : DepmodWords → Outcome IndexedTree → Shown → World �
 IsPartOf asked (value i) shown new = IsReplacedPart asked i shown new
 IsPartOf asked (end e) shown new = IsPrintedPart [] shown new
 
--- What depmod did over files and outputs with these known contents: it left new and answered this status.
+-- What depmod did over files and outputs with these known contents: it left new and answered this
+-- status.
 pub record IsIndexing (asked : DepmodWords) (shown : Shown) (old new : World) (status : ℕ) : Type 0 where
-  -- by the files that it found it results in the index of the tree in the folder, whose modules are all valid and whose files
-  -- stand for it; or to the first thing that is in the way: a bad module after valid ones, the cycle of the tree, or another
+  -- by the files that it found it results in the index of the tree in the folder, whose modules are
+  -- all valid and whose files stand for it. Or it results in the first thing that is in the way: a
+  -- bad module after valid ones, the cycle of the tree, or another
   pub outcome : Outcome IndexedTree
   pub comes : ComesTo shown.files asked outcome
-  -- the status is that of this outcome: then all of the index was written, or the line of the end and nothing else; or it is
-  -- 3 or 4, and a first part of this was done, for a failed call on files or outputs, or for want of memory
+  -- the status is the one of this outcome: then all of the index was written, or the line of the
+  -- end and nothing else. Or it is 3 or 4, and a first part of this was done, because a call on
+  -- files or outputs failed, or memory ran out
   pub call : CameTo (status_of outcome) (told_of asked outcome shown) (IsPartOf asked outcome shown) old new status
 
--- depmod with these words after its name, where files and outputs tell what they hold.
+-- depmod with these words after its name, over files and outputs with known contents.
 pub record Indexes (words : List (List ℕ)) (old new : World) (status : ℕ) : Type 0 where
   pub understood : (shown : Shown) → Tells old shown → (asked : DepmodWords) → depmod_request words ≡ Some asked → IsIndexing asked shown old new status
   -- words that aren't understood: their line is on err, and nothing else is done

@@ -1,5 +1,5 @@
--- What `builtin-alias` and `static-nodes` answer over the files that a depmod with `--extra` left. modprobe.d(5), "alias";
--- kmod(8), "static-nodes".
+-- What `builtin-alias` and `static-nodes` answer over the files that a depmod with `--extra` left.
+-- modprobe.d(5), "alias"; kmod(8), "static-nodes".
 use Rattle.std.specs.Prelude.{◌≡◌, ℕ, true, false, List, [], ◌∷◌, ◌++◌, Option, Some, None, codes, unwrap_or}
 use Rattle.km_names.specs.AliasForm.{normal_alias}
 use Rattle.km_course.specs.Carries.{Carries}
@@ -31,13 +31,14 @@ PrintsOutcome (value text) shown old new status =
 PrintsOutcome (end e) shown old new status =
     CameTo (end_status e) (record shown { err = shown.err ++ end_line e }) (IsPrintedPart [] shown) old new status
 
--- The built-in modules that state an alias which matches a name, by a modules.builtin.modinfo: each once, in the order in which
--- modules are first seen there. A name without a normal form has none.
+-- The built-in modules that state an alias which matches a name, by a modules.builtin.modinfo: each
+-- once, in the order in which modules are first seen there. A name without a normal form has none.
 abbrev pub built_in_matching : List ℕ → Option (List ℕ) → List (List ℕ)
 built_in_matching info None = []
 built_in_matching info (Some normal) = modules_matching info normal
 
--- A depmod over files and outputs with these known contents was asked for both files, replaced its files, and answered status 0.
+-- A depmod over files and outputs with these known contents was asked for both files, replaced its
+-- files, and answered status 0.
 pub record IsExtraDone (words : List (List ℕ)) (asked : DepmodWords) (shown : Shown) (old new : World) : Type 0 where
   pub tells : Tells old shown
   pub words_ask : depmod_request words ≡ Some asked
@@ -48,8 +49,8 @@ pub record IsExtraDone (words : List (List ℕ)) (asked : DepmodWords) (shown : 
 -- What a call with these words does over the files that it left.
 pub record AnswersLookups (asked : DepmodWords) (words : List (List ℕ)) (held told : Shown) (old new : World) (status : ℕ) : Type 0 where
   pub left : LeavesExtra asked held.files told.files
-  -- `builtin-alias` of that folder prints a line for each built-in module with a matching alias; exactly if there is none, the
-  -- name is reported as not found
+  -- `builtin-alias` of that folder prints a line for each built-in module with a matching alias;
+  -- exactly if there is none, the name is reported as not found
   pub aliases : (rest : List (List ℕ)) (wanted : BuiltinAliasWords) → words ≡ codes "builtin-alias" ∷ rest → builtin_alias_request rest ≡ Some wanted → modules_folder wanted.dirname wanted.version ≡ target_of_request asked → PrintsOutcome (unless_none (unwrap_or (normal_alias wanted.name) wanted.name) (built_in_matching left.info (normal_alias wanted.name))) told old new status
   -- `static-nodes` of that folder prints the lines of the nodes of the tree's modules
   pub nodes : (rest : List (List ℕ)) (wanted : StaticNodesWords) → words ≡ codes "static-nodes" ∷ rest → static_nodes_request rest ≡ Some wanted → modules_folder wanted.dirname wanted.version ≡ target_of_request asked → PrintsOutcome (value (lines_text (nodes_of left.tree))) told old new status

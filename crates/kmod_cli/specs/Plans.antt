@@ -54,7 +54,8 @@ pub record IsPrintedPart (lines : List ℕ) (shown : Shown) (new : World) : Type
   pub files : new.files.contents ≡ Some shown.files
   pub out : new.out.told ≡ Some (shown.out ++ take bytes lines)
 
--- What modprobe did over files and outputs with these known contents: it left new and answered this status.
+-- What modprobe did over files and outputs with these known contents: it left new and answered this
+-- status.
 pub record IsPlanned (asked : ModprobeWords) (known : Known) (shown : Shown) (old new : World) (status : ℕ) : Type 0 where
   -- where no load is asked for and nothing is in the way, the lines of the plan are printed, and
   -- nothing else is written
@@ -62,7 +63,7 @@ pub record IsPlanned (asked : ModprobeWords) (known : Known) (shown : Shown) (ol
   -- where something is, the first obstacle is named on err, and nothing else is written
   pub refused : (obstacle : Obstacle) → obstacle_of (sources_asked asked known) (request_of asked) ≡ Some obstacle → CameTo 1 (record shown { err = shown.err ++ line (obstacle_text obstacle) }) (IsPrintedPart [] shown) old new status
 
--- modprobe with these words after its name, where files and outputs tell what they hold.
+-- modprobe with these words after its name, over files and outputs with known contents.
 abbrev pub Plans : List (List ℕ) → World → World → ℕ → Type 0
 Plans words old new status =
     (shown : Shown) → Tells old shown →

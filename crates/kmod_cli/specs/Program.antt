@@ -1,4 +1,5 @@
--- The course of the words of a command line: the first names a command, whose course the others decide.
+-- The course of the words of a command line: the first names a command, whose course the others
+-- decide.
 use Rattle.std.specs.Prelude.{ℕ, List, [], ◌∷◌, codes, Option, Some, None, if◌then◌else◌, ⊤}
 use Rattle.std.specs.Str.{bytes_eq}
 use Rattle.km_course.specs.Course.{Stage, ends}

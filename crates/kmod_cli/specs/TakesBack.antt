@@ -1,5 +1,5 @@
--- Taking back: what `modprobe -r` takes out of the modelled machine of the listed modules, what it prints of that, and what
--- is left. modprobe(8), -r.
+-- Taking back: what `modprobe -r` takes out of the modelled machine of the listed modules, what it
+-- prints of that, and what is left. modprobe(8), -r.
 use Rattle.std.specs.Prelude.{◌≡◌, ℕ, Bool, true, false, List, [], ◌++◌, codes, reverse, Option, Some, None, Ok}
 use Rattle.km_outside.specs.Contents.{Contents}
 use Rattle.km_course.specs.Lines.{line}
@@ -28,8 +28,11 @@ use Rattle.kmod_cli.specs.Plans.{IsPrintedPart}
 
 -- ---- where it applies
 
--- What a removal is about: the kernel with addresses and the region; what is known of the folder and the configuration; the
--- machine after the listed modules; and the names that the requested names stand for.
+-- What a removal is about:
+-- - the kernel with addresses, and the region;
+-- - what is known of the folder and the configuration;
+-- - the machine after the listed modules;
+-- - the names that the requested names stand for.
 pub record Removing : Type 0 where
   pub kernel : Kernel
   pub region : Region
@@ -37,7 +40,8 @@ pub record Removing : Type 0 where
   pub listed : Machine
   pub names : List (List ℕ)
 
--- A removal is asked for, what is read is understood, the listed modules load, and each name stands for something.
+-- A removal is asked for, what is read is understood, the listed modules load, and each name stands
+-- for something.
 pub record CanRemove (held : Contents) (asked : ModprobeWords) (dry_run : Bool) (r : Removing) : Type 0 where
   pub mode : asked.mode ≡ Remove dry_run
   pub came : CameToRemoval held asked r.kernel r.region r.known r.listed r.names
@@ -52,16 +56,18 @@ NoneInUse r = in_use r.listed (is_asked r.listed r.names) ≡ None
 abbrev pub first_command : ModprobeWords → Removing → Option (List ℕ)
 first_command asked r = first_owner (steps_asked asked r.known r.listed r.names)
 
--- What modprobe did over files and outputs with these known contents: it left new and answered this status. Files are as they were.
+-- What modprobe did over files and outputs with these known contents: it left new and answered this
+-- status. Files are as they were.
 pub record IsTakenBack (asked : ModprobeWords) (dry_run : Bool) (r : Removing) (shown : Shown) (old new : World) (status : ℕ) : Type 0 where
-  -- the listed modules, oldest first, are loaded: each is all of a valid file, that at the first path of its dependency line
+  -- the listed modules, oldest first, are loaded: each is all of a valid file, that at the first
+  -- path of its dependency line
   pub listed : List Module
   pub listed_paths : List (List ℕ)
   pub listed_lines : AreWellFormedPaths r.known.indexes (reverse r.known.loaded) listed_paths
   pub listed_files : AreFileModules shown.files (folder_asked asked) listed_paths listed
   pub listed_load : IsLoaded r.kernel r.region listed r.listed
-  -- where a module that is asked for is used by one that isn't, the oldest such module and its oldest such user are named,
-  -- and nothing is taken out
+  -- where a module that is asked for is used by one that isn't, the oldest such module and its
+  -- oldest such user are named, and nothing is taken out
   pub used : (j k : ℕ) → in_use r.listed (is_asked r.listed r.names) ≡ Some (j, k)
       → CameTo 1 (record shown { err = shown.err ++ line (name_at r.listed j ++ (codes " is in use by " ++ name_at r.listed k)) }) (IsPrintedPart [] shown) old new status
   -- where a command would be run, the first module with one is named, and nothing is taken out
@@ -70,18 +76,19 @@ pub record IsTakenBack (asked : ModprobeWords) (dry_run : Bool) (r : Removing) (
   -- with `-n` the lines of the steps are printed, and that is all
   pub printed : NoneInUse r → dry_run ≡ true
       → CameTo 0 (record shown { out = shown.out ++ step_lines (steps_asked asked r.known r.listed r.names) }) (IsPrintedPart (step_lines (steps_asked asked r.known r.listed r.names)) shown) old new status
-  -- else the lines of what is taken out, the youngest first, the lines of what was, and a line for each module that is left,
-  -- the oldest first, with its address, its size and the digest of its image
+  -- else the lines of what is taken out are printed, the youngest first. Then come the lines of
+  -- what was taken out, and then a line for each module that is left, the oldest first. That line
+  -- has the module's address, its size and the digest of its image
   pub done : NoneInUse r → dry_run ≡ false → first_command asked r ≡ None
       → CameTo 0 (record shown { out = shown.out ++ taken_out_lines r.listed r.names }) (IsPrintedPart (taken_out_lines r.listed r.names) shown) old new status
   -- no step is refused
   pub unloaded : NoneInUse r → unload_all r.listed (removed_names r.listed r.names) ≡ Ok (left_after r.listed r.names)
-  -- for every split of the listed modules into older and newer ones: where the removed ones are the newer ones, what is left
-  -- is the machine of the older ones loaded alone
+  -- for every split of the listed modules into older and newer ones. If the removed ones are the
+  -- newer ones, what is left is the machine of the older ones, loaded by themselves
   pub back : NoneInUse r → (older newer : List Module) → listed ≡ older ++ newer → AreRemovedModules r.listed r.names newer
       → AreTakenBack r.kernel r.region older newer r.listed r.names
 
--- modprobe with these words after its name, where files and outputs tell what they hold.
+-- modprobe with these words after its name, over files and outputs with known contents.
 abbrev pub TakesBack : List (List ℕ) → World → World → ℕ → Type 0
 TakesBack words old new status =
     (shown : Shown) → Tells old shown →

@@ -94,8 +94,8 @@ fn command<F: Files, O: Out, E: Out>(
 /// Does what `depmod` does with these words after its name, and answers the exit status, as [`run`]
 /// does: indexes the modules of a kernel.
 ///
-/// If it is done, it has replaced its files, or printed their texts with `-n`. They are exactly
-/// those of the tree in the folder, whose modules are all valid, over the kernel's table that is
+/// If it is done, it has replaced its files, or printed their texts with `-n`. They are exactly the
+/// files of the tree in the folder, whose modules are all valid, over the kernel's table that is
 /// named, and they decode. If it is refused, it names the first obstacle, such as the first bad
 /// module or the cycle, and replaces no file. Whatever else stops it, it has replaced a first part
 /// of its files, each whole. There are nine files, or eleven with `--extra`. The two more are the
@@ -148,11 +148,11 @@ fn modinfo<F: Reads, O: Out, E: Out>(
 /// The modules that it loads bind while tree and kernel are as depmod indexed them, no install
 /// command is chosen, and the listed modules load. Then status 0 means that all modules of the plan
 /// are loaded, and 1 that one of them finds no room or has a word that doesn't fit. The images that
-/// it put and the lines that it printed are those of the loaded modules. modprobe(8).
+/// it put and the lines that it printed are the loaded modules' own. modprobe(8).
 ///
 /// With `-r` it takes modules out of the modelled machine of the listed ones, the youngest first,
-/// and no step is refused. What is left is the machine without them. If the removed modules are
-/// those that were loaded last, it is the machine from before.
+/// and no step is refused. What is left is the machine without them. If the removed modules are the
+/// ones that were loaded last, it is the machine from before.
 pub fn modprobe<F: Writes, O: Out, E: Out>(
     alloc: Global,
     words: &[Word],
@@ -187,8 +187,8 @@ fn trial<O: Out, E: Out>(alloc: Global, words: &[Word], out: &mut O, err: &mut E
     conclude(alloc, outcome, err)
 }
 
-/// Does what `static-nodes` does with these words after its name: prints the lines of the device nodes in a kernel's
-/// modules.devname. kmod(8), "static-nodes".
+/// Does what `static-nodes` does with these words after its name: prints the lines of the device
+/// nodes in a kernel's modules.devname. kmod(8), "static-nodes".
 fn static_nodes<F: Reads, O: Out, E: Out>(
     alloc: Global,
     words: &[Word],
@@ -204,7 +204,8 @@ fn static_nodes<F: Reads, O: Out, E: Out>(
     conclude(alloc, outcome, err)
 }
 
-/// Does what `builtin-alias` does with these words after its name: prints the built-in modules that a name stands for.
+/// Does what `builtin-alias` does with these words after its name: prints the built-in modules that
+/// a name stands for.
 fn builtin_alias<F: Reads, O: Out, E: Out>(
     alloc: Global,
     words: &[Word],

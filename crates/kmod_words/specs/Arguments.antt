@@ -1,4 +1,5 @@
--- The options and words of a command, as its manual page lists them. None may be given twice, and no value or word is empty.
+-- The options and words of a command, as its manual page lists them. None may be given twice, and
+-- no value or word is empty.
 use Rattle.std.specs.Prelude.{true, List, [], Some, slice_get}
 use Rattle.clap.specs.Words.{App, Rule, Text, new_app, new_rule}
 use Rattle.clap.specs.declared.builder.action.ArgAction.TheVariants.{Append, Set, SetTrue}
@@ -32,7 +33,8 @@ word name = required (with_value name)
 abbrev pub words : Text → Rule
 words name = required (record (with_value name) { action = Some Append })
 
--- A command with these options and words, and nothing else: no `--help`, no `--version`, and no name of a program before the words.
+-- A command with these options and words, and nothing else: no `--help`, no `--version`, and no
+-- name of a program before the words.
 abbrev pub command : Text → List Rule → App
 command name rules = record {
   top = record (new_app name).top { rules = rules; no_binary_name = true; disable_help_flag = true };

@@ -33,7 +33,8 @@ modprobe_command = command (codes "modprobe") (
     ∷ []
     )
 
--- The mode by the flags `-n`, `-D`, `-R` and `-r`: at most one of them is given, but `-n` goes with `-r`.
+-- The mode by the flags `-n`, `-D`, `-R` and `-r`: at most one of them is given, but `-n` goes with
+-- `-r`.
 abbrev pub mode_by_flags : Bool → Bool → Bool → Bool → Option Mode
 mode_by_flags false false false false = Some Load
 mode_by_flags true false false false = Some DryRun
@@ -45,8 +46,8 @@ mode_by_flags _ _ _ _ = None
 abbrev pub mode_asked : List Row → Option Mode
 mode_asked rows = mode_by_flags (is_given (codes "dry-run") rows) (is_given (codes "show-depends") rows) (is_given (codes "resolve-alias") rows) (is_given (codes "remove") rows)
 
--- Whether the other options go with a mode. A load and a removal need the addresses of a System.map, `--params` is for a
--- load, and a removal has no `--image`.
+-- Whether the other options go with a mode. A load and a removal need the addresses of a
+-- System.map, `--params` is for a load, and a removal has no `--image`.
 abbrev pub goes_with : List Row → Mode → Bool
 goes_with rows Load = is_some (value_of (codes "system-map") rows)
 goes_with rows DryRun = not (is_given (codes "params") rows)
@@ -74,8 +75,8 @@ modprobe_of rows mode version region = record {
   words = words_of (codes "words") rows;
 }
 
--- The mode, the version and the region that the matches choose: a mode with which the other options go, a version without
--- `/`, and a region of modules.
+-- The mode, the version and the region that the matches choose: a mode with which the other options
+-- go, a version without `/`, and a region of modules.
 unfoldable pub chosen : List Row → Option (Mode × Text × Region)
 chosen rows =
     option_and_then (λ mode. option_and_then (λ version. option_and_then (λ region.

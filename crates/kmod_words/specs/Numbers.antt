@@ -6,7 +6,7 @@ use Rattle.std.specs.Str.Parse.{digits_value}
 use Rattle.km_names.specs.Ascii.{hexadecimal}
 use Rattle.kmod_words.specs.declared.region.Region.{Region}
 
--- The number below 2^64 that a text states in 1 to so many decimal digits; there is none where it is no such text.
+-- The number below 2^64 that a text states in 1 to so many decimal digits, if it is such a text.
 unfoldable pub decimal : ℕ → List ℕ → Option ℕ
 decimal most text =
     if not (length text == 0) && nat_le (length text) most && list_all (λ b. is_digit b 10) text && nat_lt (digits_value 10 text) (2 ^ 64)
@@ -16,7 +16,8 @@ decimal most text =
 unfoldable pub prefixed_hexadecimal : List ℕ → Option ℕ
 prefixed_hexadecimal text = if starts_with nat_eq text (codes "0x") then hexadecimal (drop 2 text) else None
 
--- Whether modules can be placed in a region: it is of whole pages of 4096 bytes, at least one, and doesn't pass the last address of 64 bits.
+-- Whether modules can be placed in a region: it is of whole pages of 4096 bytes, at least one, and
+-- doesn't pass the last address of 64 bits.
 abbrev pub is_region : ℕ → ℕ → Bool
 is_region base size = base % 4096 == 0 && size % 4096 == 0 && nat_lt 0 size && nat_le (base + size) (2 ^ 64)
 
@@ -30,8 +31,8 @@ region_of text =
     option_and_then (λ base. option_and_then (region_from base) (prefixed_hexadecimal (after_first (λ b. b == 58) text)))
     (prefixed_hexadecimal (before_first (λ b. b == 58) text))
 
--- The region that is asked for, or else the one of the kernel on x86-64: MODULES_VADDR up to MODULES_END of
--- arch/x86/include/asm/pgtable_64_types.h.
+-- The region that is asked for, or else the one of the kernel on x86-64: MODULES_VADDR up to
+-- MODULES_END of arch/x86/include/asm/pgtable_64_types.h.
 abbrev pub region_or_usual : Option (List ℕ) → Option Region
 region_or_usual None = Some (record { base = 0xffffffffc0000000; size = 0x3f000000 })
 region_or_usual (Some text) = region_of text

@@ -1,4 +1,5 @@
--- What the words of `static-nodes` ask for. kmod(8), "static-nodes"; `-d` and `-S` are this project's own.
+-- What the words of `static-nodes` ask for. kmod(8), "static-nodes"; `-d` and `-S` are this
+-- project's own.
 use Rattle.std.specs.Prelude.{◌&&◌, List, [], ◌∷◌, Option, Some, None, if◌then◌else◌, option_and_then, unwrap_or, codes}
 use Rattle.std.specs.Str.{bytes_eq}
 use Rattle.clap.specs.Words.{App, Row, Text}

@@ -14,7 +14,8 @@ trial_command = command (codes "trial") (word (codes "seed") ∷ word (codes "co
 abbrev pub number_of : ℕ → Text → List Row → Option ℕ
 number_of most name rows = option_and_then (decimal most) (value_of name rows)
 
--- What the matches ask for: a seed of at most 20 digits, and 1 to 2000 modules, in at most 4 digits.
+-- What the matches ask for: a seed of at most 20 digits, and 1 to 2000 modules, in at most 4
+-- digits.
 unfoldable pub trial_asked : List Row → Option TrialWords
 trial_asked rows = option_and_then (λ seed. option_and_then (λ count.
     if nat_le 1 count && nat_le count 2000 then Some (record { seed = seed; count = count }) else None)

@@ -1,4 +1,5 @@
--- What `clap` makes of words: the options and words that a command states, as getopt_long(3) has them.
+-- What `clap` makes of words: the options and words that a command states, as getopt_long(3) has
+-- them.
 use Rattle.std.specs.Prelude.{◌==◌, Bool, true, false, not, List, [], ◌∷◌, Option, Some, None, find, option_and_then, unwrap_or}
 use Rattle.std.specs.List.{list_any}
 use Rattle.std.specs.Str.{bytes_eq}
@@ -11,7 +12,8 @@ abbrev pub unless_fault : Kinds → List Row → Option (List Row)
 unless_fault [] rows = Some rows
 unless_fault (kind ∷ kinds) rows = None
 
--- The matches of the words, by the meaning that `clap` states for a simple command; there are none where that meaning refuses the words.
+-- The matches of the words, by the meaning that `clap` states for a simple command; there are none
+-- where that meaning refuses the words.
 unfoldable pub understood : App → List Text → Option (List Row)
 understood command words = unless_fault (fault_of command words) (matches_of command words)
 
@@ -20,7 +22,7 @@ abbrev pub is_from_words : Option ValueSource → Bool
 is_from_words (Some CommandLine) = true
 is_from_words _ = false
 
--- Whether a flag stands among the words.
+-- Whether a flag is among the words.
 unfoldable pub is_given : Text → List Row → Bool
 is_given name rows = is_from_words (option_and_then (λ (row : Row). row.source) (find (λ (row : Row). bytes_eq row.id name) rows))
 

@@ -19,9 +19,9 @@ pub(crate) enum Argument {
     Valued(char, &'static str),
     /// An option with a value, without a letter.
     ValuedByName(&'static str),
-    /// An option with a value, with its letter alone.
+    /// An option with a value, named only by its letter.
     ValuedByLetter(char, &'static str),
-    /// An option with a value, with its letter alone, which is required.
+    /// A required option with a value, named only by its letter.
     RequiredByLetter(char, &'static str),
     /// An option with a value, which is required.
     Required(char, &'static str),

@@ -25,8 +25,8 @@ pub struct BuiltinAliasWords {
     pub name: Name,
 }
 
-/// Reads what the words after `builtin-alias` ask for: `-d ROOT -S VERSION NAME`. It is `None` exactly if they aren't
-/// understood. The command is this project's own.
+/// Reads what the words after `builtin-alias` ask for: `-d ROOT -S VERSION NAME`. It is `None`
+/// exactly if they aren't understood. The command is this project's own.
 pub fn read_builtin_alias(
     alloc: Global,
     words: &[Word],

@@ -39,7 +39,7 @@ pub(crate) fn understood<'a>(
     }
 }
 
-/// Whether a flag is among the words.
+/// Returns whether a flag is among the words.
 pub(crate) fn is_given(matches: &ArgMatches<'_>, name: &str) -> bool
     ensures { result ≡ is_given_in name.now (rows_of (found_of matches.now)) }
 {
@@ -116,7 +116,7 @@ fn names_of(alloc: Global, words: &[&str]) -> Result<Names, AllocError>
     Ok(names)
 }
 
-/// Whether a text may be a kernel's version.
+/// Returns whether a text may be a kernel's version.
 pub(crate) fn is_version(text: &str) -> bool
     ensures { result ≡ has_no_slash text.now }
 {

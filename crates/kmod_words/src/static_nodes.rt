@@ -24,8 +24,9 @@ pub struct StaticNodesWords {
     pub version: Name,
 }
 
-/// Reads what the words after `static-nodes` ask for: `-d ROOT -S VERSION --format devname`. It is `None` exactly if they
-/// aren't understood, as no other format is. kmod(8), "static-nodes"; `-d` and `-S` are this project's own.
+/// Reads what the words after `static-nodes` ask for: `-d ROOT -S VERSION --format devname`. It is
+/// `None` exactly if they aren't understood, as no other format is. kmod(8), "static-nodes"; `-d`
+/// and `-S` are this project's own.
 pub fn read_static_nodes(
     alloc: Global,
     words: &[Word],

@@ -1,5 +1,4 @@
--- A tree of two modules, one of which uses the other: the premises of the law on closed plans hold
--- for it.
+-- A tree of two modules, one using the other: the premises of the law on closed plans hold for it.
 use Rattle.std.specs.Prelude.{◌≡◌, true, false, List, [], ◌∷◌, ◌++◌, codes, Some, if◌then◌else◌}
 use Rattle.std.specs.Str.{bytes_eq}
 use Rattle.module_facts.specs.declared.facts.Facts.{Facts}

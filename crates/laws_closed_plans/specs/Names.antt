@@ -1,5 +1,5 @@
--- Why a module can't be loaded because of the names that it has, needs and exports: the first six
--- tests of a load, over what is seen of a kernel and of the loaded modules. The kernel's
+-- Why a module can't be loaded because of the names that it has, needs and exports. These are the
+-- first six tests of a load, over what is seen of a kernel and of the loaded modules. The kernel's
 -- resolve_symbol and verify_exported_symbols, kernel/module/main.c.
 use Rattle.std.specs.Prelude.{ℕ, List, [], ◌∷◌, ◌++◌, map, Option, option_map}
 use Rattle.km_names.specs.First.{first}

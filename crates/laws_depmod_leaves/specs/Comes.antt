@@ -1,5 +1,5 @@
--- How far a depmod comes, by the files that it finds: it indexes the tree in a folder, or something ends it. depmod(8),
--- modules.dep(5).
+-- How far a depmod comes, by the files that it finds: it indexes the tree in a folder, or something
+-- ends it. depmod(8), modules.dep(5).
 use Rattle.std.specs.Prelude.{◌≡◌, ℕ, true, false, List, [], ◌∷◌, ◌++◌, length, map, codes, Option, Some, None, Ok}
 use Rattle.km_names.specs.Path.{is_compressed, path_below}
 use Rattle.km_outside.specs.Contents.{Contents}
@@ -40,8 +40,8 @@ use Rattle.laws_indexed_folder.specs.Indexed.{IsModuleFile}
 
 -- ---- what is indexed
 
--- What is indexed: the modules of a tree, the kernel's table, the bytes of modules.builtin, and with `--extra` those of
--- modules.builtin.modinfo.
+-- What is indexed: the modules of a tree, the kernel's table, the bytes of modules.builtin, and
+-- with `--extra` the bytes of modules.builtin.modinfo.
 pub record IndexedTree : Type 0 where
   pub tree : List Facts
   pub table : Table
@@ -56,8 +56,8 @@ files_of i = files i.tree (seen_kernel i.table) i.builtin
 abbrev pub made_of : IndexedTree → DepmodFiles
 made_of i = record { usual = files_of i; extra = extra_made i.tree i.info }
 
--- In the folder that is asked for there is a tree of modules at these paths, in this order, as it is chosen from the listing
--- of the folder; and the kernel has the table that is named, or one of which nothing is known.
+-- The folder that is asked for has a tree of modules at these paths, in this order, as it is chosen
+-- from the listing of the folder. And the kernel has the table that is named, or an unknown one.
 pub record HasTree (held : Contents) (asked : DepmodWords) (paths : List (List ℕ)) (table : Table) : Type 0 where
   pub search : List (List ℕ)
   pub searched : ((reads_search asked.config).run held).outcome ≡ value search
@@ -79,13 +79,13 @@ pub record IsRead (held : Contents) (asked : DepmodWords) (tree : List Facts) (t
 abbrev pub built_in : Contents → DepmodWords → Outcome (List ℕ)
 built_in held asked = ((reads_any (path_below (modules_of_request asked) (codes "modules.builtin"))).run held).outcome
 
--- The bytes of modules.builtin.modinfo, where they are asked for, or the end that it results in. It counts as empty where there
--- is none.
+-- The bytes of modules.builtin.modinfo, if they are asked for, or the end that reading it results
+-- in. It counts as empty if there is none.
 abbrev pub built_in_info : Contents → DepmodWords → Outcome (Option (List ℕ))
 built_in_info held asked = ((reads_info asked.extra (modules_of_request asked)).run held).outcome
 
--- The two files of `--extra` stand for what they are made of: the index holds the map of the built-in aliases, and from
--- modules.devname the nodes of the tree are read back, at whatever path.
+-- The two files of `--extra` stand for what they are made of. The index holds the map of the
+-- built-in aliases, and modules.devname is read back as the nodes of the tree, at whatever path.
 pub record ExtraStand (tree : List Facts) (info : List ℕ) (made : ExtraFiles) : Type 0 where
   pub aliases : Holds made.builtin_alias_bin (alias_map info)
   pub nodes : (path : List ℕ) → read_of path made.devname ≡ Ok (nodes_of tree)
@@ -99,7 +99,8 @@ pub record IsIndexed (held : Contents) (asked : DepmodWords) (i : IndexedTree) :
   pub info : built_in_info held asked ≡ value i.info
   pub small : output_fault (files_of i) ≡ None
   pub small_extra : extra_refusal (extra_made i.tree i.info) ≡ None
-  -- each index holds its map, and modules.unmet is read back as what stands in the way of loading modules
+  -- each index holds its map, and modules.unmet is read back as what prevents modules from being
+  -- loaded
   pub stand : StandFor i.tree (seen_kernel i.table) i.builtin (files_of i)
   -- and so do the two more of `--extra`
   pub stand_extra : (info : List ℕ) → i.info ≡ Some info → ExtraStand i.tree info (extra_files i.tree info)
@@ -115,8 +116,8 @@ pub data IsBadModule (held : Contents) (folder path : List ℕ) : End → Type 0
   -- this is the first test that its file fails
   bad : is_compressed path ≡ false → (bytes : List ℕ) → ((reads (path_below folder path)).run held).outcome ≡ value bytes → (fault : ModuleFault) → fact_fault path bytes ≡ Some fault → IsBadModule held folder path (Refused (BadModule path (module_fault_text fault)))
 
--- The walk along which the modules of a tree use one another and that leads back, by places in the tree; none where there is
--- no such walk.
+-- The walk along which the modules of a tree use one another and that leads back, by places in the
+-- tree. It is empty if there is no such walk.
 abbrev pub cycle_in : List Facts → Table → List ℕ
 cycle_in tree table = cycle (uses_at (modules_of tree) (seen_kernel table)) (below (length tree))
 

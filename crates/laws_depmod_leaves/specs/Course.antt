@@ -36,7 +36,7 @@ put_acts folder made names = map (λ name. put (path_below folder (file_name nam
 abbrev pub say_acts : DepmodFiles → List DepmodFile → List Act
 say_acts made names = flat_map (λ name. said (content made name)) names
 
--- What is written of an index: the warnings, where they are wanted, and then the files.
+-- What is written of an index: the warnings, if they are asked for, and then the files.
 abbrev pub index_acts : DepmodWords → IndexedTree → List Act
 index_acts asked i =
     (if asked.errsyms then warn_acts (is_some asked.symvers) (unmet (modules_of i.tree) (seen_kernel i.table)) else [])

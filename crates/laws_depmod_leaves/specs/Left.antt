@@ -1,4 +1,4 @@
--- What stands in a folder after a depmod that is done: what it indexed. depmod(8).
+-- What a depmod that is done leaves in a folder: what it indexed. depmod(8).
 use Rattle.std.specs.Prelude.{◌≡◌, ◌||◌, ℕ, true, false, List, [], ◌∷◌, is_some}
 use Rattle.std.specs.FinMap.{insert}
 use Rattle.km_names.specs.Path.{path_below}
@@ -23,19 +23,20 @@ with_files folder made (name ∷ names) held =
 pub record IsInPlace (asked : DepmodWords) : Type 0 where
   -- files are replaced
   pub replaces : asked.dry_run ≡ false
-  -- in the folder in which the modules stand
+  -- in the folder of the modules
   pub folder : target_of_request asked ≡ modules_of_request asked
   -- and a System.map or a Module.symvers is named
   pub table : (is_some asked.filesyms || is_some asked.symvers) ≡ true
 
--- In these files the folder of a request's modules stands as it was indexed, over the kernel of its table.
+-- In these files the folder of a request's modules is as it was indexed, over the kernel of its
+-- table.
 pub record LeftIndexed (asked : DepmodWords) (i : IndexedTree) (left : Contents) : Type 0 where
   pub kernel : Kernel
   pub table : i.table ≡ table_of kernel
   pub indexed : Indexed left (modules_of_request asked) i.tree kernel i.builtin
 
--- Where all files of an index are put into the folder of its modules, by the table of a kernel, that folder stands as it was
--- indexed.
+-- If all files of an index are put into the folder of its modules, by the table of a kernel, that
+-- folder is as it was indexed.
 abbrev pub DepmodLeavesIndexed : Type 0
 DepmodLeavesIndexed =
     (held : Contents) (asked : DepmodWords) (i : IndexedTree)

@@ -4,8 +4,8 @@ ghost use Rattle.laws_depmod_leaves.specs.Left.{DepmodLeavesIndexed};
 ghost use Rattle.laws_depmod_leaves.specs.Loads.{LeftForLoads};
 
 /// States that the course of each depmod reads, and then either writes all of an index or ends. It
-/// ends for the first bad module in the order of the tree, for the cycle of the tree, or for
-/// another of the ends in the order of its work.
+/// ends for the first bad module in the order of the tree, for the tree's cycle, or for one of the
+/// other ends in the order of its work.
 pub fn courses_index()
     ensures { CoursesIndex }
 {}

@@ -1,8 +1,8 @@
 //! What a depmod that is done leaves: a folder as it indexed it. Only laws.
 //!
-//! A `depmod` that replaces its files in the folder of the modules, by the table of a kernel, and
-//! is done leaves the tree that it read. Each module of the tree is a valid file, and the files
-//! that are made of the tree are there. A modprobe that has the kernel's table of a file of the
+//! If a `depmod` replaces its files in the folder of the modules, by the table of a kernel, and is
+//! done, it leaves the tree that it read. Each module of the tree is a valid file, and the folder
+//! has the files that are made of the tree. A modprobe that has the kernel's table of a file of the
 //! same bytes finds there what the laws on courses of loads ask for.
 //!
 //! The crate builds on `command_depmod` for the course of depmod, and on `stages_loads` for the

@@ -1,5 +1,5 @@
--- The headline is met: a depmod of a folder with two modules, of which one uses the other, and a load of the one that uses
--- the other. depmod(8), modprobe(8); gABI 4, "Relocation".
+-- The headline is met: a depmod of a folder with two modules, and a load of the one that uses the
+-- other. depmod(8), modprobe(8); gABI 4, "Relocation".
 use Rattle.std.specs.Prelude.{◌≡◌, true, false, List, [], ◌∷◌, map, codes, Some, None, Ok}
 use Rattle.km_names.specs.Number.{le}
 use Rattle.km_outside.specs.Contents.{Contents}
@@ -48,7 +48,8 @@ indexed = record {
 abbrev pub left : Contents
 left = with_files (target_of_request depmod_asked) (made_of indexed) (all_files false) found
 
--- A modprobe of the module that uses the other, by the same System.map, into a region of 16 pages from 65536 on.
+-- A modprobe of the module that uses the other, by the same System.map, into a region of 16 pages
+-- from 65536 on.
 abbrev pub load_asked : ModprobeWords
 load_asked = record {
   mode = Load;
@@ -70,8 +71,9 @@ load_asked = record {
 
 -- ---- the result
 
--- The premises of the headline hold of this load: it has a plan of both modules. Loaded into its machine, that with the export
--- stands at the region's base, and the 8 bytes of data of the other are the address of the export.
+-- The premises of the headline hold for this load: it has a plan of both modules. In its machine
+-- the module with the export is at the region's base, and the 8 bytes of data of the other are the
+-- address of the export.
 pub record IsMet (l : Loading) : Type 0 where
   pub stands : StandsAsIndexed left load_asked l
   pub plan : List Module

@@ -1,4 +1,5 @@
--- What the premises of the headline are for: what becomes of the load of two modules where one of them doesn't hold.
+-- What the premises of the headline are for: what becomes of the load of two modules where one of
+-- them doesn't hold.
 use Rattle.std.specs.Prelude.{◌≡◌, ℕ, true, false, List, [], ◌∷◌, codes, Some, None, Err}
 use Rattle.km_course.specs.Course.{Outcome}
 use Rattle.km_course.specs.Course.Outcome.{value, end}
@@ -25,15 +26,16 @@ use Rattle.laws_depmod_leaves.specs.Comes.{IndexedTree, files_of}
 use Rattle.laws_headline.specs.Objects.{earlier_facts, giver_facts, giver_file, taker_file}
 use Rattle.laws_headline.specs.Met.{indexed, load_asked}
 
--- An export of the kernel under the name that a module exports, with an address or without one, as a Module.symvers states it.
+-- An export of the kernel under the name that a module exports, with an address or without one, as
+-- a Module.symvers states it.
 abbrev pub kernel_x : KernelExport
 kernel_x = record { name = codes "x"; crc = None; address = None; gpl = false; space = [] }
 
 abbrev pub placed_x : KernelExport
 placed_x = record kernel_x { address = Some 4096 }
 
--- What is known over the files of an index, where the configuration states these rules and these modules are listed as
--- loaded.
+-- What is known over the files of an index, where the configuration states these rules and these
+-- modules are listed as loaded.
 abbrev pub known_of_files : IndexedTree → List Rule → List (List ℕ) → Known
 known_of_files i stated loaded = record { rules = stated; indexes = indexes_of (files_of i); unmet = []; loaded = loaded }
 
@@ -41,15 +43,16 @@ known_of_files i stated loaded = record { rules = stated; indexes = indexes_of (
 abbrev pub plan_over : IndexedTree → List Rule → List (List ℕ) → Outcome (List PlanStep)
 plan_over i stated loaded = plan_outcome (known_of_files i stated loaded) loaded (request_of load_asked)
 
--- The same table: where the machine's kernel exports `x`, and the one that was indexed doesn't, a module that exports it is
--- refused.
+-- The same table: where the machine's kernel exports `x`, and the one that was indexed doesn't, a
+-- module that exports it is refused.
 abbrev pub OtherTableIsRefused : Type 0
 OtherTableIsRefused =
     (passed : fact_fault (codes "p.ko") giver_file ≡ None) (region : Region)
     → load_all (new_machine (kernel_with (record { known = true; exports = placed_x ∷ [] })) region) (module_at (codes "p.ko") giver_file passed ∷ []) ≡ Err (ExportTaken (codes "x") (codes "vmlinux"))
 
--- The module that uses the other is refused where that one isn't loaded before it: so where a command is run in its place,
--- where modules that are listed don't load, and where the folder isn't as depmod indexed it.
+-- The module that uses the other is refused if that one isn't loaded before it. So it is if a
+-- command is run in its place, if listed modules don't load, and if the folder isn't as depmod
+-- indexed it.
 abbrev pub AloneIsRefused : Type 0
 AloneIsRefused =
     (passed : fact_fault (codes "m.ko") taker_file ≡ None) (region : Region)
@@ -59,13 +62,15 @@ AloneIsRefused =
 abbrev pub ListedIsLeftOut : Type 0
 ListedIsLeftOut = plan_over indexed [] (codes "p" ∷ []) ≡ value (Insert (codes "m") (codes "m.ko") [] ∷ [])
 
--- No command: with an install rule for the other module its step runs the command, and the load is refused.
+-- No command: with an install rule for the other module its step runs the command, and the load is
+-- refused.
 abbrev pub CommandIsRefused : Type 0
 CommandIsRefused =
     (plan_over indexed (rules.Install (codes "p") (codes "true") ∷ []) [] ≡ value (Install (codes "p") (codes "true") ∷ Insert (codes "m") (codes "m.ko") [] ∷ []))
     × (inserts_outcome (Install (codes "p") (codes "true") ∷ Insert (codes "m") (codes "m.ko") [] ∷ []) ≡ end (Refused (InstallChosen (codes "p"))))
 
--- The folder as indexed: a tree in which the module didn't use the other yet. By its index the module is planned alone.
+-- The folder as indexed: a tree in which the module didn't use the other yet. By its index only the
+-- module itself is planned.
 abbrev pub earlier : IndexedTree
 earlier = record indexed { tree = earlier_facts ∷ giver_facts ∷ [] }
 

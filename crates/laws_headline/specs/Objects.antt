@@ -1,5 +1,5 @@
--- A folder with two object files of modules, of which one uses the other, and what they state. gABI 4, "ELF Header",
--- "Sections", "Symbol Table", "Relocation".
+-- A folder with two object files of modules, one using the other, and what they state. gABI 4, "ELF
+-- Header", "Sections", "Symbol Table", "Relocation".
 use Rattle.std.specs.Prelude.{ℕ, zero, suc, ◌%◌, ◌/◌, false, List, [], ◌∷◌, flat_map, codes, None}
 use Rattle.std.specs.FinMap.{empty, insert}
 use Rattle.km_names.specs.Path.{path_below}
@@ -17,8 +17,8 @@ number (suc count) v = v % 256 ∷ number count (v / 256)
 abbrev pub joined : List (List ℕ) → List ℕ
 joined parts = flat_map (λ part. part) parts
 
--- The header of an object file for x86-64, whose section headers begin at a place; the section of this number names
--- sections.
+-- The header of an object file for x86-64, whose section headers begin at a place; the section of
+-- this number names sections.
 abbrev pub elf_header : ℕ → ℕ → ℕ → List ℕ
 elf_header place count strings = joined (
     (0x7f ∷ codes "ELF")
@@ -36,8 +36,8 @@ elf_header place count strings = joined (
     ∷ number 2 strings
     ∷ [])
 
--- The header of a section without a name: its kind, flags, place and size, the numbers that it links to, its alignment, and
--- the size of its entries.
+-- The header of a section without a name: its kind, flags, place and size, the numbers that it
+-- links to, its alignment, and the size of its entries.
 abbrev pub section : ℕ → ℕ → ℕ → ℕ → ℕ → ℕ → ℕ → ℕ → List ℕ
 section kind flags place size link info align entry = joined (
     number 4 0
@@ -74,8 +74,8 @@ giver_file = joined (
     ∷ section 3 0 144 15 0 0 1 0
     ∷ [])
 
--- A module that needs `x`, whose 8 bytes of data are to be its address: its data, symbols, strings, the relocation and
--- section headers.
+-- A module that needs `x`, whose 8 bytes of data are to be its address: its data, symbols, strings,
+-- the relocation and section headers.
 abbrev pub taker_file : List ℕ
 taker_file = joined (
     elf_header 152 5 3

@@ -11,7 +11,7 @@ is_reading (say bytes) = false
 is_reading (warn bytes) = false
 is_reading (put path bytes) = false
 
--- Bytes are said, where there are any.
+-- Bytes are printed, if there are any.
 abbrev pub said : List ℕ → List Act
 said [] = []
 said (byte ∷ bytes) = say (byte ∷ bytes) ∷ []

@@ -1,4 +1,5 @@
--- What the course of a modprobe that loads results in over a folder that stands as depmod indexed it. modprobe(8).
+-- What the course of a modprobe that loads results in over a folder that is as depmod indexed it.
+-- modprobe(8).
 use Rattle.std.specs.Prelude.{◌≡◌, ℕ, Bool, true, List, ◌++◌, reverse, Option, Some, ⊤}
 use Rattle.std.specs.List.{list_all}
 use Rattle.km_outside.specs.Contents.{Contents}
@@ -46,13 +47,15 @@ use Rattle.laws_planned_loads.specs.Loads.{WentIn, fault_of}
 abbrev pub known_lines : Known → KeyValues
 known_lines known = contents known.indexes.dep.nodes
 
--- The folder stands as depmod indexed it; and the kernel of the machine has the table that was indexed, with addresses.
+-- The folder is as depmod indexed it; and the kernel of the machine has the table that was indexed,
+-- with addresses.
 pub record IsIndexedFor (held : Contents) (folder : List ℕ) (tree : List Facts) (kernel : Kernel) (builtin : List ℕ) (addressed : Kernel) : Type 0 where
   pub indexed : Indexed held folder tree kernel builtin
   pub same_table : kernel_of addressed ≡ kernel_of kernel
 
--- A course came past its reading, over these files: this is known, and this is the machine of the kernel after the listed
--- modules were loaded; the request has a plan, of which no step runs a command, and this is what its steps load.
+-- A course got past its reading, over these files. This is known, and this is the machine of the
+-- kernel after the listed modules were loaded. The request has a plan without a step that runs a
+-- command, and this is what its steps load.
 pub record CameToLoads (held : Contents) (folder : List ℕ) (config listing : Option (List ℕ)) (request : Request) (addressed : Kernel) (region : Region) (known : Known) (machine : Machine) (steps : List PlanStep) (inserts : List Insertion) : Type 0 where
   pub knows : ((reads_known config folder listing).run held).outcome ≡ value known
   pub listed : ((loads_listed folder known.indexes.dep (new_machine addressed region) known.loaded).run held).outcome ≡ value machine
@@ -64,8 +67,8 @@ abbrev pub ended : Outcome Machine → Outcome ⊤
 ended (value machine) = value tt
 ended (end e) = end e
 
--- A course is one of loads: files are read, the lines of the plan are said, and then what its steps load goes into the
--- machine, and nothing more is done.
+-- A course is one of loads: files are read, and the lines of the plan are printed. Then what its
+-- steps load goes into the machine, and nothing more is done.
 pub record IsLoadingCourse (held : Contents) (folder : List ℕ) (images : Images) (machine : Machine) (steps : List PlanStep) (inserts : List Insertion) (run : Run ⊤) : Type 0 where
   pub before : List Act
   pub reads : list_all is_reading before ≡ true
@@ -89,25 +92,25 @@ CoursesLoad =
 
 -- The loads of such a course bind.
 pub record CourseBinds (held : Contents) (folder : List ℕ) (addressed : Kernel) (region : Region) (known : Known) (machine : Machine) (steps : List PlanStep) (paths : List (List ℕ)) : Type 0 where
-  -- the listed modules, oldest first, and those of the plan, each the module of its name
+  -- the listed modules, oldest first, and the modules of the plan, each the module of its name
   pub listed : List Module
   pub plan : List Module
   pub listed_of : AreModulesOf held folder (known_lines known) (reverse known.loaded) listed
   pub plan_of : AreModulesOf held folder (known_lines known) (inserted_names steps) plan
-  -- each is all of a valid file: that of the plan at the path of its step, the listed one at the first path of its
-  -- dependency line
+  -- each is all of a valid file: a module of the plan at the path of its step, a listed one at the
+  -- first path of its dependency line
   pub listed_paths : List (List ℕ)
   pub listed_lines : AreListedPaths known.indexes.dep (reverse known.loaded) listed_paths
   pub listed_files : AreFileModules held folder listed_paths listed
   pub plan_files : AreFileModules held folder paths plan
   -- after the listed modules the machine is this
   pub listed_load : IsLoaded addressed region listed machine
-  -- each strong need is bound to an agreeing export that stands before it, words have the values of the ABI, and the loads
-  -- stop for want of room or for a word that doesn't fit alone
+  -- each strong need is bound to an agreeing export that comes before it, and words have the values
+  -- of the ABI. The loads stop only for lack of room or for a word that doesn't fit
   pub binds : Binds addressed region listed plan
 
--- Over a folder that stands as depmod indexed it, and the same kernel's table with addresses, the loads of each course
--- bind that came past its reading.
+-- Take a folder that is as depmod indexed it, and the same kernel's table with addresses. Then the
+-- loads of each course that got past its reading bind.
 abbrev pub CoursesBind : Type 0
 CoursesBind =
     (held : Contents) (folder : List ℕ) (tree : List Facts) (kernel : Kernel) (builtin : List ℕ) (addressed : Kernel)
@@ -116,8 +119,9 @@ CoursesBind =
     → CameToLoads held folder config listing request addressed region known machine steps inserts
     → CourseBinds held folder addressed region known machine steps (paths_of inserts)
 
--- A course of loads came to its end: all modules of the plan were loaded, or one of them found no room in the region, or a
--- word of it didn't fit there; or, where parameters are written, the options of one couldn't be.
+-- How a course of loads ended. All modules of the plan were loaded. Or one of them found no room in
+-- the region, or has a word that didn't fit there. Or, with parameters, the options of one couldn't
+-- be written.
 pub data IsEndOfLoads (params : Bool) : Outcome ⊤ → Type 0 where
   all_loaded : IsEndOfLoads params (value tt)
   no_place : (name : List ℕ) (fault : LoadFault) → IsPlaceFault fault → IsEndOfLoads params (end (Refused (LoadRefused name (load_fault_text fault))))

@@ -9,7 +9,8 @@ use Rattle.mod_tree.specs.Tree.{is_module_path}
 use Rattle.stages_loads.specs.Modules.{module_at}
 use Rattle.laws_indexed_folder.specs.Indexed.{HasFile}
 
--- A module is that of the file at a path of the tree in a folder, which can be read, and with which nothing is wrong.
+-- A module is what the file at a path of the tree in a folder states. The file can be read, and has
+-- no fault.
 pub record IsFileModule (held : Contents) (folder path : List ℕ) (m : Module) : Type 0 where
   pub kind : is_module_path path ≡ true
   pub bytes : List ℕ

@@ -1,4 +1,5 @@
--- What the course of the loads of listed modules is, by the machines of these loads. modprobe(8), proc(5).
+-- What the course of the loads of listed modules is, by the machines of these loads. modprobe(8),
+-- proc(5).
 use Rattle.std.specs.Prelude.{◌≡◌, ℕ, List, [], ◌∷◌, map, reverse, Some, Ok, Err}
 use Rattle.km_names.specs.Path.{path_below}
 use Rattle.km_outside.specs.Contents.{Contents}
@@ -26,7 +27,8 @@ AreListedPaths index (name ∷ names) [] = ⊥
 AreListedPaths index (name ∷ names) (path ∷ paths) =
     (path_listed index name ≡ Some path) × AreListedPaths index names paths
 
--- The modules of names went into a machine, one after the other: each was read of its file, and nothing else was done.
+-- The modules of names went into a machine, one after the other: each was read of its file, and
+-- nothing else was done.
 pub record ListedGoIn (held : Contents) (folder : List ℕ) (index : Index) (machine : Machine) (names : List (List ℕ)) (after : Machine) (run : Run Machine) : Type 0 where
   pub paths : List (List ℕ)
   pub listed : List Module
@@ -35,25 +37,26 @@ pub record ListedGoIn (held : Contents) (folder : List ℕ) (index : Index) (mac
   pub loaded : load_all machine listed ≡ Ok after
   pub acts : run.acts ≡ map (λ path. read (path_below folder path)) paths
 
--- A course of the loads of listed modules that gives a machine is that of the machine's loads, the last of the list first.
+-- If a course of the loads of listed modules gives a machine, its loads are the machine's, the last
+-- of the list first.
 abbrev pub ListedAreOfMachine : Type 0
 ListedAreOfMachine =
     (held : Contents) (folder : List ℕ) (index : Index) (machine : Machine) (names : List (List ℕ)) (after : Machine)
     → ((loads_listed folder index machine names).run held).outcome ≡ value after
     → ListedGoIn held folder index machine (reverse names) after ((loads_listed folder index machine names).run held)
 
--- One of listed modules was refused, and that is told.
+-- One of the listed modules was refused, and that is reported.
 pub record ListedIsRefused (machine : Machine) (ms : List Module) (fault : LoadFault) (run : Run Machine) : Type 0 where
   pub first : IsFirstRefused machine ms fault
   pub tells : run.outcome ≡ end (Refused (ListedRefused first.m.facts.name (load_fault_text fault)))
 
--- Loads of listed modules are those of the machine: all modules go in where they can be loaded one after the other, else
--- the first refusal is told.
+-- Loads of listed modules are loads of the machine. If the modules can be loaded one after the
+-- other, all go in. Otherwise the first refusal is reported.
 pub record AreListedLoads (machine : Machine) (ms : List Module) (run : Run Machine) : Type 0 where
   pub loaded : (after : Machine) → load_all machine ms ≡ Ok after → run.outcome ≡ value after
   pub stopped : (fault : LoadFault) → load_all machine ms ≡ Err fault → ListedIsRefused machine ms fault run
 
--- Over files of valid modules a course of the loads of listed modules is that of the machine's loads.
+-- Over files of valid modules the loads of listed modules in a course are the machine's loads.
 abbrev pub ListedLoadsAreOfMachine : Type 0
 ListedLoadsAreOfMachine =
     (held : Contents) (folder : List ℕ) (index : Index) (machine : Machine) (names paths : List (List ℕ)) (ms : List Module)

@@ -50,8 +50,8 @@ AreWritable params w = params ≡ true → fault_of w ≡ None
 abbrev pub finished_image : WentIn → ShownImage
 finished_image w = params_image w.entry.loaded.name (finished_params w.m w.insert.options w.entry.loaded w.entry.image)
 
--- What is shown of a module that went in: its image in the machine; and, where options are written and these can be, the
--- finished one.
+-- What is shown of a module that went in: its image in the machine; and, where options are written
+-- and these can be, the finished one.
 abbrev pub images_of : Bool → WentIn → List ShownImage
 images_of params w =
     machine_image w.entry.loaded w.entry.image ∷ (if params && is_none (fault_of w) then finished_image w ∷ [] else [])
@@ -65,23 +65,26 @@ abbrev pub image_acts : Option (List ℕ) → ShownImage → List Act
 image_acts None s = say s.line ∷ []
 image_acts (Some folder) s = put (path_below folder (s.name ++ codes ".img")) s.image ∷ say s.line ∷ []
 
--- What is done for a module that went in: it is read from the tree in a folder, and then its images are shown.
+-- What is done for a module that went in: it is read from the tree in a folder, and then its images
+-- are shown.
 abbrev pub load_acts : List ℕ → Images → WentIn → List Act
 load_acts folder images w =
     read (path_below folder w.insert.path) ∷ flat_map (image_acts images.folder) (images_of images.params w)
 
--- Why no more modules go into a machine, where these went in and these are left of what was to be loaded: with what is
--- still done, and how the loads end.
+-- Why no more modules go into a machine, if these went in and these are left of what was to be
+-- loaded. It has what is still done, and how the loads end.
 pub data IsEndOf (folder : List ℕ) (params : Bool) (machine : Machine) : List WentIn → List Insertion → List Module → List Act → Outcome Machine → Type 0 where
   -- all are loaded
   all_in : (went : List WentIn) → All (AreWritable params) went → IsEndOf folder params machine went [] [] [] (value machine)
-  -- the next one is read, and the machine refuses it: that is reported, and nothing more is done
+  -- the next one is read, and the machine refuses it: that is reported, and it is the last thing
+  -- done
   refused : (went : List WentIn) → All (AreWritable params) went → (one : Insertion) (inserts : List Insertion) (m : Module) (ms : List Module) (fault : LoadFault) → step machine m ≡ Err fault → IsEndOf folder params machine went (one ∷ inserts) (m ∷ ms) (read (path_below folder one.path) ∷ []) (end (Refused (LoadRefused m.facts.name (load_fault_text fault))))
-  -- the options of the last one can't be written, though they are to be: that is reported, and nothing more is done
+  -- the options of the last one can't be written, though they are to be: that is reported, and
+  -- nothing more is done
   unwritable : (went : List WentIn) → All (AreWritable params) went → (last : WentIn) → params ≡ true → (inserts : List Insertion) (ms : List Module) (fault : ParamFault) → fault_of last ≡ Some fault → IsEndOf folder params machine (went ++ last ∷ []) inserts ms [] (end (Refused (ParamsRefused last.entry.loaded.name (param_fault_text fault))))
 
--- Loads of modules are those of a machine: the first ones go in, one after the other, each is read and its images are
--- shown; and why no more go in.
+-- Loads of modules are loads of a machine. The first ones go in, one after the other: each is read,
+-- and its images are shown. And why no more go in.
 pub record AreMachineLoads (folder : List ℕ) (images : Images) (machine : Machine) (inserts : List Insertion) (ms : List Module) (run : Run Machine) : Type 0 where
   pub went : List WentIn
   pub later : List Insertion
@@ -96,8 +99,8 @@ pub record AreMachineLoads (folder : List ℕ) (images : Images) (machine : Mach
   pub ends : IsEndOf folder images.params middle went later left rest run.outcome
   pub acts : run.acts ≡ flat_map (load_acts folder images) went ++ rest
 
--- Of some modules that are loaded one after the other, the first that is refused: the machine after those before it refuses
--- it for this fault.
+-- Of some modules that are loaded one after the other, the first that is refused: the machine after
+-- those before it refuses it for this fault.
 pub record IsFirstRefused (machine : Machine) (ms : List Module) (fault : LoadFault) : Type 0 where
   pub before : List Module
   pub m : Module
@@ -107,7 +110,7 @@ pub record IsFirstRefused (machine : Machine) (ms : List Module) (fault : LoadFa
   pub loaded : load_all machine before ≡ Ok middle
   pub refused : step middle m ≡ Err fault
 
--- Over files of valid modules a course of loads is that of the machine's loads.
+-- Over files of valid modules the loads of a course are the machine's loads.
 abbrev pub LoadsAreOfMachine : Type 0
 LoadsAreOfMachine =
     (held : Contents) (folder : List ℕ) (images : Images) (machine : Machine) (inserts : List Insertion) (ms : List Module)

@@ -1,4 +1,4 @@
--- What modprobe reads of a folder that stands as depmod indexed it. modprobe(8), modules.dep(5).
+-- What modprobe reads of a folder that is as depmod indexed it. modprobe(8), modules.dep(5).
 use Rattle.std.specs.Prelude.{◌≡◌, ℕ, List, ◌++◌, map, codes, flat_map, Option, Some, Ok, Err, ⊤}
 use Rattle.km_names.specs.Path.{underscored}
 use Rattle.km_names.specs.Space.{words}
@@ -43,8 +43,8 @@ indexes_of made = record {
   builtin = index_of made.builtin_bin;
 }
 
--- The rule that a text of soft dependencies states of the module of a name: the names after each `pre:` and after each
--- `post:`.
+-- The rule that a text of soft dependencies states of the module of a name: the names after each
+-- `pre:` and after each `post:`.
 abbrev pub softdep_of : List ℕ → List ℕ → Rule
 softdep_of name text =
     rules.Softdep (underscored name) (map underscored (words_after (codes "pre:") (words text)))
@@ -54,15 +54,17 @@ softdep_of name text =
 abbrev pub softdep_rules : List Facts → List Rule
 softdep_rules tree = flat_map (λ (f : Facts). map (softdep_of f.name) (softdeps_of f)) tree
 
--- What is read of the folder of a tree: its indexes, which stand for the maps of the tree; the rules of the tree's soft
--- dependencies after those of a configuration; and the lines of modules.unmet.
+-- What is read of the folder of a tree:
+-- - its indexes, which stand for the maps of the tree;
+-- - the rules of a configuration, followed by the rules of the tree's soft dependencies;
+-- - the lines of modules.unmet.
 pub record IsFolderRead (held : Contents) (folder : List ℕ) (tree : List Facts) (kernel : Kernel) (builtin : List ℕ) : Type 0 where
   pub indexes : ((reads_indexes folder).run held).outcome ≡ value (indexes_of (files tree (kernel_of kernel) builtin))
   pub stand : StandFor tree (kernel_of kernel) builtin (files tree (kernel_of kernel) builtin)
   pub softdep : (configuration : List ConfFile) (stated : List Rule) → rules_of configuration ≡ Ok stated → ((reads_rules configuration folder).run held).outcome ≡ value (stated ++ softdep_rules tree)
   pub unmet : ((reads_unmet folder).run held).outcome ≡ value (unmet (modules_of tree) (kernel_of kernel))
 
--- A folder that stands as depmod indexed it is read so: none of its files is refused.
+-- A folder that is as depmod indexed it is read so: none of its files is refused.
 abbrev pub FoldersAreRead : Type 0
 FoldersAreRead =
     (held : Contents) (folder : List ℕ) (tree : List Facts) (kernel : Kernel) (builtin : List ℕ)
@@ -78,15 +80,15 @@ known_of tree kernel builtin stated loaded = record {
   loaded = loaded;
 }
 
--- What the reading before a lookup results in: an end for the configuration or for the list of loaded modules, or what is
--- known of the tree.
+-- What the reading before a lookup results in: an end for the configuration or for the list of
+-- loaded modules, or what is known of the tree.
 pub data IsReading (held : Contents) (config listing : Option (List ℕ)) (tree : List Facts) (kernel : Kernel) (builtin : List ℕ) : Outcome Known → Type 0 where
   no_configuration : (e : End) → ((reads_configuration Modprobe config).run held).outcome ≡ end e → IsReading held config listing tree kernel builtin (end e)
   bad_configuration : (configuration : List ConfFile) (e : End) → ((reads_configuration Modprobe config).run held).outcome ≡ value configuration → stated_outcome (rules_of configuration) ≡ end e → IsReading held config listing tree kernel builtin (end e)
   no_list : (e : End) → ((reads_loaded listing).run held).outcome ≡ end e → IsReading held config listing tree kernel builtin (end e)
   is_known : (configuration : List ConfFile) (stated : List Rule) (loaded : List (List ℕ)) → ((reads_configuration Modprobe config).run held).outcome ≡ value configuration → rules_of configuration ≡ Ok stated → ((reads_loaded listing).run held).outcome ≡ value loaded → IsReading held config listing tree kernel builtin (value (known_of tree kernel builtin stated loaded))
 
--- Over a folder that stands as depmod indexed it, that is all that the reading results in.
+-- Over a folder that is as depmod indexed it, that is all that the reading results in.
 abbrev pub ReadingsEnd : Type 0
 ReadingsEnd =
     (held : Contents) (folder : List ℕ) (tree : List Facts) (kernel : Kernel) (builtin : List ℕ)
@@ -94,21 +96,23 @@ ReadingsEnd =
     → (config listing : Option (List ℕ))
     → IsReading held config listing tree kernel builtin ((reads_known config folder listing).run held).outcome
 
--- A line that isn't understood is one of the configuration, or of the System.map or the Module.symvers that was named.
+-- A line that isn't understood is one of the configuration, or of the System.map or the
+-- Module.symvers that was named.
 pub data IsOtherLine (held : Contents) (asked : ModprobeWords) (file : List ℕ) (number : ℕ) : Type 0 where
   of_configuration : (configuration : List ConfFile) → ((reads_configuration Modprobe asked.config).run held).outcome ≡ value configuration → rules_of configuration ≡ Err (faults.BadLine file number) → IsOtherLine held asked file number
   of_map : asked.system_map ≡ Some file → IsOtherLine held asked file number
   of_symvers : asked.symvers ≡ Some file → IsOtherLine held asked file number
 
--- An end is for no file that depmod wrote: it is for no index and for no dependency line, and a line that isn't understood
--- is another's.
+-- An end is for no file that depmod wrote: it is for no index and for no dependency line, and a
+-- line that isn't understood is another's.
 abbrev pub IsOtherEnd : Contents → ModprobeWords → End → Type 0
 IsOtherEnd held asked (Refused (BadIndex file text)) = ⊥
 IsOtherEnd held asked (Refused (Unplanned text)) = (name : List ℕ) → text ≡ obstacle_text (BadDepLine name) → ⊥
 IsOtherEnd held asked (Refused (BadLine file number)) = IsOtherLine held asked file number
 IsOtherEnd held asked _ = ⊤
 
--- So ends the whole course of a modprobe in each mode over such a folder, if it ends before its last act.
+-- So ends the whole course of a modprobe in each mode over such a folder, if it ends before its
+-- last act.
 abbrev pub CoursesPass : Type 0
 CoursesPass =
     (held : Contents) (asked : ModprobeWords) (tree : List Facts) (kernel : Kernel) (builtin : List ℕ)

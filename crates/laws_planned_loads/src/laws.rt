@@ -4,17 +4,17 @@ ghost use Rattle.laws_planned_loads.specs.Listed.{ListedLoadsAreOfMachine, Liste
 ghost use Rattle.laws_planned_loads.specs.Courses.{CoursesLoad, CoursesBind, CoursesEnd};
 ghost use Rattle.laws_planned_loads.specs.Reading.{FoldersAreRead, ReadingsEnd, CoursesPass};
 
-/// States that loads of modules whose files are read are those of the machine. This holds of a
-/// plan, with all that is printed and written of its loads, and of listed modules, of which nothing
-/// is printed.
+/// States that loads of modules whose files are read are loads of the machine. This holds of a
+/// plan, with all that is printed and written of its loads. It also holds of listed modules, and
+/// nothing is printed of these.
 pub fn loads_are_of_machines()
     ensures planned { LoadsAreOfMachine }
     ensures listed { ListedLoadsAreOfMachine }
     ensures given { ListedAreOfMachine }
 {}
 
-/// States that a course past its reading is that of its loads: it ends as they end, and writes what
-/// they write.
+/// States that a course past its reading does its loads: it ends as they end, and writes what they
+/// write.
 pub fn courses_load()
     ensures { CoursesLoad }
 {}

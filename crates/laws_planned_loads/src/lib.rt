@@ -1,7 +1,7 @@
 //! What the course of a modprobe that loads results in over a folder as depmod indexed it: only
 //! laws.
 //!
-//! The loads of a course are those of the modelled machine. What is printed and written of them is
+//! The loads of a course are loads of the modelled machine. What is printed and written of them is
 //! of the machine's entries, and what is refused is what the machine refuses. Let a folder be as
 //! depmod indexed it, with the same kernel's table. The modules of a plan that runs no command are
 //! then the valid modules of the tree that closed plans speak of. So its loads stop only for lack

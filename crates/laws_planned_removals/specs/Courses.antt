@@ -25,8 +25,9 @@ use Rattle.command_remove.specs.Listed.{takes_listed}
 use Rattle.command_remove.specs.Lines.{left_lines, line_of_two, step_lines, unloaded_line}
 use Rattle.command_remove.specs.Remove.{first_owner, removes}
 
--- A course of a removal came past its lookups, over these files: this is known, this is the machine of the kernel after the
--- listed modules were loaded, and these are the modules that the names stand for.
+-- A course of a removal got past its lookups, over these files. This is known, this is the machine
+-- of the kernel after the listed modules were loaded, and these are the modules that the names
+-- stand for.
 pub record CameToRemoval (held : Contents) (asked : ModprobeWords) (kernel : Kernel) (region : Region) (known : Known) (machine : Machine) (names : List (List ℕ)) : Type 0 where
   pub tables : HasMachine held asked kernel region
   pub knows : ((reads_known asked.config (modules_folder asked.dirname asked.version) asked.loaded).run held).outcome ≡ value known
@@ -42,7 +43,7 @@ AreSaying (say bytes ∷ acts) lines = (rest : List ℕ) × (lines ≡ bytes ++ 
 AreSaying (warn bytes ∷ acts) lines = ⊥
 AreSaying (put path bytes ∷ acts) lines = ⊥
 
--- A course says lines: files are read, the lines are said, and this is the outcome.
+-- A course prints lines: files are read, the lines are printed, and this is the outcome.
 pub record SaysLines (lines : List ℕ) (outcome : Outcome ⊤) (run : Run ⊤) : Type 0 where
   pub before : List Act
   pub reads : list_all is_reading before ≡ true
@@ -58,15 +59,17 @@ steps_asked asked known machine names = removal_steps machine known.rules asked.
 abbrev pub removed_names : Machine → List (List ℕ) → List (List ℕ)
 removed_names machine names = map (name_at machine) (removed_by machine names)
 
--- The lines of modules that are taken out, those of the modules that were, and those of what is left, the oldest first.
+-- The lines of modules that are to be taken out, the lines of modules that were taken out, and the
+-- lines of what is left, the oldest first.
 abbrev pub taken_out_lines : Machine → List (List ℕ) → List ℕ
 taken_out_lines machine names =
     flat_map (line_of_two (codes "rmmod ")) (removed_names machine names)
     ++ (flat_map unloaded_line (removed_names machine names) ++ left_lines (left_after machine names).entries)
 
--- What such a course results in, by its machine alone.
+-- What such a course results in, only by its machine.
 pub record IsRemovalCourse (dry_run : Bool) (asked : ModprobeWords) (known : Known) (machine : Machine) (names : List (List ℕ)) (run : Run ⊤) : Type 0 where
-  -- a module that is asked for is used by one that isn't: the oldest such module and its oldest such user are named
+  -- a module that is asked for is used by one that isn't: the oldest such module and its oldest
+  -- such user are named
   pub used : (j k : ℕ) → in_use machine (is_asked machine names) ≡ Some (j, k)
       → SaysLines [] (end (Refused (InUse (name_at machine j) (name_at machine k)))) run
   -- a command is run, which isn't a dry run: the first module with one is named

@@ -1,5 +1,5 @@
--- What a removal that follows a load finds and leaves, if its list of loaded modules has what the load loaded.
--- modprobe(8), -r; proc(5), /proc/modules.
+-- What a removal that follows a load finds and leaves, if its list of loaded modules has what the
+-- load loaded. modprobe(8), -r; proc(5), /proc/modules.
 use Rattle.std.specs.Prelude.{◌≡◌, ◌<◌, ℕ, true, false, List, ◌++◌, codes, length, reverse, Option, None, Ok}
 use Rattle.std.specs.FinMap.{get}
 use Rattle.km_names.specs.Path.{is_compressed, path_below}
@@ -31,8 +31,8 @@ use Rattle.laws_planned_loads.specs.Courses.{CameToLoads, HasMachine}
 use Rattle.laws_planned_loads.specs.Files.{AreFileModules}
 use Rattle.laws_planned_removals.specs.Courses.{CameToRemoval, removed_names}
 
--- A load that came to its end: what it knew; the machine after its own listed modules; the steps of its plan, the modules
--- that they load, and the machine after these.
+-- A load that went to its end: what it knew; the machine after its own listed modules; the steps of
+-- its plan; the modules that they load; and the machine after these.
 pub record Loaded : Type 0 where
   pub known : Known
   pub listed : Machine
@@ -40,8 +40,8 @@ pub record Loaded : Type 0 where
   pub plan : List Module
   pub last : Machine
 
--- So it came over these files: each module of the plan is all of a valid file, that at the path of its step, and all of
--- them went in, one after the other.
+-- It went so over these files. Each module of the plan is all of a valid file, the one at the path
+-- of its step. All of them went in, one after the other.
 pub record CameToLast (held : Contents) (folder : List ℕ) (kernel : Kernel) (region : Region) (l : Loaded) : Type 0 where
   pub config : Option (List ℕ)
   pub listing : Option (List ℕ)
@@ -60,7 +60,8 @@ LoadsComeToLast =
     → ((loads_plan asked).run held).outcome ≡ value tt
     → (plan : List Module) × (last : Machine) × CameToLast held (modules_folder asked.dirname asked.version) kernel region (record { known = known; listed = listed; steps = steps; plan = plan; last = last })
 
--- The dependency lines of a folder are as they were, and so are its files of modules that aren't compressed.
+-- The dependency lines of a folder are as they were, and so are its files of modules that aren't
+-- compressed.
 pub record FolderStays (held later : Contents) (folder : List ℕ) : Type 0 where
   pub lines : get later (path_below folder (codes "modules.dep.bin")) ≡ get held (path_below folder (codes "modules.dep.bin"))
   pub modules : (path : List ℕ) → is_module_path path ≡ true → is_compressed path ≡ false
@@ -74,8 +75,8 @@ LoadsLeaveFolder =
     → CameToLoads held (modules_folder asked.dirname asked.version) asked.config asked.loaded (request_of asked) kernel region known listed steps inserts
     → FolderStays held (after ((loads_plan asked).run held).acts held) (modules_folder asked.dirname asked.version)
 
--- What a removal knows follows such a load: the folder is as it was for the load, and the list of loaded modules reads as
--- the names of the plan, the newest first, before the load's own list.
+-- What a removal knows follows such a load. The folder is as it was for the load. The list of
+-- loaded modules reads as the names of the plan, the newest first, before the load's own list.
 pub record Follows (held later : Contents) (folder : List ℕ) (l : Loaded) (known : Known) : Type 0 where
   pub stays : FolderStays held later folder
   pub list : known.loaded ≡ reverse (inserted_names l.steps) ++ l.known.loaded
@@ -88,24 +89,29 @@ AreAskedFor names asked = (name : List ℕ) → is_among names name ≡ is_among
 pub record MeetsLoad (kernel : Kernel) (region : Region) (l : Loaded) (machine : Machine) (names : List (List ℕ)) : Type 0 where
   -- the machine that it takes modules out of is the last one of the load
   pub same : machine ≡ l.last
-  -- it is that of the load's own listed modules and then those of the plan, which have the names of its steps
+  -- it is the machine of the load's own listed modules and then the modules of the plan, which have
+  -- the names of its steps
   pub older : List Module
   pub older_load : IsLoaded kernel region older l.listed
   pub all_load : IsLoaded kernel region (older ++ l.plan) machine
   pub plan_names : names_of l.plan ≡ inserted_names l.steps
-  -- the modules of the plan, taken out the newest first, leave the machine from before the plan, and none is refused
+  -- the modules of the plan, taken out the newest first, leave the machine from before the plan,
+  -- and none is refused
   pub unloaded : unload_all machine (reverse (inserted_names l.steps)) ≡ Ok l.listed
-  -- if the removed ones are those of the plan, the machine from before the plan is left, and it is sound
+  -- if the removed ones are the modules of the plan, the machine from before the plan is left, and
+  -- it is sound
   pub back : in_use machine (is_asked machine names) ≡ None → removed_names machine names ≡ reverse (inserted_names l.steps)
       → (left_after machine names ≡ l.listed) × AreTakenBack kernel region older l.plan machine names
-  -- if just what the plan loaded is asked for, none of it is in use; and the removed ones are those of the plan, unless only
-  -- they use one of the load's own listed modules, which then goes with them
+  -- if just what the plan loaded is asked for, none of it is in use. The removed ones are then the
+  -- modules of the plan, unless only they use one of the load's own listed modules, which then goes
+  -- with them
   pub free : AreAskedFor names (inserted_names l.steps) → in_use machine (is_asked machine names) ≡ None
   pub exact : AreAskedFor names (inserted_names l.steps)
       → ((j : ℕ) → j < length l.listed.entries → is_used_only machine (is_asked machine names) j ≡ false)
       → removed_names machine names ≡ reverse (inserted_names l.steps)
 
--- A removal that follows a load takes modules out of the load's last machine, and what the plan loaded is taken back.
+-- A removal that follows a load takes modules out of the load's last machine, and what the plan
+-- loaded is taken back.
 abbrev pub RemovalMeetsLoad : Type 0
 RemovalMeetsLoad =
     (held later : Contents) (asked : ModprobeWords) (kernel : Kernel) (region : Region) (l : Loaded) (known : Known) (machine : Machine) (names : List (List ℕ))

@@ -9,7 +9,8 @@ use Rattle.laws_closed_plans.specs.Loads.{load_all}
 use Rattle.laws_planned_loads.specs.Files.{AreFileModules}
 use Rattle.command_remove.specs.Listed.{takes_listed, well_formed_path}
 
--- Each path is the first one of the dependency line of the module of its name, whose value is well formed.
+-- Each path is the first one of the dependency line of the module of its name, whose value is well
+-- formed.
 abbrev pub AreWellFormedPaths : Indexes → List (List ℕ) → List (List ℕ) → Type 0
 AreWellFormedPaths indexes [] [] = Unit {0}
 AreWellFormedPaths indexes [] (path ∷ paths) = ⊥
@@ -25,7 +26,8 @@ pub record AreTaken (held : Contents) (folder : List ℕ) (indexes : Indexes) (m
   pub files : AreFileModules held folder paths modules
   pub loaded : load_all machine modules ≡ Ok after
 
--- A course of the loads of listed modules that gives a machine is that of the machine's loads, the last of the list first.
+-- If a course of the loads of listed modules gives a machine, its loads are the machine's, the last
+-- of the list first.
 abbrev pub ListedAreTaken : Type 0
 ListedAreTaken =
     (held : Contents) (folder : List ℕ) (indexes : Indexes) (machine : Machine) (names : List (List ℕ)) (after : Machine)

@@ -1,5 +1,5 @@
 -- The tree of a kernel's modules: which file of each name is its module, and the order of the
--- modules. depmod.d(5), "search"; modules.order as the kernel's build writes it.
+-- modules. depmod.d(5), "search"; kbuild's modules.order.
 use Rattle.std.specs.Prelude.{ℕ, List, [], ◌∷◌, ◌++◌, Bool, not, ◌&&◌, ◌||◌, ◌==◌, nat_lt, if◌then◌else◌, codes, Option, Some, None, Result, Ok, Err, map, filter, length, nat_eq}
 use Rattle.std.specs.List.{list_any, ends_with, starts_with, position_or_len}
 use Rattle.std.specs.Str.{bytes_eq}

@@ -13,8 +13,8 @@ use Rattle.module_facts.specs.declared.role.Role.TheVariants.{Export as OfExport
 use Rattle.module_facts.specs.Contents.{section_contents}
 use Rattle.module_facts.specs.Roles.{first_symbol, stated_name, symbol_of}
 
--- The version that a symbol gives: its value if it is absolute, and else the number in the 4 bytes
--- at its value in its section, if the section has them.
+-- The version that a symbol gives. If the symbol is absolute, it is its value. Otherwise it is the
+-- number in the 4 bytes at its value in its section, if the section has them.
 unfoldable pub given_version : FileObject → Symbol → Option ℕ
 given_version o s =
     let bytes = section_contents o s.section in

@@ -1,7 +1,7 @@
 -- The versions that a module states of its needs, a list of names with numbers. Two sections give
 -- it in the extended form: `__version_ext_crcs` the numbers, `__version_ext_names` the names (the
--- kernel's scripts/mod/modpost.c). If the file doesn't have both of these, `__versions` gives it in
--- entries of 64 bytes, as the kernel's struct modversion_info has them (include/linux/module.h): a
+-- kernel's scripts/mod/modpost.c). If the file doesn't have both of these, `__versions` gives it.
+-- Its entries of 64 bytes are the kernel's struct modversion_info (include/linux/module.h): a
 -- number, and a name that ends with a NUL.
 use Rattle.std.specs.Prelude.{ℕ, ◌+◌, ◌*◌, ◌/◌, ◌%◌, ◌==◌, ◌||◌, nat_lt, not, Bool, false, List, [], ◌∷◌, length, map, take, drop, codes, Option, is_none, option_map, option_and_then, find}
 use Rattle.std.specs.List.{count_by, filter_map, list_any, range_with_len, slice_split, zip}

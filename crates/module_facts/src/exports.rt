@@ -16,8 +16,8 @@ use elf_object::{ObjectView, SymbolRef};
 use km_names::{FILE_LIMIT, Name, le_u32_at, string_at};
 use std::alloc::{AllocError, Global};
 
-/// Returns the version that a symbol gives: its value if it is absolute, and else the number in the
-/// 4 bytes at its value in its section, if the section has them.
+/// Returns the version that a symbol gives. If the symbol is absolute, it is its value. Otherwise
+/// it is the number in the 4 bytes at its value in its section, if the section has them.
 #[tactic(auto, unfolding(crate::specs::Exports::given_version))]
 pub(crate) fn given_version(object: &ObjectView, symbol: SymbolRef) -> Option<u64>
     ensures { result ≡ given_version object.now (owned_symbol symbol.entry) }

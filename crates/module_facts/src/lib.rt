@@ -1,10 +1,10 @@
 //! The facts of a kernel module: its exports and needs with their versions, who may use the
 //! exports, its aliases and its soft dependencies, or why it is refused.
 //!
-//! The crate uses `km_names`, `elf_object` for symbols and sections, `modinfo_fields` for the texts
-//! of the section `.modinfo`, and `name_table`: for each thing that symbols state of names, one
-//! table has the first symbol that states it. Facts own their contents, and are small beside the
-//! file. `read_facts` keeps only them, `read_module` keeps the object too.
+//! The crate uses `km_names`, `elf_object` for symbols and sections, and `modinfo_fields` for the
+//! texts of the section `.modinfo`. It uses `name_table` for what symbols state of names: one table
+//! for each kind has the first symbol that states it. Facts own their contents, and are small
+//! beside the file. `read_facts` keeps only them, `read_module` keeps the object too.
 #![tactic(auto)]
 
 mod checks;

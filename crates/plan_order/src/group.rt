@@ -10,7 +10,8 @@ use relation_order::{all_members, least};
 use std::alloc::{AllocError, Global};
 use std::collections::BTreeSet;
 
-/// The least order of some modules, in which each stands after those of them that it goes to.
+/// Finds the least order of some modules. In it each comes after the modules among them that it
+/// goes to.
 pub(crate) fn order_among(
     alloc: Global,
     lists: &[Vec<usize>],
@@ -26,7 +27,7 @@ pub(crate) fn order_among(
     at_places(alloc, members, &order)
 }
 
-// The items at some places.
+// Returns the items at some places.
 fn at_places(alloc: Global, items: &[usize], places: &[usize]) -> Result<Vec<usize>, AllocError>
     requires { All (λ i. i < length items.now) places.now }
     ensures { IfOk result (λ found. found.items ≡ map (slice_index items.now) places.now) }
@@ -34,7 +35,7 @@ fn at_places(alloc: Global, items: &[usize], places: &[usize]) -> Result<Vec<usi
     places.iter().map(|i| items[*i]).collect(alloc)
 }
 
-// For each member the places among the members of those that it goes to.
+// Finds for each member the places, among the members, of the members that it goes to.
 fn lists_among(
     alloc: Global,
     lists: &[Vec<usize>],
@@ -53,7 +54,7 @@ fn lists_among(
     Ok(inner)
 }
 
-// The places among the members of those of some items that are members.
+// Finds the places, among the members, of the items that are members.
 fn places_of(alloc: Global, members: &[usize], items: &[usize]) -> Result<Vec<usize>, AllocError>
     requires { Rises members.now }
     ensures inside { IfOk result (λ places. All (λ i. i < length members.now) places.items) }
@@ -68,7 +69,7 @@ fn places_of(alloc: Global, members: &[usize], items: &[usize]) -> Result<Vec<us
     Ok(places)
 }
 
-// Where an item stands among rising members.
+// Finds the place of an item among rising members.
 fn place_of(members: &[usize], item: usize) -> Option<usize>
     requires { Rises members.now }
     ensures { IsPlaceIn members.now item result }
@@ -76,7 +77,7 @@ fn place_of(members: &[usize], item: usize) -> Option<usize>
     members.binary_search(&item).ok()
 }
 
-/// Some items in rising order, each once.
+/// Lists some items in rising order, each once.
 pub(crate) fn rising(alloc: Global, items: &[usize]) -> Result<Vec<usize>, AllocError>
     ensures rises { IfOk result (λ sorted. Rises sorted.items) }
     ensures items { IfOk result (λ sorted. (y : ℕ) → has sorted.items y ≡ has items.now y) }

@@ -13,7 +13,7 @@ use crate::group::{order_among, rising};
 use relation_order::{find_all, unmarked};
 use std::alloc::{AllocError, Global};
 
-/// Groups one after another: which modules were found, with a mark for each, and the order of them.
+/// Groups one after another: a mark for each module that was found, and the order of these modules.
 #[derive(Drop)]
 pub(crate) struct Groups {
     pub(crate) found: Vec<usize>,
@@ -50,7 +50,7 @@ fn find_group(
 }
 
 impl Groups {
-    /// No groups.
+    /// Begins without groups.
     pub(crate) fn new(alloc: Global, count: usize) -> Result<Groups, AllocError>
         ensures order { IfOk result (λ groups. groups.order.items ≡ []) }
         ensures whole { IfOk result (λ groups. (lists : List (Items ℕ)) (set : List ℕ) → Whole (goes lists) set count groups) }
@@ -86,7 +86,8 @@ impl Groups {
         Ok(())
     }
 
-    /// Adds the groups of some requests, one after another, and answers where each ends in the order.
+    /// Adds the groups of some requests, one after another, and returns where each ends in the
+    /// order.
     pub(crate) fn add_all(
         &mut self,
         alloc: Global,

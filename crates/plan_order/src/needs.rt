@@ -13,11 +13,11 @@ use std::alloc::{AllocError, Global};
 pub struct Needed {
     /// The modules that come before it.
     pub before: Vec<usize>,
-    /// The modules that are wanted after it.
+    /// The modules that are to come after it.
     pub after: Vec<usize>,
 }
 
-/// Who knows what each of some modules needs. Each module that is planned is asked for once, and no other.
+/// Knows what each of some modules needs. Each planned module is asked for once, and no other.
 pub trait Needs {
     /// How many modules there are.
     ghost count: { Self → ℕ };
@@ -25,10 +25,10 @@ pub trait Needs {
     /// The modules that come before one.
     ghost before: { Self → ℕ → List ℕ };
 
-    /// The modules that are wanted after one.
+    /// The modules that are to come after one.
     ghost after: { Self → ℕ → List ℕ };
 
-    /// What a module needs.
+    /// Returns what a module needs.
     fn needed(&self, alloc: Global, place: usize) -> Result<Needed, AllocError>
         requires { place < count self.now }
         ensures before { IfOk result (λ n. n.before.items ≡ before self.now place) }
@@ -37,19 +37,20 @@ pub trait Needs {
         ensures after_inside { IfOk result (λ n. All (λ y. y < count self.now) n.after.items) };
 }
 
-/// Which modules are planned, and for each of them what it needs; the lists of the others are empty.
+/// Which modules are planned, and what each of them needs. The lists of the others are empty.
 #[derive(Drop)]
 pub struct Planned {
     /// A mark for each module that is planned.
     pub marks: Vec<bool>,
-    /// For each module those that come before it.
+    /// For each planned module, the modules that come before it.
     pub before: Vec<Vec<usize>>,
-    /// For each module those that are wanted after it.
+    /// For each planned module, the modules that are to come after it.
     pub after: Vec<Vec<usize>>,
 }
 
-/// What is planned for some requests: the least set that has the requested modules, and with each member all that it
-/// needs. Only those that are marked as free can be planned. `needs` says what each module needs.
+/// Finds what is planned for some requests: the least set that has the requested modules, and with
+/// each member all that it needs. Only modules that are marked as free can be planned. `needs`
+/// knows what each module needs.
 pub fn find_planned<N: Needs>(
     alloc: Global,
     needs: &N,
@@ -101,7 +102,7 @@ fn find_requested(
     Ok(())
 }
 
-// A number of empty lists.
+// Makes a number of empty lists.
 fn empty_lists(alloc: Global, count: usize) -> Result<Vec<Vec<usize>>, AllocError>
     ensures long { IfOk result (λ lists. length lists.items ≡ count) }
     ensures inside { IfOk result (λ lists. Inside count lists.items) }

@@ -16,7 +16,7 @@ use std::alloc::{AllocError, Global};
 pub struct GroupedOrder {
     /// All that is planned, each module after those that come before it.
     pub order: Vec<usize>,
-    /// For each request where its group ends in the order.
+    /// For each request, where its group ends in the order.
     pub ends: Vec<usize>,
 }
 
@@ -25,12 +25,12 @@ pub struct GroupedOrder {
 pub enum PlanOrCycle {
     /// All that is planned, in order.
     Plan(GroupedOrder),
-    /// Modules of which each comes after the next, and the last after the first.
+    /// Modules in a cycle: each comes after the next, and the last after the first.
     Cycle(Vec<usize>),
 }
 
-/// The plan for some requests, of which `planned` says what is planned; or the named cycle, exactly where something
-/// planned comes before itself.
+/// Makes the plan for some requests, or finds the named cycle, exactly if something planned comes
+/// before itself. `planned` has what is planned for these requests.
 pub fn plan_or_cycle(
     alloc: Global,
     planned: &Planned,
@@ -52,7 +52,7 @@ pub fn plan_or_cycle(
     }
 }
 
-// The plan, where nothing planned comes before itself.
+// Makes the plan, if nothing planned comes before itself.
 fn plan_without_cycle(
     alloc: Global,
     before: &[Vec<usize>],

@@ -9,8 +9,9 @@ use crate::{Kernel, RelationFault, TreeFacts};
 use name_table::OwnedNameTable;
 use std::alloc::{AllocError, Global};
 
-/// All exports, the places of their names, for each need of each module the place of the first export of its name, and
-/// whether the kernel's exports are known.
+/// What the needs of a tree are bound to. It has all exports, the places of their names, and
+/// whether the kernel's exports are known. For each need of each module it has the place of the
+/// first export of its name.
 #[derive(Drop)]
 pub(crate) struct Bindings<'a> {
     pub(crate) items: Vec<ExportItem<'a>>,
@@ -20,7 +21,7 @@ pub(crate) struct Bindings<'a> {
 }
 
 impl<'a> Bindings<'a> {
-    /// The bindings of a tree over a kernel.
+    /// Binds the needs of a tree over a kernel.
     pub(crate) fn new(
         alloc: Global,
         tree: &'a TreeFacts,
@@ -42,7 +43,7 @@ impl<'a> Bindings<'a> {
     }
 }
 
-/// The place of the module that exports what stands at a place, if one does.
+/// Returns the place of the module that has the export at a place, if a module has it.
 fn owner_at(items: &[ExportItem], place: Option<u32>) -> Option<u32>
     ensures { result ≡ owner_under items.now place }
 {
@@ -52,7 +53,7 @@ fn owner_at(items: &[ExportItem], place: Option<u32>) -> Option<u32>
     }
 }
 
-/// The places of the modules that a module uses, by what its needs are bound to.
+/// Finds the places of the modules that a module uses, by what its needs are bound to.
 fn used(
     alloc: Global,
     items: &[ExportItem],
@@ -69,7 +70,7 @@ fn used(
     Ok(used)
 }
 
-/// The same for each module.
+/// Finds the same for each module.
 pub(crate) fn all_used(
     alloc: Global,
     items: &[ExportItem],

@@ -1,4 +1,4 @@
-// The lines of modules.unmet on names that more than one exports.
+// The lines of modules.unmet on names that have more than one export.
 ghost use Rattle.std.specs.Prelude.{◌≡◌, ◌<◌, ◌^◌, ◌+◌, ◌++◌, ◌∷◌, [], ℕ, List, length, map, take, All, Some, OnOk, IfOk, slice_index_or};
 ghost use Rattle.std.proofs.Common.{replicate};
 ghost use Rattle.name_table.specs.NameTable.{IsTableOf, place_of};
@@ -13,7 +13,7 @@ use name_table::OwnedNameTable;
 use std::alloc::{AllocError, Global};
 use symbol_binding::{Obstacles, Unbound};
 
-/// The place of the first export that has the name of the one at `k`.
+/// Finds the place of the first export that has the name of the one at `k`.
 fn first_at(names: &OwnedNameTable, items: &[ExportItem], k: usize, item: &ExportItem) -> usize
     requires names { IsTableOf names.now (map item_name items.now) }
     requires place { k < length items.now }
@@ -27,14 +27,14 @@ fn first_at(names: &OwnedNameTable, items: &[ExportItem], k: usize, item: &Expor
     }
 }
 
-/// A number of zeros.
+/// Makes a number of zeros.
 fn zeros(alloc: Global, count: usize) -> Result<Vec<u32>, AllocError>
     ensures { IfOk result (λ list. list.items ≡ replicate count 0) }
 {
     vec![in alloc; 0; count]
 }
 
-/// How many double lines there are: of each export as many as there are exports of its name before it.
+/// Counts the double lines: for each export as many as there are exports of its name before it.
 pub(crate) fn count_doubles(
     alloc: Global,
     names: &OwnedNameTable,
@@ -54,7 +54,7 @@ pub(crate) fn count_doubles(
     Ok(count)
 }
 
-/// The double line of an export with one before it.
+/// Makes the double line of an export and one before it.
 fn double(alloc: Global, before: &ExportItem, item: &ExportItem) -> Result<Unbound, AllocError>
     ensures { IfOk result (λ line. line ≡ Double item.now.export.name before.now.path item.now.path) }
 {
@@ -65,7 +65,8 @@ fn double(alloc: Global, before: &ExportItem, item: &ExportItem) -> Result<Unbou
     })
 }
 
-/// Adds the double lines of an export with the one at a place, and with those after that. What comes last.
+/// Adds the double lines of an export with the one at a place, and with those linked after that.
+/// Returns the place of the last of these.
 fn push_chain(
     alloc: Global,
     lines: &mut Obstacles,
@@ -93,7 +94,7 @@ fn push_chain(
     }
 }
 
-/// Adds the double lines of the export at a place, and links it behind those of its name.
+/// Adds the double lines of the export at a place, and links it behind the exports of its name.
 fn push_item(
     alloc: Global,
     lines: &mut Obstacles,

@@ -1,4 +1,4 @@
-// Exports of a kernel, of each name the first.
+// The exports of a kernel, each name once, as it is first exported.
 ghost use Rattle.std.specs.Prelude.{◌≡◌, ◌+◌, ◌-◌, ◌<◌, ◌≤◌, ◌^◌, length, OnOk, IfOk, map, option_copied};
 ghost use Rattle.std.specs.List.{filter_map};
 ghost use Rattle.km_names.specs.Limit.{file_limit};
@@ -31,7 +31,7 @@ fn add_first<'a>(
     Ok(())
 }
 
-/// What follows `__ksymtab_` in a name that begins so.
+/// Returns what follows `__ksymtab_` in a name that begins with it.
 fn exported_name(name: &[u8]) -> Option<&[u8]>
     ensures { option_copied result ≡ name_of_entry name.now }
 {
@@ -42,7 +42,7 @@ fn exported_name(name: &[u8]) -> Option<&[u8]>
     }
 }
 
-/// The export of an entry of this name, at the address that symbols state for it.
+/// Makes the export of an entry of this name, at the address that symbols state for it.
 fn entry_export(alloc: Global, name: &[u8], symbols: &Symbols) -> Result<KernelExport, AllocError>
     ensures { IfOk result (λ export. export ≡ with_its_address symbols.now (export_of_entry name.now)) }
 {
@@ -55,7 +55,7 @@ fn entry_export(alloc: Global, name: &[u8], symbols: &Symbols) -> Result<KernelE
     })
 }
 
-/// The exports that symbols of a map state, of each name the first, at their addresses.
+/// Makes the exports that symbols of a map state, the first of each name, at their addresses.
 pub(crate) fn exports_of_symbols(
     alloc: Global,
     symbols: &Symbols,
@@ -80,7 +80,7 @@ pub(crate) fn exports_of_symbols(
     Ok(list)
 }
 
-/// The export of a line.
+/// Makes the export of a line.
 fn line_export(alloc: Global, line: &SymversLine) -> Result<KernelExport, AllocError>
     ensures { IfOk result (λ export. export ≡ stated_export line.now) }
 {
@@ -93,7 +93,7 @@ fn line_export(alloc: Global, line: &SymversLine) -> Result<KernelExport, AllocE
     })
 }
 
-/// The exports of the kernel that lines of a Module.symvers state, of each name the first.
+/// Makes the kernel's exports that lines of a Module.symvers state, the first of each name.
 pub(crate) fn exports_of_lines(
     alloc: Global,
     lines: &[SymversLine],
@@ -117,7 +117,7 @@ pub(crate) fn exports_of_lines(
     Ok(list)
 }
 
-/// An export with the address that symbols state, or its own where they state none.
+/// Makes an export with the address that symbols state, or with its own if they state none.
 fn with_address(
     alloc: Global,
     export: &KernelExport,
@@ -138,7 +138,7 @@ fn with_address(
     })
 }
 
-/// Exports with the addresses that symbols state.
+/// Makes exports with the addresses that symbols state.
 pub(crate) fn with_all_addresses(
     alloc: Global,
     exports: &KernelExports,

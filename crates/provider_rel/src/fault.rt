@@ -6,9 +6,9 @@ use std::alloc::{AllocError, AllocFailed};
 /// Why a table of a kernel isn't read.
 #[derive(Debug, Drop)]
 pub enum KernelFault {
-    /// The first line that is neither empty nor understood, from 1.
+    /// The first line that is neither blank nor understood, counted from 1.
     BadKernelLine { line: u32 },
-    /// Memory ran out.
+    /// Out of memory.
     Memory,
 }
 
@@ -35,14 +35,15 @@ impl<T: Drop> From<AllocFailed<T>> for KernelFault {
 /// Why a tree has no relation. The limits are this project's own.
 #[derive(Debug, Drop)]
 pub enum RelationFault {
-    /// Modules of which each uses the next, and the last the first, from the first module of the tree that lies on such
-    /// a way.
+    /// Modules in a cycle: each uses the next, and the last the first. It begins with the first
+    /// module of the tree that lies on a cycle.
     Cycle { names: Names },
     /// How many dependencies all modules have together, more than 2,000,000.
     TooManyDeps { count: u64 },
-    /// How many double lines there are, more than 100,000; the greatest number of 64 bits where there are more.
+    /// How many double lines there are, more than 100,000. If the number doesn't fit in 64 bits, it
+    /// is the greatest that does.
     TooManyDoubles { count: u64 },
-    /// Memory ran out.
+    /// Out of memory.
     Memory,
 }
 

@@ -1,4 +1,4 @@
-// Everything that is exported, in order, and who needs what of it.
+// Everything that is exported, in order, and what needs it.
 ghost use Rattle.std.specs.Prelude.{◌≡◌, ◌+◌, ◌<◌, ◌^◌, ◌++◌, length, map, option_copied, option_and_then, slice_get, OnOk, IfOk, IfErr};
 ghost use Rattle.name_table.specs.NameTable.{IsTableOf};
 ghost use Rattle.provider_rel.specs.Faces.{modules_of, kernel_of};
@@ -11,7 +11,8 @@ use name_table::OwnedNameTable;
 use std::alloc::{AllocError, Global};
 use std::marker::Model;
 
-/// An export: the place of the module that exports it, none for the kernel, the path of who does, and what is exported.
+/// An export: the place of the module that exports it, or none for the kernel; the path of its
+/// exporter; and what is exported.
 #[derive(Drop)]
 pub(crate) struct ExportItem<'a> {
     place: Option<u32>,
@@ -31,42 +32,42 @@ impl<'a> Model for ExportItem<'a> {
 }
 
 impl<'a> ExportItem<'a> {
-    /// The place of the module that exports it, none for the kernel.
+    /// Returns the place of the module that exports it, none for the kernel.
     pub(crate) fn place(&self) -> Option<u32>
         ensures { result ≡ self.now.place }
     {
         self.place
     }
 
-    /// The path of who exports it.
+    /// Returns the path of its exporter.
     pub(crate) fn path(&self) -> &'a [u8]
         ensures { result.now ≡ self.now.path }
     {
         self.path
     }
 
-    /// Its name.
+    /// Returns its name.
     pub(crate) fn name(&self) -> &'a [u8]
         ensures { result.now ≡ self.now.export.name }
     {
         self.name
     }
 
-    /// Its version.
+    /// Returns its version.
     pub(crate) fn crc(&self) -> Option<u64>
         ensures { result ≡ self.now.export.crc }
     {
         self.crc
     }
 
-    /// Whether it is for GPL-compatible modules alone.
+    /// Returns whether it is for GPL-compatible modules only.
     pub(crate) fn gpl(&self) -> bool
         ensures { result ≡ self.now.export.gpl }
     {
         self.gpl
     }
 
-    /// Its namespace.
+    /// Returns its namespace.
     pub(crate) fn space(&self) -> &'a [u8]
         ensures { result.now ≡ self.now.export.space }
     {
@@ -115,7 +116,7 @@ fn push_module_items<'a>(
     Ok(())
 }
 
-/// All exports: the kernel's, and then those of each module in the order of the tree.
+/// Lists all exports: the kernel's, and then each module's in the order of the tree.
 pub(crate) fn all_items<'a>(
     alloc: Global,
     tree: &'a TreeFacts,
@@ -133,7 +134,8 @@ pub(crate) fn all_items<'a>(
     Ok(items)
 }
 
-/// The places of the names of exports. So many that their places don't fit in 32 bits are too much for memory.
+/// Makes the table of the names of exports, by their places. If the places don't fit in 32 bits, it
+/// is out of memory.
 pub(crate) fn names_of(alloc: Global, items: &[ExportItem]) -> Result<OwnedNameTable, RelationFault>
     ensures names { IfOk result (λ names. IsTableOf names (map item_name items.now)) }
     ensures few { OnOk result (length items.now < 2 ^ 32) }
@@ -149,7 +151,7 @@ pub(crate) fn names_of(alloc: Global, items: &[ExportItem]) -> Result<OwnedNameT
     Ok(names)
 }
 
-/// For each need the place of the first export of its name.
+/// Finds for each need the place of the first export of its name.
 fn bound_needs(
     alloc: Global,
     names: &OwnedNameTable,
@@ -164,7 +166,7 @@ fn bound_needs(
         .collect(alloc)
 }
 
-/// The same for the needs of each module.
+/// Finds the same for the needs of each module.
 pub(crate) fn all_bound(
     alloc: Global,
     names: &OwnedNameTable,
@@ -179,7 +181,7 @@ pub(crate) fn all_bound(
     Ok(bound)
 }
 
-/// The export at a place, if there is one.
+/// Returns the export at a place, if there is one.
 pub(crate) fn item_at<'s, 'a>(
     items: &'s [ExportItem<'a>],
     place: Option<u32>,

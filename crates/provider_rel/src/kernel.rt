@@ -16,11 +16,11 @@ use std::alloc::Global;
 pub struct KernelExport {
     /// Its name.
     pub name: Name,
-    /// Its version, where one is stated.
+    /// Its version, if one is stated.
     pub crc: Option<u64>,
-    /// Where it lies in the kernel's memory, where a map states that.
+    /// Its address in the kernel's memory, if a map states one.
     pub address: Option<u64>,
-    /// Whether it is for GPL-compatible modules alone. EXPORT_SYMBOL_GPL.
+    /// Whether it is for GPL-compatible modules only. EXPORT_SYMBOL_GPL.
     pub gpl: bool,
     /// Its namespace, empty for none. EXPORT_SYMBOL_NS.
     pub space: Name,
@@ -32,7 +32,8 @@ pub type KernelExports = List<KernelExport>;
 /// What a kernel exports, each name once.
 #[derive(Drop)]
 pub struct Kernel {
-    /// Whether its exports are known. A kernel of which nothing is known counts as exporting all that no module does.
+    /// Whether its exports are known. An unknown kernel counts as exporting everything that no
+    /// module exports.
     pub known: bool,
     /// Its exports.
     pub exports: KernelExports,
@@ -41,7 +42,7 @@ pub struct Kernel {
 }
 
 impl Kernel {
-    /// A kernel of which nothing is known. It takes no memory.
+    /// Makes an unknown kernel. It takes no memory.
     pub fn unknown(alloc: Global) -> Kernel
         ensures known { result.known ≡ false }
         ensures exports { result.exports ≡ [] }
@@ -53,8 +54,9 @@ impl Kernel {
         }
     }
 
-    /// The kernel of a System.map: it exports the names of which the map has the entries `__ksymtab_N`, at their
-    /// addresses there, without versions. A blank line states nothing. nm(1); the kernel's include/linux/export.h.
+    /// Reads the kernel of a System.map. It exports each name N that has an entry `__ksymtab_N` in
+    /// the map, at the address there, without a version. A blank line states nothing. nm(1); the
+    /// kernel's include/linux/export.h.
     ///
     /// # Errors
     ///
@@ -75,8 +77,9 @@ impl Kernel {
         })
     }
 
-    /// The kernel of a Module.symvers: it exports what lines with `vmlinux` in their third field state, with versions,
-    /// and without addresses. A blank line states nothing. The kernel's Documentation/kbuild/modules.rst.
+    /// Reads the kernel of a Module.symvers. It exports what lines with `vmlinux` in their third
+    /// field state, with versions, and without addresses. A blank line states nothing. The kernel's
+    /// Documentation/kbuild/modules.rst.
     ///
     /// # Errors
     ///
@@ -97,8 +100,8 @@ impl Kernel {
         })
     }
 
-    /// Gives the exports the addresses that a System.map states; where it has none for a name, an address stays as it
-    /// was. After a refusal all are as before. nm(1).
+    /// Gives the exports the addresses that a System.map states. If it has none for a name, an
+    /// address stays as it was. After a refusal all are as before. nm(1).
     ///
     /// # Errors
     ///

@@ -1,11 +1,16 @@
-//! Who provides a symbol, what depends on what, and every obstacle, over the facts of a whole tree and the exports of a
-//! kernel.
+//! Who provides a symbol, what depends on what, and every obstacle, over the facts of a whole tree
+//! and the exports of a kernel.
 //!
-//! A kernel's exports come from the tables that its build writes, System.map and Module.symvers. The relation of a tree
-//! has for each name who provides it, for each module what it depends on, in an order in which each stands after what it
-//! depends on, and the lines of modules.unmet. What these are is defined in `symbol_binding` and `relation_order`; the
-//! facts of modules are those of `module_facts`. Exported names stand in one table of `name_table`, in the order in which
-//! they are first exported.
+//! A kernel's exports come from the tables that its build writes, System.map and Module.symvers.
+//! The relation of a tree has:
+//!
+//! - who provides each name;
+//! - what each module depends on, in an order in which each comes after what it depends on;
+//! - the lines of modules.unmet.
+//!
+//! `symbol_binding` and `relation_order` define what these are, and `module_facts` has the facts of
+//! modules. Exported names are in one table of `name_table`, in the order in which they are first
+//! exported.
 #![tactic(auto)]
 
 mod bindings;

@@ -10,7 +10,7 @@ use std::alloc::Global;
 
 /// What a line of a table states.
 pub(crate) trait TableLine<'a>: Drop + Sized {
-    /// What a line states, or none where it isn't understood. A blank line states nothing.
+    /// What a line states, or none if it isn't understood. A blank line states nothing.
     ghost read: { List ℕ → Option Self };
 
     /// Reads a line.
@@ -18,7 +18,7 @@ pub(crate) trait TableLine<'a>: Drop + Sized {
         ensures { result ≡ read line.now };
 }
 
-/// What the lines of a table state, in order, unless one is refused.
+/// Reads what the lines of a table state, in order, unless one is refused.
 pub(crate) fn read_lines<'a, L: TableLine<'a>>(
     alloc: Global,
     bytes: &'a [u8],
@@ -48,7 +48,7 @@ pub(crate) fn read_lines<'a, L: TableLine<'a>>(
     Ok(lines)
 }
 
-/// Whether a line has nothing but white space.
+/// Returns whether a line has only white space.
 fn is_blank(line: &[u8]) -> bool
     ensures { result ≡ is_blank_line line.now }
 {

@@ -52,21 +52,21 @@ impl<'a> TableLine<'a> for MapLine<'a> {
 }
 
 impl<'a> MapLine<'a> {
-    /// Its name.
+    /// Returns its name.
     pub(crate) fn name(&self) -> &'a [u8]
         ensures { result.now ≡ self.now.name }
     {
         self.name
     }
 
-    /// Its address.
+    /// Returns its address.
     fn address(&self) -> u64
         ensures { result ≡ self.now.address }
     {
         self.address
     }
 
-    /// Its name, where it is a global one.
+    /// Returns its name, if it is a global one.
     fn global_name(&self) -> Option<&'a [u8]>
         ensures { option_copied result ≡ global_name self.now }
     {
@@ -78,8 +78,8 @@ impl<'a> MapLine<'a> {
     }
 }
 
-/// The symbols of a System.map, with the places of the first of each name, and of the first global one. Contracts see
-/// the list of the symbols.
+/// The symbols of a System.map, with two tables: the place of the first symbol of each name, and of
+/// its first global one. Contracts see the list of the symbols.
 #[derive(Drop)]
 pub(crate) struct Symbols<'a> {
     lines: Vec<MapLine<'a>>,
@@ -98,7 +98,7 @@ impl<'a> Model for Symbols<'a> {
     ghost invariant = { λ s. AreTables s.lines.items s.globals s.all };
 }
 
-/// The table of the global names.
+/// Makes the table of the global names.
 fn table_of_globals<'a>(alloc: Global, lines: &[MapLine<'a>]) -> Result<NameTable<'a>, AllocError>
     requires { length lines.now ≤ file_limit }
     ensures { IfOk result (λ table. IsTableOf table (map global_name lines.now)) }
@@ -110,7 +110,7 @@ fn table_of_globals<'a>(alloc: Global, lines: &[MapLine<'a>]) -> Result<NameTabl
     Ok(table)
 }
 
-/// The table of all names.
+/// Makes the table of all names.
 fn table_of_all<'a>(alloc: Global, lines: &[MapLine<'a>]) -> Result<NameTable<'a>, AllocError>
     requires { length lines.now ≤ file_limit }
     ensures { IfOk result (λ table. IsTableOf table (map any_name lines.now)) }
@@ -123,7 +123,7 @@ fn table_of_all<'a>(alloc: Global, lines: &[MapLine<'a>]) -> Result<NameTable<'a
 }
 
 impl<'a> Symbols<'a> {
-    /// The symbols that a System.map states, unless a line is refused.
+    /// Reads the symbols that a System.map states, unless a line is refused.
     pub(crate) fn read(alloc: Global, bytes: &'a [u8]) -> Result<Symbols<'a>, KernelFault>
         requires { length bytes.now ≤ file_limit }
         ensures ok { IfOk result (λ symbols. symbols ≡ stated map_line bytes.now) }
@@ -141,14 +141,14 @@ impl<'a> Symbols<'a> {
         })
     }
 
-    /// The symbols, in the order of their lines.
+    /// Returns the symbols, in the order of their lines.
     pub(crate) fn lines(&self) -> &[MapLine<'a>]
         ensures { result.now ≡ self.now }
     {
         self.lines.as_slice()
     }
 
-    /// The first global symbol of a name, or its first symbol.
+    /// Finds the first global symbol of a name, or else its first symbol.
     fn symbol(&self, name: &[u8]) -> Option<&MapLine<'a>>
         ensures { option_copied result ≡ symbol_of self.now name.now }
     {
@@ -158,7 +158,7 @@ impl<'a> Symbols<'a> {
         }
     }
 
-    /// The address of a name.
+    /// Finds the address of a name.
     pub(crate) fn address(&self, name: &[u8]) -> Option<u64>
         ensures { result ≡ address_of self.now name.now }
     {
@@ -169,7 +169,7 @@ impl<'a> Symbols<'a> {
     }
 }
 
-/// The line at a place, if there is one.
+/// Returns the line at a place, if there is one.
 fn line_at<'s, 'a>(lines: &'s [MapLine<'a>], place: Option<u32>) -> Option<&'s MapLine<'a>>
     ensures { option_copied result ≡ option_and_then (slice_get lines.now) place }
 {

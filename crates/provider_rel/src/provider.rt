@@ -5,7 +5,7 @@ use km_names::TreeIndex;
 pub enum Provider {
     /// Nobody does.
     Nobody,
-    /// The kernel, or any kernel where nothing is known of it.
+    /// The kernel, or an unknown one.
     Kernel,
     /// The module at this place of the tree.
     Module(TreeIndex),

@@ -27,8 +27,8 @@ use symbol_binding::Obstacles;
 /// Modules of a tree, by their places.
 pub type Order = List<TreeIndex>;
 
-/// The relation of a tree over a kernel: who provides a name, what each module depends on, and the lines of
-/// modules.unmet. modules.dep(5).
+/// The relation of a tree over a kernel: who provides a name, what each module depends on, and the
+/// lines of modules.unmet. modules.dep(5).
 #[derive(Drop)]
 pub struct Relation {
     known: bool,
@@ -38,7 +38,7 @@ pub struct Relation {
     unmet: Obstacles,
 }
 
-/// The owner of an export as an answer.
+/// Returns the owner of an export as an answer.
 fn owner(item: &ExportItem) -> Provider
     ensures { result ≡ item_answer item.now }
 {
@@ -48,14 +48,14 @@ fn owner(item: &ExportItem) -> Provider
     }
 }
 
-/// The owners of exports.
+/// Lists the owners of exports.
 fn owners(alloc: Global, items: &[ExportItem]) -> Result<Vec<Provider>, AllocError>
     ensures { IfOk result (λ owners. owners.items ≡ map item_answer items.now) }
 {
     items.iter().map(|item| owner(item)).collect(alloc)
 }
 
-/// The names of the modules at some places.
+/// Lists the names of the modules at some places.
 fn names_at(alloc: Global, tree: &TreeFacts, places: &[usize]) -> Result<Names, AllocError>
     ensures { IfOk result (λ names. names ≡ map (name_at (modules_of tree.now)) places.now) }
 {
@@ -69,7 +69,7 @@ fn names_at(alloc: Global, tree: &TreeFacts, places: &[usize]) -> Result<Names, 
     Ok(names)
 }
 
-/// What each module depends on, unless walks lead back.
+/// Finds what each module depends on, unless walks lead back.
 fn reach(
     alloc: Global,
     tree: &TreeFacts,
@@ -123,7 +123,7 @@ fn check_counts(
     Ok(())
 }
 
-/// Places as a list of them.
+/// Makes a list of places.
 fn order_of(alloc: Global, places: &[usize]) -> Result<Order, AllocError>
     requires { All (λ i. i < 2 ^ 32) places.now }
     ensures { IfOk result (λ order. map (λ i. i.0) order ≡ places.now) }
@@ -135,7 +135,7 @@ fn order_of(alloc: Global, places: &[usize]) -> Result<Order, AllocError>
     Ok(order)
 }
 
-/// The dependencies of each module as lists of places.
+/// Makes the dependencies of each module, as lists of places.
 fn orders_of(alloc: Global, closures: &Closures, count: usize) -> Result<Vec<Order>, AllocError>
     requires long { length closures.now ≡ count }
     requires small { All (λ xs. All (λ i. i < 2 ^ 32) xs) closures.now }
@@ -148,7 +148,7 @@ fn orders_of(alloc: Global, closures: &Closures, count: usize) -> Result<Vec<Ord
     Ok(orders)
 }
 
-/// All lines of modules.unmet, in order.
+/// Makes all lines of modules.unmet, in order.
 fn obstacles_of(
     alloc: Global,
     tree: &TreeFacts,
@@ -169,13 +169,16 @@ fn obstacles_of(
 }
 
 impl Relation {
-    /// The relation of the modules of a tree, in its order, over a kernel. modules.dep(5), depmod(8).
+    /// Makes the relation of the modules of a tree, in its order, over a kernel. modules.dep(5),
+    /// depmod(8).
     ///
     /// # Errors
     ///
-    /// `Cycle` exactly where walks of uses lead back; then `TooManyDeps` exactly where all modules together have more
-    /// than 2,000,000 dependencies; then `TooManyDoubles` exactly where there are more than 100,000 double lines; or
-    /// `Memory`.
+    /// The first of these that is so, or `Memory`:
+    ///
+    /// - `Cycle` exactly if modules use one another in a cycle;
+    /// - `TooManyDeps` exactly if all modules together have more than 2,000,000 dependencies;
+    /// - `TooManyDoubles` exactly if there are more than 100,000 double lines.
     pub fn make(alloc: Global, tree: &TreeFacts, kernel: &Kernel) -> Result<Relation, RelationFault>
         requires { IsTree tree.now }
         ensures ok { IfOk result (λ relation. IsRelation (modules_of tree.now) (kernel_of kernel.now) relation) }
@@ -197,7 +200,7 @@ impl Relation {
         })
     }
 
-    /// Who provides a name. It takes no memory.
+    /// Finds who provides a name. It takes no memory.
     #[tactic(auto, unfolding(crate::specs::Seen::provider_by))]
     pub fn provider(&self, name: &[u8]) -> Provider
         ensures { result ≡ provider_by self.now name.now }
@@ -205,8 +208,8 @@ impl Relation {
         owner_at(self.known, &self.owners, self.names.place(name))
     }
 
-    /// The modules on which the module at a place depends, each after those that it depends on itself; of those that
-    /// may come next the first in the tree. It takes no memory.
+    /// Returns the modules that the module at a place depends on, each after those that it depends
+    /// on itself. Of those that may come next, the first in the tree does. It takes no memory.
     #[tactic(auto, unfolding(crate::specs::Seen::closures_by))]
     pub fn closure(&self, m: TreeIndex) -> &Order
         requires { m.0 < length (closures_by self.now) }
@@ -215,7 +218,8 @@ impl Relation {
         &self.closures[m.0 as usize]
     }
 
-    /// What stands in the way of loading modules of the tree: the lines of modules.unmet. It takes no memory.
+    /// Returns what prevents modules of the tree from being loaded: the lines of modules.unmet. It
+    /// takes no memory.
     #[tactic(auto, unfolding(crate::specs::Seen::obstacles_by))]
     pub fn obstacles(&self) -> &Obstacles
         ensures { result.now ≡ obstacles_by self.now }
@@ -224,7 +228,7 @@ impl Relation {
     }
 }
 
-/// Who provides what stands at a place of the owners, or what nobody exports.
+/// Returns who provides the export at a place, or a name that has no export.
 fn owner_at(known: bool, owners: &[Provider], place: Option<u32>) -> Provider
     ensures { result ≡ answer_at known owners.now place }
 {

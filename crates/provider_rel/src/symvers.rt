@@ -25,7 +25,7 @@ impl<'a> Model for SymversLine<'a> {
     ghost view = { λ l. record { crc = l.crc; name = l.name.now; owner = l.owner.now; gpl = l.gpl; space = l.space.now } };
 }
 
-/// The version that a field states.
+/// Reads the version that a field states.
 #[tactic(auto, unfolding(crate::specs::SymversLines::version))]
 fn version(field: &[u8]) -> Option<u64>
     ensures { result ≡ version_of field.now }
@@ -93,35 +93,35 @@ impl<'a> TableLine<'a> for SymversLine<'a> {
 }
 
 impl<'a> SymversLine<'a> {
-    /// The name of the export.
+    /// Returns the name of the export.
     pub(crate) fn name(&self) -> &'a [u8]
         ensures { result.now ≡ self.now.name }
     {
         self.name
     }
 
-    /// Its version.
+    /// Returns its version.
     pub(crate) fn crc(&self) -> u64
         ensures { result ≡ self.now.crc }
     {
         self.crc
     }
 
-    /// Whether the kernel itself exports it.
+    /// Returns whether the kernel itself exports it.
     pub(crate) fn is_of_kernel(&self) -> bool
         ensures { result ≡ bytes_eq self.now.owner (codes "vmlinux") }
     {
         self.owner == b"vmlinux".as_slice()
     }
 
-    /// Whether it is for GPL-compatible modules alone.
+    /// Returns whether it is for GPL-compatible modules only.
     pub(crate) fn gpl(&self) -> bool
         ensures { result ≡ self.now.gpl }
     {
         self.gpl
     }
 
-    /// Its namespace.
+    /// Returns its namespace.
     pub(crate) fn space(&self) -> &'a [u8]
         ensures { result.now ≡ self.now.space }
     {

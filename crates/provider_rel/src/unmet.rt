@@ -23,7 +23,7 @@ pub(crate) enum Kind {
     Namespace,
 }
 
-/// Whether a need has a line of a kind, where an export was found under its name.
+/// Returns whether a need has a line of a kind, if an export was found under its name.
 fn is_unmet_by(kind: Kind, facts: &Facts, need: &Need, item: &ExportItem) -> bool
     ensures { result ≡ test_of kind (Some item.now.export) (face_of facts.now) (need_of_facts need.now) }
 {
@@ -36,7 +36,7 @@ fn is_unmet_by(kind: Kind, facts: &Facts, need: &Need, item: &ExportItem) -> boo
     }
 }
 
-/// Whether a need has a line of a kind, where nothing was found under its name.
+/// Returns whether a need has a line of a kind, if nothing was found under its name.
 fn is_unmet_alone(kind: Kind, need: &Need, known: bool) -> bool
     ensures { (facts : Facts) → result ≡ test_of kind (seen_under known need.now.name None) (face_of facts) (need_of_facts need.now) }
 {
@@ -46,7 +46,7 @@ fn is_unmet_alone(kind: Kind, need: &Need, known: bool) -> bool
     }
 }
 
-/// The line of a kind.
+/// Makes the line of a kind.
 fn line(
     alloc: Global,
     kind: Kind,
@@ -79,14 +79,14 @@ fn line(
     })
 }
 
-/// The path of a kernel of which nothing is known, as a provider; nobody has the empty one.
+/// Returns the path of an unknown kernel as a provider, or the empty path for nobody.
 fn path_of_none(known: bool) -> &'static [u8]
     ensures { result.now ≡ path_under known None }
 {
     if known { b"" } else { b"vmlinux" }
 }
 
-/// Adds the line of a kind of a need, where it has one.
+/// Adds the line of a kind of a need, if it has one.
 #[tactic(auto, unfolding(crate::specs::Kinds::line_if))]
 fn push_line(
     alloc: Global,

@@ -38,8 +38,8 @@ impl Model for Closures {
 }
 
 impl Closures {
-    /// Makes the closures of the items below `lists.len()`, each of which goes to those in its
-    /// list, by their least order. No walk leads back to its start.
+    /// Makes the closures of the items below `lists.len()`, by their least order. Each item goes to
+    /// those in its list, and no walk leads back to its start.
     pub fn new(
         alloc: Global,
         lists: &[Vec<usize>],
@@ -79,7 +79,7 @@ impl Closures {
     }
 }
 
-// As many rows, none of which has a mark, nor room for one.
+// Makes as many rows, without a mark, and without room for one.
 fn empty_rows(alloc: Global, count: usize) -> Result<Vec<Vec<u64>>, AllocError>
     ensures long { IfOk result (λ rows. length rows.items ≡ count) }
     ensures empty { IfOk result (λ rows. All (λ row. row.items ≡ []) rows.items) }
@@ -91,14 +91,14 @@ fn empty_rows(alloc: Global, count: usize) -> Result<Vec<Vec<u64>>, AllocError>
     Ok(rows)
 }
 
-// A row with room for a mark for each of as many items, and without a mark.
+// Makes a row without a mark, with room for a mark for each of as many items.
 fn unmarked_row(alloc: Global, count: usize) -> Result<Vec<u64>, AllocError>
     ensures { IfOk result (λ row. row.items ≡ replicate (div_ceil count 64) 0) }
 {
     vec![in alloc; 0; count.div_ceil(WORD_BITS)]
 }
 
-// A row with marks for some items below a number.
+// Makes a row with marks for some items below a number.
 fn row_with(alloc: Global, count: usize, items: &[usize]) -> Result<Vec<u64>, AllocError>
     requires { All (λ y. y < count) items.now }
     ensures { IfOk result (λ row. (y : ℕ) → has_mark row.items y ≡ has items.now y) }
@@ -110,8 +110,8 @@ fn row_with(alloc: Global, count: usize, items: &[usize]) -> Result<Vec<u64>, Al
     Ok(row)
 }
 
-// The row of what is reached from an item, where those of the items before it are known, among
-// which are all that it goes to. The last is looked at first: mostly it has reached those that come
+// Makes the row of what is reached from an item, by the rows of the items before it. All items that
+// it goes to are among these. The last is looked at first: mostly it has reached those that come
 // before it, which need not be added again.
 fn row_of(
     alloc: Global,
@@ -188,7 +188,7 @@ fn add_row(row: &mut Vec<u64>, other: &[u64], item: usize)
     }
 }
 
-// The marked ones of an order.
+// Lists the marked items of an order.
 fn marked_items(alloc: Global, order: &[usize], row: &[u64]) -> Result<Vec<usize>, AllocError>
     ensures { IfOk result (λ found. found.items ≡ filter (has_mark row.now) order.now) }
 {
@@ -199,7 +199,7 @@ fn marked_items(alloc: Global, order: &[usize], row: &[u64]) -> Result<Vec<usize
         .collect(alloc)
 }
 
-// How many items are marked.
+// Counts the marked items.
 fn count_marks(row: &[u64]) -> u64
     requires { length row.now < 2 ^ 32 }
     ensures { result ≡ length (filter (has_mark row.now) (below (64 * length row.now))) }

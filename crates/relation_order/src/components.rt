@@ -1,6 +1,6 @@
-//! Which members of a set lie on a cycle, found in one pass over the members and their steps: the
-//! path-based search for strongly connected components (Purdom and Munro 1968, Dijkstra 1976, Gabow
-//! 2000).
+//! Finds which members of a set lie on a cycle, in one pass over the members and their steps. This
+//! is the path-based search for strongly connected components (Purdom and Munro 1968, Dijkstra
+//! 1976, Gabow 2000).
 ghost use Rattle.std.specs.Prelude.{◌≡◌, ◌+◌, ◌<◌, ◌≤◌, ◌-◌, ◌++◌, ◌∷◌, ◌&&◌, [], ℕ, List, Bool};
 ghost use Rattle.std.specs.Prelude.{true, false, length, All, IfOk, OnOk, nat_eq, nat_lt};
 ghost use Rattle.std.specs.Prelude.{slice_index};
@@ -16,25 +16,24 @@ use crate::cycle::stands_in;
 use crate::order::zeros;
 use std::alloc::{AllocError, Global};
 
-/// How far a search has come with an item.
+/// How far a search has got with an item.
 #[derive(Clone, Copy)]
 pub(crate) enum State {
     /// The search hasn't met it.
     New,
-    /// Its component isn't whole yet; the place where the item stands among those of which this
-    /// holds.
+    /// Its component isn't whole yet. The number is the place of the item among the open items.
     Open(usize),
     /// Its component is whole; whether the item lies on a cycle.
     Done(bool),
 }
 
-/// A search for the strongly connected components of a set. The open items stand in the order in
-/// which they were met, those of a component side by side.
+/// A search for the strongly connected components of a set. The open items are in the order in
+/// which they were met, and the items of one component are side by side.
 #[derive(Drop)]
 pub(crate) struct CycleSearch {
     /// The state of each item.
     pub(crate) states: Vec<State>,
-    /// How many of the items that each goes to were looked at.
+    /// How many of the items that each goes to have been looked at.
     pub(crate) looked: Vec<usize>,
     /// The open items.
     pub(crate) stack: Vec<usize>,
@@ -86,7 +85,7 @@ impl CycleSearch {
         Ok(())
     }
 
-    // Looks at the next step of the item at a place, or leaves the item where there is none.
+    // Looks at the next step of the item at a place, or leaves the item if it has no further step.
     fn step(&mut self, lists: &[Vec<usize>], members: &[bool], at: usize) -> Result<(), AllocError>
         requires long { length members.now ≡ length lists.now }
         requires inside { Inside (length lists.now) lists.now }
@@ -149,8 +148,8 @@ impl CycleSearch {
         Ok(())
     }
 
-    // Leaves the item at a place, all of whose steps were looked at. Where its component begins
-    // with it, that is whole.
+    // Leaves the item at a place, after all its steps have been looked at. If its component begins
+    // with it, that component is whole.
     fn leave(&mut self, lists: &[Vec<usize>], at: usize)
         requires at { at < length self.old.stack.items }
         requires within { All (λ x. x < length lists.now) self.old.stack.items }
@@ -174,7 +173,7 @@ impl CycleSearch {
         }
     }
 
-    /// Tells whether an item was found to lie on a cycle.
+    /// Returns whether an item was found to lie on a cycle.
     pub(crate) fn is_on_cycle(&self, item: usize) -> bool
         requires { item < length self.now.states.items }
         ensures { result ≡ is_on_cycle (state_of self.now.states.items item) }
@@ -186,7 +185,7 @@ impl CycleSearch {
     }
 }
 
-// As many items that weren't met.
+// Makes the states of as many items that weren't met.
 fn new_states(alloc: Global, count: usize) -> Result<Vec<State>, AllocError>
     ensures { IfOk result (λ states. states.items ≡ replicate count State.New) }
 {

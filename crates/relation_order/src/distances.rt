@@ -1,4 +1,4 @@
-//! How far each member is from one of them: a breadth-first search back from that one.
+//! How far each member is from one member: a breadth-first search back from that one.
 ghost use Rattle.std.specs.Prelude.{◌≡◌, ◌≢◌, ◌<◌, ◌&&◌, ◌||◌, ◌==◌, [], ℕ, true, length, All};
 ghost use Rattle.std.specs.Prelude.{IfOk, OnOk};
 ghost use Rattle.std.specs.List.{list_any};
@@ -12,8 +12,8 @@ use crate::order::{add_at, empty_lists};
 use crate::reach::marked;
 use std::alloc::{AllocError, Global};
 
-/// Finds how many steps within the members lead from each of them to one at the least, or how many
-/// members there are.
+/// Finds the least number of steps within the members that lead from each of them to one of them.
+/// If no steps lead there, the number is how many members there are.
 pub(crate) fn distances_to(
     alloc: Global,
     lists: &[Vec<usize>],
@@ -39,7 +39,7 @@ pub(crate) fn distances_to(
     Ok(far)
 }
 
-// For each item those of some items that go to it.
+// Lists for each item the items among some that go to it.
 fn reversed(
     alloc: Global,
     lists: &[Vec<usize>],
@@ -75,15 +75,15 @@ fn add_source(
     Ok(())
 }
 
-// A value a number of times.
+// Makes a list of a value, a number of times.
 fn filled(alloc: Global, count: usize, value: usize) -> Result<Vec<usize>, AllocError>
     ensures { IfOk result (λ list. list.items ≡ replicate count value) }
 {
     vec![in alloc; value; count]
 }
 
-// One round: each item without a distance that goes to one of those found last gets the round's
-// number. What was found.
+// Does one round: each item without a distance that goes to one found last gets the round's number.
+// Returns what was found.
 fn find_round(
     alloc: Global,
     sources: &[Vec<usize>],
@@ -107,7 +107,7 @@ fn find_round(
     Ok(found)
 }
 
-// Each of some items without a distance gets the round's number, and is found.
+// Gives each of some items without a distance the round's number, and adds it to what was found.
 fn find_all(
     items: &[usize],
     far: &mut Vec<usize>,

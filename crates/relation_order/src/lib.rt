@@ -1,12 +1,13 @@
-//! Relations between the items of a finite set: what walks reach, the least order in which each
-//! item stands after those that it goes to, and the cycle that keeps a set from having one.
+//! Relations between the items of a finite set: what walks reach, the least order of the items, and
+//! the cycle that keeps a set from having an order. In an order each item comes after those that it
+//! goes to.
 //!
-//! Items are numbers from 0. A relation is a list for each item, of those that it goes to; a set is
-//! a mark for each item, and its members count in rising order. Definitions say what is meant over
-//! any relation on numbers, and compute. Code that lists an order or finds a cycle looks at each
-//! step between members a fixed number of times; the closures of a relation without a cycle are
-//! made from those of the items before. Nothing recurses. The crate stands on std alone, and its
-//! only error is out of memory.
+//! Items are numbers from 0. A relation has for each item the list of those that it goes to. A set
+//! is a mark for each item, and its members count in rising order. Definitions are about any
+//! relation on numbers, and compute. Code that lists an order or finds a cycle looks at each step
+//! between members a fixed number of times. The closures of a relation without a cycle are made
+//! from the closures of the items before. Nothing recurses. The crate uses only std, and its only
+//! error is out of memory.
 #![tactic(auto)]
 
 mod closures;

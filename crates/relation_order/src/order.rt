@@ -14,9 +14,9 @@ use std::alloc::{AllocError, Global};
 use std::collections::BTreeSet;
 use std::mem;
 
-/// An order as it is made: what is listed, which members are ready to be, which wait for each
-/// place, and how many of the items that each goes to were found listed, so that none is looked at
-/// twice.
+/// An order as it is made: what is listed, which members are ready to be, and which wait for each
+/// place. It keeps how many of the items that each goes to were found listed, so that none is
+/// looked at twice.
 #[derive(Drop)]
 pub struct OrderBuilder {
     pub order: Vec<usize>,
@@ -26,8 +26,8 @@ pub struct OrderBuilder {
     pub looked: Vec<usize>,
 }
 
-// Where the first of some items stands that is a member and isn't listed, looked for from a place
-// on, before which there is none; or how many items there are.
+// Finds the place of the first of some items that is a member and isn't listed, or how many items
+// there are. It looks from a place on, and there is none before that.
 fn first_open(items: &[usize], from: usize, members: &[bool], listed: &[bool]) -> usize
     requires in_members { All (λ y. y < length members.now) items.now }
     requires in_listed { All (λ y. y < length listed.now) items.now }
@@ -82,8 +82,8 @@ fn take_at(alloc: Global, lists: &mut Vec<Vec<usize>>, place: usize) -> Vec<usiz
     mem::replace(&mut lists[place], Vec::new(alloc))
 }
 
-/// Finds the least order of the marked members in which each stands after those that it goes to: as
-/// many as can be listed.
+/// Finds the least order of the marked members, as many as can be listed. In it each member comes
+/// after those that it goes to.
 pub fn least(
     alloc: Global,
     lists: &[Vec<usize>],

@@ -46,8 +46,8 @@ by_name (folder ∷ folders) = with_names folder.path folder.names (by_name fold
 unfoldable pub paths_of : List ListedFolder → List (List ℕ)
 paths_of folders = map (λ file. file.1) (fin.entries (by_name folders))
 
--- The folders that were listed, and the one of this name below a root, which is empty if nothing is
--- there.
+-- The folders that were listed, and the one of this name below a root, which is empty if it is
+-- missing.
 abbrev pub lists_folder : List ℕ → List ListedFolder → List ℕ → Stage (List ListedFolder)
 lists_folder name listed root = do
   names ← lists_any_conf (path_below root name)
@@ -67,7 +67,7 @@ reads_file files path = do
 abbrev pub reads_files : List (List ℕ) → Stage (List ConfFile)
 reads_files paths = each_from reads_file [] paths
 
--- The files that count among those of the folders, read one after the other.
+-- The files that count in the folders, read one after the other.
 abbrev pub reads_listed : List ListedFolder → Stage (List ConfFile)
 reads_listed folders = reads_files (paths_of folders)
 

@@ -163,7 +163,7 @@ fn with_folder<F: Reads>(
     Ok(listed)
 }
 
-/// Reads the files that count among those of the folders.
+/// Reads the files that count in the folders.
 fn read_listed<F: Reads>(
     alloc: Global,
     folders: &Items<ListedFolder>,

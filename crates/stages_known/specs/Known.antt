@@ -1,4 +1,5 @@
--- What `modprobe` reads before it looks a name up, in the order in which it reads. modprobe(8), modules.dep(5).
+-- What `modprobe` reads before it looks a name up, in the order in which it reads. modprobe(8),
+-- modules.dep(5).
 use Rattle.std.specs.Prelude.{ℕ, List, [], ◌∷◌, ◌++◌, codes, Option, Some, None}
 use Rattle.km_names.specs.Path.{path_below}
 use Rattle.km_names.specs.declared.conf.ConfFile.{ConfFile}
@@ -28,8 +29,8 @@ reads_indexes folder = do
   builtin ← reads_index_in folder (codes "modules.builtin.bin")
   gives (record { dep = dep; alias = alias; symbols = symbols; builtin = builtin })
 
--- The rules of the configuration, and those of the folder's modules.softdep as one file more, which is empty where
--- there is none.
+-- The rules of the configuration, and the rules of the folder's modules.softdep as one file more,
+-- which is empty if it is missing.
 abbrev pub reads_rules : List ConfFile → List ℕ → Stage (List Rule)
 reads_rules configuration folder = do
   bytes ← reads_any (path_below folder (codes "modules.softdep"))
@@ -56,7 +57,8 @@ reads_lists configuration folder indexes path = do
   loaded ← reads_loaded path
   gives (record { rules = rules; indexes = indexes; unmet = unmet; loaded = loaded })
 
--- The configuration is read and understood, and then the other files are read, each understood before the next.
+-- The configuration is read and understood, and then the other files are read, each understood
+-- before the next.
 abbrev pub reads_known : Option (List ℕ) → List ℕ → Option (List ℕ) → Stage Known
 reads_known config folder path = do
   configuration ← reads_configuration Modprobe config

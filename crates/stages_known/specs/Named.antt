@@ -32,6 +32,7 @@ abbrev pub unless_unknown : Option (List ℕ) → List (List ℕ) → Outcome (L
 unless_unknown None names = value names
 unless_unknown (Some name) names = end (Refused (NotFound (normal_or_itself name)))
 
--- What the names result in: what they stand for, unless one stands for nothing; then the first such name is reported.
+-- What the names result in: what they stand for, unless one stands for nothing; then the first such
+-- name is reported.
 unfoldable pub names_outcome : Known → Bool → List (List ℕ) → Outcome (List (List ℕ))
 names_outcome known everywhere names = unless_unknown (find (is_unknown known everywhere) names) (found_names known everywhere names)

@@ -33,9 +33,9 @@ pub struct Known {
     pub loaded: Loaded,
 }
 
-/// Reads what modprobe has to know. That is the configuration, which is understood before another
-/// file is read, the index files of the folder, its modules.softdep and modules.unmet, and the list
-/// of loaded modules. modprobe(8), modules.dep(5).
+/// Reads what modprobe has to know. First the configuration is read, and understood before another
+/// file is read. Then come the index files of the folder, its modules.softdep and modules.unmet,
+/// and the list of loaded modules. modprobe(8), modules.dep(5).
 pub fn read_known<F: Reads>(
     alloc: Global,
     config: Option<PathText>,

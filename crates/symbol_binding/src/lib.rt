@@ -1,5 +1,9 @@
-//! How the symbols of modules are bound: who provides a name, which exports a module sees and may
-//! use, what can be wrong with a need, and the lines of modules.unmet.
+//! How the symbols of modules are bound:
+//!
+//! - who provides a name;
+//! - which exports a module sees and may use;
+//! - what can be wrong with a need;
+//! - the lines of modules.unmet.
 //!
 //! These are definitions, with the few tests on single exports that code makes. The relation over a
 //! whole tree and the modelled loader cite the same ones, so an obstacle line and a refusal of a

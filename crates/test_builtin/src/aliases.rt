@@ -6,7 +6,7 @@ use std::alloc::{AllocError, Global};
 use std::test::Fail;
 use test_objects::{bytes_of, is_key, is_text};
 
-/// The fields of a file, each as a line `MODULE|KEY|VALUE`.
+/// Returns the fields of a file, each as a line `MODULE|KEY|VALUE`.
 fn fields_text(alloc: Global, bytes: &[u8]) -> Result<Blob, AllocError> {
     let fields = builtin_fields(alloc, bytes)?;
     let mut text = Blob::new(alloc);
@@ -21,7 +21,7 @@ fn fields_text(alloc: Global, bytes: &[u8]) -> Result<Blob, AllocError> {
     Ok(text)
 }
 
-/// The file of the map of a file's aliases.
+/// Returns the file of the map of a file's aliases.
 fn map_file(alloc: Global, bytes: &[u8]) -> Result<Blob, Fail> {
     if bytes.len() > FILE_LIMIT {
         return Err(Fail::new("too long"));
@@ -30,7 +30,7 @@ fn map_file(alloc: Global, bytes: &[u8]) -> Result<Blob, Fail> {
     Ok(encode(alloc, &map)?)
 }
 
-/// The index of a file's aliases.
+/// Returns the index of a file's aliases.
 fn index_file(alloc: Global, bytes: &[u8]) -> Result<Blob, Fail> {
     if bytes.len() > FILE_LIMIT {
         return Err(Fail::new("too long"));
@@ -38,7 +38,7 @@ fn index_file(alloc: Global, bytes: &[u8]) -> Result<Blob, Fail> {
     Ok(alias_index(alloc, bytes)?)
 }
 
-/// The index of these keys, each with the priority and the text of a value.
+/// Returns the index of these keys, each with the priority and the text of a value.
 fn index_of(alloc: Global, rows: &[(&str, u32, &str)]) -> Result<Blob, Fail> {
     let mut map = KeyMap::new(alloc);
     for (key, priority, text) in rows {
@@ -62,7 +62,7 @@ fn fields_of_pieces(rt: HostRuntime) -> Result<(), Fail> {
         ),
         // The last piece needs no NUL.
         (b"a.k=v", b"a|k|v\n"),
-        // The module is what stands before the first `.`, the key what stands from there to the
+        // The module is what comes before the first `.`, the key what comes between that and the
         // first `=`.
         (b"a.b.c=v", b"a|b.c|v\n"),
         (b"a.k=v.w=x\0", b"a|k|v.w=x\n"),

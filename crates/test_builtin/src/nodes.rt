@@ -6,7 +6,7 @@ use provider_rel::TreeFacts;
 use std::alloc::{AllocError, Global};
 use std::test::Fail;
 
-/// The facts of a module of this name that states these aliases.
+/// Returns the facts of a module of this name that states these aliases.
 fn facts(alloc: Global, name: &[u8], aliases: &[&[u8]]) -> Result<Facts, AllocError> {
     let mut texts = Texts::new(alloc);
     for alias in aliases {
@@ -24,12 +24,13 @@ fn facts(alloc: Global, name: &[u8], aliases: &[&[u8]]) -> Result<Facts, AllocEr
     })
 }
 
-/// The text of the nodes of a tree.
+/// Returns the text of the nodes of a tree.
 fn written(alloc: Global, tree: &TreeFacts) -> Result<Blob, AllocError> {
     nodes_text(alloc, &nodes(alloc, tree)?)
 }
 
-/// What a text is read as: the text of its nodes, or the number of the line that is refused.
+/// Returns what a text is read as: the text of its nodes, or the number of the line that is
+/// refused.
 fn read(alloc: Global, text: &[u8]) -> Result<Result<Blob, u32>, Fail> {
     if text.len() > 4096 {
         return Err(Fail::new("too long"));
@@ -42,7 +43,7 @@ fn read(alloc: Global, text: &[u8]) -> Result<Result<Blob, u32>, Fail> {
     }
 }
 
-/// The heading of a modules.devname and a line.
+/// Returns the heading of a modules.devname and a line.
 fn with_heading(alloc: Global, line: &[u8]) -> Result<Blob, AllocError> {
     let mut text = Blob::from_slice(
         alloc,

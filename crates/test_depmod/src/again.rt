@@ -1,4 +1,4 @@
-// Trees that are changed: indexed once more, and with a module that is damaged.
+// Trees that are changed: indexed again, and with a module that is damaged.
 use crate::expect::{DONE, IndexRow, REFUSED, expect_over, objects_of};
 use crate::indexes::Index;
 use crate::sheets::{GIVES_FC, GIVES_LONG, LONG_VERSION_17, NEEDS_LONG};

@@ -57,7 +57,7 @@ fn replaced_before(place: usize) -> usize {
         .count()
 }
 
-/// Makes a call fail, and returns whether there is one of that number. The line on err names its
+/// Makes a call fail, and returns whether there is a call of that number. The line on err names its
 /// path, and the files that were replaced before are new.
 fn expect_call(rt: &impl Abort, alloc: Global, kind: CallKind, number: u8) -> Result<bool, Fail> {
     let Some(place) = place_of(kind, number) else {

@@ -1,7 +1,7 @@
 // Sheets of small modules, which rows share.
 use test_objects::{EMPTY_MORE, EMPTY_SHEET, ExportRow, MoreRow, NeedRow, SheetRow, VersionRow};
 
-/// A module with two aliases, one of which has no normal form, and a soft dependency.
+/// A module with two aliases, one of them without a normal form, and a soft dependency.
 pub(crate) const ALIASES: SheetRow = SheetRow {
     texts: &[
         b"alias=pci-x:v0000[!a-f]d*",

@@ -50,8 +50,8 @@ struct ExtraRow<'a> {
     err: &'a str,
     /// What the two files are to have, if they are replaced.
     extra: [&'a [u8]; 2],
-    /// How many of the files are replaced, in their order. The nine are to be those of a depmod
-    /// without the option, and all other files are to be as they were.
+    /// How many of the files are replaced, in their order. The nine are to be the same as a depmod
+    /// without the option writes, and all other files are to be as they were.
     replaced: usize,
 }
 
@@ -114,7 +114,7 @@ static ROWS: [ExtraRow<'static>; 10] = [
         extra: [TTY_INDEX, NO_NODES],
         ..DONE
     },
-    // With `-n` the texts go to the output, that of the device nodes after modules.unmet.
+    // With `-n` the texts go to the output, the device nodes after modules.unmet.
     ExtraRow {
         name: "text files go to the output",
         modules: &[("kernel/n.ko", &NEEDS_NOSUCH, &NO_MORE)],

@@ -8,7 +8,7 @@ const FUSE: SheetRow = SheetRow {
     ..EMPTY_SHEET
 };
 
-/// A module with two devices and two numbers, of which the first of each counts.
+/// A module with two devices and two numbers. The first of each counts.
 const LOOP: SheetRow = SheetRow {
     texts: &[
         b"alias=block-major-7-*",
@@ -29,7 +29,7 @@ const TUN: SheetRow = SheetRow {
 /// One module with a device node.
 pub(crate) const ONE_NODE: &[ModuleRow<'static>] = &[("kernel/fuse.ko", &FUSE, &NO_MORE)];
 
-/// Three modules, of which two have device nodes.
+/// Three modules, two of them with device nodes.
 pub(crate) const TWO_NODES: &[ModuleRow<'static>] = &[
     ("kernel/a/loop.ko", &LOOP, &NO_MORE),
     ("kernel/b/tun.ko", &TUN, &NO_MORE),

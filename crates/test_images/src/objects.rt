@@ -348,7 +348,7 @@ fn object_with(
     Ok(Some(object_more(alloc, &sheet, &more)?.into_vec()))
 }
 
-/// Whether the sheet of one of each is one with a further export.
+/// Returns whether the sheet of one of each is one with a further export.
 fn is_sheet_with(alloc: Global, name: &[u8]) -> Result<bool, AllocError> {
     let mut sheet: Sheet = sheet(alloc, &EACH_SHEET)?;
     sheet.exports.push(SheetExport {

@@ -9,8 +9,8 @@ use test_rows::{
 };
 use tree_gen::{SheetParam, SheetParams, param_object};
 
-/// Loads of a module of two parameters: the last word counts, words that name no parameter and those
-/// behind `--` don't, and without `--params` no option is read.
+/// Loads of a module of two parameters: the last word counts, words that name no parameter and
+/// those behind `--` don't, and without `--params` no option is read.
 static LOADS: [RowOf<'static>; 6] = [
     (
         "modprobe -d /r -S 6.1.0 --system-map /r/System.map --symvers /r/Module.symvers --params p depth=3 raw",
@@ -129,7 +129,8 @@ static CONFIGURATION: [FileRow<'static>; 3] = [
     },
 ];
 
-/// What the image of the module has in the machine: the addresses of names and values, and the names.
+/// What the image of the module has in the machine: the addresses of names and values, and the
+/// names.
 static OWN: [(usize, &[u8]); 5] = [
     (0, b"\x10\x10\x00\xc0\xff\xff\xff\xff"),
     (32, b"\x00\x10\x00\xc0\xff\xff\xff\xff"),

@@ -35,8 +35,7 @@ static TREES: [IndexedRow<'static>; 3] = [
         ],
         ..INDEXED
     },
-    // A blacklisted module is left out of those of an alias, and of all only where that is asked
-    // for.
+    // A blacklisted module isn't found by an alias that modules state, and with `-b` by no name.
     IndexedRow {
         name: "a blacklisted module",
         modules: &[

@@ -1,7 +1,7 @@
 // Sheets of small modules, which rows share.
 use test_objects::{EMPTY_SHEET, NeedRow, SheetRow};
 
-/// A module with two aliases, one of which has no normal form.
+/// A module with two aliases, one of them without a normal form.
 pub(crate) const ALIASES: SheetRow = SheetRow {
     texts: &[b"alias=pci-x:v0000[!a-f]d*", b"alias=bad[x"],
     ..EMPTY_SHEET

@@ -345,7 +345,7 @@ static LICENSES: [(&[&[u8]], bool); 12] = [
     (&[b"license=GPL", b"license=Proprietary"], true),
 ];
 
-/// Whether a module with these texts is free.
+/// Returns whether a module with these texts is free.
 fn is_free(rt: &impl Abort, alloc: Global, texts: &'static [&'static [u8]]) -> Result<bool, Fail> {
     let sheet = SheetRow {
         texts,

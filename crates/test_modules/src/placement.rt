@@ -51,7 +51,7 @@ static PLACED: [(u64, &[LoadRow]); 9] = [
             ..PLAIN
         }],
     ),
-    // The bytes of a section are those of the file.
+    // The bytes of a section are the file's own.
     (
         0x1_0000,
         &[LoadRow {

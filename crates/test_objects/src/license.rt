@@ -1,7 +1,7 @@
 // An object that is written out byte by byte.
 
-/// The smallest object with a license: its header, a `.modinfo` section of the one text `license=GPL`, the
-/// names of the sections, and the table of three section headers.
+/// The smallest object with a license: its header, a `.modinfo` section of the one text
+/// `license=GPL`, the names of the sections, and the table of three section headers.
 pub static LICENSE_OBJECT: [u8; 288] = [
     0x7f, 0x45, 0x4c, 0x46, 0x02, 0x01, 0x01, 0x00, 0x00, 0x00, 0x00, 0x00, 0x00, 0x00, 0x00, 0x00,
     0x01, 0x00, 0x3e, 0x00, 0x01, 0x00, 0x00, 0x00, 0x00, 0x00, 0x00, 0x00, 0x00, 0x00, 0x00, 0x00,

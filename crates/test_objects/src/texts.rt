@@ -24,14 +24,14 @@ pub fn conf_file(alloc: Global, path: &[u8], text: &[u8]) -> Result<ConfFile, Ro
     })
 }
 
-/// Whether the bytes may be a key of an index.
+/// Returns whether the bytes may be a key of an index.
 pub fn is_key(key: &[u8]) -> bool
     ensures { IsTrue result ↔ IsKey key.now }
 {
     key.iter().all(|byte| 0 < *byte && *byte < 128)
 }
 
-/// Whether the bytes may be the text of a value of an index.
+/// Returns whether the bytes may be the text of a value of an index.
 pub fn is_text(text: &[u8]) -> bool
     ensures { IsTrue result ↔ IsText text.now }
 {

@@ -289,7 +289,7 @@ static OBSTACLES: [PlanRow; 5] = [
     },
 ];
 
-/// Whether the value of a name is a dependency line, in the folder of two modules.
+/// Returns whether the value of a name is a dependency line, in the folder of two modules.
 fn is_well_formed(rt: &impl Abort, alloc: Global, name: &str) -> Result<bool, Fail> {
     let indexes = indexes_of(rt, alloc, &PAIR)?;
     let name = Name::from_slice(alloc, name.as_bytes())?;

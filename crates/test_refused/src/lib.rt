@@ -1,4 +1,4 @@
-//! Tests of calls of which an allocation may be refused: a load, a removal, and parameters that are
+//! Tests of calls in which an allocation may be refused: a load, a removal, and parameters that are
 //! applied. If one is out of memory, the machine is as before, and the same call then does its
 //! work.
 //!

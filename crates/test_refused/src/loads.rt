@@ -1,4 +1,4 @@
-//! A load and removals, of which an allocation may be refused.
+//! A load and removals, in which an allocation may be refused.
 
 use crate::machines::{BASE, Prepared, load, module_of, new_machine, shown};
 use model_loader::{LoadFault, LoadedAt, Machine};

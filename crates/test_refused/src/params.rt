@@ -1,4 +1,4 @@
-//! Options that are written into a copy of an image, of which an allocation may be refused.
+//! Options that are written into a copy of an image, while an allocation may be refused.
 
 use crate::machines::{BASE, Prepared, load, module_of, new_machine, shown};
 use image_layout::image_size;

@@ -108,7 +108,7 @@ fn facts(alloc: Global, shape: Shape, number: u16, count: u16) -> Result<Facts, 
     })
 }
 
-/// Returns a tree of so many modules, each of which exports a symbol.
+/// Returns a tree of so many modules that each export a symbol.
 fn tree(alloc: Global, shape: Shape, count: u16) -> Result<TreeFacts, AllocError>
     requires { count ≤ 2500 }
     ensures good { IfOk result IsTree }

@@ -34,7 +34,7 @@ impl Needs for Ring {
 // Which of a ring are free, which one is requested, and the order with the end of its group, or the
 // cycle.
 static ROWS: [(&[bool], usize, &[usize], Option<usize>); 4] = [
-    // 3 needs 2, which is there, and asks for 1, which needs 0, which needs 4, which is there
+    // 3 needs 2, which is loaded, and asks for 1, which needs 0, which needs 4, which is loaded
     (&[true, true, false, true, false], 3, &[3, 0, 1], Some(1)),
     // what isn't free isn't planned
     (&[false, true], 0, &[], Some(0)),

@@ -1,6 +1,8 @@
-//! Tests of removals from small machines: their steps, and what is left after these are carried out.
+//! Tests of removals from small machines: their steps, and what is left after these are carried
+//! out.
 //!
-//! It stands on `model_unload`, `remove_plan` and what they stand on, and on `test_objects` for the objects.
+//! It builds on `model_unload`, `remove_plan` and what they use, and on `test_objects` for the
+//! objects.
 #![tactic(auto)]
 
 #[cfg(test)]

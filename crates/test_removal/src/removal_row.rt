@@ -13,8 +13,9 @@ use std::process::Abort;
 use std::test::Fail;
 use test_objects::{RowFault, conf_file};
 
-/// Modules that are loaded, the names of those that are to be removed, and what is wanted: the lines of the steps, and of
-/// the modules that are left after these were carried out; or the fault.
+/// Modules that are loaded, the names of the modules that are to be removed, and what is expected.
+/// That is the lines of the steps, and of the modules that are left after these were carried out;
+/// or the fault.
 #[derive(Clone, Copy)]
 pub(crate) struct RemovalRow {
     pub(crate) modules: &'static [ModuleRow],
@@ -81,7 +82,8 @@ fn push_steps(text: &mut Blob, plan: &RemovePlan) -> Result<(), AllocError> {
     Ok(())
 }
 
-/// Takes the modules of the steps out of the machine. Returns whether that is all of the plan, which then runs no command.
+/// Takes the modules of the steps out of the machine. Returns whether that is all of the plan,
+/// which then runs no command.
 fn carry_out(rt: &impl Abort, machine: &mut Machine, plan: &RemovePlan) -> bool {
     for step in plan.as_slice() {
         match step {
@@ -140,7 +142,7 @@ fn answer_of(rt: &impl Abort, alloc: Global, row: &RemovalRow) -> Result<Blob, F
     Ok(text)
 }
 
-/// Each removal answers as its row says.
+/// Expects each removal to answer as its row says.
 pub(crate) fn expect_rows(rt: &impl Abort, alloc: Global, rows: &[RemovalRow]) -> Result<(), Fail> {
     for row in rows {
         let answer = answer_of(rt, alloc, row)?;

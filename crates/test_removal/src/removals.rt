@@ -46,7 +46,8 @@ const TWO_USERS: &[ModuleRow] = &[
     ("kernel/c.ko", &MAY_NEED),
 ];
 
-/// `b` uses `a`, and `c` uses `b`. A module that needs `fa` weakly came before `a`, and isn't bound to it.
+/// `b` uses `a`, and `c` uses `b`. A module that needs `fa` weakly came before `a`, and isn't bound
+/// to it.
 const CHAIN: &[ModuleRow] = &[
     ("kernel/early.ko", &MAY_NEED),
     ("kernel/a.ko", &GIVES),
@@ -68,7 +69,7 @@ static REMOVALS: [RemovalRow; 13] = [
         want: "a is in use by b\n",
         ..EMPTY
     },
-    // The names stand in any order, some twice, and one isn't loaded.
+    // The names are in any order, some twice, and one isn't loaded.
     RemovalRow {
         modules: THREE,
         names: &["a", "b", "x", "b"],
@@ -211,7 +212,7 @@ fn load_a(rt: &impl Abort, alloc: Global, machine: &mut Machine) -> Result<(u64,
     Ok((at.base, at.size))
 }
 
-/// A machine without what was taken out takes it in again, at the same place.
+/// Expects a machine without what was taken out to take it in again, at the same place.
 #[test]
 fn modules_are_taken_out(rt: HostRuntime) -> Result<(), Fail> {
     let alloc = rt.alloc();

@@ -91,7 +91,7 @@ const ROWS: &[RowOf<'static>] = &[
         "rmmod c\nunloaded c\nleft a ffffffffc0001000 8192 c6c95917cef2d89bf138a45b46ef4155f44b4dba3fdef5bd3e0dd145c1741227\nleft b ffffffffc0003000 4096 9bef7c5dd2f9b1353d8a5ac00889c66ce9715d06c0070faf6004037de629f075\n",
         "",
     ),
-    // A dry run prints the steps alone.
+    // A dry run prints only the steps.
     (
         "modprobe -r -n -d /r -S 6.1.0 --system-map /r/System.map --symvers /r/Module.symvers --loaded /r/three b",
         0,

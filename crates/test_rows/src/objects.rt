@@ -6,7 +6,8 @@ use kmod_cli::run;
 use std::alloc::{AllocError, Global};
 use std::test::Fail;
 
-/// The objects that a command is handed, what the files were before it, and the status that the last one answered.
+/// The objects that a command is handed, what the files were before it, and the status that the
+/// last one answered.
 #[derive(Drop)]
 pub struct Objects {
     /// The files.

@@ -2,8 +2,8 @@
 use km_outside::CallKind;
 use test_objects::{GIVES, MoreRow, NEEDS, NO_MORE, SheetRow};
 
-/// Words with a space between each and the next, the status that they are to answer, and what they are to write to the
-/// output and to err.
+/// Words with a space between each and the next, the status that they are to answer, and what they
+/// are to write to the output and to err.
 pub type RowOf<'a> = (&'a str, u8, &'a str, &'a str);
 
 /// A row that is written out.
@@ -19,7 +19,7 @@ pub fn wanted(row: RowOf<'_>) -> (u8, &[u8], &[u8]) {
     (status, out.as_bytes(), err.as_bytes())
 }
 
-/// A file that is there before a command, or is to be there after it.
+/// A file before a command, or one that is expected after it.
 #[derive(Clone, Copy)]
 pub struct FileRow<'a> {
     /// Its path.
@@ -31,7 +31,7 @@ pub struct FileRow<'a> {
 /// A module of a tree: its path in the tree, its sheet, and what more its object is to have.
 pub type ModuleRow<'a> = (&'a str, &'a SheetRow, &'a MoreRow);
 
-/// What is made to fail. Calls are counted from 0, those of a kind on their own.
+/// What is made to fail. Calls of each kind are counted on their own, from 0.
 #[derive(Clone, Copy)]
 pub enum Failing {
     /// Nothing.

@@ -48,9 +48,9 @@ fn signed_four(value: u64) -> Result<Written, TooWide>
     Ok(Written::Four((value % (1 << 32)) as u32))
 }
 
-/// Returns the word of a relocation of the type `kind`. It is computed from the address `s` of its
-/// symbol, the addend `a` and the address `p` of its place, as in the x86-64 psABI's "Relocation",
-/// with sums modulo 2^64. A R_X86_64_PLT32 is computed as a R_X86_64_PC32, since there is no
+/// Returns the word of a relocation of the type `kind`, as in the x86-64 psABI's "Relocation", with
+/// sums modulo 2^64. It is computed from the address `s` of its symbol, the addend `a` and the
+/// address `p` of its place. A R_X86_64_PLT32 is computed as a R_X86_64_PC32, since there is no
 /// procedure linkage table.
 ///
 /// # Errors
