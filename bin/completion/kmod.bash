@@ -11,7 +11,7 @@ _kmod_names() {
     sed -e 's/:.*//' -e 's|.*/||' -e 's/\.ko$//' -e 's/-/_/g' -- "${1%/}/lib/modules/$2/modules.dep" 2>/dev/null
 }
 
-# Puts those of the given words into COMPREPLY that begin with what is being completed.
+# Puts the given words that begin with what is being completed into COMPREPLY.
 _kmod_offer() {
     mapfile -t COMPREPLY < <(compgen -W "$1" -- "$current")
 }
@@ -68,8 +68,9 @@ _kmod() {
     case $command:$current in
     depmod:-*) _kmod_offer "-a --all -b --basedir -C --config -E --symvers -e --errsyms --extra -F --filesyms -n --dry-run -o --outdir" ;;
     modprobe:-*)
-        _kmod_offer "-S --set-version -n --dry-run -D --show-depends -R --resolve-alias -a --all -b --use-blacklist
-            -C --config -d --dirname -i --ignore-install --image --loaded --region --symvers --system-map"
+        _kmod_offer "-S --set-version -n --dry-run -D --show-depends -R --resolve-alias -r --remove -a --all
+            -b --use-blacklist -C --config -d --dirname -i --ignore-install --image --loaded --params --region
+            --symvers --system-map"
         ;;
     modinfo:-*)
         _kmod_offer "-F --field -a --author -d --description -l --license -p --parameters -n --filename -0 --null

@@ -47,7 +47,8 @@ _kmod_modprobe() {
         '(-S --set-version)'{-S,--set-version}'[version of the kernel]:version:_kmod_versions' \
         '(-n --dry-run)'{-n,--dry-run}'[print the plan]' \
         '(-D --show-depends)'{-D,--show-depends}'[print the plan as if no module were loaded]' \
-        '(-R --resolve-alias)'{-R,--resolve-alias}'[print what names stand for]' \
+        '(-R --resolve-alias)'{-R,--resolve-alias}'[print what names resolve to]' \
+        '(-r --remove)'{-r,--remove}'[take modules out of the model]' \
         '(-a --all)'{-a,--all}'[every word is a name]' \
         '(-b --use-blacklist)'{-b,--use-blacklist}'[apply the blacklist to names too]' \
         '(-C --config)'{-C,--config}'[configuration]:path:_files' \
@@ -55,6 +56,7 @@ _kmod_modprobe() {
         '(-i --ignore-install)'{-i,--ignore-install}'[ignore install commands of the names]' \
         '--image[folder for images]:folder:_files -/' \
         '--loaded[modules that are loaded]:file:_files' \
+        '--params[write options into copies of images]' \
         '--region[where modules are placed]:base\:size:(0xffffffffc0000000\:0x3f000000)' \
         '--symvers[exports of the kernel]:Module.symvers:_files' \
         '--system-map[addresses of the kernel]:System.map:_files' \
@@ -73,6 +75,20 @@ _kmod_modinfo() {
         '(-k --set-version)'{-k,--set-version}'[names of modules of this kernel]:version:_kmod_versions' \
         '(-b --basedir)'{-b,--basedir}'[root of the modules, with -k]:root:_files -/' \
         '*:module:_kmod_modules'
+}
+
+_kmod_static_nodes() {
+    _arguments -s \
+        '-d[root of the modules]:root:_files -/' \
+        '-S[version of the kernel]:version:_kmod_versions' \
+        '(-f --format)'{-f,--format}'[format of the nodes]:format:(devname)'
+}
+
+_kmod_builtin_alias() {
+    _arguments -s \
+        '-d[root of the modules]:root:_files -/' \
+        '-S[version of the kernel]:version:_kmod_versions' \
+        '1:name:'
 }
 
 _kmod_modules() {
@@ -96,6 +112,7 @@ _kmod() {
     fi
     case $command in
     depmod | modprobe | modinfo) _kmod_$command ;;
+    static-nodes | builtin-alias) _kmod_${command//-/_} ;;
     esac
 }
 
