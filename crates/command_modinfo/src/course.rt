@@ -4,12 +4,12 @@ ghost use Rattle.km_course.specs.World.{world};
 ghost use Rattle.km_course.specs.Follows.{Answers, Follows};
 ghost use Rattle.command_modinfo.specs.Modinfo.{modinfo_course, path_asked, reads_source, shows, shows_asked, shows_each, shows_word};
 
-use crate::module_info::fields_to_show;
+use crate::module_info::module_text;
 use km_course::{End, Stop, say_any};
 use km_names::{Name, PathText, Word};
 use km_outside::{Out, Reads};
 use kmod_words::{ModinfoWords, read_modinfo};
-use modinfo_tool::{ShowOptions, show};
+use modinfo_tool::ShowOptions;
 use stages_files::{KernelModules, modules_folder, path_of_name, read_modules, read_sections};
 use std::alloc::Global;
 
@@ -138,7 +138,6 @@ fn show_module<F: Reads, O: Out>(
     // The read takes the path, and the text shows it.
     let named = PathText::from_slice(alloc, path.as_bytes())?;
     let sections = read_sections(alloc, path, files)?;
-    let fields = fields_to_show(alloc, &sections, options)?;
-    let text = show(alloc, &named, &fields, options)?;
+    let text = module_text(alloc, &named, &sections, options)?;
     say_any(out, text.as_bytes())
 }

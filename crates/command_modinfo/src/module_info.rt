@@ -1,28 +1,29 @@
-ghost use Rattle.std.specs.Prelude.{◌≡◌, ◌++◌, ◌∷◌, [], ℕ, List, IfOk, OnOk, codes, option_copied};
-ghost use Rattle.modinfo_fields.specs.Fields.{fields_of, values_of_key};
+ghost use Rattle.std.specs.Prelude.{◌≡◌, IfOk, codes, option_copied};
 ghost use Rattle.modinfo_tool.specs.Show.{shown};
 ghost use Rattle.command_modinfo.specs.ModuleInfo.{bytes_named, module_fields};
 ghost use Rattle.command_modinfo.specs.PlainKeys.{if_plain, plain_key};
 
 use elf_object::Sections;
-use km_names::{Blob, Name};
-use modinfo_fields::{Field, FieldList, field_values, fields};
-use modinfo_tool::ShowOptions;
+use km_names::{Blob, Name, PathText};
+use modinfo_fields::fields;
+use modinfo_tool::{ShowOptions, show, show_values};
 use std::alloc::{AllocError, Global};
 
-/// Returns fields that decide what is shown of the module, from its first `.modinfo` section. If
-/// one key is asked for, the fields of other keys may be missing, since a section may have very
-/// many.
-pub(crate) fn fields_to_show(
+/// Returns the text that modinfo shows of the module at a path, by its first `.modinfo` section.
+/// The values of one key are taken from the section as they are, since it may have very many
+/// fields.
+pub(crate) fn module_text(
     alloc: Global,
+    path: &PathText,
     sections: &Sections,
     options: &ShowOptions,
-) -> Result<FieldList, AllocError>
-    ensures { (path : List ℕ) → IfOk result (λ list. shown path list options.now ≡ shown path (module_fields sections.now) options.now) }
+) -> Result<Blob, AllocError>
+    ensures { IfOk result (λ text. text ≡ shown path.now (module_fields sections.now) options.now) }
 {
+    let section = module_info(sections);
     match plain_key(&options.field) {
-        Some(key) => fields_of_key(alloc, module_info(sections), key),
-        None => fields(alloc, module_info(sections)),
+        Some(key) => show_values(alloc, section, key, options.zero),
+        None => show(alloc, path, &fields(alloc, section)?, options),
     }
 }
 
@@ -44,33 +45,6 @@ fn if_plain(key: &[u8]) -> Option<&[u8]>
         return None;
     }
     Some(key)
-}
-
-/// Returns a list with the same values of this key as the bytes have.
-fn fields_of_key(alloc: Global, bytes: &[u8], key: &[u8]) -> Result<FieldList, AllocError>
-    ensures { IfOk result (λ list. values_of_key key.now list ≡ values_of_key key.now (fields_of bytes.now)) }
-{
-    let values = field_values(alloc, bytes, key)?;
-    let mut list = FieldList::new(alloc);
-    for value in values.as_slice() {
-        push_field(alloc, &mut list, key, value.as_bytes())?;
-    }
-    Ok(list)
-}
-
-/// Puts a field of this key and value at the end.
-fn push_field(
-    alloc: Global,
-    list: &mut FieldList,
-    key: &[u8],
-    value: &[u8],
-) -> Result<(), AllocError>
-    ensures { OnOk result (values_of_key key.now list.new ≡ values_of_key key.now list.old ++ value.now ∷ []) }
-{
-    let key = Name::from_slice(alloc, key)?;
-    let value = Blob::from_slice(alloc, value)?;
-    list.push(Field { key, value })?;
-    Ok(())
 }
 
 /// Returns the bytes of the module's first `.modinfo` section, or none if there is no such section.

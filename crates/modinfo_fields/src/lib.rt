@@ -6,5 +6,5 @@
 mod list;
 mod piece;
 
-pub use list::{FieldList, field_values, fields};
+pub use list::{FieldList, field_values, fields, value_of};
 pub use piece::Field;

@@ -111,9 +111,10 @@ pub fn fields(alloc: Global, bytes: &[u8]) -> Result<FieldList, AllocError>
     })
 }
 
-/// Returns the value of a piece between NULs, if it is a field with this key.
+/// Returns the value of a piece of a `.modinfo` section between NULs, if it is a field with this
+/// key. It is a part of the piece.
 #[tactic(auto, unfolding(crate::specs::Fields::values_of_key, crate::specs::Fields::field_of))]
-fn value_of<'a>(piece: &'a [u8], key: &[u8]) -> Option<&'a [u8]>
+pub fn value_of<'a>(piece: &'a [u8], key: &[u8]) -> Option<&'a [u8]>
     ensures { option_to_list (option_copied result)
         ≡ values_of_key key.now (map field_of (filter is_text (piece.now ∷ []))) }
 {

@@ -1,18 +1,30 @@
 -- Texts of lines, a line more at a time.
-use Rattle.std.proofs.Common.{◌≡◌, ℕ, ◌+◌, ◌<◌, zero, suc, Bool, true, false, cond, List, [], ◌∷◌, ◌++◌, length, take, get_or, map, filter, Some, refl, sym, ap, ◌∙◌, arith, append_assoc, append-nil}
-use Rattle.std.specs.List.{repeat, slice_get}
+use Rattle.std.proofs.Common.{◌≡◌, ℕ, ◌+◌, ◌<◌, zero, suc, Bool, true, false, cond, eqb, List, [], ◌∷◌, ◌++◌, length, take, get_or, map, filter, Some, refl, sym, ap, ◌∙◌, arith, append_assoc, append-nil}
+use Rattle.std.specs.List.{repeat, slice_get, before_first, after_first}
 use Rattle.std.proofs.lemmas.List.{take_more}
 use Rattle.std.proofs.lemmas.List.Concat.{flat_map-append}
 use Rattle.std.proofs.lemmas.List.Elements.{filter_more}
 use Rattle.std.proofs.lemmas.Option.{get_or_from_slice_get, slice_get_within}
+use Rattle.modinfo_fields.specs.Fields.{field_of, fields_of, is_text, values_of_key}
+use Rattle.modinfo_fields.proofs.Pieces.{values_later}
 use Rattle.modinfo_tool.specs.Show.{ended}
 
 -- the lines of two lists
 pub ended-append : (end : ℕ) (lines more : List (List ℕ)) → ended end (lines ++ more) ≡ ended end lines ++ ended end more
 ended-append end lines more = flat_map-append (λ line. line ++ end ∷ []) lines more
 
-ended-one : (end : ℕ) (line : List ℕ) → ended end (line ∷ []) ≡ line ++ end ∷ []
+pub ended-one : (end : ℕ) (line : List ℕ) → ended end (line ∷ []) ≡ line ++ end ∷ []
 ended-one end line = append-nil (line ++ end ∷ [])
+
+-- the text so far and the lines of the rest of a section, a piece later
+pub lines-later : (end : ℕ) (key rest piece after text whole : List ℕ) (more : List (List ℕ)) → text ++ ended end (values_of_key key (fields_of rest)) ≡ whole
+    → piece ≡ before_first (λ b. eqb b 0) rest → after ≡ after_first (λ b. eqb b 0) rest → more ≡ values_of_key key (map field_of (filter is_text (piece ∷ [])))
+    → (text ++ ended end more) ++ ended end (values_of_key key (fields_of after)) ≡ whole
+lines-later end key rest piece after text whole more inv before then is =
+    append_assoc text (ended end more) (ended end (values_of_key key (fields_of after)))
+    ∙ ap (λ t. text ++ t) (sym (ended-append end more (values_of_key key (fields_of after))))
+    ∙ ap (λ values. text ++ ended end values) (values_later key rest rest piece after [] more refl before then is)
+    ∙ inv
 
 -- one line more
 pub ended-push : (end : ℕ) (lines : List (List ℕ)) (line : List ℕ) → ended end (lines ++ line ∷ []) ≡ ended end lines ++ (line ++ end ∷ [])

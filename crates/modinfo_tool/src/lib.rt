@@ -8,4 +8,4 @@
 mod parameters;
 mod text;
 
-pub use text::{ShowOptions, show};
+pub use text::{ShowOptions, show, show_values};

@@ -1,12 +1,13 @@
 ghost use Rattle.std.specs.Prelude.{◌≡◌, ◌-◌, ◌++◌, ◌∷◌, [], codes, map, filter, not, IfOk, OnOk};
 ghost use Rattle.std.specs.List.{repeat};
 ghost use Rattle.modinfo_fields.specs.declared.piece.Field.{Field};
+ghost use Rattle.modinfo_fields.specs.Fields.{fields_of, values_of_key};
 ghost use Rattle.modinfo_tool.specs.Parameters.{is_parameter as tells_of_parameter};
 ghost use Rattle.modinfo_tool.specs.Show.{labelled, all_lines, values_under as values_under_key, ended, line_end as end_of_line, shown};
 
 use crate::parameters::{is_parameter, parameter_values};
-use km_names::{Blob, Name, PathText, Texts};
-use modinfo_fields::FieldList;
+use km_names::{Blob, Name, PathText, Texts, split_at_byte};
+use modinfo_fields::{FieldList, value_of};
 use std::alloc::{AllocError, Global};
 
 /// The options of what modinfo shows of a module.
@@ -42,6 +43,39 @@ pub fn show(
             lines_text(alloc, values.as_slice(), end)
         }
     }
+}
+
+/// Returns the lines that modinfo shows of a module for one key, from the bytes of its `.modinfo`
+/// section: the values of the fields with this key, in order, each with its end. Each value is
+/// copied once. For `filename` and `parm` modinfo shows something else, as [`show`] does.
+/// modinfo(8), `-F`.
+pub fn show_values(
+    alloc: Global,
+    section: &[u8],
+    key: &[u8],
+    zero: bool,
+) -> Result<Blob, AllocError>
+    ensures { IfOk result (λ text. text ≡ ended (end_of_line zero) (values_of_key key.now (fields_of section.now))) }
+{
+    let end = line_end(zero);
+    let mut text = Blob::new(alloc);
+    let mut rest = section;
+    while !rest.is_empty() {
+        let (piece, after) = split_at_byte(rest, 0);
+        if let Some(value) = value_of(piece, key) {
+            push_line(&mut text, value, end)?;
+        }
+        rest = after;
+    }
+    Ok(text)
+}
+
+// Puts a line with its end at the end.
+fn push_line(text: &mut Blob, line: &[u8], end: u8) -> Result<(), AllocError>
+    ensures { OnOk result (text.new ≡ text.old ++ (line.now ++ end ∷ [])) }
+{
+    text.extend(line)?;
+    text.push(end)
 }
 
 fn line_end(zero: bool) -> u8
