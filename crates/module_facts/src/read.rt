@@ -56,8 +56,25 @@ fn checked_facts(alloc: Global, path: &PathText, object: &ObjectView) -> Result<
         (λ e. (e ≡ ModuleFault.Memory) ⊎ (first (facts_tests object.now (object_facts path.now object.now)) ≡ Some e)) }
 {
     let tables = tables_of(alloc, object)?;
-    let facts = facts_by(alloc, path, object, tables.as_ref())?;
-    check_facts(alloc, object, tables.as_ref(), &facts)?;
+    facts_by_tables(alloc, path, object, tables.as_ref())
+}
+
+/// Returns the facts of the module at a path, after all tests that they must pass, by the tables of
+/// its symbols.
+fn facts_by_tables(
+    alloc: Global,
+    path: &PathText,
+    object: &ObjectView,
+    tables: Option<&SymbolTables>,
+) -> Result<Facts, ModuleFault>
+    requires { AreTablesFor (exports_of object.now) object.now (option_copied tables) }
+    ensures facts { IfOk result (λ facts. facts ≡ object_facts path.now object.now) }
+    ensures passed { OnOk result (first (facts_tests object.now (object_facts path.now object.now)) ≡ None) }
+    ensures fault { IfErr result
+        (λ e. (e ≡ ModuleFault.Memory) ⊎ (first (facts_tests object.now (object_facts path.now object.now)) ≡ Some e)) }
+{
+    let facts = facts_by(alloc, path, object, tables)?;
+    check_facts(alloc, object, tables, &facts)?;
     Ok(facts)
 }
 

@@ -4,7 +4,7 @@ use Rattle.km_names.specs.First.{first}
 use Rattle.module_facts.specs.declared.facts.Facts.{Facts}
 use Rattle.module_facts.specs.Faults.{facts_tests}
 use Rattle.module_facts.proofs.FaultLemmas.{object_facts-exports}
-use Rattle.module_facts.proofs.read.checked_facts.Goals as goal
+use Rattle.module_facts.proofs.read.facts_by_tables.Goals as goal
 
 pub returns-in_err-check_facts-clause-fault : goal.returns-in_err-check_facts-clause-fault
 returns-in_err-check_facts-clause-fault c =
@@ -17,6 +17,5 @@ returns-in_err-check_facts-clause-fault c =
 
 pub check_facts-requires : goal.check_facts-requires
 check_facts-requires c =
-    let tables = rw (← c.as_ref-2.ensures.value) at c.in_ok-tables.ensures in
     let exports = ap (λ (f : Facts). f.exports) c.in_ok-facts.ensures ∙ object_facts-exports c.args.path.now c.args.object.now in
-    rw exports tables
+    rw exports c.requires
