@@ -30,9 +30,9 @@ pub(crate) enum Index {
     VersionDiffers,
     /// Of a module that needs another weakly.
     WeakNeed,
-    /// Of an export for modules with a free license, and two that need it.
+    /// Of an export for modules with a free license, and a module without one that needs it.
     GplLine,
-    /// Of an export in a namespace, and two modules that need it.
+    /// Of an export in a namespace, and a module that needs it and doesn't import that.
     NamespaceLine,
     /// Of `b`, and of an `a` that is an update.
     Updated,
@@ -221,8 +221,8 @@ static WEAK_NEED: Files = [
 ];
 
 static GPL_LINE: Files = [
-    b"kernel/a.ko:\nkernel/b.ko: kernel/a.ko\nkernel/c.ko: kernel/a.ko\n",
-    b"\xb0\x07\xf4W\x00\x02\x00\x01 \x00\x00c\x00\x00\x00\x01\x00\x00\x00\x00kernel/a.ko:\x00\x00\x00\x00\x01\x00\x00\x00\x01kernel/b.ko: kernel/a.ko\x00\x00\x00\x00\x01\x00\x00\x00\x02kernel/c.ko: kernel/a.ko\x00ac@\x00\x00\x0c@\x00\x00!@\x00\x00B",
+    b"kernel/a.ko:\nkernel/b.ko: kernel/a.ko\n",
+    b"\xb0\x07\xf4W\x00\x02\x00\x01 \x00\x00B\x00\x00\x00\x01\x00\x00\x00\x00kernel/a.ko:\x00\x00\x00\x00\x01\x00\x00\x00\x01kernel/b.ko: kernel/a.ko\x00ab@\x00\x00\x0c@\x00\x00!",
     NO_ALIASES,
     NO_KEYS,
     NO_SOFTDEPS,
@@ -233,8 +233,8 @@ static GPL_LINE: Files = [
 ];
 
 static NAMESPACE_LINE: Files = [
-    b"kernel/a.ko:\nkernel/b.ko: kernel/a.ko\nkernel/c.ko: kernel/a.ko\n",
-    b"\xb0\x07\xf4W\x00\x02\x00\x01 \x00\x00c\x00\x00\x00\x01\x00\x00\x00\x00kernel/a.ko:\x00\x00\x00\x00\x01\x00\x00\x00\x01kernel/b.ko: kernel/a.ko\x00\x00\x00\x00\x01\x00\x00\x00\x02kernel/c.ko: kernel/a.ko\x00ac@\x00\x00\x0c@\x00\x00!@\x00\x00B",
+    b"kernel/a.ko:\nkernel/b.ko: kernel/a.ko\n",
+    b"\xb0\x07\xf4W\x00\x02\x00\x01 \x00\x00B\x00\x00\x00\x01\x00\x00\x00\x00kernel/a.ko:\x00\x00\x00\x00\x01\x00\x00\x00\x01kernel/b.ko: kernel/a.ko\x00ab@\x00\x00\x0c@\x00\x00!",
     NO_ALIASES,
     NO_KEYS,
     NO_SOFTDEPS,

@@ -120,16 +120,25 @@ static PLAIN: [IndexRow<'static>; 10] = [
 ];
 
 /// Further trees that are indexed, or whose index is cut short.
-static FURTHER: [IndexRow<'static>; 11] = [
+static FURTHER: [IndexRow<'static>; 13] = [
     // A module without a free license doesn't see a GPL-only export.
     IndexRow {
         name: "a GPL-only export has a line",
         modules: &[
             ("kernel/a.ko", &GIVES_ALONE, &GPL_ONLY),
             ("kernel/b.ko", &NEEDS, &NO_MORE),
-            ("kernel/c.ko", &FREE, &NO_MORE),
         ],
         index: Index::GplLine,
+        ..DONE
+    },
+    // One with a free license does.
+    IndexRow {
+        name: "a GPL-only export that is seen has no line",
+        modules: &[
+            ("kernel/a.ko", &GIVES_ALONE, &GPL_ONLY),
+            ("kernel/b.ko", &FREE, &NO_MORE),
+        ],
+        index: Index::TwoModules,
         ..DONE
     },
     // A weak need of a GPL-only export is a dependency, and has no line.
@@ -148,9 +157,18 @@ static FURTHER: [IndexRow<'static>; 11] = [
         modules: &[
             ("kernel/a.ko", &GIVES_ALONE, &IN_SPACE),
             ("kernel/b.ko", &NEEDS, &NO_MORE),
-            ("kernel/c.ko", &IMPORTS, &NO_MORE),
         ],
         index: Index::NamespaceLine,
+        ..DONE
+    },
+    // One that imports it may.
+    IndexRow {
+        name: "a namespace that is imported has no line",
+        modules: &[
+            ("kernel/a.ko", &GIVES_ALONE, &IN_SPACE),
+            ("kernel/b.ko", &IMPORTS, &NO_MORE),
+        ],
+        index: Index::TwoModules,
         ..DONE
     },
     // Of two modules of one name the one in `updates` is chosen.
