@@ -9,3 +9,5 @@
 mod applying;
 #[cfg(test)]
 mod param_row;
+#[cfg(test)]
+mod places;

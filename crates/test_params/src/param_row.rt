@@ -20,6 +20,9 @@ const VALUES: usize = 4096;
 /// A parameter, written out: its name and the name of its type.
 pub(crate) type Row = (&'static [u8], &'static [u8]);
 
+/// A place in an object, and the byte that is put there.
+pub(crate) type Change = (usize, u8);
+
 /// What options are to result in.
 #[derive(Clone, Copy)]
 pub(crate) enum Answer {
@@ -109,6 +112,35 @@ fn expect_answer(
     Ok(())
 }
 
+/// Returns the bytes with some of them changed.
+fn changed(rt: &impl Abort, bytes: Blob, changes: &[Change]) -> Blob {
+    let mut bytes = bytes.into_vec();
+    for (place, byte) in changes {
+        assert!(rt; *place < bytes.len());
+        bytes[*place] = *byte;
+    }
+    Blob::from_vec(bytes)
+}
+
+/// Checks that each of the options has its answer, in the image that a machine has of the module of
+/// these parameters, some bytes of whose object are changed.
+pub(crate) fn expect_changed(
+    rt: &impl Abort,
+    alloc: Global,
+    rows: &[Row],
+    changes: &[Change],
+    answers: &[(&'static [u8], Answer)],
+) -> Result<(), Fail> {
+    let object = changed(rt, object_of(alloc, rows)?, changes);
+    let module = module_of(rt, alloc, object)?;
+    let image = image_of(rt, alloc, &module)?;
+    for (options, wanted) in answers {
+        let applied = apply(rt, alloc, &module, image.as_bytes(), options);
+        expect_answer(rt, alloc, applied, *wanted)?;
+    }
+    Ok(())
+}
+
 /// Checks that each of the options has its answer, in the image that a machine has of the module of
 /// these parameters.
 pub(crate) fn expect_answers(
@@ -117,11 +149,5 @@ pub(crate) fn expect_answers(
     rows: &[Row],
     answers: &[(&'static [u8], Answer)],
 ) -> Result<(), Fail> {
-    let module = module_of(rt, alloc, object_of(alloc, rows)?)?;
-    let image = image_of(rt, alloc, &module)?;
-    for (options, wanted) in answers {
-        let applied = apply(rt, alloc, &module, image.as_bytes(), options);
-        expect_answer(rt, alloc, applied, *wanted)?;
-    }
-    Ok(())
+    expect_changed(rt, alloc, rows, &[], answers)
 }
