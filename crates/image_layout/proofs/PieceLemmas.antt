@@ -15,7 +15,8 @@ use Rattle.image_layout.specs.Plain.{piece, has_place, filled}
 use Rattle.image_layout.proofs.OffsetLemmas.{apart, lies_in, offset_unkept}
 use Rattle.image_layout.proofs.PlainLemmas.{piece_kept, piece_unkept, piece_at, has_place-low, has_place-high, filled-more, find-none}
 
-length-content : (file : List ℕ) (kind offset size : ℕ) → length (content file kind offset size) ≤ size
+-- A section has no more bytes in the file than its size.
+pub length-content : (file : List ℕ) (kind offset size : ℕ) → length (content file kind offset size) ≤ size
 unfolding content
 length-content file kind offset size =
     elim (cases_Bool (has_content kind)) [

@@ -44,23 +44,23 @@ unfolding filled
 byte-filled len ps x inside = get_or-map-range_with_len (plain_byte ps) 0 len x x 0 inside (omega arith)
 
 -- Bytes that were put at a place, and the bytes elsewhere.
-length-with : (image : List ℕ) (at : ℕ) (bytes : List ℕ) → at + length bytes ≤ length image → length (with_bytes image at bytes) ≡ length image
+pub length-with : (image : List ℕ) (at : ℕ) (bytes : List ℕ) → at + length bytes ≤ length image → length (with_bytes image at bytes) ≡ length image
 length-with image at bytes fits = grind (arith, common_steps)
 
-byte_within : (image : List ℕ) (at : ℕ) (bytes : List ℕ) (x : ℕ) → at + length bytes ≤ length image → at ≤ x → x < at + length bytes → slice_index (with_bytes image at bytes) x ≡ slice_index bytes (x - at)
+pub byte_within : (image : List ℕ) (at : ℕ) (bytes : List ℕ) (x : ℕ) → at + length bytes ≤ length image → at ≤ x → x < at + length bytes → slice_index (with_bytes image at bytes) x ≡ slice_index bytes (x - at)
 byte_within image at bytes x fits low high = grind (arith, common_steps)
 
-byte_below : (image : List ℕ) (at : ℕ) (bytes : List ℕ) (x : ℕ) → x < length image → x < at → slice_index (with_bytes image at bytes) x ≡ slice_index image x
+pub byte_below : (image : List ℕ) (at : ℕ) (bytes : List ℕ) (x : ℕ) → x < length image → x < at → slice_index (with_bytes image at bytes) x ≡ slice_index image x
 byte_below image at bytes x inside out = grind (arith, common_steps)
 
-byte_above : (image : List ℕ) (at : ℕ) (bytes : List ℕ) (x : ℕ) → at + length bytes ≤ length image → x < length image → at + length bytes ≤ x → slice_index (with_bytes image at bytes) x ≡ slice_index image x
+pub byte_above : (image : List ℕ) (at : ℕ) (bytes : List ℕ) (x : ℕ) → at + length bytes ≤ length image → x < length image → at + length bytes ≤ x → slice_index (with_bytes image at bytes) x ≡ slice_index image x
 byte_above image at bytes x fits inside out = grind (arith, common_steps)
 
 option_or-none : {X : Type 0} (o : Option X) → option_or o None ≡ o
 option_or-none None = refl
 option_or-none (Some x) = refl
 
-has_place-true : (x : ℕ) (p : Piece) → p.at ≤ x → x < p.at + length p.bytes → has_place x p ≡ true
+pub has_place-true : (x : ℕ) (p : Piece) → p.at ≤ x → x < p.at + length p.bytes → has_place x p ≡ true
 has_place-true x p low high = grind (arith, nat_tests)
 
 pub has_place-low : (x : ℕ) (p : Piece) → x < p.at → has_place x p ≡ false

@@ -12,6 +12,7 @@ use Rattle.param_apply.specs.Words.{Parameter, Setting}
 use Rattle.param_apply.specs.Places.{is_among, is_in_value, is_misplaced, is_of_other, is_reserved, value_width}
 use Rattle.param_apply.specs.Applied.{is_named}
 use Rattle.param_apply.specs.Writing.{AreClaims, is_of_any}
+use Rattle.std.proofs.Math.Bool.{or-false, or_assoc}
 
 -- A byte is among some.
 pub among : (at size x : ℕ) → at ≤ x → x < at + size → is_among at size x ≡ true
@@ -111,14 +112,6 @@ placed-more o params len done s e k p q is_e is_k number placed_e placed_k named
     both_ways _ open_e.1 (named-other params e k x done (named apart) apart in_k)) in
     or_from _ _ open_k.0 (list_any-append (is_of_other params k x) done (s ∷ []) ∙ or_from _ _ open_k.1 (or_from _ _ other refl)))
 
-or-false : (b : Bool) → (b || false) ≡ b
-or-false true = refl
-or-false false = refl
-
-or-assoc : (a b c : Bool) → ((a || b) || c) ≡ (a || (b || c))
-or-assoc true b c = refl
-or-assoc false b c = refl
-
 named-here : (done : List Setting) (s : Setting) (k : ℕ) → is_named done k ≡ false → (is_named done k || (s.number == k)) ≡ true → (s.number == k) ≡ true
 named-here done s k new or = elim (or_cases (is_named done k) (s.number == k) or) [ inl old ↦ absurd (both_ways (is_named done k) new old) | inr here ↦ here ]
 
@@ -133,7 +126,7 @@ claims-more c d o params done s e p are is number placed same count taken named 
       let inside : x < length c.taken.items = omega arith in
       taken x inside
       ∙ ap (λ b. b || is_among p.at (value_width p) x) (are.taken x inside)
-      ∙ or-assoc (is_reserved o x) (is_of_any params x done) (is_among p.at (value_width p) x)
+      ∙ or_assoc (is_reserved o x) (is_of_any params x done) (is_among p.at (value_width p) x)
       ∙ ap (λ b. is_reserved o x || (is_of_any params x done || b)) (sym (or-false (is_in_value params s.number x) ∙ ap (λ n. is_in_value params n x) number ∙ in_value params e p x is))
       ∙ ap (λ b. is_reserved o x || b) (sym (list_any-append (λ (t : Setting). is_in_value params t.number x) done (s ∷ [])));
   count = count ∙ are.count;

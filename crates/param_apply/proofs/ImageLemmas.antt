@@ -3,12 +3,11 @@ use Rattle.std.proofs.Common.{◌≡◌, ◌≤◌, ◌<◌, ◌+◌, ◌-◌, �
 use Rattle.std.specs.Prelude.{reverse}
 use Rattle.std.proofs.lemmas.List.{reverse-append}
 use Rattle.std.proofs.lemmas.Bool.{cases_lt}
-use Rattle.std.proofs.lemmas.Bool.Decides.{nat_tests}
-use Rattle.std.proofs.lemmas.Grind.{common_steps}
 use Rattle.std.proofs.lemmas.List.FromFn.{length-map-range_with_len, get_or-map-range_with_len, fill_by_all}
 use Rattle.raw_image.specs.Bytes.{with_bytes}
 use Rattle.image_layout.specs.Plain.{Piece, has_place}
 use Rattle.param_apply.specs.Applied.{byte_of, with_pieces}
+use Rattle.image_layout.proofs.PlainLemmas.{byte_above, byte_below, byte_within, has_place-high, has_place-low, has_place-true, length-with}
 
 -- An image without pieces.
 pub with-none : (image : List ℕ) → image ≡ with_pieces image []
@@ -22,28 +21,6 @@ length-with_pieces image ps = length-map-range_with_len (byte_of image ps) 0 (le
 byte-with : (image : List ℕ) (ps : List Piece) (x : ℕ) → x < length image → slice_index (with_pieces image ps) x ≡ byte_of image ps x
 unfolding with_pieces
 byte-with image ps x inside = get_or-map-range_with_len (byte_of image ps) 0 (length image) x x 0 inside (omega arith)
-
--- Bytes that were put at a place, and the bytes elsewhere.
-length-bytes : (image : List ℕ) (at : ℕ) (bytes : List ℕ) → at + length bytes ≤ length image → length (with_bytes image at bytes) ≡ length image
-length-bytes image at bytes fits = grind (arith, common_steps)
-
-byte_within : (image : List ℕ) (at : ℕ) (bytes : List ℕ) (x : ℕ) → at + length bytes ≤ length image → at ≤ x → x < at + length bytes → slice_index (with_bytes image at bytes) x ≡ slice_index bytes (x - at)
-byte_within image at bytes x fits low high = grind (arith, common_steps)
-
-byte_below : (image : List ℕ) (at : ℕ) (bytes : List ℕ) (x : ℕ) → x < length image → x < at → slice_index (with_bytes image at bytes) x ≡ slice_index image x
-byte_below image at bytes x inside out = grind (arith, common_steps)
-
-byte_above : (image : List ℕ) (at : ℕ) (bytes : List ℕ) (x : ℕ) → at + length bytes ≤ length image → x < length image → at + length bytes ≤ x → slice_index (with_bytes image at bytes) x ≡ slice_index image x
-byte_above image at bytes x fits inside out = grind (arith, common_steps)
-
-has_place-true : (x : ℕ) (p : Piece) → p.at ≤ x → x < p.at + length p.bytes → has_place x p ≡ true
-has_place-true x p low high = grind (arith, nat_tests)
-
-has_place-low : (x : ℕ) (p : Piece) → x < p.at → has_place x p ≡ false
-has_place-low x p out = grind (arith, nat_tests)
-
-has_place-high : (x : ℕ) (p : Piece) → p.at + length p.bytes ≤ x → has_place x p ≡ false
-has_place-high x p out = grind (arith, nat_tests)
 
 -- A piece more is looked at first.
 last-first : (ps : List Piece) (p : Piece) → reverse (ps ++ p ∷ []) ≡ p ∷ reverse ps
@@ -75,5 +52,5 @@ byte-more image ps p x fits inside =
 pub with-more : (image : List ℕ) (ps : List Piece) (p : Piece) → p.at + length p.bytes ≤ length image → with_bytes (with_pieces image ps) p.at p.bytes ≡ with_pieces image (ps ++ p ∷ [])
 unfolding with_pieces
 with-more image ps p fits =
-    let long : length (with_bytes (with_pieces image ps) p.at p.bytes) ≡ length image = length-bytes (with_pieces image ps) p.at p.bytes (rw (length-with_pieces image ps) fits) ∙ length-with_pieces image ps in
+    let long : length (with_bytes (with_pieces image ps) p.at p.bytes) ≡ length image = length-with (with_pieces image ps) p.at p.bytes (rw (length-with_pieces image ps) fits) ∙ length-with_pieces image ps in
     fill_by_all (byte_of image (ps ++ p ∷ [])) (with_bytes (with_pieces image ps) p.at p.bytes) (length image) 0 long (λ x inside. byte-more image ps p x fits inside)

@@ -1,20 +1,16 @@
 -- The texts of a module's section `.modinfo`.
-use Rattle.std.proofs.Common.{◌≡◌, ◌<◌, ◌∙◌, ℕ, true, List, [], Some, None, refl, sym, arith, length, inl, inr}
+use Rattle.std.proofs.Common.{◌≡◌, ◌<◌, ◌∙◌, ℕ, true, List, [], Some, None, refl, sym, length, inl, inr}
 use Rattle.std.specs.Prelude.{codes, slice_get, IfSome, ◌==◌}
 use Rattle.std.specs.List.{position}
 use Rattle.std.specs.Str.{bytes_eq}
 use Rattle.std.proofs.lemmas.Bool.{cases_Bool, eqb-true}
-use Rattle.std.proofs.lemmas.Option.{slice_get_cases}
 use Rattle.elf_format.specs.declared.section.TheConstants.{SHT_NOBITS}
 use Rattle.elf_object.specs.declared.section.Section.{Section}
 use Rattle.elf_object.specs.Object.{FileObject}
 use Rattle.elf_object.specs.Sections.{bytes_of}
 use Rattle.elf_object.specs.Shape.{content}
 use Rattle.module_facts.specs.Contents.{modinfo_bytes, named_bytes, named_section}
-
-item-at : {X : Type 0} (xs : List X) (i : ℕ) → i < length xs → (x : X) × (slice_get xs i ≡ Some x)
-item-at xs i within =
-    elim (slice_get_cases xs i).1 [ inl inside ↦ (inside.0, inside.2) | inr past ↦ absurd (omega (arith, past.0)) ]
+use Rattle.image_layout.proofs.PieceLemmas.{item-at}
 
 -- A section without bytes in the file.
 no-bytes : (file : List ℕ) (s : Section) → (s.kind == SHT_NOBITS) ≡ true → bytes_of file s ≡ []

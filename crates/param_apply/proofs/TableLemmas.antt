@@ -1,25 +1,15 @@
 -- The table of parameters, and its entries.
-use Rattle.std.proofs.Common.{◌≡◌, ◌≤◌, ◌<◌, ◌∙◌, ℕ, List, [], ◌∷◌, Option, Some, None, refl, ap, arith, length, inl, inr}
-use Rattle.std.proofs.lemmas.Bool.{cases_Bool}
-use Rattle.std.proofs.lemmas.Grind.{common_steps}
+use Rattle.std.proofs.Common.{◌≡◌, ◌≤◌, ◌<◌, ◌∙◌, ℕ, List, [], ◌∷◌, Option, Some, None, refl, ap, length}
 use Rattle.km_names.specs.First.{first}
 use Rattle.elf_object.specs.declared.section.Section.{Section}
 use Rattle.elf_object.specs.Sections.{bytes_of}
-use Rattle.elf_object.specs.Shape.{content, each, has_content}
+use Rattle.elf_object.specs.Shape.{each}
 use Rattle.elf_object.proofs.TestLemmas.{each-passed, each-failed, first-failed, first-passed}
 use Rattle.param_apply.specs.declared.fault.ParamFault.{ParamFault}
 use Rattle.param_apply.specs.declared.fault.ParamFault.TheVariants.{BadParamTable}
 use Rattle.param_apply.specs.declared.table.ParamTable.{ParamTable}
 use Rattle.param_apply.specs.Table.{end_fault, entry_count, entry_fault, entry_name, table_fault}
-
--- A section has no more bytes in the file than its size.
-length-content : (file : List ℕ) (kind offset size : ℕ) → length (content file kind offset size) ≤ size
-unfolding content
-length-content file kind offset size =
-    elim (cases_Bool (has_content kind)) [
-      | inl some ↦ rw some (grind (arith, common_steps))
-      | inr none ↦ rw none (omega arith)
-    ]
+use Rattle.image_layout.proofs.PieceLemmas.{length-content}
 
 pub bytes-short : (file : List ℕ) (s : Section) → length (bytes_of file s) ≤ s.size
 bytes-short file s = length-content file s.kind s.offset s.size
