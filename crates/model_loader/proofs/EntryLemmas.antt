@@ -26,7 +26,7 @@ use Rattle.model_loader.specs.Parts.{entry_by, placed_by}
 use Rattle.model_loader.specs.Step.{need_address, given_address, given_addresses, symbol_addresses, module_size, placed_export, entry_at, bound_need, overflow_fault}
 use Rattle.model_loader.proofs.StandingLemmas.{of_placed, of_standing, under-placed}
 
-map-same : {X Y : Type 0} (f g : X → Y) → ((x : X) → f x ≡ g x) → (xs : List X) → map f xs ≡ map g xs
+pub map-same : {X Y : Type 0} (f g : X → Y) → ((x : X) → f x ≡ g x) → (xs : List X) → map f xs ≡ map g xs
 map-same f g same [] = refl
 map-same f g same (x ∷ xs) = ap (λ y. y ∷ map f xs) (same x) ∙ ap (λ ys. g x ∷ ys) (map-same f g same xs)
 

@@ -1,46 +1,25 @@
 -- Names that are listed once, where some in the middle are left out.
-use Rattle.std.proofs.Common.{◌≡◌, ◌<◌, ◌∙◌, ◌⊎◌, inl, inr, ℕ, zero, suc, true, false, List, [], ◌∷◌, ◌++◌, Option, Some, None, refl, sym, ap, subst, arith, length, map, get_or, take, drop, append_assoc, append-nil, cond}
-use Rattle.std.specs.Prelude.{find, option_map, All, ◌&&◌, ◌||◌, ◌==◌, nat_lt, flat_map, remove, slice_get, is_some}
-use Rattle.std.specs.List.{IsDistinct, AllByRecursion, list_any, range_with_len}
-use Rattle.std.specs.Option.{option_map_or, option_or}
+use Rattle.std.proofs.Common.{◌≡◌, ◌<◌, ◌∙◌, ◌⊎◌, inl, inr, ℕ, zero, suc, true, false, List, [], ◌∷◌, ◌++◌, Some, None, refl, sym, ap, subst, map, take, drop, append_assoc, append-nil}
+use Rattle.std.specs.Prelude.{◌&&◌, ◌||◌, ◌==◌, flat_map, remove, slice_get}
+use Rattle.std.specs.List.{IsDistinct, AllByRecursion, list_any}
+use Rattle.std.specs.Option.{option_map_or}
 use Rattle.std.specs.Str.{bytes_eq}
 use Rattle.std.proofs.lemmas.Bool.{cases_Bool, false≢true, or_parts}
-use Rattle.std.proofs.lemmas.Bool.Decides.{nat_tests}
 use Rattle.std.proofs.lemmas.Cmp.{nat_list_eq_equiv}
 use Rattle.std.proofs.lemmas.List.{map-append}
 use Rattle.std.proofs.lemmas.List.Concat.{flat_map-append}
 use Rattle.std.proofs.lemmas.List.Folds.{list_any-append}
-use Rattle.std.proofs.lemmas.List.Quantifiers.{all_pairs_remove}
 use Rattle.std.proofs.lemmas.Slice.Eq.{bytes_eq-Decides}
-use Rattle.km_names.specs.First.{first}
-use Rattle.module_facts.specs.declared.facts.Need.{Need as FactsNeed}
-use Rattle.module_facts.specs.declared.module.Module.{Module}
-use Rattle.symbol_binding.specs.Symbols.{Export, Need}
 use Rattle.provider_rel.specs.declared.kernel.KernelExport.{KernelExport}
-use Rattle.symbol_binding.specs.Provider.{export_under}
-use Rattle.symbol_binding.specs.Needs.{is_seen}
-use Rattle.symbol_binding.specs.Table.{table}
-use Rattle.image_layout.specs.Symbols.{address, addresses}
-use Rattle.image_layout.specs.Laid.{laid}
 use Rattle.model_loader.specs.declared.entry.PlacedExport.{PlacedExport}
-use Rattle.model_loader.specs.declared.entry.BoundNeed.{BoundNeed}
 use Rattle.model_loader.specs.declared.entry.Entry.{Entry}
-use Rattle.model_loader.specs.declared.standing.Standing.{Standing}
-use Rattle.model_loader.specs.declared.standing.ExportTable.{ExportTable}
-use Rattle.model_loader.specs.Kept.{IsKept}
-use Rattle.model_loader.specs.Standing.{standing, standing_of, standing_under}
-use Rattle.model_loader.specs.Machine.{Machine, entry_face, export_face, export_named, faces, kernel_placed, machine_kernel, need_face, placed_under}
-use Rattle.model_loader.specs.Sound.{AreApart, AreBoundAfter, IsEntryOf, IsPlaced, IsSound, exported_names}
-use Rattle.model_loader.specs.Step.{bound_need, entry_at, given_address, given_addresses, module_size, need_address}
-use Rattle.model_loader.specs.Use.{IsUnused, is_met_by, uses_entry, without}
-use Rattle.model_loader.proofs.StandingLemmas.{under-face}
-use Rattle.model_loader.proofs.StepLemmas.{first-append}
+use Rattle.model_loader.specs.Machine.{Machine, export_named}
+use Rattle.model_loader.specs.Sound.{exported_names}
+use Rattle.model_loader.specs.Use.{without}
+use Rattle.model_loader.proofs.StandingLemmas.{same_name}
 use Rattle.model_loader.proofs.PlaceLemmas.{none≢some}
 
 -- Names without some in the middle.
-name-eq : (x y : List ℕ) → bytes_eq x y ≡ true → x ≡ y
-name-eq x y is = (bytes_eq-Decides x y).0 is
-
 pub flip : (x y : List ℕ) → bytes_eq x y ≡ bytes_eq y x
 flip x y = nat_list_eq_equiv.symm x y
 
@@ -67,7 +46,7 @@ distinct-cut (x ∷ xs) ys zs all = (differs-cut x xs ys zs all.0, distinct-cut 
 differs-unlisted : (x y : List ℕ) (zs : List (List ℕ)) → bytes_eq x y ≡ true → Differs y zs → unlisted x zs
 differs-unlisted x y [] is all = refl
 differs-unlisted x y (z ∷ zs) is all =
-    rw (ap (λ n. bytes_eq n z) (name-eq x y is) ∙ all.0) (differs-unlisted x y zs is all.1)
+    rw (ap (λ n. bytes_eq n z) (same_name x y is) ∙ all.0) (differs-unlisted x y zs is all.1)
 
 differs-skip : (a : List ℕ) (ys zs : List (List ℕ)) → Differs a (ys ++ zs) → Differs a zs
 differs-skip a [] zs all = all
@@ -87,7 +66,7 @@ differs-listed x a (y ∷ xs) ys zs in_ys all = differs-listed x a xs ys zs in_y
 differs-listed x a [] [] zs in_ys all = absurd (false≢true in_ys)
 differs-listed x a [] (y ∷ ys) zs in_ys all =
     elim (cases_Bool (bytes_eq x y)) [
-      | inl is ↦ flip x a ∙ ap (bytes_eq a) (name-eq x y is) ∙ all.0
+      | inl is ↦ flip x a ∙ ap (bytes_eq a) (same_name x y is) ∙ all.0
       | inr other ↦ differs-listed x a [] ys zs (rw other at in_ys) all.1
     ]
 
@@ -102,6 +81,19 @@ around [] j x at = absurd (none≢some at)
 around (y ∷ ys) zero x at = ap (λ o. option_map_or (λ z. z ∷ ys) o ys) at
 around (y ∷ ys) (suc j) x at = ap (λ l. y ∷ l) (around ys j x at)
 
+-- An entry by its name.
+abbrev pub name_of : Entry → List ℕ
+name_of e = e.loaded.name
+
+pub same-name : (x : List ℕ) → bytes_eq x x ≡ true
+same-name x = (bytes_eq-Decides x x).1 refl
+
+pub at-place : (P : List ℕ → Type 0) (es : List Entry) (k : ℕ) (e : Entry) → slice_get es k ≡ Some e → AllByRecursion P (map name_of es) → P e.loaded.name
+at-place P [] k e at all = absurd (none≢some at)
+at-place P (y ∷ ys) zero e at all = let same : y ≡ e = ap (λ o. option_map_or (λ (x : Entry). x) o y) at in subst (λ (x : Entry). P x.loaded.name) same all.0
+at-place P (y ∷ ys) (suc k) e at all = at-place P ys k e at all.1
+
+-- The names of an entry's exports.
 abbrev pub names_of : Entry → List (List ℕ)
 names_of e = map (λ (x : PlacedExport). x.name) e.exports
 

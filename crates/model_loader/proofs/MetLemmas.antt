@@ -1,10 +1,10 @@
 -- Who exports what a module needs, as the tables of a machine tell it.
-use Rattle.std.proofs.Common.{◌≡◌, ◌<◌, ◌≤◌, ◌+◌, ◌-◌, ◌∙◌, ◌⊎◌, inl, inr, ℕ, zero, suc, Bool, true, false, List, [], ◌∷◌, ◌++◌, Option, Some, None, refl, sym, ap, subst, arith, length, map, get_or, take, drop, cond, append-nil, Vec, Global}
+use Rattle.std.proofs.Common.{◌≡◌, ◌<◌, ◌≤◌, ◌+◌, ◌-◌, ◌∙◌, ◌⊎◌, inl, inr, ℕ, zero, suc, Bool, true, false, List, [], ◌∷◌, ◌++◌, Option, Some, None, refl, sym, ap, subst, arith, length, map, get_or, take, drop, cond}
 use Rattle.std.specs.Prelude.{option_map, option_and_then, ◌&&◌, ◌||◌, nat_eq, nat_lt, not, flat_map, remove, slice_get}
-use Rattle.std.specs.List.{AllByRecursion, IsDistinct, list_any, position, position_or_len}
+use Rattle.std.specs.List.{AllByRecursion, IsDistinct, list_any, position_or_len}
 use Rattle.std.specs.Option.{option_map_or, option_or}
 use Rattle.std.specs.Str.{bytes_eq}
-use Rattle.std.proofs.lemmas.Bool.{cases_Bool, false≢true, or_parts}
+use Rattle.std.proofs.lemmas.Bool.{cases_Bool, or_parts}
 use Rattle.std.proofs.lemmas.Bool.Decides.{nat_tests}
 use Rattle.std.proofs.lemmas.List.{map-append, take_more, length-map}
 use Rattle.std.proofs.lemmas.List.Concat.{flat_map-append}
@@ -23,15 +23,13 @@ use Rattle.model_loader.specs.Kept.{IsKept}
 use Rattle.model_loader.specs.Machine.{Machine, export_named, kernel_placed}
 use Rattle.model_loader.specs.Sound.{entry_names, exported_names}
 use Rattle.model_loader.specs.Standing.{standing, standing_of, standing_under}
-use Rattle.model_loader.specs.Use.{AreUses, binds, is_met_by, uses_entry, without}
+use Rattle.model_loader.specs.Use.{AreUses, binds, is_met_by, uses_entry}
 use Rattle.model_loader.specs.Uses.{AreBoundPlaces, below, bound_place, is_bound_at, is_met_named, is_owner, is_place, met_place, owner_place, stated_names}
 use Rattle.model_loader.proofs.StepLemmas.{first-append}
-use Rattle.model_loader.proofs.ListedLemmas.{around, flip, names_of, none-named, parts, unlisted, unlisted-cut, unlisted-without}
+use Rattle.model_loader.proofs.ListedLemmas.{around, flip, names_of, parts, unlisted, unlisted-cut, unlisted-without, name_of, same-name}
 use Rattle.model_loader.proofs.WithoutLemmas.{none-kernel, none-standing, slice-at, standing_by, stood-without}
-use Rattle.model_loader.proofs.PlaceLemmas.{falsely, in-place, item, new-last, none≢some, old-stays, past}
-
-abbrev name_of : Entry → List ℕ
-name_of e = e.loaded.name
+use Rattle.model_loader.proofs.PlaceLemmas.{in-place, item, new-last, none≢some, old-stays, past, below-or-at}
+use Rattle.std.proofs.Math.Bool.{and-false, and-true, or-false}
 
 -- What an entry exports stands under its name, as that entry's.
 module _ (machine : Machine) (j : ℕ) (e : Entry) (at : slice_get machine.entries j ≡ Some e) where
@@ -82,9 +80,6 @@ module _ (machine : Machine) (j : ℕ) (e : Entry) (at : slice_get machine.entri
       ∙ ap (λ l. l ++ after) (map-append name_of (take j machine.entries) (e ∷ [])) in
       subst (unlisted e.loaded.name) (sym (map-append name_of (take j machine.entries) (drop (suc j) machine.entries)))
       (unlisted-cut e.loaded.name before (e.loaded.name ∷ []) after (ap (λ b. b || false) (same-name e.loaded.name)) (subst (IsDistinct bytes_eq) split distinct))
-    where
-      same-name : (x : List ℕ) → bytes_eq x x ≡ true
-      same-name x = (bytes_eq-Decides x x).1 refl
 
   other : IsDistinct bytes_eq (entry_names machine) → (x : List ℕ) → export_named x e.exports ≡ None → Other (standing_under machine x)
   unfolding standing_under
@@ -129,10 +124,6 @@ binds-is machine t kept k j user other at_k at_j =
     ∙ ap (λ o. nat_lt j k && option_map_or (λ u. option_map_or (uses_entry u) (slice_get machine.entries j) false) o false) (sym at_k)
 
 -- The place of a name, where no two entries have one name.
-and-true : (b : Bool) → (b && true) ≡ b
-and-true true = refl
-and-true false = refl
-
 apart : (x : List ℕ) (es : List Entry) (i : ℕ) (e : Entry) → slice_get es i ≡ Some e → AllByRecursion (λ n. bytes_eq x n ≡ false) (map name_of es) → bytes_eq x e.loaded.name ≡ false
 apart x [] i e at all = absurd (none≢some at)
 apart x (y ∷ ys) zero e at all =
@@ -215,7 +206,7 @@ module _ (t : ExportTable) (places : Table) (entries : List Entry) (is : IsTable
   owner-met j e at true None = refl
   owner-met j e at false None = refl
   owner-met j e at true (Some x) = place-name j e x at ∙ sym (and-true (bytes_eq x e.loaded.name))
-  owner-met j e at false (Some x) = sym (falsely (bytes_eq x e.loaded.name))
+  owner-met j e at false (Some x) = sym (and-false (bytes_eq x e.loaded.name))
 
   place-met : (j : ℕ) (e : Entry) → slice_get entries j ≡ Some e → (free : Bool) (o : Option Standing) → is_place j (option_and_then (owner_place places free) o) ≡ option_map_or (λ s. is_owner e.loaded.name s && is_seen free s.gpl) o false
   place-met j e at free None = refl
@@ -245,7 +236,7 @@ module _ (machine : Machine) (t : ExportTable) (kept : IsKept machine t) (places
 
   none-bound : (k j : ℕ) → slice_get machine.entries k ≡ None → binds machine k j ≡ false
   none-bound k j none =
-      ap (λ o. nat_lt j k && option_map_or (λ user. option_map_or (uses_entry user) (slice_get machine.entries j) false) o false) none ∙ falsely (nat_lt j k)
+      ap (λ o. nat_lt j k && option_map_or (λ user. option_map_or (uses_entry user) (slice_get machine.entries j) false) o false) none ∙ and-false (nat_lt j k)
 
   at-user : (k j : ℕ) (user : Entry) → slice_get machine.entries k ≡ Some user → list_any (is_bound_at t places user.free k j) user.needs ≡ binds machine k j
   at-user k j user at =
@@ -267,10 +258,6 @@ module _ (machine : Machine) (t : ExportTable) (kept : IsKept machine t) (places
 
   pub uses-are : AreUses machine all
   uses-are = record { counted = are.counted; at = λ k j. at-place k j (slice_get machine.entries k) refl }
-
-or-false : (b : Bool) → (b || false) ≡ b
-or-false true = refl
-or-false false = refl
 
 -- One need more of those that are bound.
 pub bound-more : (t : ExportTable) (places : Table) (free : Bool) (k : ℕ) (ns : List BoundNeed) (i : ℕ) (n : BoundNeed) (bound next : List ℕ) → i < length ns → n ≡ get_or ns i n
@@ -295,9 +282,6 @@ place-none bound next o none is j =
 abbrev Listed : ExportTable → Table → List Entry → List (List ℕ) → ℕ → ℕ → Entry → Type 0
 Listed t places entries all i j e =
     option_map_or (list_any (nat_eq j)) (slice_get all i) false ≡ list_any (is_bound_at t places e.free i j) e.needs
-
-below-or-at : (i k : ℕ) → i < k + 1 → (i < k) ⊎ (i ≡ k)
-below-or-at i k less = grind arith
 
 pub listed-more : (t : ExportTable) (places : Table) (entries : List Entry) (k : ℕ) (all next : List (List ℕ)) (v : List ℕ) (user : Entry)
     → length all ≡ k → next ≡ all ++ v ∷ [] → k < length entries → user ≡ get_or entries k user

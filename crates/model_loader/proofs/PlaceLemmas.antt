@@ -1,7 +1,7 @@
 -- Places: what stands at one, what is found among them, and what is left without one.
-use Rattle.std.proofs.Common.{◌≡◌, ◌≤◌, ◌<◌, ◌+◌, ◌-◌, ◌∙◌, ◌⊎◌, inl, inr, ℕ, zero, suc, Bool, true, false, List, [], ◌∷◌, ◌++◌, Option, Some, None, refl, sym, ap, arith, length, cond, append_assoc, append-nil}
-use Rattle.std.specs.Prelude.{◌||◌, ◌&&◌, filter, find, remove, slice_get, All}
-use Rattle.std.specs.List.{list_any, range_with_len}
+use Rattle.std.proofs.Common.{◌≡◌, ◌≤◌, ◌<◌, ◌+◌, ◌-◌, ◌∙◌, ◌⊎◌, inl, inr, ℕ, zero, suc, Bool, true, false, List, [], ◌∷◌, ◌++◌, Option, Some, None, refl, sym, ap, arith, length, cond}
+use Rattle.std.specs.Prelude.{◌||◌, ◌&&◌, find, remove, slice_get, All}
+use Rattle.std.specs.List.{range_with_len}
 use Rattle.std.specs.Option.{option_map_or}
 use Rattle.std.proofs.lemmas.Bool.{cases_Bool}
 
@@ -11,9 +11,11 @@ none≢some is = cc
 pub at-or-above : (i k : ℕ) → i ≤ k → (i ≡ k) ⊎ (i + 1 ≤ k)
 at-or-above i k le = grind arith
 
-pub falsely : (b : Bool) → (b && false) ≡ false
-falsely true = refl
-falsely false = refl
+pub below-or-at : (i k : ℕ) → i < k + 1 → (i < k) ⊎ (i ≡ k)
+below-or-at i k less = grind arith
+
+pub below-or-above : (i k : ℕ) → (i < k) ⊎ (k ≤ i)
+below-or-above i k = grind arith
 
 -- What stands at a place.
 pub item : {X : Type 0} (xs : List X) (j : ℕ) → j < length xs → (x : X) × (slice_get xs j ≡ Some x)

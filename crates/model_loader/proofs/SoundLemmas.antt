@@ -10,7 +10,6 @@ use Rattle.std.proofs.lemmas.List.{map-append}
 use Rattle.std.proofs.lemmas.List.Concat.{flat_map-append}
 use Rattle.std.proofs.lemmas.List.Folds.{list_any-append}
 use Rattle.std.proofs.lemmas.Map.Keys.{IsDistinct-push, IsDistinct-head, IsDistinct-tail}
-use Rattle.std.proofs.lemmas.Slice.Eq.{bytes_eq-Decides}
 use Rattle.km_names.specs.First.{first}
 use Rattle.module_facts.specs.declared.facts.Need.{Need as FactsNeed}
 use Rattle.module_facts.specs.declared.facts.Export.{Export as FactsExport}
@@ -31,9 +30,10 @@ use Rattle.model_loader.specs.Gap.{meets_entry}
 use Rattle.model_loader.specs.Sound.{Agrees, AreApart, AreBoundAfter, IsBound, IsEntryOf, IsSound, entry_names, exported_names}
 use Rattle.model_loader.specs.Standing.{standing, standing_export, standing_under}
 use Rattle.model_loader.specs.Step.{bound_need, entry_at, fault_if, module_base, module_size, name_tests, need_test, owner_name, placed_export, refusal, symbol_addresses, taken_test, with_entry}
-use Rattle.model_loader.proofs.StandingLemmas.{under-export}
+use Rattle.model_loader.proofs.StandingLemmas.{under-export, same_name}
 use Rattle.model_loader.proofs.StepLemmas.{refusal-split}
 use Rattle.model_loader.proofs.KeptLemmas.{all-append, gap-at, length-laid, module-gap, placed-new, placed-next}
+use Rattle.model_loader.proofs.ListedLemmas.{flip, names_of, unlisted}
 
 pub first-none : {F : Type 0} (t : Option F) (rest : List (Option F)) → first (t ∷ rest) ≡ None → (t ≡ None) × (first rest ≡ None)
 first-none None rest none = (refl, none)
@@ -92,6 +92,11 @@ bound-by (Some e) m n passes strong =
     shown true is = refl
     shown false is = absurd (false≢true (sym is))
 
+-- The needs of the entry of a module are those of the module.
+pub needs-same : (ns : List FactsNeed) → map need_face (map bound_need ns) ≡ map facts_need ns
+needs-same [] = refl
+needs-same (n ∷ ns) = ap (λ rest. facts_need n ∷ rest) (needs-same ns)
+
 module _ (machine : Machine) (m : Module) (passed : first (name_tests machine m.facts) ≡ None) where
   abbrev under : List ℕ → Option Export
   under x = export_under (table (machine_kernel machine) (faces machine) x)
@@ -126,10 +131,6 @@ module _ (machine : Machine) (m : Module) (passed : first (name_tests machine m.
 
   pub exports-pass : first (map (taken_test machine) (map facts_export m.facts.exports)) ≡ None
   exports-pass = all-none.5
-
-  needs-same : (ns : List FactsNeed) → map need_face (map bound_need ns) ≡ map facts_need ns
-  needs-same [] = refl
-  needs-same (n ∷ ns) = ap (λ rest. facts_need n ∷ rest) (needs-same ns)
 
   pub entry-of : (base : ℕ) → IsEntryOf machine m (entry_at machine m base)
   unfolding entry_at
@@ -167,20 +168,9 @@ bound-same machine e before [] (f ∷ es) all = absurd all
 bound-same machine e before (n ∷ ms) [] all = absurd all
 bound-same machine e before (n ∷ ms) (f ∷ es) all = (all.0, bound-same machine e (before ++ f ∷ []) ms es all.1)
 
--- Names that are told apart.
-names-flip : (x y : List ℕ) → bytes_eq x y ≡ bytes_eq y x
-names-flip x y = nat_list_eq_equiv.symm x y
-
-data_name : (y x : List ℕ) → bytes_eq y x ≡ true → y ≡ x
-data_name y x is = (bytes_eq-Decides y x).0 is
-
 other_names : (y x : List ℕ) → (y ≡ x → ⊥) → bytes_eq y x ≡ false
 other_names y x apart =
-    elim (cases_Bool (bytes_eq y x)) [ inl is ↦ absurd (apart (data_name y x is)) | inr other ↦ other ]
-
--- A name isn't among those of a list.
-abbrev unlisted : List ℕ → List (List ℕ) → Type 0
-unlisted x names = list_any (bytes_eq x) names ≡ false
+    elim (cases_Bool (bytes_eq y x)) [ inl is ↦ absurd (apart (same_name y x is)) | inr other ↦ other ]
 
 join : (x : List ℕ) (xs ys : List (List ℕ)) → unlisted x xs → unlisted x ys → unlisted x (xs ++ ys)
 join x xs ys one other = list_any-append (bytes_eq x) xs ys ∙ rw (one, other) refl
@@ -200,7 +190,7 @@ each-both P Q R f (y ∷ ys) ps qs = (f y ps.0 qs.0, each-both P Q R f ys ps.1 q
 
 later-apart : (y : List ℕ) (ys : List (List ℕ)) → AllByRecursion (λ z. bytes_eq y z ≡ false) ys → Each (λ z. bytes_eq z y ≡ false) ys
 later-apart y [] all = tt
-later-apart y (z ∷ ys) all = (names-flip z y ∙ all.0, later-apart y ys all.1)
+later-apart y (z ∷ ys) all = (flip z y ∙ all.0, later-apart y ys all.1)
 
 distinct-append : (xs ys : List (List ℕ)) → IsDistinct bytes_eq xs → IsDistinct bytes_eq ys → Each (λ y. unlisted y xs) ys → IsDistinct bytes_eq (xs ++ ys)
 distinct-append xs [] d_xs d_ys apart = rw (append-nil xs) d_xs
@@ -217,7 +207,7 @@ unexported-kernel x [] none = refl
 unexported-kernel x (e ∷ es) none =
     elim (cases_Bool (bytes_eq e.name x)) [
       | inl is ↦ absurd (let w : ◌≡◌ {A = Option PlacedExport} (Some (kernel_placed e)) None = rw is at none in cc)
-      | inr other ↦ rw (names-flip x e.name, other) (unexported-kernel x es (rw other at none))
+      | inr other ↦ rw (flip x e.name, other) (unexported-kernel x es (rw other at none))
     ]
 
 unexported-by : (x : List ℕ) (es : List PlacedExport) → export_named x es ≡ None → unlisted x (map (λ (e : PlacedExport). e.name) es)
@@ -225,11 +215,8 @@ unexported-by x [] none = refl
 unexported-by x (e ∷ es) none =
     elim (cases_Bool (bytes_eq e.name x)) [
       | inl is ↦ absurd (let w : ◌≡◌ {A = Option PlacedExport} (Some e) None = rw is at none in cc)
-      | inr other ↦ rw (names-flip x e.name, other) (unexported-by x es (rw other at none))
+      | inr other ↦ rw (flip x e.name, other) (unexported-by x es (rw other at none))
     ]
-
-abbrev names_of : Entry → List (List ℕ)
-names_of e = map (λ (x : PlacedExport). x.name) e.exports
 
 unexported-entries : (x : List ℕ) (es : List Entry) → first (map (λ (e : Entry). option_map (standing (Some e.loaded.name)) (export_named x e.exports)) es) ≡ None → unlisted x (flat_map names_of es)
 unexported-entries x [] none = refl
@@ -281,7 +268,7 @@ unnamed : (es : List Entry) (x : List ℕ) → is_named (map entry_face es) x �
 unnamed [] x none = refl
 unnamed (e ∷ es) x none =
     let h = or_parts (bytes_eq e.loaded.name x) (is_named (map entry_face es) x) none in
-    rw (names-flip x e.loaded.name, h.0) (unnamed es x h.1)
+    rw (flip x e.loaded.name, h.0) (unnamed es x h.1)
 
 -- The image of a gap meets no other.
 apart_of : (a n b k : ℕ) → (nat_lt a (b + k) && nat_lt b (a + n)) ≡ false → (b + k ≤ a) ⊎ (a + n ≤ b)

@@ -22,6 +22,7 @@ use Rattle.model_loader.specs.Machine.{Machine, export_face, export_named, entry
 use Rattle.model_loader.specs.NeedTests.{need_fails, test_of, fault_of}
 use Rattle.model_loader.specs.Standing.{Keeps, standing, standing_export, standing_under}
 use Rattle.model_loader.specs.Step.{need_test, owner_name}
+use Rattle.model_loader.proofs.PlaceLemmas.{none≢some}
 
 -- The first item that passes a test, of a list made by a function.
 pub find-map : {X Y : Type 0} (p : Y → Bool) (f : X → Y) (xs : List X) → find p (map f xs) ≡ option_map f (find (λ x. p (f x)) xs)
@@ -37,9 +38,6 @@ pub find-same : {X : Type 0} (p q : X → Bool) → ((x : X) → p x ≡ q x) �
 find-same p q same [] = refl
 find-same p q same (x ∷ xs) =
     ap (λ b. cond b (Some x) (find p xs)) (same x) ∙ ap (cond (q x) (Some x)) (find-same p q same xs)
-
-none≢some : {X : Type 0} {x : X} → ◌≡◌ {A = Option X} None (Some x) → ⊥
-none≢some is = cc
 
 -- First answers that show the same.
 first-step : {X Y Z : Type 0} (f : X → Z) (g : Y → Z) (a : Option X) (b : Option Y) (xs : List (Option X)) (ys : List (Option Y)) → option_map f a ≡ option_map g b → option_map f (first xs) ≡ option_map g (first ys) → option_map f (first (a ∷ xs)) ≡ option_map g (first (b ∷ ys))
@@ -62,7 +60,7 @@ first-two : {X Y Z : Type 0} (f : X → Z) (g : Y → Z) (a b : Option X) (c d :
 first-two f g a b c d one other =
     first-step f g a c (b ∷ []) (d ∷ []) one (first-step f g b d [] [] other refl)
 
-same_name : (y x : List ℕ) → bytes_eq y x ≡ true → y ≡ x
+pub same_name : (y x : List ℕ) → bytes_eq y x ≡ true → y ≡ x
 same_name y x is = (bytes_eq-Decides y x).0 is
 
 -- The export of a name, as it is kept.

@@ -1,17 +1,14 @@
 -- A machine without an entry that no other uses: all others stay bound as they were.
 use Rattle.std.proofs.Common.{◌≡◌, ◌<◌, ◌∙◌, ◌⊎◌, inl, inr, ℕ, zero, suc, true, false, List, [], ◌∷◌, ◌++◌, Option, Some, None, refl, sym, ap, subst, arith, length, map, get_or, take, drop, append_assoc, append-nil, cond}
-use Rattle.std.specs.Prelude.{find, option_map, All, ◌&&◌, ◌||◌, ◌==◌, nat_lt, flat_map, remove, slice_get, is_some}
-use Rattle.std.specs.List.{IsDistinct, AllByRecursion, list_any, range_with_len}
+use Rattle.std.specs.Prelude.{find, option_map, All, ◌&&◌, ◌||◌, ◌==◌, nat_lt, flat_map, remove, slice_get}
+use Rattle.std.specs.List.{IsDistinct, list_any, range_with_len}
 use Rattle.std.specs.Option.{option_map_or, option_or}
 use Rattle.std.specs.Str.{bytes_eq}
-use Rattle.std.proofs.lemmas.Bool.{cases_Bool, false≢true, or_parts}
+use Rattle.std.proofs.lemmas.Bool.{false≢true, or_parts}
 use Rattle.std.proofs.lemmas.Bool.Decides.{nat_tests}
-use Rattle.std.proofs.lemmas.Cmp.{nat_list_eq_equiv}
 use Rattle.std.proofs.lemmas.List.{map-append}
 use Rattle.std.proofs.lemmas.List.Concat.{flat_map-append}
-use Rattle.std.proofs.lemmas.List.Folds.{list_any-append}
 use Rattle.std.proofs.lemmas.List.Quantifiers.{all_pairs_remove}
-use Rattle.std.proofs.lemmas.Slice.Eq.{bytes_eq-Decides}
 use Rattle.km_names.specs.First.{first}
 use Rattle.module_facts.specs.declared.facts.Need.{Need as FactsNeed}
 use Rattle.module_facts.specs.declared.module.Module.{Module}
@@ -25,19 +22,16 @@ use Rattle.image_layout.specs.Laid.{laid}
 use Rattle.model_loader.specs.declared.entry.PlacedExport.{PlacedExport}
 use Rattle.model_loader.specs.declared.entry.BoundNeed.{BoundNeed}
 use Rattle.model_loader.specs.declared.entry.Entry.{Entry}
-use Rattle.model_loader.specs.declared.standing.Standing.{Standing}
-use Rattle.model_loader.specs.declared.standing.ExportTable.{ExportTable}
-use Rattle.model_loader.specs.Kept.{IsKept}
-use Rattle.model_loader.specs.Standing.{standing, standing_of, standing_under}
 use Rattle.model_loader.specs.Machine.{Machine, entry_face, export_face, export_named, faces, kernel_placed, machine_kernel, need_face, placed_under}
-use Rattle.model_loader.specs.Sound.{AreApart, AreBoundAfter, IsEntryOf, IsPlaced, IsSound, exported_names}
+use Rattle.model_loader.specs.Sound.{AreApart, AreBoundAfter, IsEntryOf, IsSound, exported_names}
 use Rattle.model_loader.specs.Step.{bound_need, entry_at, given_address, given_addresses, module_size, need_address}
 use Rattle.model_loader.specs.Use.{IsUnused, is_met_by, uses_entry, without}
 use Rattle.model_loader.proofs.StandingLemmas.{under-face}
 use Rattle.model_loader.proofs.StepLemmas.{first-append}
-use Rattle.model_loader.proofs.ListedLemmas.{after_it, around, before_it, distinct-cut, exports-without, flip, listed, names-without, names_of, none-named, parts, unlisted, unlisted-cut, unlisted-without}
+use Rattle.model_loader.proofs.ListedLemmas.{after_it, exports-without, names-without, names_of, none-named, parts, unlisted, unlisted-without}
 use Rattle.model_loader.proofs.WithoutLemmas.{placed-without}
 use Rattle.model_loader.proofs.PlaceLemmas.{item, none≢some}
+use Rattle.model_loader.proofs.EntryLemmas.{map-same}
 
 -- Each item of a list.
 abbrev pub Each : {X : Type 0} → (X → Type 0) → List X → Type 0
@@ -68,10 +62,6 @@ cut-in e x [] mid alone = by (export_named x e.exports) refl
     by : (o : Option PlacedExport) → export_named x e.exports ≡ o → Cut e x (first (export_named x e.exports ∷ map (λ (n : Entry). export_named x n.exports) mid)) (named_in x mid)
     by None is = inl (sym (ap (λ (o : Option PlacedExport). first (o ∷ map (λ (n : Entry). export_named x n.exports) mid)) is))
     by (Some p) is = inr (p, is, ap (λ (o : Option PlacedExport). first (o ∷ map (λ (n : Entry). export_named x n.exports) mid)) is, alone x p is)
-
-map-same : {X Y : Type 0} (f g : X → Y) → ((x : X) → f x ≡ g x) → (xs : List X) → map f xs ≡ map g xs
-map-same f g same [] = refl
-map-same f g same (x ∷ xs) = ap (λ y. y ∷ map f xs) (same x) ∙ ap (λ ys. g x ∷ ys) (map-same f g same xs)
 
 -- The entry of a module, by what its undefined symbols stand for.
 abbrev entry_given : Module → ℕ → List ℕ → Entry

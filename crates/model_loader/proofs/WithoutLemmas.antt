@@ -1,41 +1,23 @@
 -- What a machine keeps without one of its entries.
-use Rattle.std.proofs.Common.{◌≡◌, ◌<◌, ◌∙◌, ◌⊎◌, inl, inr, ℕ, zero, suc, true, false, List, [], ◌∷◌, ◌++◌, Option, Some, None, refl, sym, ap, subst, arith, length, map, get_or, take, drop, append_assoc, append-nil, cond}
-use Rattle.std.specs.Prelude.{find, option_map, All, ◌&&◌, ◌||◌, ◌==◌, nat_lt, flat_map, remove, slice_get, is_some}
-use Rattle.std.specs.List.{IsDistinct, AllByRecursion, list_any, range_with_len}
-use Rattle.std.specs.Option.{option_map_or, option_or}
+use Rattle.std.proofs.Common.{◌≡◌, ◌<◌, ◌∙◌, ◌⊎◌, ℕ, zero, suc, List, [], ◌∷◌, ◌++◌, Option, Some, None, refl, sym, ap, arith, length, map, get_or, cond}
+use Rattle.std.specs.Prelude.{option_map, All, ◌&&◌, ◌||◌, ◌==◌, flat_map, remove, slice_get, is_some}
+use Rattle.std.specs.List.{IsDistinct, list_any}
+use Rattle.std.specs.Option.{option_map_or}
 use Rattle.std.specs.Str.{bytes_eq}
-use Rattle.std.proofs.lemmas.Bool.{cases_Bool, false≢true, or_parts}
-use Rattle.std.proofs.lemmas.Bool.Decides.{nat_tests}
-use Rattle.std.proofs.lemmas.Cmp.{nat_list_eq_equiv}
-use Rattle.std.proofs.lemmas.List.{map-append}
-use Rattle.std.proofs.lemmas.List.Concat.{flat_map-append}
-use Rattle.std.proofs.lemmas.List.Folds.{list_any-append}
-use Rattle.std.proofs.lemmas.List.Quantifiers.{all_pairs_remove}
-use Rattle.std.proofs.lemmas.Slice.Eq.{bytes_eq-Decides}
+use Rattle.std.proofs.lemmas.Bool.{or_parts}
 use Rattle.km_names.specs.First.{first}
-use Rattle.module_facts.specs.declared.facts.Need.{Need as FactsNeed}
-use Rattle.module_facts.specs.declared.module.Module.{Module}
-use Rattle.symbol_binding.specs.Symbols.{Export, Need}
 use Rattle.provider_rel.specs.declared.kernel.KernelExport.{KernelExport}
-use Rattle.symbol_binding.specs.Provider.{export_under}
-use Rattle.symbol_binding.specs.Needs.{is_seen}
 use Rattle.symbol_binding.specs.Table.{table}
-use Rattle.image_layout.specs.Symbols.{address, addresses}
-use Rattle.image_layout.specs.Laid.{laid}
 use Rattle.model_loader.specs.declared.entry.PlacedExport.{PlacedExport}
-use Rattle.model_loader.specs.declared.entry.BoundNeed.{BoundNeed}
 use Rattle.model_loader.specs.declared.entry.Entry.{Entry}
 use Rattle.model_loader.specs.declared.standing.Standing.{Standing}
 use Rattle.model_loader.specs.declared.standing.ExportTable.{ExportTable}
 use Rattle.model_loader.specs.Kept.{IsKept}
 use Rattle.model_loader.specs.Standing.{standing, standing_of, standing_under}
-use Rattle.model_loader.specs.Machine.{Machine, entry_face, export_face, export_named, faces, kernel_placed, machine_kernel, need_face, placed_under}
-use Rattle.model_loader.specs.Sound.{AreApart, AreBoundAfter, IsEntryOf, IsPlaced, IsSound, exported_names}
-use Rattle.model_loader.specs.Step.{bound_need, entry_at, given_address, given_addresses, module_size, need_address}
-use Rattle.model_loader.specs.Use.{IsUnused, is_met_by, uses_entry, without}
-use Rattle.model_loader.proofs.StandingLemmas.{under-face}
-use Rattle.model_loader.proofs.StepLemmas.{first-append}
-use Rattle.model_loader.proofs.ListedLemmas.{after_it, around, before_it, distinct-cut, exports-without, flip, listed, names-without, names_of, none-named, parts, unlisted, unlisted-cut, unlisted-without}
+use Rattle.model_loader.specs.Machine.{Machine, export_named, kernel_placed}
+use Rattle.model_loader.specs.Sound.{IsPlaced, exported_names}
+use Rattle.model_loader.specs.Use.{without}
+use Rattle.model_loader.proofs.ListedLemmas.{exports-without, flip, names-without, names_of, none-named, parts, unlisted, unlisted-without}
 use Rattle.model_loader.proofs.PlaceLemmas.{none≢some}
 
 all-remove : {X : Type 0} (P : X → Type 0) (xs : List X) (j : ℕ) → All P xs → All P (remove xs j)

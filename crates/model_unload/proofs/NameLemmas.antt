@@ -1,18 +1,18 @@
 -- Modules taken out by their names, one after the other.
-use Rattle.std.proofs.Common.{◌≡◌, ◌≤◌, ◌<◌, ◌+◌, ◌∙◌, ◌⊎◌, inl, inr, ℕ, zero, suc, Bool, true, false, List, [], ◌∷◌, Option, Some, None, refl, sym, ap, subst, arith, length, cond, map}
+use Rattle.std.proofs.Common.{◌≡◌, ◌≤◌, ◌<◌, ◌+◌, ◌∙◌, ◌⊎◌, inl, inr, ℕ, zero, suc, Bool, true, false, List, [], ◌∷◌, Some, None, refl, sym, ap, arith, length, cond, map}
 use Rattle.std.specs.Prelude.{find, remove, slice_get, Ok, Err}
 use Rattle.std.specs.List.{AllByRecursion, IsDistinct, range_with_len}
 use Rattle.std.specs.Option.{option_map_or}
 use Rattle.std.specs.Str.{bytes_eq}
 use Rattle.std.proofs.lemmas.List.Edits.{length-remove}
-use Rattle.std.proofs.lemmas.Slice.Eq.{bytes_eq-Decides}
 use Rattle.model_loader.specs.declared.entry.Entry.{Entry}
 use Rattle.model_loader.specs.Machine.{Machine}
 use Rattle.model_loader.specs.Sound.{entry_names}
 use Rattle.model_loader.specs.Use.{IsUnused, binds, name_at, places, without}
-use Rattle.model_loader.proofs.PlaceLemmas.{at-or-above, below-cut, item, none≢some}
+use Rattle.model_loader.proofs.PlaceLemmas.{at-or-above, below-cut, item}
 use Rattle.model_unload.specs.declared.UnloadFault.TheVariants.{NotLoaded, InUse}
 use Rattle.model_unload.specs.Unload.{AreFallingFrom, UnusedAreUnloaded, is_named_at, place_of, unless_refused, unload_all, unloaded, unloaded_at}
+use Rattle.model_loader.proofs.ListedLemmas.{at-place, name_of, same-name}
 
 find-first : (p : ℕ → Bool) (i n k : ℕ) → i ≤ k → k < i + n → p k ≡ true → ((u : ℕ) → u < k → p u ≡ false) → find p (range_with_len i n) ≡ Some k
 find-first p i zero k low high here before = absurd (omega (arith, low, high))
@@ -24,17 +24,9 @@ find-first p i (suc n) k low high here before =
           ∙ find-first p (i + 1) n k above (omega (arith, high)) here before
     ]
 
-none-found : (p : ℕ → Bool) (ks : List ℕ) → ((u : ℕ) → p u ≡ false) → find p ks ≡ None
+pub none-found : (p : ℕ → Bool) (ks : List ℕ) → ((u : ℕ) → p u ≡ false) → find p ks ≡ None
 none-found p [] none = refl
 none-found p (k ∷ ks) none = ap (λ b. cond b (Some k) (find p ks)) (none k) ∙ none-found p ks none
-
-abbrev name_of : Entry → List ℕ
-name_of e = e.loaded.name
-
-at-place : (P : List ℕ → Type 0) (es : List Entry) (k : ℕ) (e : Entry) → slice_get es k ≡ Some e → AllByRecursion P (map name_of es) → P e.loaded.name
-at-place P [] k e at all = absurd (none≢some at)
-at-place P (y ∷ ys) zero e at all = let same : y ≡ e = ap (λ o. option_map_or (λ (x : Entry). x) o y) at in subst (λ (x : Entry). P x.loaded.name) same all.0
-at-place P (y ∷ ys) (suc k) e at all = at-place P ys k e at all.1
 
 before-differs : (es : List Entry) (u k : ℕ) (e : Entry) → slice_get es k ≡ Some e → u < k → IsDistinct bytes_eq (map name_of es) → option_map_or (λ (x : Entry). bytes_eq x.loaded.name e.loaded.name) (slice_get es u) false ≡ false
 unfolding IsDistinct
@@ -42,9 +34,6 @@ before-differs [] u k e at less distinct = refl
 before-differs (y ∷ ys) u zero e at less distinct = absurd (omega (arith, less))
 before-differs (y ∷ ys) zero (suc k) e at less distinct = at-place (λ z. bytes_eq y.loaded.name z ≡ false) ys k e at distinct.0
 before-differs (y ∷ ys) (suc u) (suc k) e at less distinct = before-differs ys u k e at (omega (arith, less)) distinct.1
-
-same-name : (x : List ℕ) → bytes_eq x x ≡ true
-same-name x = (bytes_eq-Decides x x).1 refl
 
 place-is : (machine : Machine) (k : ℕ) → IsDistinct bytes_eq (entry_names machine) → k < length machine.entries → place_of machine (name_at machine k) ≡ Some k
 place-is machine k distinct less =
@@ -74,7 +63,7 @@ distinct-remove [] (suc k) all = all
 distinct-remove (y ∷ ys) zero all = all.1
 distinct-remove (y ∷ ys) (suc k) all = (differs-remove (λ z. bytes_eq y.loaded.name z ≡ false) ys k all.0, distinct-remove ys k all.1)
 
-fall-less : (n m : ℕ) (ks : List ℕ) → n ≤ m → AreFallingFrom n ks → AreFallingFrom m ks
+pub fall-less : (n m : ℕ) (ks : List ℕ) → n ≤ m → AreFallingFrom n ks → AreFallingFrom m ks
 fall-less n m [] le fall = tt
 fall-less n m (k ∷ ks) le fall = (omega (arith, le, fall.0), fall.1)
 

@@ -1,7 +1,6 @@
 -- What is found among the places of a machine.
-use Rattle.std.proofs.Common.{◌≡◌, ◌≤◌, ◌<◌, ◌+◌, ◌-◌, ◌∙◌, ◌⊎◌, inl, inr, ℕ, zero, suc, Bool, true, false, List, [], ◌∷◌, Option, Some, None, refl, sym, ap, arith, length, cond}
-use Rattle.std.specs.Prelude.{◌&&◌, find, nat_lt, option_map, slice_get}
-use Rattle.std.specs.List.{range_with_len}
+use Rattle.std.proofs.Common.{◌≡◌, ◌≤◌, ◌<◌, ◌+◌, ◌-◌, ◌∙◌, ◌⊎◌, inl, inr, ℕ, false, List, ◌∷◌, Option, Some, None, sym, ap, arith, length}
+use Rattle.std.specs.Prelude.{◌&&◌, nat_lt, option_map, slice_get}
 use Rattle.std.specs.Option.{option_map_or}
 use Rattle.std.proofs.lemmas.Bool.{cases_Bool}
 use Rattle.std.proofs.lemmas.Bool.Decides.{nat_tests}
@@ -10,8 +9,9 @@ use Rattle.model_loader.specs.declared.entry.LoadedModule.{LoadedModule}
 use Rattle.model_loader.specs.declared.entry.Entry.{Entry}
 use Rattle.model_loader.specs.Machine.{Machine}
 use Rattle.model_loader.specs.Use.{IsUnused, binds, uses_entry}
-use Rattle.model_loader.proofs.PlaceLemmas.{falsely, found-within, none-within, none≢some, past}
+use Rattle.model_loader.proofs.PlaceLemmas.{found-within, none-within, none≢some, past}
 use Rattle.model_unload.specs.Unload.{first_user, place_of, is_named_at}
+use Rattle.std.proofs.Math.Bool.{and-false}
 
 pub place-within : (machine : Machine) (name : List ℕ) (j : ℕ) → Some j ≡ place_of machine name → j < length machine.entries
 place-within machine name j is =
@@ -25,7 +25,7 @@ unused-by-none machine j none k =
       | inr outside ↦
           let gone : slice_get machine.entries k ≡ None = past machine.entries k (grind (arith, nat_tests)) in
           ap (λ o. nat_lt j k && option_map_or (λ (user : Entry). option_map_or (uses_entry user) (slice_get machine.entries j) false) o false) gone
-          ∙ falsely (nat_lt j k)
+          ∙ and-false (nat_lt j k)
     ]
 
 -- The name of the entry at a place.
