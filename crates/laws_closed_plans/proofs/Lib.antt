@@ -1,5 +1,4 @@
 pub mod ListLemmas
-pub mod NeedLemmas
 pub mod ProviderLemmas
 pub mod UnmetLemmas
 pub mod NameLemmas

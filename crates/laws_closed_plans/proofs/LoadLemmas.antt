@@ -6,19 +6,18 @@ use Rattle.std.proofs.lemmas.List.{map-append}
 use Rattle.elf_format.specs.declared.section.TheConstants.{PAGE}
 use Rattle.km_names.specs.First.{first}
 use Rattle.module_facts.specs.declared.facts.Export.{Export as FactsExport}
-use Rattle.module_facts.specs.declared.facts.Need.{Need as FactsNeed}
 use Rattle.module_facts.specs.declared.module.Module.{Module}
 use Rattle.symbol_binding.specs.Symbols.{Export, Need, Face}
 use Rattle.x86_relocate.specs.declared.patch.Overflow.{Overflow as TooWide}
 use Rattle.image_layout.specs.Laid.{overflow}
 use Rattle.model_loader.specs.declared.fault.LoadFault.{LoadFault}
 use Rattle.model_loader.specs.declared.fault.LoadFault.TheVariants.{RegionFull, Overflow}
-use Rattle.model_loader.specs.Machine.{Machine, entry_face, export_face, facts_export, facts_face, facts_need, faces, machine_kernel, need_face}
+use Rattle.model_loader.specs.Machine.{Machine, entry_face, export_face, facts_export, facts_face, faces, machine_kernel, need_face}
 use Rattle.model_loader.specs.Gap.{gap}
 use Rattle.model_loader.specs.Sound.{IsSound}
 use Rattle.model_loader.specs.Step.{bound_need, entry_at, fault_if, module_base, module_size, name_tests, named_pages, overflow_fault, place_tests, placed_export, refusal, step, symbol_addresses, with_entry}
 use Rattle.model_loader.proofs.StepLemmas.{first-append, refusal-split, step-passed}
-use Rattle.model_loader.proofs.SoundLemmas.{sound-next}
+use Rattle.model_loader.proofs.SoundLemmas.{sound-next, needs-same}
 use Rattle.laws_closed_plans.specs.Names.{name_fault, first_name_fault}
 use Rattle.laws_closed_plans.specs.Loads.{load_all, unless_refused, IsPlaceFault, full, overflow as too_wide}
 use Rattle.laws_closed_plans.proofs.ListLemmas.{first-pass}
@@ -31,10 +30,6 @@ exports-same : (machine : Machine) (m : Module) (base : ℕ) (es : List FactsExp
 exports-same machine m base [] = refl
 exports-same machine m base (e ∷ es) = ap (λ rest. facts_export e ∷ rest) (exports-same machine m base es)
 
-needs-same : (ns : List FactsNeed) → map need_face (map bound_need ns) ≡ map facts_need ns
-needs-same [] = refl
-needs-same (n ∷ ns) = ap (λ rest. facts_need n ∷ rest) (needs-same ns)
-
 face_with : Module → List Export → List Need → Face
 face_with m es ns = record { name = m.facts.name; exports = es; needs = ns; free = m.facts.free; imports = m.facts.imports }
 
@@ -46,11 +41,11 @@ entry-face machine m base =
     ∙ ap (face_with m (map facts_export m.facts.exports)) (needs-same m.facts.needs)
 
 -- a machine after a load that isn't refused
-record IsNext (machine : Machine) (m : Module) (next : Machine) : Type 0 where
-  passed : refusal machine m ≡ None
-  is : next ≡ with_entry machine (entry_at machine m (module_base machine m))
+pub record IsNext (machine : Machine) (m : Module) (next : Machine) : Type 0 where
+  pub passed : refusal machine m ≡ None
+  pub is : next ≡ with_entry machine (entry_at machine m (module_base machine m))
 
-step-next : (machine : Machine) (m : Module) (next : Machine) → step machine m ≡ Ok next → IsNext machine m next
+pub step-next : (machine : Machine) (m : Module) (next : Machine) → step machine m ≡ Ok next → IsNext machine m next
 unfolding step
 step-next machine m next is = go (refusal machine m) refl is
   where

@@ -11,13 +11,13 @@ use Rattle.model_loader.specs.declared.fault.LoadFault.{LoadFault}
 use Rattle.model_loader.specs.declared.fault.LoadFault.TheVariants.{AlreadyLoaded, MissingSymbol, GplOnly, VersionDiffers, NotImported, ExportTaken}
 use Rattle.model_loader.specs.Step.{fault_if, owner_name}
 use Rattle.laws_closed_plans.specs.Names.{need_fault, export_fault, name_fault, first_name_fault}
-use Rattle.laws_closed_plans.proofs.NeedLemmas.{IsFaultless}
+use Rattle.model_loader.proofs.SoundLemmas.{Passes}
 use Rattle.laws_closed_plans.proofs.ListLemmas.{first-none, first-pass, first-each, each-first, find-none, none-found}
 
 -- each test of its names passes
 pub record IsPassed (kernel : Kernel) (loaded : List Face) (m : Face) : Type 0 where
   pub fresh : is_named loaded m.name ≡ false
-  pub needs : (n : Need) → Member n m.needs → IsFaultless (export_under (table kernel loaded n.name)) m n
+  pub needs : (n : Need) → Member n m.needs → Passes (export_under (table kernel loaded n.name)) m n
   pub untaken : (e : Export) → Member e m.exports → table kernel loaded e.name ≡ None
 
 pub mapped-none : {X Y : Type 0} (f : X → Y) (o : Option X) → option_map f o ≡ None → o ≡ None

@@ -8,7 +8,7 @@ use Rattle.symbol_binding.specs.Provider.{ByModule, Provided, export_under, of_k
 use Rattle.symbol_binding.specs.Table.{table}
 use Rattle.laws_closed_plans.specs.Names.{name_fault, first_name_fault}
 use Rattle.laws_closed_plans.specs.Plan.{faces_of, IsStep, IsClosed, ClosedPlansPass}
-use Rattle.laws_closed_plans.proofs.NeedLemmas.{IsFaultless}
+use Rattle.model_loader.proofs.SoundLemmas.{Passes}
 use Rattle.laws_closed_plans.proofs.ListLemmas.{Member-left, Member-right, Member-cases, Member-map, Member-filter_map, first-pass, first-each, each-first}
 use Rattle.laws_closed_plans.proofs.ProviderLemmas.{given-some, given-owner, export-none, export-first, export-kernel, export-faces, of_first-member, of_first-only}
 use Rattle.laws_closed_plans.proofs.UnmetLemmas.{faultless}
@@ -118,7 +118,7 @@ step-passed tree kernel listed plan before m ready step =
     let in_plan = step-member plan before m step in
     record {
       fresh = ready.closed.fresh before m step;
-      needs = λ n in'. subst (λ found. IsFaultless found m.face n) (sym (table-provider tree kernel listed plan before m n ready step in')) (faultless tree kernel m n (ready.closed.clear m in_plan) (ready.closed.of_tree m in_plan) in');
+      needs = λ n in'. subst (λ found. Passes found m.face n) (sym (table-provider tree kernel listed plan before m n ready step in')) (faultless tree kernel m n (ready.closed.clear m in_plan) (ready.closed.of_tree m in_plan) in');
       untaken = λ e in'. exports-untaken tree kernel listed plan before m e ready step in';
     }
 

@@ -11,7 +11,7 @@ use Rattle.symbol_binding.specs.declared.unbound.Unbound.TheVariants.{Missing, G
 use Rattle.symbol_binding.proofs.Doubles.{doubles_after, doubles-are}
 use Rattle.provider_rel.proofs.Laws.{unmet-clear}
 use Rattle.laws_closed_plans.specs.Members.{Member}
-use Rattle.laws_closed_plans.proofs.NeedLemmas.{IsFaultless}
+use Rattle.model_loader.proofs.SoundLemmas.{Passes}
 use Rattle.laws_closed_plans.proofs.ListLemmas.{Member-left, Member-right, Member-map, Member-flat_map, Member-filter, Precedes, split_at}
 
 -- what holds of all holds of a member
@@ -21,7 +21,7 @@ all-member P x (y ∷ xs) all (inl is) = subst P is (all 0 x (omega arith))
 all-member P x (y ∷ xs) all (inr later) = all-member P x xs (λ k d less. all (suc k) d (omega (arith, less))) later
 
 -- where no line belongs to a module of the tree, none of its needs has a fault, by what its provider exports
-pub faultless : (tree : List Module) (kernel : Kernel) (m : Module) (n : Need) → list_any (belongs m.path) (unmet tree kernel) ≡ false → Member m tree → Member n m.face.needs → IsFaultless (export_under (provider tree kernel n.name)) m.face n
+pub faultless : (tree : List Module) (kernel : Kernel) (m : Module) (n : Need) → list_any (belongs m.path) (unmet tree kernel) ≡ false → Member m tree → Member n m.face.needs → Passes (export_under (provider tree kernel n.name)) m.face n
 faultless tree kernel m n none in' needed =
     let s = split_at m tree in' in
     let clear = unmet-clear tree kernel m s.0 s.1 s.2 none in
