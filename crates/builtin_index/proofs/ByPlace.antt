@@ -177,7 +177,7 @@ by-priority vs = record {
 
 -- ---- what a key has
 
-put-values : (m : KeyValues) (vs : List KeyValue) (key : List ℕ) → values_of (with_values m vs) key ≡ fold place (values_of m key) (under key vs)
+pub put-values : (m : KeyValues) (vs : List KeyValue) (key : List ℕ) → values_of (with_values m vs) key ≡ fold place (values_of m key) (under key vs)
 put-values m [] key = refl
 put-values m (v ∷ vs) key =
     put-values (with_value m v.0 v.1) vs key

@@ -1,4 +1,3 @@
-pub mod Visible
 pub mod Pieces
 pub mod Places
 pub mod MapOrder

@@ -1,16 +1,11 @@
 -- The fields of a text, from its first piece on.
-use Rattle.std.proofs.Common.{◌≡◌, ℕ, ◌+◌, ◌<◌, Bool, true, false, ◌&&◌, cond, List, [], ◌∷◌, ◌++◌, length, eqb, Option, refl, sym, ap, ◌∙◌, arith, append_assoc, inl, inr}
-use Rattle.std.specs.List.{slice_split, before_first, after_first, position_or_len, list_all, All, filter_map, cons_option}
-use Rattle.std.specs.Char.{is_ascii_graphic}
+use Rattle.std.proofs.Common.{◌≡◌, ℕ, ◌+◌, ◌<◌, Bool, false, List, [], ◌∷◌, ◌++◌, length, eqb, Option, refl, sym, ap, ◌∙◌, arith, append_assoc, inl, inr}
+use Rattle.std.specs.List.{slice_split, before_first, after_first, position_or_len, All, filter_map, cons_option}
 use Rattle.std.proofs.lemmas.List.{take_all, drop_all, length-drop}
 use Rattle.std.proofs.lemmas.List.Splits.{slice_split_first, slice_split_none}
 use Rattle.std.proofs.lemmas.List.Sums.{fails_before_first}
 use Rattle.std.proofs.lemmas.List.Elements.{All-from_get_or}
 use Rattle.std.proofs.lemmas.Bool.{cases_lt}
-use Rattle.km_names.specs.Ascii.{is_graphic}
-use Rattle.km_names.specs.Path.{underscored}
-use Rattle.index_format.specs.Map.{IsText}
-use Rattle.builtin_index.proofs.Visible.{both, characters, text-of}
 use Rattle.builtin_index.specs.declared.piece.BuiltinField.{BuiltinField}
 use Rattle.builtin_index.specs.Fields.{fields_of, field_of}
 
@@ -53,18 +48,3 @@ piece-skipped bytes rest after list inv is = ap (λ l. list ++ l) (sym is) ∙ i
 -- what follows a piece is shorter than the text
 pub after-shorter : (rest after : List ℕ) → 0 < length rest → after ≡ after_first is_nul rest → length after < length rest
 after-shorter rest after some is = omega (arith, ap length is, length-drop (position_or_len is_nul rest + 1) rest)
-
--- ---- names and aliases as keys and texts
-
-shown-or : (b : ℕ) (dash : Bool) → is_ascii_graphic b ≡ true → is_ascii_graphic (cond dash 95 b) ≡ true
-shown-or b true is = refl
-shown-or b false is = is
-
-underscored-shown : (text : List ℕ) → list_all is_ascii_graphic text ≡ true → list_all is_ascii_graphic (underscored text) ≡ true
-underscored-shown [] is = refl
-underscored-shown (b ∷ bs) is =
-    let tests = both (is_ascii_graphic b) (list_all is_ascii_graphic bs) is in
-    ap (λ t. t && list_all is_ascii_graphic (underscored bs)) (shown-or b (eqb b 45) tests.0) ∙ underscored-shown bs tests.1
-
-pub underscored-text : (text : List ℕ) → is_graphic text ≡ true → IsText (underscored text)
-underscored-text text is = text-of (underscored text) (underscored-shown text (characters text is))

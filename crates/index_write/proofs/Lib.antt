@@ -10,3 +10,5 @@ pub mod Accepted
 pub mod Visits
 pub mod Rows
 pub mod Standing
+pub mod VisibleWords
+pub mod StorableMaps

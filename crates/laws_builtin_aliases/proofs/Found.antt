@@ -20,7 +20,8 @@ use Rattle.builtin_index.specs.Fields.{fields_of}
 use Rattle.builtin_index.specs.Aliases.{is_alias, modules_of, place_among, alias_value, alias_values, alias_map}
 use Rattle.laws_builtin_aliases.specs.Found.{states_match, AreFound}
 use Rattle.laws_builtin_aliases.proofs.Seen.{Rises, Among, seen-distinct, seen-among, seen-by-place, filter-same}
-use Rattle.laws_builtin_aliases.proofs.Values.{or-true, both-of, and-of, any-entry, any-key, all-entries, matching-any, matching-all, priority-any, priority-all, priority-rises, RisesByPriority, put-values, put-any, put-all, matches, under-matches, some-under, all-under}
+use Rattle.builtin_index.proofs.ByPlace.{put-values}
+use Rattle.laws_builtin_aliases.proofs.Values.{or-true, both-of, and-of, any-entry, any-key, all-entries, matching-any, matching-all, priority-any, priority-all, priority-rises, RisesByPriority, put-any, put-all, matches, under-matches, some-under, all-under}
 
 -- ---- the values that fields state
 

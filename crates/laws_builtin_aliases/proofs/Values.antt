@@ -234,20 +234,7 @@ pub priority-rises : (vs : List Value) → RisesByPriority (by_priority vs)
 priority-rises [] = tt
 priority-rises (v ∷ vs) = first-rises v (by_priority vs) (priority-rises vs)
 
--- ---- the values of a key in the map of some values
-
-pub put-values : (m : KeyValues) (vs : List KeyValue) (key : List ℕ) → values_of (with_values m vs) key ≡ fold place (values_of m key) (under key vs)
-put-values m [] key = refl
-put-values m (v ∷ vs) key =
-    put-values (with_value m v.0 v.1) vs key
-    ∙ ap (λ us. fold place us (under key vs)) (values-after m v.0 key v.1)
-    ∙ go (same_key key v.0) refl
-  where
-    go : (b : Bool) → same_key key v.0 ≡ b
-        → fold place (unwrap_or (cond b (Some (place (values_of m v.0) v.1)) (get m key)) []) (under key vs)
-        ≡ fold place (values_of m key) (map (λ (p : KeyValue). p.1) (cond b (v ∷ filter (λ (p : KeyValue). is_eq (slice_cmp nat_cmp key p.0)) vs) (filter (λ (p : KeyValue). is_eq (slice_cmp nat_cmp key p.0)) vs)))
-    go true is = ap (λ k. fold place (place (values_of m k) v.1) (under key vs)) (sym (key-equal key v.0 is))
-    go false is = refl
+-- ---- what some value of a key has
 
 placed-any : (q : Value → Bool) (vs : List Value) (v : Value) → list_any q (place vs v) ≡ q v || list_any q vs
 placed-any q [] v = refl

@@ -2,9 +2,8 @@ use Rattle.std.proofs.Common.{ℕ, List, option_map, sym, ap, subst, ◌∙◌}
 use Rattle.std.specs.Option.{option_to_list}
 use Rattle.km_names.specs.Path.{underscored}
 use Rattle.index_format.specs.Map.{IsKey, IsText, with_value}
+use Rattle.index_write.proofs.VisibleWords.{normal-key, underscored-text}
 use Rattle.builtin_index.specs.Aliases.{with_values}
-use Rattle.builtin_index.proofs.Visible.{normal-key}
-use Rattle.builtin_index.proofs.Pieces.{underscored-text}
 use Rattle.builtin_index.proofs.aliases.add_alias.Goals as goal
 
 pub add-requires-clause-key : goal.add-requires-clause-key

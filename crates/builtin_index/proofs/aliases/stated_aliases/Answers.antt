@@ -6,7 +6,7 @@ use Rattle.std.proofs.lemmas.Bool.{eqb-true, eqb-false}
 use Rattle.std.proofs.lemmas.List.{nil_from_length, map-append}
 use Rattle.std.proofs.lemmas.List.Elements.{All-nil, All-push}
 use Rattle.km_names.specs.Ascii.{is_graphic}
-use Rattle.builtin_index.proofs.Visible.{both}
+use Rattle.index_write.proofs.VisibleWords.{both}
 use Rattle.builtin_index.specs.Fields.{fields_of}
 use Rattle.builtin_index.specs.Aliases.{is_alias, modules_of}
 use Rattle.builtin_index.specs.Parts.{field_shown, alias_shown, alias_in, IsWord}

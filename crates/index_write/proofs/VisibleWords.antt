@@ -39,6 +39,12 @@ pub text-of : (text : List ℕ) → list_all is_ascii_graphic text ≡ true → 
 text-of text is =
     All-weaker (λ b. (33 ≤ b) × (b ≤ 126)) (λ b. 0 < b) (λ b h. omega arith) text (bytes-of text is)
 
+pub graphic-key : (text : List ℕ) → is_graphic text ≡ true → IsKey text
+graphic-key text is = key-of text (characters text is)
+
+pub graphic-text : (text : List ℕ) → is_graphic text ≡ true → IsText text
+graphic-text text is = text-of text (characters text is)
+
 abbrev visible : List ℕ → Bool
 visible text = list_all is_ascii_graphic text
 
@@ -85,6 +91,9 @@ underscored-visible [] is = refl
 underscored-visible (b ∷ text) is =
     let tests = both (is_ascii_graphic b) (visible text) is in
     two (is_ascii_graphic (cond (eqb b 45) 95 b)) (visible (underscored text)) (line-or b (eqb b 45) tests.0) (underscored-visible text tests.1)
+
+pub underscored-text : (text : List ℕ) → is_graphic text ≡ true → IsText (underscored text)
+underscored-text text is = text-of (underscored text) (underscored-visible text (characters text is))
 
 outside-visible : (part : List ℕ) → visible part ≡ true → visible (underscored_outside part) ≡ true
 outside-visible part is =
