@@ -17,14 +17,14 @@ use Rattle.km_names.specs.Lines.{lines_of}
 use Rattle.module_facts.specs.declared.facts.Facts.{Facts}
 use Rattle.unmet_file.specs.Line.{three_text}
 use Rattle.unmet_file.proofs.WordSteps.{three-back}
-use Rattle.devname_nodes.proofs.TextLines.{line-first, one-three}
+use Rattle.unmet_file.proofs.TextLines.{line-first, no-lines, one-three}
 use Rattle.devname_nodes.specs.declared.alias.DeviceNumber.{DeviceNumber}
 use Rattle.devname_nodes.specs.declared.node.Node.{Node}
 use Rattle.devname_nodes.specs.Numbers.{number, has_leading_zero, plain_number, plain_numbers, numbers}
 use Rattle.devname_nodes.specs.Nodes.{after_prefix, word, device_of, numbered, number_of, is_comment, node_by, node_of, nodes_of}
 use Rattle.devname_nodes.specs.Line.{node_line, letter, kind_of, device_word, node_of_words, line_node, is_ignored, IsNode}
 use Rattle.devname_nodes.specs.File.{heading, lines_text, nodes_text, stated_nodes, read_of, AreReadBack}
-use Rattle.devname_nodes.proofs.LineSteps.{fault_at, fault-begins, fault-none, fault-passed, fault-ignored, no-lines, all-read}
+use Rattle.devname_nodes.proofs.LineSteps.{fault_at, fault-begins, fault-none, fault-passed, fault-ignored, all-read}
 
 -- ---- numbers
 
@@ -221,10 +221,6 @@ device-word alias device is = go (after_prefix (codes "devname:") alias) is
     go : (o : Option (List ℕ)) → option_and_then word o ≡ Some device → is_graphic device ≡ true
     go None h = absurd (cc)
     go (Some text) h = named text (is_graphic text) refl h
-
-both : (a b : Bool) → (a && b) ≡ true → (a ≡ true) × (b ≡ true)
-both true b h = (refl, h)
-both false b h = absurd (cc)
 
 below-test : (n : ℕ) → nat_lt n (2 ^ 32) ≡ true → n < 2 ^ 32
 below-test n h = grind (arith, nat_tests)

@@ -1,26 +1,13 @@
 // The lines of modules.devname.
-ghost use Rattle.std.specs.Prelude.{◌≡◌, IfOk, option_map};
-ghost use Rattle.unmet_file.specs.Line.{three_words as three_words_of};
+ghost use Rattle.std.specs.Prelude.{◌≡◌, IfOk};
 ghost use Rattle.devname_nodes.specs.Line.{kind_of as kind_of_letter, device_word as device_of_word, line_node, is_ignored as is_ignored_line};
 
 use crate::Node;
 use crate::node::is_comment;
 use crate::number::plain_numbers;
-use km_names::{Blob, Name, is_graphic, split_at_byte, trimmed};
+use km_names::{Blob, Name, trimmed};
 use std::alloc::{AllocError, Global};
-
-/// Returns the three words of a line with a space between them.
-fn three_words(line: &[u8]) -> Option<(&[u8], &[u8], &[u8])>
-    ensures { option_map (λ w. (w.0.now, w.1.now, w.2.now)) result ≡ three_words_of line.now }
-{
-    let (first, rest) = split_at_byte(line, b' ');
-    let (second, third) = split_at_byte(rest, b' ');
-    if is_graphic(first) && is_graphic(second) && is_graphic(third) {
-        Some((first, second, third))
-    } else {
-        None
-    }
-}
+use unmet_file::three_words;
 
 /// Returns whether the letter means a block device, if it means a block or a character device.
 fn kind_of(letter: u8) -> Option<bool>

@@ -1,4 +1,6 @@
 pub mod FormSteps
-pub mod LineSteps
+pub mod StatedLines
 pub mod WordSteps
+pub mod TextLines
+pub mod LineSteps
 pub mod WrittenSteps

@@ -1,7 +1,6 @@
 -- The lines of a file, one after the other.
-use Rattle.std.proofs.Common.{◌≡◌, ℕ, ◌+◌, Bool, true, false, List, [], ◌∷◌, ◌++◌, length, cond, Option, Some, None, Ok, Err, option_map, refl, sym, ap, ◌∙◌, append_assoc, arith}
-use Rattle.std.proofs.lemmas.Iterator.Adapters.{position_from-zero}
-use Rattle.std.specs.List.{cons_option, position_from, filter_map}
+use Rattle.std.proofs.Common.{◌≡◌, ℕ, ◌+◌, Bool, List, [], ◌∷◌, Option, Some, None, Ok, Err, refl, sym, ap, ◌∙◌}
+use Rattle.std.specs.List.{filter_map}
 use Rattle.std.specs.Option.{is_none}
 use Rattle.km_names.specs.Lines.{lines_of}
 use Rattle.km_names.specs.Statements.{unless_fault}
@@ -10,69 +9,37 @@ use Rattle.km_names.specs.declared.conf.ConfFault.TheVariants.{BadLine}
 use Rattle.symbol_binding.specs.declared.unbound.Unbound.{Unbound}
 use Rattle.unmet_file.specs.Line.{unmet_line}
 use Rattle.unmet_file.specs.Unmet.{bad_line, stated_lines, unmet_of}
+use Rattle.unmet_file.proofs.StatedLines.{fault_by, first-fault, no-fault, fault-later, fault-here}
 
 -- a line that states nothing
 abbrev is_bad : List ℕ → Bool
 is_bad line = is_none (unmet_line line)
 
 -- the fault of lines, of which the first has a number
-pub fault_at : List ℕ → ℕ → List (List ℕ) → Option ConfFault
-fault_at file number lines = option_map (λ n. BadLine file n) (position_from is_bad number lines)
-
-counted : (p : List ℕ → Bool) (k : ℕ) (xs : List (List ℕ)) → position_from p (k + 1) xs ≡ option_map (λ i. i + 1) (position_from p k xs)
-counted p k [] = refl
-counted p k (x ∷ xs) =
-    elim (p x) as (λ b. cond b (Some (k + 1)) (position_from p (k + 1 + 1) xs) ≡ option_map (λ i. i + 1) (cond b (Some k) (position_from p (k + 1) xs))) [
-      | true ↦ refl
-      | false ↦ counted p (k + 1) xs
-    ]
-
-numbered : (file : List ℕ) (o : Option ℕ) → option_map (λ i. BadLine file (i + 1)) o ≡ option_map (λ n. BadLine file n) (option_map (λ i. i + 1) o)
-numbered file None = refl
-numbered file (Some i) = refl
+abbrev pub fault_at : List ℕ → ℕ → List (List ℕ) → Option ConfFault
+fault_at file number lines = fault_by is_bad file number lines
 
 -- the fault of a file is that of its lines from 1
 pub fault-begins : (file text : List ℕ) → fault_at file 1 (lines_of text) ≡ bad_line file text
-unfolding bad_line fault_at
-fault-begins file text =
-    let lines = lines_of text in
-    ap (option_map (λ n. BadLine file n)) (counted is_bad 0 lines)
-    ∙ sym (numbered file (position_from is_bad 0 lines))
-    ∙ ap (option_map (λ i. BadLine file (i + 1))) (sym (position_from-zero is_bad lines))
+unfolding bad_line
+fault-begins file text = first-fault is_bad file (lines_of text)
 
 -- no line, no fault
 pub fault-none : (file : List ℕ) (number : ℕ) → fault_at file number [] ≡ None
-unfolding fault_at
-fault-none file number = refl
+fault-none file number = no-fault is_bad file number
 
 -- a line that states something
 pub fault-passed : (file : List ℕ) (number : ℕ) (line : List ℕ) (lines : List (List ℕ)) (x : Unbound) → Some x ≡ unmet_line line → fault_at file number (line ∷ lines) ≡ fault_at file (number + 1) lines
-unfolding fault_at
-fault-passed file number line lines x is =
-    ap (λ o. option_map (λ n. BadLine file n) (cond (is_none o) (Some number) (position_from is_bad (number + 1) lines))) (sym is)
+fault-passed file number line lines x is = fault-later is_bad file number line lines (ap (λ o. is_none o) (sym is))
 
 -- one that doesn't
 pub fault-found : (file : List ℕ) (number : ℕ) (line : List ℕ) (lines : List (List ℕ)) → None ≡ unmet_line line → fault_at file number (line ∷ lines) ≡ Some (BadLine file number)
-unfolding fault_at
-fault-found file number line lines is =
-    ap (λ o. option_map (λ n. BadLine file n) (cond (is_none o) (Some number) (position_from is_bad (number + 1) lines))) (sym is)
+fault-found file number line lines is = fault-here is_bad file number line lines (ap (λ o. is_none o) (sym is))
 
 -- what a file states, from its lines on
 pub stated-begins : (text : List ℕ) → filter_map unmet_line (lines_of text) ≡ stated_lines text
 unfolding stated_lines
 stated-begins text = refl
-
--- what one line more states
-pub stated-more : (done : List Unbound) (line : List ℕ) (lines : List (List ℕ)) (x : Unbound) → Some x ≡ unmet_line line → (done ++ x ∷ []) ++ filter_map unmet_line lines ≡ done ++ filter_map unmet_line (line ∷ lines)
-stated-more done line lines x is =
-    append_assoc done (x ∷ []) (filter_map unmet_line lines)
-    ∙ ap (λ o. done ++ cons_option o (filter_map unmet_line lines)) is
-
--- an empty text has no line
-pub no-lines : (text : List ℕ) → length text ≡ 0 → lines_of text ≡ []
-unfolding lines_of
-no-lines [] is = refl
-no-lines (b ∷ bs) is = absurd (omega arith)
 
 -- a file without a fault
 pub all-read : (file text : List ℕ) (lines : List Unbound) → bad_line file text ≡ None → stated_lines text ≡ lines → unmet_of file text ≡ Ok lines

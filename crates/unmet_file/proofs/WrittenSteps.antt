@@ -1,19 +1,18 @@
 -- A file's text, line by line, and what is read of it.
-use Rattle.std.proofs.Common.{◌≡◌, ℕ, ◌+◌, ◌<◌, Bool, true, false, ◌&&◌, List, [], ◌∷◌, ◌++◌, length, eqb, cond, Option, Some, None, option_map, refl, sym, ap, subst, ◌∙◌, append_assoc, length-append, arith}
-use Rattle.std.specs.Prelude.{codes, All, not, if◌then◌else◌}
-use Rattle.std.specs.List.{list_all, slice_split, onto_first, filter_map, cons_option}
-use Rattle.std.specs.Char.{is_ascii_graphic}
+use Rattle.std.proofs.Common.{◌≡◌, ℕ, ◌+◌, ◌<◌, Bool, true, false, ◌&&◌, List, [], ◌∷◌, ◌++◌, length, Option, Some, None, option_map, refl, sym, ap, subst, ◌∙◌, append_assoc, length-append, arith}
+use Rattle.std.specs.Prelude.{codes, All, if◌then◌else◌}
+use Rattle.std.specs.List.{filter_map, cons_option}
 use Rattle.std.specs.Str.{bytes_eq}
-use Rattle.std.proofs.lemmas.List.Folds.{list_all-append}
 use Rattle.std.proofs.lemmas.List.Elements.{All-head, All-tail}
 use Rattle.std.proofs.lemmas.Slice.Eq.{bytes_eq-Decides}
 use Rattle.km_names.specs.Ascii.{is_graphic}
-use Rattle.km_names.specs.Lines.{lines_of, without_empty_last}
+use Rattle.km_names.specs.Lines.{lines_of}
 use Rattle.symbol_binding.specs.declared.unbound.Unbound.{Unbound}
 use Rattle.symbol_binding.specs.declared.unbound.Unbound.TheVariants.{Missing, Gpl, Version, Namespace, Double}
 use Rattle.unmet_file.specs.Line.{front, rest, two_words, three_words, three_text, line_text, is_line, unmet_line}
 use Rattle.unmet_file.specs.Unmet.{file_text, stated_lines, AreReadBack, IsReadAsWritten}
-use Rattle.unmet_file.proofs.WordSteps.{both_hold, not-byte, graphic-all, two-back, three-back, joined, two-written, three-written}
+use Rattle.unmet_file.proofs.WordSteps.{both_hold, two-back, three-back, joined, two-written, three-written}
+use Rattle.unmet_file.proofs.TextLines.{is_one_line, one-two, one-three, line-first}
 use Rattle.unmet_file.proofs.LineSteps.{fault_at, fault-begins, fault-none, fault-passed, all-read}
 
 -- the words of a line, one by one
@@ -47,76 +46,13 @@ line-back (Double symbol first second) h =
     let p = three-names symbol first second h in
     ap (option_map (λ w. Double w.0 w.1 w.2)) (three-back symbol first second p.0 p.1 p.2)
 
--- the text has no line end
-is_one_line : List ℕ → Bool
-is_one_line text = list_all (λ b. not (eqb b 10)) text
-
-one-joined : (a b : List ℕ) → is_one_line a ≡ true → is_one_line b ≡ true → is_one_line (a ++ b) ≡ true
-unfolding is_one_line
-one-joined a b h k = rw (list_all-append, h, k) refl
-
-one-shown : (text : List ℕ) → list_all is_ascii_graphic text ≡ true → is_one_line text ≡ true
-unfolding is_one_line
-one-shown [] h = refl
-one-shown (b ∷ bs) h =
-    let p = both_hold (is_ascii_graphic b) (list_all is_ascii_graphic bs) h in
-    ap (λ v. not v && list_all (λ c. not (eqb c 10)) bs) (not-byte b 10 refl p.0) ∙ one-shown bs p.1
-
-one-word : (text : List ℕ) → is_graphic text ≡ true → is_one_line text ≡ true
-one-word text h = one-shown text (graphic-all text h)
-
-one-two : (a b : List ℕ) → is_graphic a ≡ true → is_graphic b ≡ true → is_one_line (a ++ (codes " " ++ b)) ≡ true
-unfolding is_one_line
-one-two a b h k = one-joined a (codes " " ++ b) (one-word a h) (one-word b k)
-
-one-three : (a b c : List ℕ) → is_graphic a ≡ true → is_graphic b ≡ true → is_graphic c ≡ true → is_one_line (three_text a b c) ≡ true
-unfolding is_one_line
-one-three a b c h k l = one-joined a (codes " " ++ (b ++ (codes " " ++ c))) (one-word a h) (one-two b c k l)
-
 one-text : (line : Unbound) → is_line line ≡ true → is_one_line (line_text line) ≡ true
-unfolding is_line line_text is_one_line
+unfolding is_line line_text
 one-text (Missing path symbol) h = let p = two-names path symbol h in one-two path symbol p.0 p.1
 one-text (Gpl path symbol provider) h = let p = three-names path symbol provider h in one-three path symbol provider p.0 p.1 p.2
 one-text (Version path symbol provider) h = let p = three-names path symbol provider h in one-three path symbol provider p.0 p.1 p.2
 one-text (Namespace path symbol provider) h = let p = three-names path symbol provider h in one-three path symbol provider p.0 p.1 p.2
 one-text (Double symbol first second) h = let p = three-names symbol first second h in one-three symbol first second p.0 p.1 p.2
-
--- such a text with its line end is cut off as it is
-cut-off : (text others : List ℕ) → is_one_line text ≡ true → slice_split (λ b. eqb b 10) (text ++ 10 ∷ others) ≡ text ∷ slice_split (λ b. eqb b 10) others
-unfolding is_one_line
-cut-off [] others h = refl
-cut-off (b ∷ bs) others h =
-    let p = both_hold (not (eqb b 10)) (list_all (λ c. not (eqb c 10)) bs) h in
-    let pieces = slice_split (λ c. eqb c 10) (bs ++ 10 ∷ others) in
-    ap (λ v. cond v ([] ∷ pieces) (onto_first b pieces)) (isnt (eqb b 10) p.0) ∙ ap (onto_first b) (cut-off bs others p.1)
-  where
-    isnt : (v : Bool) → not v ≡ true → v ≡ false
-    isnt true e = absurd (cc)
-    isnt false e = refl
-
--- what stands before other pieces is kept
-kept-first : (piece : List ℕ) (others : List ℕ) → without_empty_last (piece ∷ slice_split (λ b. eqb b 10) others) ≡ piece ∷ without_empty_last (slice_split (λ b. eqb b 10) others)
-kept-first piece others =
-    let more = nonempty others in
-    ap (λ ps. without_empty_last (piece ∷ ps)) more.2 ∙ before piece more.0 more.1 ∙ ap (λ ps. piece ∷ without_empty_last ps) (sym more.2)
-  where
-    nonempty : (text : List ℕ) → (p : List ℕ) × (ps : List (List ℕ)) × (slice_split (λ b. eqb b 10) text ≡ p ∷ ps)
-    nonempty [] = ([], [], refl)
-    nonempty (b ∷ bs) =
-        let ih = nonempty bs in
-        elim (eqb b 10) as (λ v. (p : List ℕ) × (ps : List (List ℕ)) × (cond v ([] ∷ slice_split (λ c. eqb c 10) bs) (onto_first b (slice_split (λ c. eqb c 10) bs)) ≡ p ∷ ps)) [
-          | true ↦ ([], slice_split (λ c. eqb c 10) bs, refl)
-          | false ↦ (b ∷ ih.0, ih.1, ap (onto_first b) ih.2)
-        ]
-
-    before : (p q : List ℕ) (qs : List (List ℕ)) → without_empty_last (p ∷ q ∷ qs) ≡ p ∷ without_empty_last (q ∷ qs)
-    before [] q qs = refl
-    before (b ∷ bs) q qs = refl
-
--- the first line of a text that begins with one
-line-first : (text others : List ℕ) → is_one_line text ≡ true → lines_of (text ++ 10 ∷ others) ≡ text ∷ lines_of others
-unfolding lines_of
-line-first text others h = ap without_empty_last (cut-off text others h) ∙ kept-first text others
 
 -- the lines are words of visible characters, one by one
 all-lines : (line : Unbound) (lines : List Unbound) → All (λ l. is_line l ≡ true) (line ∷ lines) → (is_line line ≡ true) × All (λ l. is_line l ≡ true) lines

@@ -13,4 +13,5 @@ mod unmet;
 
 pub use kind::LineKind;
 pub use laws::{lines_are_read_back, texts_of_lines};
+pub use line::three_words;
 pub use unmet::Unmet;

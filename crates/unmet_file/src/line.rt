@@ -135,8 +135,9 @@ fn two_words(text: &[u8]) -> Option<(&[u8], &[u8])>
     Some((first, second))
 }
 
-/// Returns the three words of a text.
-fn three_words(text: &[u8]) -> Option<(&[u8], &[u8], &[u8])>
+/// Returns the three words of a text with a space between them, if it has this form. A word isn't
+/// empty and its bytes are 33 to 126.
+pub fn three_words(text: &[u8]) -> Option<(&[u8], &[u8], &[u8])>
     ensures { option_map (λ w. (w.0.now, w.1.now, w.2.now)) result ≡ three_words_of text.now }
 {
     let (first, others) = split_at_byte(text, b' ');

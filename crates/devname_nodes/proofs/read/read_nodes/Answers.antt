@@ -2,8 +2,10 @@ use Rattle.std.proofs.Common.{◌≡◌, ◌++◌, false, length, Some, None, sy
 use Rattle.std.specs.List.{filter_map}
 use Rattle.km_names.specs.Lines.{lines_of}
 use Rattle.km_names.specs.declared.conf.ConfFault.TheVariants.{BadLine}
+use Rattle.unmet_file.proofs.StatedLines.{stated-more, stated-none}
+use Rattle.unmet_file.proofs.TextLines.{no-lines}
 use Rattle.devname_nodes.specs.Line.{line_node, is_ignored}
-use Rattle.devname_nodes.proofs.LineSteps.{fault_at, fault-begins, fault-none, fault-passed, fault-ignored, fault-found, stated-begins, stated-more, stated-none, no-lines, all-read, one-bad}
+use Rattle.devname_nodes.proofs.LineSteps.{fault_at, fault-begins, fault-none, fault-passed, fault-ignored, fault-found, stated-begins, all-read, one-bad}
 use Rattle.devname_nodes.proofs.read.read_nodes.Goals as goal
 use Rattle.devname_nodes.proofs.read.read_nodes.Goals.{in-Some+in_ok-push-in-Some, in-None+else-not-is_ignored}
 
@@ -42,7 +44,7 @@ loop-rest-preserved c =
           let is : Some w.in-Some.node ≡ line_node line = sym w.in-Some.is ∙ c.in_ok-stated.ensures in
           record {
             nodes = ap (λ xs. xs ++ filter_map line_node next) (w.nodes-is ∙ w.in_ok-push-in-Some.ensures.ok)
-                ∙ stated-more before line next w.in-Some.node is
+                ∙ stated-more line_node before line next w.in-Some.node is
                 ∙ ap (λ ls. before ++ filter_map line_node ls) (sym split)
                 ∙ c.loop-rest.invariant.nodes;
             fault = sym (fault-passed file c.loop-rest.number line next w.in-Some.node is)
@@ -54,7 +56,7 @@ loop-rest-preserved c =
           let none : None ≡ line_node line = sym w.in-None.is ∙ c.in_ok-stated.ensures in
           record {
             nodes = ap (λ xs. xs ++ filter_map line_node next) w.nodes-is
-                ∙ stated-none before line next none
+                ∙ stated-none line_node before line next none
                 ∙ ap (λ ls. before ++ filter_map line_node ls) (sym split)
                 ∙ c.loop-rest.invariant.nodes;
             fault = sym (fault-ignored file c.loop-rest.number line next (sym w.is_ignored.ensures ∙ w.if-not-is_ignored.false))

@@ -3,7 +3,9 @@ use Rattle.std.specs.List.{filter_map}
 use Rattle.km_names.specs.Lines.{lines_of}
 use Rattle.km_names.specs.declared.conf.ConfFault.TheVariants.{BadLine}
 use Rattle.unmet_file.specs.Line.{unmet_line}
-use Rattle.unmet_file.proofs.LineSteps.{fault_at, fault-begins, fault-none, fault-passed, fault-found, stated-begins, stated-more, no-lines, all-read, one-bad}
+use Rattle.unmet_file.proofs.StatedLines.{stated-more}
+use Rattle.unmet_file.proofs.TextLines.{no-lines}
+use Rattle.unmet_file.proofs.LineSteps.{fault_at, fault-begins, fault-none, fault-passed, fault-found, stated-begins, all-read, one-bad}
 use Rattle.unmet_file.proofs.unmet.Unmet.read.Goals as goal
 
 pub loop-rest-init : goal.loop-rest-init
@@ -37,7 +39,7 @@ loop-rest-preserved c =
     let is : Some c.in-Some.unbound ≡ unmet_line line = sym c.in-Some.is ∙ c.in_ok-unbound.ensures in
     record {
       lines = ap (λ xs. xs ++ filter_map unmet_line next) c.in_ok-push-in-Some.ensures.ok
-          ∙ stated-more before line next c.in-Some.unbound is
+          ∙ stated-more unmet_line before line next c.in-Some.unbound is
           ∙ ap (λ ls. before ++ filter_map unmet_line ls) (sym c.first_line.ensures.lines)
           ∙ c.loop-rest.invariant.lines;
       fault = sym (fault-passed file c.loop-rest.number line next c.in-Some.unbound is)

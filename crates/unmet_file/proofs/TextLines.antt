@@ -1,5 +1,5 @@
--- Texts of one line, and what stands before a line end.
-use Rattle.std.proofs.Common.{◌≡◌, ℕ, Bool, true, false, not, ◌&&◌, List, [], ◌∷◌, ◌++◌, eqb, cond, refl, ap, sym, ◌∙◌}
+-- Texts of one line, and the lines of texts that begin with one.
+use Rattle.std.proofs.Common.{◌≡◌, ℕ, Bool, true, false, not, ◌&&◌, List, [], ◌∷◌, ◌++◌, length, eqb, cond, refl, ap, sym, ◌∙◌, arith}
 use Rattle.std.specs.Prelude.{codes}
 use Rattle.std.specs.List.{list_all, slice_split, onto_first}
 use Rattle.std.specs.Char.{is_ascii_graphic}
@@ -25,9 +25,11 @@ one-shown (b ∷ bs) h =
 one-word : (text : List ℕ) → is_graphic text ≡ true → is_one_line text ≡ true
 one-word text h = one-shown text (graphic-all text h)
 
+pub one-two : (a b : List ℕ) → is_graphic a ≡ true → is_graphic b ≡ true → is_one_line (a ++ (codes " " ++ b)) ≡ true
+one-two a b h k = one-joined a (codes " " ++ b) (one-word a h) (one-word b k)
+
 pub one-three : (a b c : List ℕ) → is_graphic a ≡ true → is_graphic b ≡ true → is_graphic c ≡ true → is_one_line (three_text a b c) ≡ true
-one-three a b c h k l =
-    one-joined a (codes " " ++ (b ++ (codes " " ++ c))) (one-word a h) (one-joined b (codes " " ++ c) (one-word b k) (one-word c l))
+one-three a b c h k l = one-joined a (codes " " ++ (b ++ (codes " " ++ c))) (one-word a h) (one-two b c k l)
 
 -- such a text with its line end is cut off as it is
 cut-off : (text others : List ℕ) → is_one_line text ≡ true → slice_split (λ b. eqb b 10) (text ++ 10 ∷ others) ≡ text ∷ slice_split (λ b. eqb b 10) others
@@ -64,3 +66,9 @@ kept-first piece others =
 pub line-first : (text others : List ℕ) → is_one_line text ≡ true → lines_of (text ++ 10 ∷ others) ≡ text ∷ lines_of others
 unfolding lines_of
 line-first text others h = ap without_empty_last (cut-off text others h) ∙ kept-first text others
+
+-- an empty text has no line
+pub no-lines : (text : List ℕ) → length text ≡ 0 → lines_of text ≡ []
+unfolding lines_of
+no-lines [] is = refl
+no-lines (b ∷ bs) is = absurd (omega arith)
