@@ -3,7 +3,7 @@ use Rattle.std.proofs.lemmas.List.{append-nil}
 use Rattle.km_names.specs.Ascii.{is_graphic}
 use Rattle.km_names.specs.Lines.{lines_of}
 use Rattle.km_names.specs.Path.{module_name}
-use Rattle.unmet_file.proofs.LineSteps.{no-lines}
+use Rattle.unmet_file.proofs.TextLines.{no-lines}
 use Rattle.depmod_core.proofs.built_in.listed_names.Goals as goal
 
 pub returns : goal.returns
