@@ -1,13 +1,13 @@
 -- What is written out, as sheets.
 use Rattle.std.specs.Prelude.{ℕ, List, map}
 use Rattle.std.specs.Borrow.{Bor}
-use Rattle.tree_gen.specs.declared.sheet.Sheet.{Sheet}
-use Rattle.tree_gen.specs.declared.sheet.SheetExport.{SheetExport}
-use Rattle.tree_gen.specs.declared.sheet.SheetMore.{SheetMore}
-use Rattle.tree_gen.specs.declared.sheet.SheetNeed.{SheetNeed}
-use Rattle.tree_gen.specs.declared.sheet.SheetPlace.{SheetPlace}
-use Rattle.tree_gen.specs.declared.sheet.SheetSpace.{SheetSpace}
-use Rattle.tree_gen.specs.declared.sheet.SheetVersion.{SheetVersion}
+use Rattle.sheet_object.specs.declared.sheet.Sheet.{Sheet}
+use Rattle.sheet_object.specs.declared.sheet.SheetExport.{SheetExport}
+use Rattle.sheet_object.specs.declared.sheet.SheetMore.{SheetMore}
+use Rattle.sheet_object.specs.declared.sheet.SheetNeed.{SheetNeed}
+use Rattle.sheet_object.specs.declared.sheet.SheetPlace.{SheetPlace}
+use Rattle.sheet_object.specs.declared.sheet.SheetSpace.{SheetSpace}
+use Rattle.sheet_object.specs.declared.sheet.SheetVersion.{SheetVersion}
 use Rattle.test_objects.specs.declared.row.ExportRow.{ExportRow}
 use Rattle.test_objects.specs.declared.row.MoreRow.{MoreRow}
 use Rattle.test_objects.specs.declared.row.NeedRow.{NeedRow}

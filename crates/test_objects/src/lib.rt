@@ -2,7 +2,7 @@
 //! constant, their objects, and small modules. There are also one object byte by byte, bytes in
 //! hexadecimal digits, and texts for which calls have conditions.
 //!
-//! It builds on `tree_gen` for sheets and their objects, on `km_names` for lists and names, on
+//! It builds on `sheet_object` for sheets and their objects, on `km_names` for lists and names, on
 //! `hex` for digits, and on the definitions of `index_format` for keys and texts.
 #![tactic(auto)]
 

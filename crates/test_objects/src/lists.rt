@@ -4,11 +4,11 @@ ghost use Rattle.test_objects.specs.Rows.{version_of, export_of, need_of, place_
 
 use crate::row::{ExportRow, NeedRow, PlaceRow, SpaceRow, VersionRow};
 use km_names::{Bytes, List, Name};
-use std::alloc::{AllocError, Global};
-use tree_gen::{
+use sheet_object::{
     SheetExport, SheetExports, SheetNeed, SheetNeeds, SheetPlace, SheetPlaces, SheetSpace,
     SheetSpaces, SheetVersion, SheetVersions,
 };
+use std::alloc::{AllocError, Global};
 
 /// Returns the list of these texts or names.
 pub(crate) fn texts<K>(alloc: Global, rows: &[&[u8]]) -> Result<List<Bytes<K>>, AllocError>

@@ -1,7 +1,7 @@
 // The objects of sheets that are written out.
 ghost use Rattle.std.specs.Prelude.{◌≡◌, ◌⊎◌, false, IfErr, IfOk};
-ghost use Rattle.tree_gen.specs.Sheet.{is_sheet as is_the_sheet, no_more};
-ghost use Rattle.tree_gen.specs.Object.{object_more_of};
+ghost use Rattle.sheet_object.specs.Sheet.{is_sheet as is_the_sheet, no_more};
+ghost use Rattle.sheet_object.specs.Object.{object_more_of};
 ghost use Rattle.test_objects.specs.Rows.{sheet_of, more_of};
 ghost use Rattle.test_objects.specs.declared.fault.RowFault.TheVariants.{Memory};
 
@@ -10,8 +10,8 @@ use crate::lists::{exports, needs, places, spaces, texts, versions};
 use crate::row::{MoreRow, SheetRow};
 use crate::sheets::NO_MORE;
 use km_names::Blob;
+use sheet_object::{Sheet, SheetMore, is_sheet, object_more};
 use std::alloc::{AllocError, Global};
-use tree_gen::{Sheet, SheetMore, is_sheet, object_more};
 
 /// Returns the sheet that is written out.
 pub fn sheet(alloc: Global, row: &SheetRow) -> Result<Sheet, AllocError>

@@ -1,9 +1,1 @@
-pub mod FileLemmas
-pub mod FurtherLemmas
-pub mod NameLemmas
-pub mod PartLemmas
-pub mod DistinctLemmas
-pub mod SheetLemmas
-pub mod SymbolLemmas
 pub mod TrialLemmas
-pub mod ParamLemmas

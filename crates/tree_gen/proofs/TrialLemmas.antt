@@ -9,7 +9,7 @@ use Rattle.std.proofs.lemmas.Nat.{mod_below}
 use Rattle.std.proofs.lemmas.Slice.Eq.{bytes_eq-Decides}
 use Rattle.std.specs.List.{list_any, range_with_len}
 use Rattle.std.specs.Str.{bytes_eq}
-use Rattle.tree_gen.specs.Sheet.{is_text, is_sheet, are_few, are_texts, are_known, no_more}
+use Rattle.sheet_object.specs.Sheet.{is_text, is_sheet, are_few, are_texts, are_known, no_more}
 use Rattle.tree_gen.specs.Trial.{next, after, draw, drawn, without_twin, start_of, digit, four_digits, name_of, symbol_name, module_sheet, with_module, kernel_contents, trial_contents}
 
 -- the next number, where product and sum are cut to 64 bits one after the other

@@ -6,12 +6,12 @@ use Rattle.std.specs.FinMap.{empty, insert}
 use Rattle.elf_format.specs.declared.relocation.TheConstants.{R_X86_64_64}
 use Rattle.km_outside.specs.Contents.{Contents}
 use Rattle.km_outside.specs.MemFilesSeen.{MemFilesSeen, no_files}
-use Rattle.tree_gen.specs.declared.sheet.Sheet.{Sheet}
-use Rattle.tree_gen.specs.declared.sheet.SheetExport.{SheetExport}
-use Rattle.tree_gen.specs.declared.sheet.SheetNeed.{SheetNeed}
-use Rattle.tree_gen.specs.declared.sheet.SheetPlace.{SheetPlace}
-use Rattle.tree_gen.specs.declared.sheet.SheetVersion.{SheetVersion}
-use Rattle.tree_gen.specs.Object.{object_of}
+use Rattle.sheet_object.specs.declared.sheet.Sheet.{Sheet}
+use Rattle.sheet_object.specs.declared.sheet.SheetExport.{SheetExport}
+use Rattle.sheet_object.specs.declared.sheet.SheetNeed.{SheetNeed}
+use Rattle.sheet_object.specs.declared.sheet.SheetPlace.{SheetPlace}
+use Rattle.sheet_object.specs.declared.sheet.SheetVersion.{SheetVersion}
+use Rattle.sheet_object.specs.Object.{object_of}
 
 -- The number after x in the sequence of draws: the linear congruential generator of Knuth's MMIX.
 -- Knuth, The Art of Computer Programming, volume 2, section 3.3.4.

@@ -1,41 +1,21 @@
-//! Object files made from sheets. A sheet lists the texts, versions, exports, needs and relocated
-//! words of a module, and `object` writes the relocatable object that has exactly these.
-//! `object_more` also writes extended versions, GPL-only exports and namespaces. `param_object`
-//! writes the object of a module that has only parameters. `generate` makes a tree of such objects
-//! in memory, whose modules need each other as numbers are drawn from a seed. Tests and trials read
-//! them back.
+//! The made tree of a trial. `generate` makes a kernel's tree of modules in memory, whose modules
+//! need each other as numbers are drawn from a seed. It hands on the sheets and objects of
+//! `sheet_object`, which its modules are made of.
 //!
-//! It builds on `km_names` for lists and names, on `km_outside` for files in memory, and on
-//! `elf_format` for the numbers of the format. It builds on `name_table` for the places of names,
-//! and on `byteorder` for the place that is written last. An object is the file of a list of
-//! sections. A section is its name, its attributes, and its content. The only error is out of
-//! memory.
+//! It builds on `sheet_object` for the objects of modules, on `km_names` for names and paths, and
+//! on `km_outside` for files in memory. It builds on `elf_format` for the relocation type of its
+//! words. The only error is out of memory.
 #![tactic(auto)]
 
-mod bytes;
-mod conditions;
-mod content;
 mod draws;
-mod file;
-mod further;
-mod names;
-mod object_file;
-mod params;
-mod part;
-mod parts;
-mod relocations;
-mod sheet;
-mod symbols;
 mod trial;
 mod trial_sheet;
 mod worked;
 
-pub use conditions::is_sheet;
-pub use object_file::{object, object_more};
-pub use params::{SheetParam, SheetParams, param_object};
-pub use sheet::{
-    Sheet, SheetExport, SheetExports, SheetMore, SheetNeed, SheetNeeds, SheetPlace, SheetPlaces,
-    SheetSpace, SheetSpaces, SheetVersion, SheetVersions,
+pub use sheet_object::{
+    Sheet, SheetExport, SheetExports, SheetMore, SheetNeed, SheetNeeds, SheetParam, SheetParams,
+    SheetPlace, SheetPlaces, SheetSpace, SheetSpaces, SheetVersion, SheetVersions, is_sheet,
+    object, object_more, param_object,
 };
 pub use trial::generate;
 pub use worked::{draws_of_small_seeds, draws_stand_before};

@@ -2,10 +2,10 @@ ghost use Rattle.std.specs.Prelude.{◌≡◌, ◌≤◌, ◌<◌, ◌+◌, ℕ,
 ghost use Rattle.tree_gen.specs.Trial.{start_of, module_path as path_of, module_file as file_of_module, kernel_contents, unused, trial_files};
 
 use crate::draws::Draws;
-use crate::object_file::object;
 use crate::trial_sheet::{four_digits, module_sheet};
 use km_names::{Blob, PathText};
 use km_outside::MemFiles;
+use sheet_object::object;
 use std::alloc::{AllocError, Global};
 
 /// The kernel's exports, as `Module.symvers` lists them.

@@ -2,12 +2,12 @@
 ghost use Rattle.std.specs.Prelude.{◌≡◌, [], ◌∷◌, map, IfOk};
 ghost use Rattle.tree_gen.specs.Trial.{digit as last_digit, four_digits as digits_of, symbol_name as name_of_symbol, exported as exported_by, printk as printk_of_kernel, needed as needed_of, stated, strong, address, texts as texts_of, module_sheet as sheet_of};
 
-use crate::sheet::{
+use elf_format::R_X86_64_64;
+use km_names::{Blob, Name, Texts};
+use sheet_object::{
     Sheet, SheetExport, SheetExports, SheetNeed, SheetNeeds, SheetPlace, SheetPlaces, SheetVersion,
     SheetVersions,
 };
-use elf_format::R_X86_64_64;
-use km_names::{Blob, Name, Texts};
 use std::alloc::{AllocError, Global};
 
 /// The version of the kernel's `printk`.

@@ -1,0 +1,129 @@
+// The sections of a sheet.
+ghost use Rattle.std.specs.Prelude.{◌≡◌, ◌≤◌, [], ◌∷◌, ◌++◌, length, All, IsTrue, OnOk, IfOk};
+ghost use Rattle.std.specs.List.{flat_map};
+ghost use Rattle.sheet_object.specs.Sheet.{is_sheet};
+ghost use Rattle.sheet_object.specs.Number.{with_nul};
+ghost use Rattle.sheet_object.specs.Object.{loaded_parts, linked_parts, with_names, parts_of as the_parts_of};
+
+use crate::bytes::zeros;
+use crate::content::{modinfo, versions};
+use crate::further::{Further, further_parts};
+use crate::part::{Attributes, DATA, Part, STRTAB, SYMTAB};
+use crate::relocations::{WORD_SIZE, local_count, relocations};
+use crate::sheet::{Sheet, SheetMore};
+use crate::symbols::{CODE_SIZE, symbol_table};
+use elf_format::{
+    SHF_ALLOC, SHF_EXECINSTR, SHF_INFO_LINK, SHF_WRITE, SHT_PROGBITS, SHT_RELA, SHT_STRTAB,
+    SHT_SYMTAB,
+};
+use std::alloc::{AllocError, Global};
+
+/// The name of the section that has the names of all sections.
+const SECTION_NAMES_NAME: &[u8] = b".shstrtab";
+
+/// Puts a section at the end.
+pub(crate) fn push_part(
+    alloc: Global,
+    parts: &mut Vec<Part>,
+    name: &[u8],
+    attributes: Attributes,
+    content: Vec<u8>,
+) -> Result<(), AllocError>
+    ensures { OnOk result (parts.new.items ≡ parts.old.items ++ record { name = name.now; attributes = attributes; content = content.items } ∷ []) }
+{
+    parts.push(Part::new(alloc, name, attributes, content)?)?;
+    Ok(())
+}
+
+/// Puts the loaded sections at the end.
+fn push_loaded(alloc: Global, parts: &mut Vec<Part>, sheet: &Sheet) -> Result<(), AllocError>
+    requires exports { length sheet.now.exports ≤ 65535 }
+    requires places { length sheet.now.places ≤ 65535 }
+    requires versions { All (λ v. length v.name ≤ 55) sheet.now.versions }
+    ensures { OnOk result (parts.new.items ≡ parts.old.items ++ loaded_parts sheet.now) }
+{
+    let text = zeros(alloc, CODE_SIZE * sheet.exports.len())?;
+    let code = Attributes::plain(SHT_PROGBITS, SHF_ALLOC | SHF_EXECINSTR, 16);
+    push_part(alloc, parts, b".text", code, text)?;
+    let data = zeros(alloc, WORD_SIZE * sheet.places.len())?;
+    let words = Attributes::plain(SHT_PROGBITS, SHF_WRITE | SHF_ALLOC, 8);
+    push_part(alloc, parts, b".data", words, data)?;
+    let texts = modinfo(alloc, sheet.texts.as_slice())?;
+    let read = Attributes::plain(SHT_PROGBITS, SHF_ALLOC, 1);
+    push_part(alloc, parts, b".modinfo", read, texts)?;
+    let versions = versions(alloc, sheet.versions.as_slice())?;
+    let entries = Attributes::plain(SHT_PROGBITS, SHF_ALLOC, 32);
+    push_part(alloc, parts, b"__versions", entries, versions)?;
+    Ok(())
+}
+
+/// Puts the sections for linking at the end.
+fn push_linked(
+    alloc: Global,
+    parts: &mut Vec<Part>,
+    sheet: &Sheet,
+    further: &Further,
+) -> Result<(), AllocError>
+    requires { IsTrue (is_sheet sheet.now further.now.more.now) }
+    ensures { OnOk result (parts.new.items ≡ parts.old.items ++ linked_parts sheet.now further.now.more.now) }
+{
+    let words = relocations(alloc, sheet, further)?;
+    let relocated = Attributes::table(SHT_RELA, SHF_INFO_LINK, SYMTAB, DATA);
+    push_part(alloc, parts, b".rela.data", relocated, words)?;
+    let table = symbol_table(alloc, sheet, further)?;
+    let locals = local_count(sheet.exports.as_slice(), further);
+    let symbols = Attributes::table(SHT_SYMTAB, 0, STRTAB, locals);
+    push_part(alloc, parts, b".symtab", symbols, table.entries)?;
+    let names = Attributes::plain(SHT_STRTAB, 0, 1);
+    push_part(alloc, parts, b".strtab", names, table.names)?;
+    Ok(())
+}
+
+/// Puts the names of sections at the end, each with its NUL.
+fn push_names(out: &mut Vec<u8>, parts: &[Part]) -> Result<(), AllocError>
+    ensures { OnOk result (out.new.items ≡ out.old.items ++ flat_map (λ p. with_nul p.name) parts.now) }
+{
+    for part in parts {
+        out.extend_from_slice(part.name.as_bytes())?;
+        out.push(0)?;
+    }
+    Ok(())
+}
+
+/// Puts the section with the names of all sections at the end, and then the further sections.
+pub(crate) fn push_further(
+    alloc: Global,
+    parts: &mut Vec<Part>,
+    mut further: Vec<Part>,
+) -> Result<(), AllocError>
+    ensures { OnOk result (parts.new.items ≡ with_names parts.old.items further.items) }
+{
+    let mut names = Vec::new(alloc);
+    names.push(0)?;
+    push_names(&mut names, parts)?;
+    names.extend_from_slice(SECTION_NAMES_NAME)?;
+    names.push(0)?;
+    push_names(&mut names, &further)?;
+    let attributes = Attributes::plain(SHT_STRTAB, 0, 1);
+    push_part(alloc, parts, SECTION_NAMES_NAME, attributes, names)?;
+    parts.append(&mut further)?;
+    Ok(())
+}
+
+/// Returns the sections of a sheet with its additions.
+#[tactic(auto, unfolding(crate::specs::Object::parts_of))]
+pub(crate) fn parts_of(
+    alloc: Global,
+    sheet: &Sheet,
+    more: &SheetMore,
+) -> Result<Vec<Part>, AllocError>
+    requires { IsTrue (is_sheet sheet.now more.now) }
+    ensures { IfOk result (λ parts. parts.items ≡ the_parts_of sheet.now more.now) }
+{
+    let further = Further::new(alloc, more)?;
+    let mut parts = Vec::new(alloc);
+    push_loaded(alloc, &mut parts, sheet)?;
+    push_linked(alloc, &mut parts, sheet, &further)?;
+    push_further(alloc, &mut parts, further_parts(alloc, more)?)?;
+    Ok(parts)
+}

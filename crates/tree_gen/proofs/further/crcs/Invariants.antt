@@ -1,6 +1,0 @@
-use Rattle.std.proofs.Common.{◌≡◌, take}
-use Rattle.tree_gen.specs.Further.{crc_bytes}
-use Rattle.tree_gen.proofs.further.crcs.Given as goal
-
-abbrev pub invariant-loop-version : goal.invariant-loop-version
-invariant-loop-version l = l.content.items ≡ crc_bytes (take l.version-index l.ext)

@@ -1,6 +1,0 @@
-use Rattle.std.proofs.Common.{◌≡◌, take}
-use Rattle.tree_gen.specs.Contents.{places_bytes}
-use Rattle.tree_gen.proofs.relocations.relocations.Given as goal
-
-abbrev pub invariant-loop-k : goal.invariant-loop-k
-invariant-loop-k l = l.content.items ≡ places_bytes l.sheet l.further.more.now 0 (take l.k l.sheet.places)
