@@ -1,15 +1,18 @@
-ghost use Rattle.std.specs.Prelude.{◌≡◌, ◌+◌, ◌/◌, ◌≤◌, length, IfOk};
+ghost use Rattle.std.specs.Prelude.{◌≡◌, ◌+◌, ◌/◌, ◌≤◌, length, map, Some, IfOk, IfSome};
+ghost use Rattle.std.specs.Simd.Lanes.{mask_l};
 ghost use Rattle.memchr.specs.Find.{IsFirstByte, is_byte};
+ghost use Rattle.index_format.specs.Node.{is_nul};
 ghost use Rattle.index_nodes.specs.TextEnds.{block_start, IsTextEnd, AreTextEnds};
 
 use memchr::memchr;
 use std::alloc::{AllocError, Global};
+use std::simd::prelude::*;
 
 /// The bytes of one block.
 const BLOCK: usize = 256;
 
-/// How many bytes are looked at one by one before a wide search. Most texts are shorter.
-const FEW: usize = 16;
+/// How many bytes are looked at together before a search. Nearly all prefixes are shorter.
+const NEAR: usize = 32;
 
 /// Where the texts of a file end, each before its first NUL or at the end of the file: for every
 /// block of the file the end of the text that begins with it. So the end of any text is found
@@ -27,16 +30,37 @@ fn start_of(bytes: &[u8], block: usize) -> usize
     (block * BLOCK).min(bytes.len())
 }
 
+/// Which of the bytes are NUL, a bit for each.
+#[inline(always)]
+fn nuls(bytes: u8x32) -> u64
+    ensures { result ≡ mask_l (map is_nul bytes) }
+{
+    bytes.simd_eq(u8x32::splat(0)).to_bitmask()
+}
+
+/// Where the first NUL stands, if it is near. None also where there are few bytes.
+#[inline(always)]
+fn near_nul(bytes: &[u8]) -> Option<usize>
+    ensures { IfSome result (λ place. IsFirstByte (is_byte 0) bytes.now (Some place)) }
+{
+    if bytes.len() < NEAR {
+        return None;
+    }
+    let found = nuls(u8x32::from_slice(bytes));
+    if found == 0 {
+        return None;
+    }
+    Some(found.trailing_zeros() as usize)
+}
+
 /// Where the first NUL stands.
 fn first_nul(bytes: &[u8]) -> Option<usize>
     ensures { IsFirstByte (is_byte 0) bytes.now result }
 {
-    for place in 0..bytes.len().min(FEW) {
-        if bytes[place] == 0 {
-            return Some(place);
-        }
+    match near_nul(bytes) {
+        Some(place) => Some(place),
+        None => memchr(0, bytes),
     }
-    memchr(0, bytes)
 }
 
 /// Where the text from `start` on ends, by the end of that from a later place on.
@@ -73,7 +97,20 @@ impl TextEnds {
     }
 
     /// Where the text from a place on ends.
+    #[inline(always)]
     pub(crate) fn end(&self, bytes: &[u8], start: usize) -> usize
+        requires ends { AreTextEnds bytes.now self.now }
+        requires within { start ≤ length bytes.now }
+        ensures { IsTextEnd bytes.now start result }
+    {
+        match near_nul(&bytes[start..]) {
+            Some(place) => start + place,
+            None => self.far_end(bytes, start),
+        }
+    }
+
+    /// The same, by the end of the text that begins with the next block.
+    fn far_end(&self, bytes: &[u8], start: usize) -> usize
         requires ends { AreTextEnds bytes.now self.now }
         requires within { start ≤ length bytes.now }
         ensures { IsTextEnd bytes.now start result }
