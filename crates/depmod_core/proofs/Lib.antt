@@ -1,6 +1,5 @@
 pub mod TextSteps
 pub mod KeySteps
-pub mod AliasSteps
 pub mod MapSteps
 pub mod LineSteps
 pub mod FileSteps

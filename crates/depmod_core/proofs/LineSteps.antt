@@ -13,6 +13,7 @@ use Rattle.km_names.specs.declared.conf.TreeIndex.{TreeIndex}
 use Rattle.km_names.specs.Ascii.{is_graphic}
 use Rattle.km_names.specs.AliasForm.{normal_alias}
 use Rattle.index_format.specs.Map.{IsKey, IsText}
+use Rattle.index_write.proofs.VisibleWords.{both, graphic-text, key-of, characters, normal-key}
 use Rattle.module_facts.specs.declared.facts.Export.{Export}
 use Rattle.module_facts.specs.declared.facts.Facts.{Facts}
 use Rattle.provider_rel.specs.Tree.{IsTreeModule}
@@ -28,8 +29,6 @@ use Rattle.depmod_core.specs.Kinds.{heading, key_of, statement, statements, text
 use Rattle.depmod_core.specs.Kinds.{line_of as stated_line}
 use Rattle.depmod_core.specs.AllStated.{AreStated}
 use Rattle.depmod_core.proofs.TextSteps.{with_piece-append}
-use Rattle.depmod_core.proofs.KeySteps.{both, graphic-text, key-of, characters}
-use Rattle.depmod_core.proofs.AliasSteps.{normal-key}
 
 -- the items from a place on, turned round
 pub turned : {X : Type 0} (xs : List X) (n : ℕ) (d : X) → n < length xs → reverse (drop n xs) ≡ reverse (drop (n + 1) xs) ++ get_or xs n d ∷ []

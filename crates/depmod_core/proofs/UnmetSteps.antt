@@ -18,7 +18,7 @@ use Rattle.provider_rel.specs.Tree.{IsTree, IsTreeModule}
 use Rattle.unmet_file.specs.Line.{is_line}
 use Rattle.unmet_file.specs.Unmet.{file_text, unmet_of}
 use Rattle.unmet_file.proofs.WrittenSteps.{all-back}
-use Rattle.depmod_core.proofs.KeySteps.{both}
+use Rattle.index_write.proofs.VisibleWords.{both}
 
 -- a word of visible characters
 abbrev Word : List ℕ → Type 0

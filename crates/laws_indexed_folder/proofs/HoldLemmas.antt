@@ -18,11 +18,11 @@ use Rattle.index_format.proofs.Maps.{entries-empty}
 use Rattle.index_write.specs.Lists.{IsStorable, IsStorableEntry}
 use Rattle.index_write.proofs.KeyLemmas.{rises}
 use Rattle.index_write.proofs.Standing.{holds}
+use Rattle.index_write.proofs.VisibleWords.{graphic-key}
 use Rattle.module_facts.specs.declared.facts.Facts.{Facts}
 use Rattle.provider_rel.specs.Tree.{IsTree, IsTreeModule}
 use Rattle.depmod_core.specs.Maps.{with_values, map_of}
 use Rattle.depmod_core.specs.Dependencies.{dep_map}
-use Rattle.depmod_core.proofs.KeySteps.{graphic-key}
 use Rattle.depmod_core.proofs.LineSteps.{line-text}
 use Rattle.laws_closed_plans.specs.Members.{Member}
 use Rattle.laws_closed_plans.proofs.UnmetLemmas.{all-member}

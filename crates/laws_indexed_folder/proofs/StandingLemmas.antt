@@ -10,6 +10,7 @@ use Rattle.index_format.specs.Map.{IsText}
 use Rattle.index_format.specs.Listing.{KeyValue}
 use Rattle.index_format.specs.File.{file}
 use Rattle.index_format.specs.Holds.{Holds}
+use Rattle.index_write.proofs.VisibleWords.{both, characters, graphic-key, graphic-text, key-of, normal-key}
 use Rattle.module_facts.specs.declared.facts.Export.{Export}
 use Rattle.module_facts.specs.declared.facts.Facts.{Facts}
 use Rattle.provider_rel.specs.Faces.{modules_of}
@@ -21,8 +22,7 @@ use Rattle.depmod_core.specs.declared.files.OutputFiles.{OutputFiles}
 use Rattle.depmod_core.specs.BuiltIn.{built_in_map, built_in_names}
 use Rattle.depmod_core.specs.Files.{content, files, files_by, output_fault, size_fault}
 use Rattle.depmod_core.specs.Stated.{alias_map, alias_values, is_usable_alias, symbol_values, symbols_map}
-use Rattle.depmod_core.proofs.AliasSteps.{normal-key}
-use Rattle.depmod_core.proofs.KeySteps.{both, characters, graphic-key, graphic-text, kept-passes, key-of, seen-passes}
+use Rattle.depmod_core.proofs.KeySteps.{kept-passes, seen-passes}
 use Rattle.depmod_core.proofs.UnmetSteps.{unmet-back}
 use Rattle.laws_closed_plans.specs.Members.{Member}
 use Rattle.laws_closed_plans.proofs.ListLemmas.{Member-cases, each-first}

@@ -6,12 +6,12 @@ use Rattle.std.proofs.lemmas.List.FromFn.{length-enumerate_from}
 use Rattle.std.proofs.lemmas.Option.{slice_get_read}
 use Rattle.std.proofs.lemmas.Slice.Zip.{length-zip}
 use Rattle.index_format.specs.Map.{IsKey, IsText, with_value}
+use Rattle.index_write.proofs.VisibleWords.{graphic-key}
 use Rattle.module_facts.specs.declared.facts.Facts.{Facts}
 use Rattle.provider_rel.specs.Tree.{IsTreeModule}
 use Rattle.provider_rel.specs.Seen.{closures_by, places_of}
 use Rattle.depmod_core.specs.Maps.{map_of}
 use Rattle.depmod_core.specs.Dependencies.{Dependent, dep_value, dep_map}
-use Rattle.depmod_core.proofs.KeySteps.{graphic-key}
 use Rattle.depmod_core.proofs.MapSteps.{value-found, placed, zipped}
 use Rattle.depmod_core.proofs.LineSteps.{line-text, tree-module}
 use Rattle.depmod_core.proofs.dependencies.dep_map.Goals as goal

@@ -2,8 +2,8 @@ use Rattle.std.proofs.Common.{◌≡◌, List, ℕ, Option, sym, ap, ◌∙◌, 
 use Rattle.std.specs.List.{cons_option}
 use Rattle.index_format.specs.Map.{with_value}
 use Rattle.index_format.specs.Listing.{KeyValue}
+use Rattle.index_write.proofs.VisibleWords.{graphic-text}
 use Rattle.depmod_core.specs.Maps.{with_values}
-use Rattle.depmod_core.proofs.KeySteps.{graphic-text}
 use Rattle.depmod_core.proofs.MapSteps.{value-kept}
 use Rattle.depmod_core.proofs.stated.add_values.Goals as goal
 use Rattle.depmod_core.proofs.stated.add_values.Goals.{in-Some+in_ok-add, in_default}
