@@ -17,13 +17,17 @@ use Rattle.index_nodes.specs.declared.place_set.PlaceSet.{PlaceSet}
 use Rattle.index_nodes.specs.Pending.{links_of, child_arrival, child_arrivals, arrivals_left, IsInside, HasPlaces, IsPendingOf, nodes_fault}
 use Rattle.index_nodes.proofs.ArrivalLemmas.{sound_from_none, inside-pop, arrivals_head, arrivals_below, arrivals_left-push}
 
--- what holds between two visits
+-- after the visits to these places what is left of the file decides
+pub record Way (b seen : List ℕ) (stack : List Pending) : Type 0 where
+  pub rest : first (arrival_faults b seen (arrivals_left b stack)) ≡ nodes_fault b
+  pub inside : AllByRecursion (IsInside b) stack
+
+-- what holds between two visits in any order
 pub record Walking (b : List ℕ) (set : PlaceSet) (stack : List Pending) : Type 0 where
   pub seen : List ℕ
   pub places : HasPlaces set seen
-  pub rest : first (arrival_faults b seen (arrivals_left b stack)) ≡ nodes_fault b
   pub room : length b / 64 < vec_len set.words
-  pub inside : AllByRecursion (IsInside b) stack
+  pub way : Way b seen stack
 
 first-some : (o : Option Fault) (os : List (Option Fault)) (f : Fault) → o ≡ Some f → first (o ∷ os) ≡ Some f
 first-some o os f e = ap (λ p. first (p ∷ os)) e
@@ -77,33 +81,27 @@ root_rest b link e =
     ap (λ rs. first (arrival_faults b [] rs)) (append-nil (arrivals b (length b + 1) (at_root b link)))
     ∙ ap (λ l. first (arrival_faults b [] (arrivals b (length b + 1) (at_root b l)))) e
 
-pub first_walk : (b : List ℕ) (link : ℕ) (set : PlaceSet) (stack : List Pending) (p : Pending) → link ≡ be b 8 4 → arrival_fault b [] (at_root b link) ≡ None → HasPlaces set (place_of link ∷ []) → IsPendingOf b link p → arrivals_left b stack ≡ child_arrivals b p.above (links_of b p) ++ [] → length b / 64 < vec_len set.words → AllByRecursion (IsInside b) stack → Walking b set stack
-first_walk b link set stack p e passes places pending left room inside =
+pub first_way : (b : List ℕ) (link : ℕ) (stack : List Pending) (p : Pending) → link ≡ be b 8 4 → arrival_fault b [] (at_root b link) ≡ None → IsPendingOf b link p → arrivals_left b stack ≡ child_arrivals b p.above (links_of b p) ++ [] → AllByRecursion (IsInside b) stack → Way b (place_of link ∷ []) stack
+first_way b link stack p e passes pending left inside =
     let low = (sound_from_none b [] (at_root b link) passes).low in
     record {
-      seen = place_of link ∷ [];
-      places = places;
       rest =
           ap (λ rs. first (arrival_faults b (place_of link ∷ []) rs)) left
           ∙ sym (passes_next b [] (length b + 1) (at_root b link) [] p low low passes pending)
           ∙ root_rest b link e;
-      room = room;
       inside = inside;
     }
 
-module _ (b : List ℕ) (set : PlaceSet) (stack ps : List Pending) (p : Pending) (w : Walking b set stack) (is : stack ≡ ps ++ p ∷ []) where
+module _ (b seen : List ℕ) (stack ps : List Pending) (p : Pending) (w : Way b seen stack) (is : stack ≡ ps ++ p ∷ []) where
   pub top_inside : AllByRecursion (IsInside b) ps × IsInside b p
   top_inside = inside-pop (IsInside b) ps p (subst (AllByRecursion (IsInside b)) is w.inside)
 
   pub left_none : links_of b p ≡ [] → arrivals_left b stack ≡ arrivals_left b ps
   left_none e = ap (arrivals_left b) is ∙ arrivals_left-push b ps p ∙ ap (λ ls. child_arrivals b p.above ls ++ arrivals_left b ps) e
 
-  pub walk_on : links_of b p ≡ [] → Walking b set ps
-  walk_on e = record {
-    seen = w.seen;
-    places = w.places;
-    rest = ap (λ rs. first (arrival_faults b w.seen rs)) (sym (left_none e)) ∙ w.rest;
-    room = w.room;
+  pub way_on : links_of b p ≡ [] → Way b seen ps
+  way_on e = record {
+    rest = ap (λ rs. first (arrival_faults b seen rs)) (sym (left_none e)) ∙ w.rest;
     inside = top_inside.0;
   }
 
@@ -118,29 +116,26 @@ module _ (b : List ℕ) (set : PlaceSet) (stack ps : List Pending) (p : Pending)
     unfolding more
     left_is = ap (arrivals_left b) is ∙ left_next b ps p q link e above
 
-    pub rest_is : first (arrival_faults b w.seen (arrivals b p.above a ++ more)) ≡ nodes_fault b
-    rest_is = ap (λ rs. first (arrival_faults b w.seen rs)) (sym left_is) ∙ w.rest
+    pub rest_is : first (arrival_faults b seen (arrivals b p.above a ++ more)) ≡ nodes_fault b
+    rest_is = ap (λ rs. first (arrival_faults b seen rs)) (sym left_is) ∙ w.rest
 
-    pub stops_here : (f : IndexFault) → IsFirstFault (arrival_fault b w.seen a) f → IsFirstFault (nodes_fault b) f
-    stops_here f h = first_fault b w.seen p.above a more f h rest_is
+    pub stops_here : (f : IndexFault) → IsFirstFault (arrival_fault b seen a) f → IsFirstFault (nodes_fault b) f
+    stops_here f h = first_fault b seen p.above a more f h rest_is
 
-    module _ (below : Pending) (passes : arrival_fault b w.seen a ≡ None) (pending : IsPendingOf b link below) (one two : List Pending) (left_one : arrivals_left b one ≡ child_arrivals b q.above (links_of b q) ++ arrivals_left b ps) (left_two : arrivals_left b two ≡ child_arrivals b below.above (links_of b below) ++ arrivals_left b one) where
-      low : place_of link < p.above
-      low = (sound_from_none b w.seen a passes).low
+    module _ (below : Pending) (passes : arrival_fault b seen a ≡ None) (pending : IsPendingOf b link below) (one two : List Pending) (left_one : arrivals_left b one ≡ child_arrivals b q.above (links_of b q) ++ arrivals_left b ps) (left_two : arrivals_left b two ≡ child_arrivals b below.above (links_of b below) ++ arrivals_left b one) where
+      pub low : place_of link < p.above
+      low = (sound_from_none b seen a passes).low
 
       two_is : arrivals_left b two ≡ child_arrivals b below.above (links_of b below) ++ more
       unfolding more
       two_is = left_two ∙ ap (λ rs. child_arrivals b below.above (links_of b below) ++ rs) left_one
 
-      pub walk_below : (after : PlaceSet) → HasPlaces after (place_of link ∷ w.seen) → length b / 64 < vec_len after.words → AllByRecursion (IsInside b) two → Walking b after two
-      walk_below after places room inside = record {
-        seen = place_of link ∷ w.seen;
-        places = places;
+      pub way_below : AllByRecursion (IsInside b) two → Way b (place_of link ∷ seen) two
+      way_below inside = record {
         rest =
-            ap (λ rs. first (arrival_faults b (place_of link ∷ w.seen) rs)) two_is
-            ∙ sym (passes_next b w.seen p.above a more below low low passes pending)
+            ap (λ rs. first (arrival_faults b (place_of link ∷ seen) rs)) two_is
+            ∙ sym (passes_next b seen p.above a more below low low passes pending)
             ∙ rest_is;
-        room = room;
         inside = inside;
       }
 

@@ -4,6 +4,7 @@ pub mod PlaceLemmas
 pub mod ChildLemmas
 pub mod ArrivalLemmas
 pub mod CheckLemmas
+pub mod OrderLemmas
 pub mod SoundNodes
 pub mod ReadLemmas
 pub mod ValueStartLemmas

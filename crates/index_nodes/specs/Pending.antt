@@ -1,6 +1,6 @@
 -- What is still to be visited.
 -- It belongs to the code: no public meaning rests on it.
-use Rattle.std.specs.Prelude.{◌≡◌, ℕ, zero, suc, ◌+◌, ◌*◌, ◌≤◌, false, List, [], ◌∷◌, ◌++◌, length, nat_eq, Option}
+use Rattle.std.specs.Prelude.{◌≡◌, ℕ, zero, suc, ◌+◌, ◌*◌, ◌<◌, ◌≤◌, false, List, [], ◌∷◌, ◌++◌, length, nat_eq, Option}
 use Rattle.std.specs.List.{cons_option, flat_map, list_any}
 use Rattle.km_names.specs.Number.{be}
 use Rattle.index_format.specs.Link.{place_of}
@@ -45,6 +45,10 @@ HasPlaces set seen = (place : ℕ) → has_place set place ≡ list_any (nat_eq 
 -- The arrival of a visit, as the format defines it.
 abbrev pub arrival_of : Visit → Arrival
 arrival_of v = record { above = v.above; is_root = v.is_root; link = v.link }
+
+-- A visit to a place below its parent is the first one there.
+abbrev pub IsFirstVisit : List ℕ → Visit → Type 0
+IsFirstVisit seen v = place_of v.link < v.above → list_any (nat_eq (place_of v.link)) seen ≡ false
 
 -- What is pending after the visit to a node: its children.
 pub record IsPendingOf (b : List ℕ) (link : ℕ) (p : Pending) : Type 0 where

@@ -5,9 +5,11 @@
 //! ends. [`Nodes::adopt`] refuses a file exactly for the first fault that a reader meets, in time
 //! linear in the file, also where nodes stand in one another: the end of a prefix is found within
 //! 256 bytes, and whether so many values are whole by one comparison with the last place from which
-//! they are. Beside that it takes one bit a byte for the places that were visited, one such place
-//! for each number of values up to the greatest that is asked for, and an entry for each level on
-//! which children are still to be visited; nothing in it calls itself. The crate is the only one
+//! they are. Beside that it takes one such place for each number of values up to the greatest that
+//! is asked for, and an entry for each level on which children are still to be visited; nothing in
+//! it calls itself. Where each node is after all nodes below its older siblings, as a writer leaves
+//! them, that alone shows that no place is visited twice. A file in another order is visited once
+//! more, with one bit a byte for the places that were visited. The crate is the only one
 //! that reads an index's bytes. It stands on `km_names` for numbers and names, on the definitions
 //! of `index_format`, on `memchr` for the search of NULs, and on `thiserror` for the error traits.
 #![tactic(auto)]
