@@ -1,10 +1,10 @@
 -- Marks at places: what they are after one more module.
 use Rattle.std.proofs.Common.{◌≡◌, ◌≤◌, ◌<◌, ◌+◌, ◌-◌, ◌∙◌, ◌⊎◌, inl, inr, ℕ, zero, suc, Bool, true, false, List, [], ◌∷◌, ◌++◌, Option, Some, None, refl, sym, ap, subst, arith, length, cond, map, get_or, replicate, set, take, Vec, Global}
-use Rattle.std.specs.Prelude.{◌&&◌, ◌||◌, not, find, slice_get, is_none, nat_eq, nat_lt, All, option_map, slice_index_or}
+use Rattle.std.specs.Prelude.{◌&&◌, ◌||◌, not, find, slice_get, is_none, nat_eq, nat_lt, All, slice_index_or}
 use Rattle.std.specs.List.{list_any, range_with_len}
 use Rattle.std.specs.Option.{option_map_or, option_or}
 use Rattle.std.proofs.Math.Path.{fun_ext}
-use Rattle.std.proofs.lemmas.Bool.{cases_Bool, false≢true, or_left, or_right}
+use Rattle.std.proofs.lemmas.Bool.{cases_Bool, or_left, or_right}
 use Rattle.std.proofs.lemmas.Bool.Decides.{nat_tests}
 use Rattle.std.proofs.lemmas.List.{length-map, take_more}
 use Rattle.std.proofs.lemmas.List.Folds.{list_any-append}
@@ -13,26 +13,11 @@ use Rattle.name_table.specs.FirstSeen.{is_among}
 use Rattle.model_loader.specs.declared.entry.Entry.{Entry}
 use Rattle.model_loader.specs.Machine.{Machine}
 use Rattle.model_loader.specs.Use.{AreUses, binds, places}
-use Rattle.model_loader.proofs.PlaceLemmas.{past, range-more}
-use Rattle.remove_plan.specs.Marks.{AreAsked, AreUsed, AreUsers, from_place, is_marked}
-use Rattle.remove_plan.specs.Removal.{Places, among, is_asked, is_used_only, user_outside}
+use Rattle.model_loader.proofs.PlaceLemmas.{past, range-more, below-or-at}
+use Rattle.remove_plan.specs.Marks.{AreAsked, AreUsed, AreUsers, is_marked}
+use Rattle.remove_plan.specs.Removal.{Places, among, is_asked, is_used_only}
 use Rattle.remove_plan.proofs.RemovalLemmas.{pushed-cases, pushed-here, pushed-other, younger}
-
-or-swap : (a b : Bool) → (a || b) ≡ (b || a)
-or-swap true true = refl
-or-swap true false = refl
-or-swap false true = refl
-or-swap false false = refl
-
-and-swap : (a b : Bool) → (a && b) ≡ (b && a)
-and-swap true true = refl
-and-swap true false = refl
-and-swap false true = refl
-and-swap false false = refl
-
-falls : (b : Bool) → (b && false) ≡ false
-falls true = refl
-falls false = refl
+use Rattle.std.proofs.Math.Bool.{and-false, and_comm, or-false, or_assoc, or_comm}
 
 -- Whom a module binds to, by the list of its uses.
 module _ (machine : Machine) (us : List (Vec ℕ Global)) (are : AreUses machine (map (λ (u : Vec ℕ Global). u.items) us)) where
@@ -81,13 +66,9 @@ used-next machine set next k marks more less counted same at are = record {
       any-above (λ u. set u && binds machine u j) (λ u. next u && binds machine u j) (k + 1) (n - (k + 1)) (λ u le. ap (λ b. b && binds machine u j) (same u (omega (arith, le)))) in
       at j
       ∙ ap (λ b. b || (next k && binds machine k j)) (are.at j inside ∙ rest)
-      ∙ or-swap (list_any (λ u. next u && binds machine u j) (range_with_len (k + 1) (n - (k + 1)))) (next k && binds machine k j)
+      ∙ or_comm (list_any (λ u. next u && binds machine u j) (range_with_len (k + 1) (n - (k + 1)))) (next k && binds machine k j)
       ∙ sym (ap (list_any (λ u. next u && binds machine u j)) (range-more k n less));
 }
-
-plain : (b : Bool) → (b || false) ≡ b
-plain true = refl
-plain false = refl
 
 pub used-first : (machine : Machine) (set : Places) (k : ℕ) (marks : List Bool) → length machine.entries ≤ k → length marks ≡ length machine.entries → ((j : ℕ) → is_marked marks j ≡ false) → AreUsed machine set k marks
 used-first machine set k marks le counted none = record {
@@ -129,14 +110,14 @@ left-is machine set k used kept less in_set out_set =
     let n = length machine.entries in
     let within : is_marked used k ≡ list_any (λ u. set u && binds machine u k) (places machine) =
     in_set.at k less
-    ∙ sym (skip (λ u. set u && binds machine u k) (k + 1) n (omega (arith, less)) (λ u low. ap (λ b. set u && b) (older machine u k (omega (arith, low))) ∙ falls (set u))) in
+    ∙ sym (skip (λ u. set u && binds machine u k) (k + 1) n (omega (arith, less)) (λ u low. ap (λ b. set u && b) (older machine u k (omega (arith, low))) ∙ and-false (set u))) in
     let outside : is_marked kept k ≡ list_any (λ u. not (set u) && binds machine u k) (places machine) =
     out_set.at k less
-    ∙ sym (skip (λ u. not (set u) && binds machine u k) (k + 1) n (omega (arith, less)) (λ u low. ap (λ b. not (set u) && b) (older machine u k (omega (arith, low))) ∙ falls (not (set u)))) in
+    ∙ sym (skip (λ u. not (set u) && binds machine u k) (k + 1) n (omega (arith, less)) (λ u low. ap (λ b. not (set u) && b) (older machine u k (omega (arith, low))) ∙ and-false (not (set u)))) in
     ap (λ b. b && not (is_marked kept k)) within
     ∙ ap (λ b. list_any (λ u. set u && binds machine u k) (places machine) && not b) outside
     ∙ ap (λ b. list_any (λ u. set u && binds machine u k) (places machine) && b)
-    (sym (none-found (λ u. binds machine u k && not (set u)) (λ u. not (set u) && binds machine u k) (λ u. and-swap (binds machine u k) (not (set u))) (places machine)))
+    (sym (none-found (λ u. binds machine u k && not (set u)) (λ u. not (set u) && binds machine u k) (λ u. and_comm (binds machine u k) (not (set u))) (places machine)))
 
 -- One module more to the oldest users.
 find-step : (b : Bool) (i : ℕ) (rest more last : Option ℕ) → more ≡ option_or rest last → cond b (Some i) more ≡ option_or (cond b (Some i) rest) last
@@ -165,20 +146,12 @@ users-next machine set k users more counted at are = record {
       ∙ sym (ap (λ m. find (λ u. binds machine u j && not (set u)) (range_with_len 0 m)) next ∙ find-push (λ u. binds machine u j && not (set u)) 0 k ∙ ap (λ m. option_or (find (λ u. binds machine u j && not (set u)) (range_with_len 0 k)) (cond (binds machine m j && not (set m)) (Some m) None)) zero_k);
 }
 
-pub or-nothing : {X : Type 0} (o : Option X) → option_or o None ≡ o
-or-nothing None = refl
-or-nothing (Some x) = refl
-
 -- One name more of a set.
 pub among-more : (names : List (List ℕ)) (i : ℕ) (n other : List ℕ) → i < length names → n ≡ get_or names i n → is_among (take (i + 1) names) other ≡ (is_among (take i names) other || bytes_eq other n)
 among-more names i n other less is =
     ap (list_any (bytes_eq other)) (take_more names i n less ∙ ap (λ m. take i names ++ m ∷ []) (sym is))
     ∙ list_any-append (bytes_eq other) (take i names) (n ∷ [])
     ∙ ap (λ b. is_among (take i names) other || b) (or-false (bytes_eq other n))
-  where
-    or-false : (b : Bool) → (b || false) ≡ b
-    or-false true = refl
-    or-false false = refl
 
 -- One mark more of those that are asked for.
 marked-old : (marks : List Bool) (b : Bool) (i : ℕ) → i < length marks → is_marked (marks ++ b ∷ []) i ≡ is_marked marks i
@@ -194,9 +167,6 @@ marked-past : (marks : List Bool) (i : ℕ) → length marks ≤ i → is_marked
 marked-past [] i le = refl
 marked-past (x ∷ xs) zero le = absurd (omega (arith, le))
 marked-past (x ∷ xs) (suc i) le = marked-past xs i (omega (arith, le))
-
-below-or-at : (i k : ℕ) → i < k + 1 → (i < k) ⊎ (i ≡ k)
-below-or-at i k less = grind arith
 
 pub asked-more : (machine : Machine) (names : List (List ℕ)) (k : ℕ) (marks more : List Bool) (b : Bool) → length marks ≡ k → more ≡ marks ++ b ∷ [] → b ≡ is_asked machine names k
     → ((i : ℕ) → i < k → is_marked marks i ≡ is_asked machine names i) → (i : ℕ) → i < k + 1 → is_marked more i ≡ is_asked machine names i
@@ -232,10 +202,6 @@ any-more places i p j less is =
     ap (list_any (nat_eq j)) (take_more places i 0 less ∙ ap (λ m. take i places ++ m ∷ []) (sym is))
     ∙ list_any-append (nat_eq j) (take i places) (p ∷ [])
     ∙ ap (λ b. list_any (nat_eq j) (take i places) || b) (or-false (nat_eq j p))
-  where
-    or-false : (b : Bool) → (b || false) ≡ b
-    or-false true = refl
-    or-false false = refl
 
 -- A place that is set.
 set-at : {X : Type 0} (xs : List X) (p j : ℕ) (v d : X) → p < length xs → get_or (set xs p v) j d ≡ cond (nat_eq j p) v (get_or xs j d)
@@ -254,17 +220,13 @@ marked-by true false = refl
 marked-by false true = refl
 marked-by false false = refl
 
-or-regroup : (a b c : Bool) → ((a || b) || c) ≡ (a || (b || c))
-or-regroup true b c = refl
-or-regroup false b c = refl
-
 pub mark-more : (first old : List Bool) (places : List ℕ) (i p : ℕ) → p < length old → i < length places → p ≡ get_or places i 0
     → ((j : ℕ) → is_marked old j ≡ (is_marked first j || list_any (nat_eq j) (take i places))) → (j : ℕ) → is_marked (set old p true) j ≡ (is_marked first j || list_any (nat_eq j) (take (i + 1) places))
 mark-more first old places i p inside less is before j =
     set-at old p j true false inside
     ∙ marked-by (is_marked old j) (nat_eq j p)
     ∙ ap (λ b. b || nat_eq j p) (before j)
-    ∙ or-regroup (is_marked first j) (list_any (nat_eq j) (take i places)) (nat_eq j p)
+    ∙ or_assoc (is_marked first j) (list_any (nat_eq j) (take i places)) (nat_eq j p)
     ∙ ap (λ b. is_marked first j || b) (sym (any-more places i p j less is))
 
 -- A place more where a user is noted.
@@ -320,7 +282,7 @@ module _ (machine : Machine) (ks : List ℕ) (count done : ℕ) (less : done < c
     subst (λ m. AreUsed machine (λ u. not (among (ks ++ at_turn ∷ []) u)) m kept) next-is
         (used-next machine (λ u. not (among ks u)) (λ u. not (among (ks ++ at_turn ∷ []) u)) at_turn kept kept inside refl
         (λ u above. ap not (sym (pushed-other ks at_turn u above)))
-        (λ j. sym (ap (λ b. is_marked kept j || (not b && binds machine at_turn j)) (pushed-here ks at_turn) ∙ plain (is_marked kept j)))
+        (λ j. sym (ap (λ b. is_marked kept j || (not b && binds machine at_turn j)) (pushed-here ks at_turn) ∙ or-false (is_marked kept j)))
         (subst (λ m. AreUsed machine (λ u. not (among ks u)) m kept) now-is out_set)),
   )
 
@@ -330,7 +292,7 @@ module _ (machine : Machine) (ks : List ℕ) (count done : ℕ) (less : done < c
   stays-next used kept more out long at in_set out_set = (
     subst (λ m. AreUsed machine (among ks) m used) next-is
         (used-next machine (among ks) (among ks) at_turn used used inside refl (λ u above. refl)
-        (λ j. sym (ap (λ b. is_marked used j || (b && binds machine at_turn j)) out ∙ plain (is_marked used j)))
+        (λ j. sym (ap (λ b. is_marked used j || (b && binds machine at_turn j)) out ∙ or-false (is_marked used j)))
         (subst (λ m. AreUsed machine (among ks) m used) now-is in_set)),
     subst (λ m. AreUsed machine (λ u. not (among ks u)) m more) next-is
         (used-next machine (λ u. not (among ks u)) (λ u. not (among ks u)) at_turn kept more inside long (λ u above. refl)

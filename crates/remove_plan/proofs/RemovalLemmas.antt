@@ -1,7 +1,7 @@
 -- One pass from the youngest entry down gives the least set.
 use Rattle.std.proofs.Common.{◌≡◌, ◌≤◌, ◌<◌, ◌+◌, ◌-◌, ◌∙◌, ◌⊎◌, inl, inr, ℕ, zero, suc, Bool, true, false, List, [], ◌∷◌, ◌++◌, Option, Some, None, refl, sym, ap, subst, arith, length, cond}
-use Rattle.std.specs.Prelude.{◌&&◌, ◌||◌, not, filter, find, slice_get, is_none, nat_eq, nat_lt}
-use Rattle.std.specs.List.{list_any, range_with_len}
+use Rattle.std.specs.Prelude.{◌&&◌, ◌||◌, not, find, slice_get, is_none, nat_eq, nat_lt}
+use Rattle.std.specs.List.{list_any}
 use Rattle.std.specs.Option.{option_map_or}
 use Rattle.std.proofs.lemmas.Bool.{cases_Bool, false≢true, or_cases, or_parts, or_left, or_right}
 use Rattle.std.proofs.lemmas.Bool.Decides.{nat_tests}
@@ -10,7 +10,8 @@ use Rattle.model_loader.specs.declared.entry.Entry.{Entry}
 use Rattle.model_loader.specs.Machine.{Machine}
 use Rattle.model_loader.specs.Use.{binds, places, uses_entry}
 use Rattle.model_loader.proofs.PlaceLemmas.{in-place}
-use Rattle.remove_plan.specs.Removal.{AreFalling, AreRemoved, IsClosed, IsLeast, Places, RemovedAreLeast, RemovedAreOne, among, is_asked, is_used_only, members_below, removed, user_outside}
+use Rattle.remove_plan.specs.Removal.{AreFalling, IsClosed, IsLeast, Places, RemovedAreLeast, RemovedAreOne, among, is_asked, is_used_only, members_below, removed, user_outside}
+use Rattle.std.proofs.Math.Bool.{or-false}
 
 -- Tests of two values of which the second decides whether the first counts.
 and-same : (b c d : Bool) → (d ≡ true → b ≡ c) → (b && d) ≡ (c && d)
@@ -106,11 +107,7 @@ pushed-there ks k u is = among-push ks k u ∙ or_left (among ks u) (nat_eq k u)
 pub pushed-other : (ks : List ℕ) (k u : ℕ) → k < u → among (ks ++ k ∷ []) u ≡ among ks u
 pushed-other ks k u less =
     let other : nat_eq k u ≡ false = grind (arith, nat_tests) in
-    among-push ks k u ∙ ap (λ b. among ks u || b) other ∙ no_more (among ks u)
-  where
-    no_more : (b : Bool) → (b || false) ≡ b
-    no_more true = refl
-    no_more false = refl
+    among-push ks k u ∙ ap (λ b. among ks u || b) other ∙ or-false (among ks u)
 
 pub pushed-cases : (ks : List ℕ) (k u : ℕ) → among (ks ++ k ∷ []) u ≡ true → (among ks u ≡ true) ⊎ (k ≡ u)
 pushed-cases ks k u is =
@@ -256,7 +253,7 @@ removed-are-least machine names =
     record { least = least-removed machine (is_asked machine names) (asked-inside machine names); falling = (stage machine names).falling }
 
 -- Falling lists with the same members are the same.
-here-first : (k : ℕ) (ks : List ℕ) → among (k ∷ ks) k ≡ true
+pub here-first : (k : ℕ) (ks : List ℕ) → among (k ∷ ks) k ≡ true
 here-first k ks = or_left (nat_eq k k) (among ks k) (grind (arith, nat_tests))
 
 no-more : (l u : ℕ) (ls : List ℕ) → ((v : ℕ) → among ls v ≡ true → v < l) → among (l ∷ ls) u ≡ true → u ≤ l
