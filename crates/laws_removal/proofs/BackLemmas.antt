@@ -5,7 +5,6 @@ use Rattle.std.specs.List.{AllByRecursion, IsDistinct}
 use Rattle.std.specs.Option.{option_map_or}
 use Rattle.std.specs.Str.{bytes_eq}
 use Rattle.std.proofs.lemmas.Bool.{false≢true}
-use Rattle.std.proofs.lemmas.Slice.Eq.{bytes_eq-Decides}
 use Rattle.model_loader.specs.declared.entry.Entry.{Entry}
 use Rattle.model_loader.specs.declared.fault.LoadFault.{LoadFault}
 use Rattle.model_loader.specs.Machine.{Machine, new_machine}
@@ -21,16 +20,11 @@ use Rattle.laws_removal.specs.Loads.{added}
 use Rattle.laws_removal.proofs.LoadLemmas.{are-added, loads-undone}
 use Rattle.laws_removal.proofs.PassLemmas.{left-outside}
 use Rattle.laws_removal.proofs.UnloadedLemmas.{removals-are-unloaded, removed-fall}
+use Rattle.model_loader.proofs.ListedLemmas.{name_of, same-name}
 
 -- Where no two entries have one name, a name tells its place.
-abbrev name_of : Entry → List ℕ
-name_of e = e.loaded.name
-
 abbrev name_in : List Entry → ℕ → List ℕ
 name_in es k = option_map_or name_of (slice_get es k) []
-
-same-name : (x : List ℕ) → bytes_eq x x ≡ true
-same-name x = (bytes_eq-Decides x x).1 refl
 
 named-by : (P : List ℕ → Type 0) (es : List Entry) (k : ℕ) → k < length es → AllByRecursion P (map name_of es) → P (name_in es k)
 named-by P [] k less all = absurd (omega (arith, less))

@@ -1,5 +1,5 @@
 -- Loads are undone by taking the modules out, youngest first.
-use Rattle.std.proofs.Common.{◌≡◌, ◌∙◌, ◌≤◌, ◌<◌, ◌+◌, map, inl, inr, ℕ, false, List, [], ◌∷◌, ◌++◌, Option, Some, None, refl, sym, ap, subst, arith, length}
+use Rattle.std.proofs.Common.{◌≡◌, ◌∙◌, ◌≤◌, ◌<◌, ◌+◌, map, inl, inr, ℕ, false, List, [], ◌∷◌, ◌++◌, None, refl, sym, ap, subst, arith, length}
 use Rattle.std.specs.Prelude.{◌&&◌, nat_lt, reverse, slice_get, Result, Ok, Err}
 use Rattle.std.specs.List.{range_with_len}
 use Rattle.std.specs.Option.{option_map_or}
@@ -10,23 +10,16 @@ use Rattle.module_facts.specs.declared.module.Module.{Module}
 use Rattle.model_loader.specs.declared.entry.Entry.{Entry}
 use Rattle.model_loader.specs.declared.fault.LoadFault.{LoadFault}
 use Rattle.model_loader.specs.Machine.{Machine}
-use Rattle.model_loader.specs.Step.{entry_at, module_base, refusal, step, with_entry}
+use Rattle.model_loader.specs.Step.{entry_at, module_base, step, with_entry}
 use Rattle.model_loader.specs.Use.{AreUnused, IsUnused, name_at, uses_entry, without, without_all}
 use Rattle.laws_closed_plans.specs.Loads.{load_all, unless_refused}
-use Rattle.model_loader.proofs.PlaceLemmas.{falsely, length-pushed, new-last, old-stays, past, remove-last}
+use Rattle.model_loader.proofs.PlaceLemmas.{length-pushed, new-last, old-stays, past, remove-last}
 use Rattle.model_unload.specs.Unload.{AreFallingFrom, unload_all}
 use Rattle.model_unload.proofs.NameLemmas.{unused-are-unloaded}
 use Rattle.laws_removal.specs.Loads.{LoadsAreUndone, LoadsAreUnloaded, added}
 use Rattle.laws_closed_plans.specs.Binding.{names_of}
-
--- The machine after a load.
-step-next : (machine : Machine) (m : Module) (next : Machine) → step machine m ≡ Ok next → next ≡ with_entry machine (entry_at machine m (module_base machine m))
-unfolding step
-step-next machine m next is = go (refusal machine m) is
-  where
-    go : (r : Option LoadFault) → option_map_or Err r (Ok (with_entry machine (entry_at machine m (module_base machine m)))) ≡ Ok next → next ≡ with_entry machine (entry_at machine m (module_base machine m))
-    go None is = cc
-    go (Some fault) is = absurd cc
+use Rattle.std.proofs.Math.Bool.{and-false}
+use Rattle.laws_closed_plans.proofs.LoadLemmas.{step-next}
 
 -- The last entry is used by none.
 last-unused : (machine : Machine) (e : Entry) → IsUnused (with_entry machine e) (length machine.entries)
@@ -36,7 +29,7 @@ last-unused machine e k =
           let less : length machine.entries < k = grind (arith, nat_tests) in
           let none : slice_get (machine.entries ++ e ∷ []) k ≡ None = past (machine.entries ++ e ∷ []) k (omega (arith, less, length-pushed machine.entries e)) in
           ap (λ o. nat_lt (length machine.entries) k && option_map_or (λ user. option_map_or (uses_entry user) (slice_get (machine.entries ++ e ∷ []) (length machine.entries)) false) o false) none
-          ∙ falsely (nat_lt (length machine.entries) k)
+          ∙ and-false (nat_lt (length machine.entries) k)
       | inr below ↦ ap (λ b. b && option_map_or (λ user. option_map_or (uses_entry user) (slice_get (machine.entries ++ e ∷ []) (length machine.entries)) false) (slice_get (machine.entries ++ e ∷ []) k) false) below
     ]
 
@@ -75,7 +68,7 @@ loads-undone machine after (m ∷ ms) is = go (step machine m) refl is (λ mid. 
     go (Ok mid) at done later =
         let n = length machine.entries in
         let e = entry_at machine m (module_base machine m) in
-        let next : mid ≡ with_entry machine e = step-next machine m mid at in
+        let next : mid ≡ with_entry machine e = (step-next machine m mid at).is in
         let places : added (with_entry machine e) ms ≡ reverse (range_with_len (n + 1) (length ms)) = ap (λ k. reverse (range_with_len k (length ms))) (length-pushed machine.entries e) in
         let undone : Undone (with_entry machine e) after (reverse (range_with_len (n + 1) (length ms))) =
         subst (Undone (with_entry machine e) after) places (subst (λ (k : Machine). Undone k after (added k ms)) next (later mid done)) in
@@ -106,7 +99,7 @@ pub record AreAdded (machine after : Machine) (ms : List Module) (js : List ℕ)
   pub stays : (k : ℕ) → k < length machine.entries → slice_get after.entries k ≡ slice_get machine.entries k
   pub more : length machine.entries ≤ length after.entries
 
-entry-name : (machine : Machine) (m : Module) (base : ℕ) → (entry_at machine m base).loaded.name ≡ m.facts.name
+pub entry-name : (machine : Machine) (m : Module) (base : ℕ) → (entry_at machine m base).loaded.name ≡ m.facts.name
 unfolding entry_at
 entry-name machine m base = refl
 
@@ -140,7 +133,7 @@ are-added machine after (m ∷ ms) is = go (step machine m) refl is (λ mid. are
     go (Ok mid) at done later =
         let n = length machine.entries in
         let e = entry_at machine m (module_base machine m) in
-        let next : mid ≡ with_entry machine e = step-next machine m mid at in
+        let next : mid ≡ with_entry machine e = (step-next machine m mid at).is in
         let places : added (with_entry machine e) ms ≡ reverse (range_with_len (n + 1) (length ms)) = ap (λ k. reverse (range_with_len k (length ms))) (length-pushed machine.entries e) in
         let all : AreAdded (with_entry machine e) after ms (reverse (range_with_len (n + 1) (length ms))) =
         subst (AreAdded (with_entry machine e) after ms) places (subst (λ (k : Machine). AreAdded k after ms (added k ms)) next (later mid done)) in

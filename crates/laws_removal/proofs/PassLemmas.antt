@@ -9,17 +9,14 @@ use Rattle.km_names.specs.First.{first}
 use Rattle.model_loader.specs.declared.entry.Entry.{Entry}
 use Rattle.model_loader.specs.Machine.{Machine}
 use Rattle.model_loader.specs.Use.{AreUnused, binds, places, uses_entry, without, without_all}
-use Rattle.model_loader.proofs.PlaceLemmas.{above-cut, at-or-above, below-cut, in-place, none-within, none≢some}
+use Rattle.model_loader.proofs.PlaceLemmas.{above-cut, at-or-above, below-cut, in-place, none-within, none≢some, below-or-above}
 use Rattle.remove_plan.specs.Removal.{AreFalling, Places, among, items_outside, in_use, is_asked, outside, removed_by, used_member, user_outside}
-use Rattle.remove_plan.proofs.RemovalLemmas.{asked-inside, both-true, removed-are-least, removed-why, younger}
+use Rattle.remove_plan.proofs.RemovalLemmas.{asked-inside, both-true, removed-are-least, removed-why, younger, here-first}
 use Rattle.laws_removal.specs.Removals.{RemovalsPass}
 
 -- Whoever uses one of them is one of them.
 abbrev OwnUsers : Machine → List ℕ → Type 0
 OwnUsers machine ks = (k u : ℕ) → among ks k ≡ true → binds machine u k ≡ true → among ks u ≡ true
-
-head-there : (k : ℕ) (ks : List ℕ) → among (k ∷ ks) k ≡ true
-head-there k ks = or_left (nat_eq k k) (among ks k) (grind (arith, nat_tests))
 
 abbrev used_by : Option Entry → Option Entry → Bool
 used_by user other = option_map_or (λ u. option_map_or (uses_entry u) other false) user false
@@ -40,9 +37,6 @@ bound-above machine k j u low le is =
     ∙ ap (λ o. nat_lt j u && used_by (slice_get (remove machine.entries k) u) o) (sym (below-cut machine.entries k j low))
     ∙ is
 
-where-is : (u k : ℕ) → (u < k) ⊎ (k ≤ u)
-where-is u k = grind arith
-
 pass : (machine : Machine) (ks : List ℕ) → AreFalling ks → OwnUsers machine ks → AreUnused machine ks
 pass machine [] fall own = tt
 pass machine (k ∷ ks) fall own = (
@@ -51,7 +45,7 @@ pass machine (k ∷ ks) fall own = (
         | inl is ↦
             let less = younger machine u k is in
             absurd
-            (elim (or_cases (nat_eq k u) (among ks u) (own k u (head-there k ks) is)) [
+            (elim (or_cases (nat_eq k u) (among ks u) (own k u (here-first k ks) is)) [
               | inl same ↦ let e : k ≡ u = grind (arith, nat_tests) in omega (arith, less, e)
               | inr member ↦ omega (arith, less, fall.0 u member)
             ])
@@ -60,7 +54,7 @@ pass machine (k ∷ ks) fall own = (
   pass (without machine k) ks fall.1
       (λ j u member is.
       let low : j < k = fall.0 j member in
-      elim (where-is u k) [
+      elim (below-or-above u k) [
         | inl less ↦
             elim (or_cases (nat_eq k u) (among ks u) (own j u (or_right (nat_eq k j) (among ks j) member) (bound-below machine k j u low less is))) [
               | inl same ↦ absurd (let e : k ≡ u = grind (arith, nat_tests) in omega (arith, less, e))

@@ -11,7 +11,7 @@ use Rattle.model_loader.specs.Sound.{IsSound}
 use Rattle.model_loader.specs.Use.{AreUnused, binds, places, without, without_all}
 use Rattle.model_loader.proofs.UseLemmas.{sound-without}
 use Rattle.model_unload.specs.Unload.{AreFallingFrom}
-use Rattle.model_unload.proofs.NameLemmas.{unused-are-unloaded}
+use Rattle.model_unload.proofs.NameLemmas.{unused-are-unloaded, fall-less}
 use Rattle.remove_plan.specs.Removal.{AreFalling, among, items_outside, removed_by, user_outside}
 use Rattle.remove_plan.proofs.RemovalLemmas.{asked-inside, both-true, removed-are-least, removed-why, younger}
 use Rattle.laws_removal.specs.Removals.{RemovalsAreUnloaded, RemovalsStaySound}
@@ -22,7 +22,7 @@ falling-from n [] fall small = tt
 falling-from n (k ∷ ks) fall small =
     (small k (or_left (nat_eq k k) (among ks k) (grind (arith, nat_tests))), falling-from k ks fall.1 fall.0)
 
-some-passes : (p : ℕ → Bool) (ks : List ℕ) → list_any p ks ≡ true → (k : ℕ) × (p k ≡ true)
+pub some-passes : (p : ℕ → Bool) (ks : List ℕ) → list_any p ks ≡ true → (k : ℕ) × (p k ≡ true)
 some-passes p [] is = absurd (false≢true is)
 some-passes p (k ∷ ks) is =
     elim (or_cases (p k) (list_any p ks) is) [ inl here ↦ (k, here) | inr later ↦ some-passes p ks later ]
@@ -49,10 +49,6 @@ removals-are-unloaded machine names distinct free =
     unused-are-unloaded machine ks distinct (removed-fall machine names) passed.0 ∙ ap Ok passed.1
 
 -- A sound machine stays sound.
-fall-less : (n m : ℕ) (ks : List ℕ) → n ≤ m → AreFallingFrom n ks → AreFallingFrom m ks
-fall-less n m [] le fall = tt
-fall-less n m (k ∷ ks) le fall = (omega (arith, le, fall.0), fall.1)
-
 sound-all : (machine : Machine) (ms : List Module) (ks : List ℕ) → AreFallingFrom (length machine.entries) ks → AreUnused machine ks → IsSound machine ms → IsSound (without_all machine ks) (remove_all ms ks)
 sound-all machine ms [] fall unused sound = sound
 sound-all machine ms (k ∷ ks) fall unused sound =
