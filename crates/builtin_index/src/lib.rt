@@ -1,5 +1,5 @@
 //! The modules that are built into the kernel, by the file modules.builtin.modinfo that the
-//! kernel's build leaves: all their fields, the map of their aliases, and its index
+//! kernel's build leaves. It has all their fields, the map of their aliases, and its index
 //! modules.builtin.alias.bin.
 //!
 //! The file has pieces `MODULE.KEY=VALUE`, each ended by a NUL: the contents of a module's section

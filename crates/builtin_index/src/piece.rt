@@ -38,8 +38,8 @@ fn split_once(text: &[u8], byte: u8) -> Option<(&[u8], &[u8])>
     Some(split_at_byte(text, byte))
 }
 
-/// Reads the parts of a piece between NULs, if it is a field: it has a `.` before its first `=`,
-/// and the text before the first `.` is a word of visible characters.
+/// Reads the parts of a piece between NULs, if it is a field. A field has a `.` before its first
+/// `=`, and the text before the first `.` is a word of visible characters.
 #[tactic(auto, unfolding(crate::specs::Fields::field_of))]
 pub(crate) fn read_parts(piece: &[u8]) -> Option<Parts<'_>>
     ensures field { option_map field_shown result ≡ field_of piece.now }

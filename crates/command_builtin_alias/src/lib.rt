@@ -1,7 +1,8 @@
-//! The command `builtin-alias`: its course, and the function that follows it. The command is this project's own.
+//! The command `builtin-alias`: its course, and the function that follows it. The command is this
+//! project's own.
 //!
-//! It stands on `kmod_words` for what the words ask for, on `stages_files` for the index that it reads, on `index_read` for
-//! the lookup, and on `name_table` for names without repeats.
+//! It builds on `kmod_words` for what the words ask for, on `stages_files` for the index that it
+//! reads, on `index_read` for the lookup, and on `name_table` for names without repeats.
 #![tactic(auto)]
 
 mod course;

@@ -1,4 +1,5 @@
--- The lines of a removal. modprobe(8), -r; those of what is unloaded and what is left are this project's own.
+-- The lines of a removal. modprobe(8), -r. The lines of what is unloaded and what is left are this
+-- project's own.
 use Rattle.std.specs.Prelude.{ℕ, List, [], ◌∷◌, ◌++◌, codes}
 use Rattle.std.specs.List.{flat_map}
 use Rattle.model_loader.specs.declared.entry.Entry.{Entry}

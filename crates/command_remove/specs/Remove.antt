@@ -88,8 +88,8 @@ abbrev pub unloads_unless : Bool → Machine → List RemoveStep → Stage ⊤
 unloads_unless true machine steps = gives tt
 unloads_unless false machine steps = unloads_all machine steps
 
--- No step of a removal is refused: the modules of the steps can be taken out one after the other, and in the machine that
--- is left no two modules have one name.
+-- No step of a removal is refused. The modules of the steps can be taken out one after the other,
+-- and in the machine that is left no two modules have one name.
 pub record CanBeTakenOut (machine : Machine) (steps : List RemoveStep) : Type 0 where
   pub left : Machine
   pub unloads : unload_all machine (map step_name steps) ≡ Ok left
@@ -106,7 +106,7 @@ removal_of dry_run asked = record {
   dry_run = dry_run;
 }
 
--- The steps are said, unless one runs a command that is chosen, and carried out.
+-- The steps are printed, unless one runs a command that is chosen, and carried out.
 abbrev pub carries_out : Bool → Machine → List RemoveStep → Stage ⊤
 carries_out dry_run machine steps = do
   passed ← given (chosen_outcome dry_run steps)

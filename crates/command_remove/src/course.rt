@@ -39,8 +39,8 @@ pub struct Removal {
 }
 
 /// Prints the steps that take the modules of the requested names out of the modelled machine of the
-/// modules that are listed as loaded, and takes them out, unless it is a dry run. Then it prints a
-/// line for each module that is left. A removal that runs a command is refused. modprobe(8), `-r`.
+/// listed modules. Unless it is a dry run, it takes them out, and then prints a line for each
+/// module that is left. A removal that runs a command is refused. modprobe(8), `-r`.
 pub fn remove<F: Reads, O: Out>(
     alloc: Global,
     dry_run: bool,
@@ -96,7 +96,7 @@ fn remove_from<F: Reads, O: Out>(
     }
 }
 
-/// Loads the listed modules, and removes those of the names.
+/// Loads the listed modules, and removes the modules of the names.
 fn remove_listed<F: Reads, O: Out>(
     alloc: Global,
     folder: &PathText,

@@ -23,7 +23,7 @@ use std::alloc::{AllocError, Global};
 /// The bytes of an offset.
 const OFFSET_SIZE: usize = 4;
 
-/// A node to which the reader comes: its offset, and the place below which it has to stand.
+/// A node that the reader visits: its offset, and the place below which it has to be.
 #[derive(Clone, Copy)]
 pub(crate) struct Visit {
     pub(crate) above: usize,
@@ -41,8 +41,8 @@ pub(crate) struct Pending {
     pub(crate) left: usize,
 }
 
-/// Whether this number stands at a place. Its last byte isn't 0, so it doesn't where the file ends
-/// before.
+/// Returns whether this number is at a place. Its last byte isn't 0, so it isn't there if the file
+/// ends before.
 fn has_number(bytes: &[u8], at: usize, number: u32) -> bool
     requires place { at ≤ 4 }
     requires last { 0 < number % 256 }
@@ -77,7 +77,7 @@ fn children_of(bytes: &[u8], node: &Node) -> Pending
     }
 }
 
-/// Whether a node has a field.
+/// Returns whether a node has a field.
 fn has_field(link: u32) -> bool
     ensures { result ≡ (has_prefix link || (has_values link || has_children link)) }
 {
@@ -319,7 +319,7 @@ fn check_nodes(alloc: Global, bytes: &[u8], ends: &TextEnds) -> Result<(), Index
     }
 }
 
-/// Whether the bytes are an index: the tests of the reader, in their order.
+/// Checks that the bytes are an index, by the tests of the reader in their order.
 pub(crate) fn check(alloc: Global, bytes: &[u8], ends: &TextEnds) -> Result<(), IndexFault>
     requires { AreTextEnds bytes.now ends.now }
     ensures fault { IfErr result (IsFirstFault (index_fault bytes.now)) }

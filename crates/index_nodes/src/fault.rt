@@ -15,7 +15,7 @@ pub enum IndexFault {
     /// The file is of another version of the format than 2.1.
     #[error("bad index version")]
     BadVersion,
-    /// The node at `offset` isn't whole, or doesn't stand below the one that leads to it.
+    /// The node at `offset` isn't whole, or isn't below the one that leads to it.
     #[error("bad index node at {offset}")]
     BadNode { offset: u32 },
     /// Two ways lead to the node at `offset`.
@@ -51,7 +51,7 @@ impl<T: Drop> From<AllocFailed<T>> for IndexFault {
 impl IndexFault {
     ghost use Rattle.index_nodes.specs.Faults.{index_fault_text};
 
-    /// The text of the fault, as it stands in a line on standard error.
+    /// Returns the text of the fault, as a line on standard error has it.
     pub fn text(&self, alloc: Global) -> Result<Blob, AllocError>
         ensures { IfOk result (λ text. text ≡ index_fault_text self.now) }
     {

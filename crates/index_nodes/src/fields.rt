@@ -1,4 +1,4 @@
-// Where the fields of a node stand, and whether they are whole.
+// Where the fields of a node are, and whether they are whole.
 ghost use Rattle.std.specs.Prelude.{◌≡◌, ◌≤◌, ◌<◌, ◌^◌, ◌&&◌, length, drop, MatchOption, IfOk, true, false};
 ghost use Rattle.index_format.specs.Link.{place_of};
 ghost use Rattle.index_format.specs.Node.{after_prefix};
@@ -20,7 +20,7 @@ const LAST_BYTE: u8 = 127;
 /// The bytes of the count of values.
 const COUNT_SIZE: usize = 4;
 
-/// The place of the node to which an offset leads.
+/// Returns the place of the node to which an offset leads.
 pub(crate) fn place(link: u32) -> u32
     ensures place { result ≡ place_of link }
     ensures low { result < 2 ^ 28 }
@@ -28,7 +28,7 @@ pub(crate) fn place(link: u32) -> u32
     link & PLACE_MASK
 }
 
-/// Where the prefix of a node ends. None where it isn't whole.
+/// Returns where the prefix of a node ends, or `None` if it isn't whole.
 fn prefix_end(bytes: &[u8], ends: &TextEnds, link: u32) -> Option<usize>
     requires ends { AreTextEnds bytes.now ends.now }
     requires within { place_of link ≤ length bytes.now }
@@ -47,7 +47,8 @@ fn prefix_end(bytes: &[u8], ends: &TextEnds, link: u32) -> Option<usize>
     }
 }
 
-/// Where the children of a node end, which stand from a place on. None where they aren't whole.
+/// Returns where the children of a node end, which begin at a place, or `None` if they aren't
+/// whole.
 fn children_end(bytes: &[u8], link: u32, start: usize) -> Option<usize>
     requires within { start ≤ length bytes.now }
     requires start { drop start bytes.now ≡ after_prefix bytes.now link }
@@ -74,7 +75,7 @@ fn children_end(bytes: &[u8], link: u32, start: usize) -> Option<usize>
     }
 }
 
-/// The node to which an offset leads. None where its prefix or its children aren't whole.
+/// Returns the node to which an offset leads, or `None` if its prefix or its children aren't whole.
 pub(crate) fn node_at(bytes: &[u8], ends: &TextEnds, link: u32) -> Option<Node>
     requires ends { AreTextEnds bytes.now ends.now }
     requires within { place_of link ≤ length bytes.now }
@@ -91,7 +92,7 @@ pub(crate) fn node_at(bytes: &[u8], ends: &TextEnds, link: u32) -> Option<Node>
     })
 }
 
-/// Whether the values of a node are whole.
+/// Returns whether the values of a node are whole.
 pub(crate) fn has_whole_values(
     bytes: &[u8],
     node: &Node,

@@ -16,7 +16,7 @@ impl Model for NodeRef {
     ghost inverse = { λ n. record { link = n } };
 }
 
-/// A node that was read: the offset that leads to it, and where its children and its values stand.
+/// A node that was read: the offset that leads to it, and where its children and its values are.
 #[derive(Clone, Copy)]
 pub struct Node {
     pub(crate) link: u32,

@@ -54,7 +54,7 @@ impl Nodes {
         Ok(Nodes { bytes, ends })
     }
 
-    /// The name of the root.
+    /// Returns the name of the root.
     pub fn root(&self) -> NodeRef
         ensures root { result ≡ root self.now }
         ensures node { IsNode self.now result }
@@ -65,7 +65,7 @@ impl Nodes {
         }
     }
 
-    /// The node of a name. It is one step.
+    /// Reads the node of a name. It is one step.
     pub fn node<L: Ledger>(&self, at: &NodeRef, steps: &mut Steps<L>) -> Node
         requires { IsNode self.now at.now }
         ensures node { IsNodeOf self.now result }
@@ -76,7 +76,7 @@ impl Nodes {
         node_at(self.bytes.as_bytes(), &self.ends, at.link).unwrap()
     }
 
-    /// The prefix of a node, empty where it has none.
+    /// Returns the prefix of a node, which may be empty.
     pub fn prefix(&self, node: &Node) -> &[u8]
         requires { IsNodeOf self.now node.now }
         ensures { result.now ≡ prefix self.now (link_of node.now) }
@@ -84,7 +84,8 @@ impl Nodes {
         prefix_of(self.bytes.as_bytes(), node)
     }
 
-    /// The name of the child of a node for a byte. None exactly where that child is absent.
+    /// Returns the name of the child of a node for a byte, or `None` exactly if that child is
+    /// absent.
     pub fn child(&self, node: &Node, byte: u8) -> Option<NodeRef>
         requires { IsNodeOf self.now node.now }
         ensures none { IfNone result (child self.now (link_of node.now) byte ≡ None) }
@@ -95,8 +96,8 @@ impl Nodes {
         Some(NodeRef { link })
     }
 
-    /// The first child of a node for a byte from `from` on: its byte and its name. None exactly
-    /// where there is no such child.
+    /// Returns the first child of a node for a byte from `from` on, by its byte and its name, or
+    /// `None` exactly if there is no such child.
     pub fn next_child(&self, node: &Node, from: u8) -> Option<(u8, NodeRef)>
         requires { IsNodeOf self.now node.now }
         ensures none { IfNone result ((byte : ℕ) → from ≤ byte → child self.now (link_of node.now) byte ≡ None) }
@@ -110,7 +111,7 @@ impl Nodes {
         Some((byte, NodeRef { link }))
     }
 
-    /// The place of a node's first value. None exactly where it has no value.
+    /// Returns the place of a node's first value, or `None` exactly if it has no value.
     pub fn first_value(&self, node: &Node) -> Option<Place>
         requires { IsNodeOf self.now node.now }
         ensures none { IfNone result (values self.now (link_of node.now) ≡ []) }
@@ -121,8 +122,8 @@ impl Nodes {
         first_place(self.bytes.as_bytes(), node)
     }
 
-    /// The place of the value after another one. None exactly where that one is the last of its
-    /// node.
+    /// Returns the place of the value after another one, or `None` exactly if that one is the last
+    /// of its node.
     pub fn next_value(&self, at: &Place) -> Option<Place>
         requires { IsPlaceOf self.now at.now }
         ensures none { IfNone result (values_left self.now at.now ≡ value_at self.now at.now ∷ []) }
@@ -132,7 +133,7 @@ impl Nodes {
         next_place(self.bytes.as_bytes(), at)
     }
 
-    /// The text of the value at a place.
+    /// Returns the text of the value at a place.
     pub fn text(&self, at: &Place) -> &[u8]
         requires { IsPlaceOf self.now at.now }
         ensures { result.now ≡ (value_at self.now at.now).1 }

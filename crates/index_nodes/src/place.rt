@@ -10,7 +10,7 @@ pub struct Place {
 }
 
 impl Place {
-    /// The priority of the value.
+    /// Returns the priority of the value.
     pub fn priority(&self) -> u32
         ensures { result ≡ priority_of self.now }
     {

@@ -1,4 +1,4 @@
-// What stands in the fields of a sound node.
+// What the fields of a sound node have.
 ghost use Rattle.std.specs.Prelude.{◌≡◌, ◌+◌, ◌≤◌, ◌<◌, ◌∷◌, [], ℕ, length, drop, true, Some, None, IfNone, IfSome, MatchOption, slice_get};
 ghost use Rattle.index_format.specs.Link.{has_children};
 ghost use Rattle.index_format.specs.Node.{prefix, child, values, first_byte, last_byte};
@@ -16,7 +16,7 @@ use km_names::{be_u32_at, split_at_byte};
 /// The bytes of a number.
 const NUMBER_SIZE: usize = 4;
 
-/// The prefix of a node.
+/// Returns the prefix of a node.
 pub(crate) fn prefix_of<'b>(bytes: &'b [u8], node: &Node) -> &'b [u8]
     requires { HasFields bytes.now node.now }
     ensures { result.now ≡ prefix bytes.now node.now.link }
@@ -28,7 +28,8 @@ pub(crate) fn prefix_of<'b>(bytes: &'b [u8], node: &Node) -> &'b [u8]
     &bytes[start..node.children - 1]
 }
 
-/// The first and the last byte for which a node has offsets of children. None where it has no children.
+/// Returns the first and the last byte for which a node has offsets of children, or `None` if it
+/// has no children.
 pub(crate) fn range_of(bytes: &[u8], node: &Node) -> Option<(u8, u8)>
     requires fields { HasFields bytes.now node.now }
     requires fit { children_fit bytes.now node.now.link ≡ true }
@@ -46,7 +47,7 @@ pub(crate) fn range_of(bytes: &[u8], node: &Node) -> Option<(u8, u8)>
     }
 }
 
-/// The offset of the child of a node for a byte.
+/// Returns the offset of the child of a node for a byte.
 pub(crate) fn child_link(bytes: &[u8], node: &Node, byte: u8) -> Option<u32>
     requires fields { HasFields bytes.now node.now }
     requires fit { children_fit bytes.now node.now.link ≡ true }
@@ -61,7 +62,7 @@ pub(crate) fn child_link(bytes: &[u8], node: &Node, byte: u8) -> Option<u32>
     if place(link) == 0 { None } else { Some(link) }
 }
 
-/// The first child of a node for a byte from `from` on, with its byte.
+/// Returns the first child of a node for a byte from `from` on, with its byte.
 pub(crate) fn next_link(bytes: &[u8], node: &Node, from: u8) -> Option<(u8, u32)>
     requires fields { HasFields bytes.now node.now }
     requires fit { children_fit bytes.now node.now.link ≡ true }
@@ -80,7 +81,7 @@ pub(crate) fn next_link(bytes: &[u8], node: &Node, from: u8) -> Option<(u8, u32)
     None
 }
 
-/// The place of a value from which so many values are left. None where that is none.
+/// Returns the place of a value from which so many values are left, or `None` if none is left.
 fn place_at(bytes: &[u8], start: usize, left: u32) -> Option<Place>
     requires within { start ≤ length bytes.now }
     requires whole { whole_values left (drop start bytes.now) ≡ true }
@@ -99,7 +100,7 @@ fn place_at(bytes: &[u8], start: usize, left: u32) -> Option<Place>
     })
 }
 
-/// The place of a node's first value.
+/// Returns the place of a node's first value.
 pub(crate) fn first_place(bytes: &[u8], node: &Node) -> Option<Place>
     requires fields { HasFields bytes.now node.now }
     requires fit { values_fit bytes.now node.now.link ≡ true }
@@ -115,7 +116,7 @@ pub(crate) fn first_place(bytes: &[u8], node: &Node) -> Option<Place>
     place_at(bytes, node.values + NUMBER_SIZE, count)
 }
 
-/// The text of the value at a place.
+/// Returns the text of the value at a place.
 pub(crate) fn text_at<'b>(bytes: &'b [u8], at: &Place) -> &'b [u8]
     requires { IsPlaceOf bytes.now at.now }
     ensures text { result.now ≡ (value_at bytes.now at.now).1 }
@@ -125,7 +126,7 @@ pub(crate) fn text_at<'b>(bytes: &'b [u8], at: &Place) -> &'b [u8]
     text
 }
 
-/// The place of the value after another one.
+/// Returns the place of the value after another one.
 pub(crate) fn next_place(bytes: &[u8], at: &Place) -> Option<Place>
     requires { IsPlaceOf bytes.now at.now }
     ensures none { IfNone result (values_left bytes.now at.now ≡ value_at bytes.now at.now ∷ []) }

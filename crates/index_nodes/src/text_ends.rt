@@ -14,15 +14,15 @@ const BLOCK: usize = 256;
 /// How many bytes are looked at together before a search. Nearly all prefixes are shorter.
 const NEAR: usize = 32;
 
-/// Where the texts of a file end, each before its first NUL or at the end of the file: for every
-/// block of the file the end of the text that begins with it. So the end of any text is found
-/// within one block, however many texts share it.
+/// Where the texts of a file end, each before its first NUL or at the end of the file. For every
+/// block of the file it has the end of the text that begins with the block. So the end of any text
+/// is found within one block, however many texts share it.
 #[derive(Drop)]
 pub(crate) struct TextEnds {
     pub(crate) ends: Vec<usize>,
 }
 
-/// Where a block of a file begins, the end of the file where that is before.
+/// Returns where a block of a file begins, or the end of the file if that is before.
 fn start_of(bytes: &[u8], block: usize) -> usize
     requires { block ≤ length bytes.now / BLOCK + 1 }
     ensures { result ≡ block_start bytes.now block }
@@ -53,7 +53,7 @@ fn near_nul(bytes: &[u8]) -> Option<usize>
     Some(found.trailing_zeros() as usize)
 }
 
-/// Where the first NUL stands.
+/// Finds the first NUL.
 fn first_nul(bytes: &[u8]) -> Option<usize>
     ensures { IsFirstByte (is_byte 0) bytes.now result }
 {
@@ -63,7 +63,7 @@ fn first_nul(bytes: &[u8]) -> Option<usize>
     }
 }
 
-/// Where the text from `start` on ends, by the end of that from a later place on.
+/// Returns where the text from `start` on ends, by the end of the text from a later place on.
 fn earlier_end(bytes: &[u8], start: usize, later: usize, later_end: usize) -> usize
     requires order { start ≤ later }
     requires within { later ≤ length bytes.now }
@@ -77,7 +77,7 @@ fn earlier_end(bytes: &[u8], start: usize, later: usize, later_end: usize) -> us
 }
 
 impl TextEnds {
-    /// The ends of the texts of these bytes.
+    /// Finds the ends of the texts of these bytes.
     pub(crate) fn new(alloc: Global, bytes: &[u8]) -> Result<TextEnds, AllocError>
         ensures { IfOk result (AreTextEnds bytes.now) }
     {

@@ -17,7 +17,7 @@ pub(crate) struct ValueStarts {
     pub(crate) last: Vec<usize>,
 }
 
-/// The last place from which a value ends before `limit`. None where there is none.
+/// Finds the last place from which a value ends before `limit`, or `None` if there is none.
 fn last_start(bytes: &[u8], limit: usize) -> Option<usize>
     requires { limit ≤ length bytes.now }
     ensures { MatchOption result ((k : ℕ) → 4 ≤ k → k < limit → slice_index bytes.now k ≢ 0)
@@ -29,7 +29,7 @@ fn last_start(bytes: &[u8], limit: usize) -> Option<usize>
 }
 
 impl ValueStarts {
-    /// The places of a file, of which none but that of no values is known.
+    /// Begins with the place for no values, which is the only one that is known.
     pub(crate) fn new(alloc: Global, bytes: &[u8]) -> Result<ValueStarts, AllocError>
         ensures { IfOk result (AreValueStarts bytes.now) }
     {
@@ -38,7 +38,7 @@ impl ValueStarts {
         Ok(ValueStarts { last })
     }
 
-    /// Whether so many values are whole from a place on.
+    /// Returns whether so many values are whole from a place on.
     pub(crate) fn are_whole(
         &mut self,
         bytes: &[u8],

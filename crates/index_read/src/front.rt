@@ -10,15 +10,15 @@ use glob_match::matches;
 use index_nodes::{Node, Nodes};
 use std::alloc::AllocError;
 
-/// Whether a byte of a pattern stands for others than itself.
+/// Returns whether a byte of a pattern can match other bytes than itself.
 fn is_special(byte: u8) -> bool
     ensures { result ≡ is_special_byte byte }
 {
     byte == b'*' || byte == b'?' || byte == b'['
 }
 
-/// How many bytes at the front of a key are plain and those of the text, where so many are known to
-/// be.
+/// Counts the bytes at the front of a key that are plain and agree with the text. The first `known`
+/// of them are known to.
 pub(crate) fn agreed_length(key: &[u8], text: &[u8], known: usize) -> usize
     requires { Agrees key.now text.now known }
     ensures agrees { Agrees key.now text.now result }
@@ -35,16 +35,16 @@ pub(crate) fn agreed_length(key: &[u8], text: &[u8], known: usize) -> usize
     agreed
 }
 
-/// Whether a key of which so many bytes agree, or one that begins with it, may match the text.
-/// Where the next byte is plain, none does.
+/// Returns whether a key with so many agreeing bytes, or one that begins with it, may match the
+/// text. If the next byte is plain, none does.
 pub(crate) fn may_match(key: &[u8], agreed: usize) -> bool
     ensures { result ≡ may_match_after key.now agreed }
 {
     agreed >= key.len() || is_special(key[agreed])
 }
 
-/// Whether a node has values and its key, of which so many bytes agree, matches the text. The bytes
-/// that agree aren't read again, and there has to be room for the others.
+/// Returns whether a node has values, and its key, with so many agreeing bytes, matches the text.
+/// The bytes that agree aren't read again, and the others have to fit into the room.
 pub(crate) fn is_wanted(
     nodes: &Nodes,
     node: &Node,

@@ -43,8 +43,8 @@ impl Index {
         Ok(Index { nodes })
     }
 
-    /// The place of the first value of a key. None exactly where the key has no value. It reads the
-    /// nodes of the key's walk, at most one more than the key has bytes.
+    /// Finds the place of the first value of a key, or `None` exactly if the key has no value. It
+    /// reads the nodes of the key's walk, at most one more than the key has bytes.
     pub fn find_one<L: Ledger>(&self, key: &[u8], steps: &mut Steps<L>) -> Option<Place>
         ensures none { IfNone result (at self.now.nodes (root self.now.nodes) key.now ≡ []) }
         ensures first { IfSome result (λ place. slice_get (at self.now.nodes (root self.now.nodes) key.now) 0 ≡ Some (value_at self.now.nodes place)) }
@@ -57,7 +57,7 @@ impl Index {
         self.nodes.first_value(&node)
     }
 
-    /// The text of the value at a place.
+    /// Returns the text of the value at a place.
     pub fn text(&self, at: &Place) -> &[u8]
         requires { IsPlaceOf self.now.nodes at.now }
         ensures { result.now ≡ (value_at self.now.nodes at.now).1 }
@@ -65,8 +65,8 @@ impl Index {
         self.nodes.text(at)
     }
 
-    /// All values of a key, in their order. It reads the nodes of the key's walk, at most one more
-    /// than the key has bytes.
+    /// Finds all values of a key, in their order. It reads the nodes of the key's walk, at most one
+    /// more than the key has bytes.
     pub fn find<L: Ledger>(
         &self,
         alloc: Global,
@@ -88,13 +88,13 @@ impl Index {
         Ok(Values::from_vec(found))
     }
 
-    /// All keys, each with its values, by the bytes of the keys and then by place. Each node is
-    /// read once.
+    /// Lists all keys, each with its values, by the bytes of the keys and then by place. Each node
+    /// is read at most once.
     ///
     /// # Errors
     ///
-    /// Out of memory, also where the list would take more than 268,435,456 bytes, or where the
-    /// prefixes of nodes that stand in one another have more together.
+    /// Out of memory, also if the list would take more than 268,435,456 bytes, or if the prefixes
+    /// of nodes that overlap have more together.
     pub fn all<L: Ledger>(&self, alloc: Global, steps: &mut Steps<L>) -> Result<Pairs, AllocError>
         ensures listing { IfOk result (λ found. IsListing (at self.now.nodes (root self.now.nodes)) (shown_pairs found)) }
         ensures map { (m : KeyValues) → Holds self.now.nodes m → IfOk result (λ found. IsListing (values_of m) (shown_pairs found)) }
@@ -113,14 +113,13 @@ impl Index {
         Ok(Pairs::from_vec(found))
     }
 
-    /// The values of every key that as a pattern matches the text: by rising priority, then by the
-    /// bytes of the key, then by place. Each node is read at most once.
+    /// Finds the values of every key that as a pattern matches the text: by rising priority, then
+    /// by the bytes of the key, then by place. Each node is read at most once.
     ///
     /// # Errors
     ///
-    /// Out of memory, also where the list would take more than 268,435,456 bytes, or where the
-    /// keys that are matched, or the prefixes of nodes that stand in one another, have more
-    /// together.
+    /// Out of memory, also if one of these takes more than 268,435,456 bytes: the list, the keys
+    /// that are matched together, or the prefixes of nodes that overlap together.
     pub fn wild<L: Ledger>(
         &self,
         alloc: Global,
@@ -137,7 +136,8 @@ impl Index {
         Ok(Values::from_vec(found))
     }
 
-    /// The values of every key that matches the text, by the bytes of the key and then by place.
+    /// Returns the values of every key that matches the text, by the bytes of the key and then by
+    /// place.
     fn matching<L: Ledger>(
         &self,
         alloc: Global,

@@ -3,13 +3,17 @@
 //!
 //! [`Index`] keeps the nodes of an adopted file and nothing beside them. A lookup of one key walks
 //! from the root and reads exactly the nodes of that walk, in time linear in the key and the values
-//! that it answers; the others read each node at most once and keep the levels that they are on in
-//! a vector. A small file may stand for a map of any size: so they count the bytes of the list that
-//! they answer, of the prefixes that they go over and of the keys that they match, and are out of
-//! memory past 268,435,456. Each node that is read is a step on the ledger that the caller gives;
-//! the lookups of [`plain`] count nothing. The crate stands on `index_nodes`, which reads the
-//! nodes, on `glob_match` for the patterns, and on `km_names` for bytes and lists; `IndexFault`,
-//! `Place` and `Steps` are those of `index_nodes`.
+//! that it answers. The others read each node at most once, and keep the levels that they are on in
+//! a vector.
+//!
+//! A small file may have a map of any size. So the lookups in all keys count the bytes of the list
+//! that they answer, of the prefixes that they go over, and of the keys that they match. Past
+//! 268,435,456 they are out of memory.
+//!
+//! Each node that is read is a step on the ledger that the caller gives; the lookups of [`plain`]
+//! count nothing. The crate builds on `index_nodes`, which reads the nodes, on `glob_match` for the
+//! patterns, and on `km_names` for bytes and lists. `IndexFault`, `Place` and `Steps` come from
+//! `index_nodes`.
 #![tactic(auto)]
 
 mod front;

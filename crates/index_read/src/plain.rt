@@ -16,7 +16,7 @@ use std::alloc::{AllocError, Global};
 use std::marker::Brand;
 use std::sync::ledger::{Blank, Ledger};
 
-/// Whether the index has a value of the key.
+/// Returns whether the index has a value of the key.
 pub fn has_value(index: &Index, key: &[u8]) -> bool
     ensures { result ≡ has_value_of (contents index.now.nodes) key.now }
 {
@@ -33,7 +33,7 @@ fn has_value_over<L: Ledger>(index: &Index, key: &[u8], blank: Blank) -> bool
     index.find_one(key, &mut steps).is_some()
 }
 
-/// The text of the first value of the key. None exactly where the key has no value.
+/// Finds the text of the first value of the key, or `None` exactly if the key has no value.
 pub fn first_text<'a>(index: &'a Index, key: &[u8]) -> Option<&'a [u8]>
     ensures reached { option_copied result ≡ text_of_first (at index.now.nodes (root index.now.nodes) key.now) }
     ensures held { option_copied result ≡ text_of_first (values_of (contents index.now.nodes) key.now) }
@@ -53,7 +53,7 @@ fn first_text_over<'a, L: Ledger>(index: &'a Index, key: &[u8], blank: Blank) ->
     Some(index.text(&place))
 }
 
-/// All values of the key, in their order.
+/// Finds all values of the key, in their order.
 ///
 /// # Errors
 ///
@@ -79,8 +79,8 @@ fn values_over<L: Ledger>(
     index.find(alloc, key, &mut steps)
 }
 
-/// The values of every key that as a pattern matches the text: by rising priority, then by the
-/// bytes of the key, then by place.
+/// Finds the values of every key that as a pattern matches the text: by rising priority, then by
+/// the bytes of the key, then by place.
 ///
 /// # Errors
 ///
@@ -106,7 +106,7 @@ fn matching_over<L: Ledger>(
     index.wild(alloc, text, &mut steps)
 }
 
-/// All keys, each with its values, by the bytes of the keys and then by place.
+/// Lists all keys, each with its values, by the bytes of the keys and then by place.
 ///
 /// # Errors
 ///

@@ -8,7 +8,7 @@ ghost use Rattle.index_nodes.specs.Fields.{link_of, IsNodeOf};
 use index_nodes::{Node, Nodes, Steps};
 use std::sync::ledger::Ledger;
 
-/// What is left of a key after a prefix. None where it doesn't begin with the prefix.
+/// Returns what is left of a key after a prefix, or `None` if it doesn't begin with the prefix.
 fn rest_after<'k>(key: &'k [u8], prefix: &[u8]) -> Option<&'k [u8]>
     ensures { MatchOption result (starts_with nat_eq key.now prefix.now ≡ false)
         (λ rest. (starts_with nat_eq key.now prefix.now ≡ true) × (drop (length prefix.now) key.now ≡ rest.now)) }
@@ -20,7 +20,7 @@ fn rest_after<'k>(key: &'k [u8], prefix: &[u8]) -> Option<&'k [u8]>
     }
 }
 
-/// The first byte, and those after it. None where there is no byte.
+/// Returns the first byte, and those after it, or `None` if there is no byte.
 fn split_byte(bytes: &[u8]) -> Option<(u8, &[u8])>
     ensures { MatchOption result (bytes.now ≡ []) (λ p. bytes.now ≡ p.0 ∷ p.1.now) }
 {
@@ -31,7 +31,7 @@ fn split_byte(bytes: &[u8]) -> Option<(u8, &[u8])>
     }
 }
 
-/// The node at which a key ends. None where its walk is lost.
+/// Finds the node at which a key ends, or `None` if its walk is lost.
 pub(crate) fn reach<L: Ledger>(nodes: &Nodes, key: &[u8], steps: &mut Steps<L>) -> Option<Node>
     ensures reached { option_map link_of result ≡ (walk nodes.now (root nodes.now) key.now).reached }
     ensures node { IfSome result (IsNodeOf nodes.now) }

@@ -5,21 +5,21 @@ use std::alloc::AllocError;
 /// prefixes that it goes over, and the keys that it matches. It is four times the greatest file.
 const ROOM: usize = 4 * FILE_LIMIT;
 
-/// How many bytes may still be taken. Nodes may stand in one another, and the keys of a chain of
-/// nodes begin alike, so that a small file may stand for a map of any size: what is kept or gone
-/// over is counted before it is.
+/// How many bytes may still be taken. Nodes may overlap, and the keys of a chain of nodes begin
+/// alike, so that a small file may have a map of any size. So what is kept or gone over is counted
+/// before it is.
 #[derive(Clone, Copy)]
 pub(crate) struct Room {
     left: usize,
 }
 
 impl Room {
-    /// Room for a lookup in all keys.
+    /// Makes the room for a lookup in all keys.
     pub(crate) fn new() -> Room {
         Room { left: ROOM }
     }
 
-    /// Room for the values of one key, of which there are no more than the file has.
+    /// Makes the room for the values of one key. There are no more of these than the file has.
     pub(crate) fn of_one_key() -> Room {
         Room { left: usize::MAX }
     }

@@ -33,7 +33,7 @@ pub type Values = List<Value>;
 /// A list of keys, each with one of its values.
 pub type Pairs = List<Pair>;
 
-/// Puts the values of a node at the end, where there is room.
+/// Puts the values of a node at the end, if there is room.
 pub(crate) fn push_values(
     alloc: Global,
     nodes: &Nodes,
@@ -58,7 +58,7 @@ pub(crate) fn push_values(
     Ok(())
 }
 
-/// Puts the values of a node at the end, each with the node's key, where there is room.
+/// Puts the values of a node at the end, each with the node's key, if there is room.
 pub(crate) fn push_pairs(
     alloc: Global,
     nodes: &Nodes,

@@ -25,14 +25,14 @@ pub(crate) struct KeyWalk {
     /// The key of the node to which the walk came last.
     pub(crate) key: Vec<u8>,
     pub(crate) levels: Vec<Level>,
-    /// How many bytes of the key are those of the key before.
+    /// How many bytes of the key are the same as of the key before.
     pub(crate) kept: usize,
     /// For the prefixes of the nodes to come.
     pub(crate) room: Room,
 }
 
 impl KeyWalk {
-    /// Begins a walk: it comes to the root, which is one step.
+    /// Begins a walk at the root, which is one step.
     pub(crate) fn start<L: Ledger>(
         alloc: Global,
         nodes: &Nodes,
@@ -96,7 +96,7 @@ impl KeyWalk {
         Ok(())
     }
 
-    /// Goes on to the next node, which is one step. None where there is none left.
+    /// Goes on to the next node, which is one step. Returns `None` if none is left.
     pub(crate) fn next<L: Ledger>(
         &mut self,
         nodes: &Nodes,

@@ -69,8 +69,8 @@ pub record IsPlaced (machine : Machine) (e : Entry) : Type 0 where
 abbrev pub AreApart : Entry → Entry → Type 0
 AreApart a b = (a.loaded.base + length a.image ≤ b.loaded.base) ⊎ (b.loaded.base + length b.image ≤ a.loaded.base)
 
--- A machine of these modules is sound: all entries are bound, no two modules have one name, no name
--- is exported twice, and the images lie in the region on whole pages, and apart.
+-- A machine of these modules is sound: all entries are bound, no two modules have one name, and no
+-- name is exported twice. The images are in the region, on whole pages, and no two share a byte.
 pub record IsSound (machine : Machine) (ms : List Module) : Type 0 where
   pub bound : AllBound machine ms
   pub names : IsDistinct bytes_eq (entry_names machine)

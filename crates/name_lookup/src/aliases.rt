@@ -10,7 +10,8 @@ use km_names::{Name, Names};
 use modprobe_conf::{Rule, Rules};
 use std::alloc::{AllocError, Global};
 
-/// An alias whose pattern has no wildcard, by its place among the rules; the pattern is that which it stands under.
+/// An alias whose pattern has no wildcard, by its place among the rules. It is kept under its
+/// pattern.
 #[derive(Clone, Copy)]
 pub(crate) struct PlainAlias<'a> {
     pub(crate) place: usize,
@@ -24,7 +25,7 @@ pub(crate) struct AliasTable<'a> {
     pub(crate) wild: Vec<WildAlias<'a>>,
 }
 
-/// The pattern and the name of an alias.
+/// Returns the pattern and the name of an alias.
 fn alias_in(rule: &Rule) -> Option<(&[u8], &[u8])>
     ensures { option_map (λ parts. (parts.0.now, parts.1.now)) result ≡ alias_parts rule.now }
 {
@@ -39,7 +40,7 @@ fn alias_in(rule: &Rule) -> Option<(&[u8], &[u8])>
 }
 
 impl<'a> AliasTable<'a> {
-    /// The aliases of some rules.
+    /// Makes the table of the aliases of some rules.
     pub(crate) fn new(alloc: Global, rules: &'a Rules) -> Result<AliasTable<'a>, AllocError>
         ensures { IfOk result (λ table. IsAliasTable table rules.now) }
     {
@@ -77,7 +78,7 @@ impl<'a> AliasTable<'a> {
         Ok(())
     }
 
-    /// The names of all aliases whose pattern matches the name, in the order of the rules.
+    /// Returns the names of all aliases whose pattern matches the name, in the order of the rules.
     pub(crate) fn names(&self, alloc: Global, name: &[u8]) -> Result<Names, AllocError>
         ensures { (rules : List RuleValue) → IsAliasTable self.now rules → IfOk result (λ names. names ≡ filter_map (alias_name name.now) rules) }
     {
@@ -95,7 +96,7 @@ impl<'a> AliasTable<'a> {
     }
 }
 
-/// Adds the names of those aliases that stand before a place, and gives their number.
+/// Adds the names of the aliases that come before a place, and returns their number.
 fn push_before(
     alloc: Global,
     names: &mut Names,
@@ -111,7 +112,7 @@ fn push_before(
     Ok(count)
 }
 
-/// How many of some aliases stand before the first that stands at a place or behind it.
+/// Counts the aliases that come before the first one at a place or after it.
 fn count_before(aliases: &[PlainAlias<'_>], place: usize) -> usize
     ensures count { result ≡ count_before_place place (map shown_plain aliases.now) }
     ensures within { result ≤ length aliases.now }

@@ -14,7 +14,7 @@ pub struct Found {
     pub names: Names,
 }
 
-/// Nothing, as list 0.
+/// Returns nothing, as list 0.
 pub(crate) fn nothing(alloc: Global) -> Found
     ensures { result ≡ record { list = 0; names = [] } }
 {
@@ -24,7 +24,7 @@ pub(crate) fn nothing(alloc: Global) -> Found
     }
 }
 
-/// The name itself, as the list of this number.
+/// Returns the name itself, as the list of this number.
 pub(crate) fn itself(alloc: Global, list: u8, name: &[u8]) -> Result<Found, AllocError>
     ensures { IfOk result (λ f. f ≡ record { list = list; names = name.now ∷ [] }) }
 {
@@ -33,8 +33,8 @@ pub(crate) fn itself(alloc: Global, list: u8, name: &[u8]) -> Result<Found, Allo
     Ok(Found { list, names })
 }
 
-/// What is left of names without repeats, the first of equal ones kept, and where `drops` says so without those of a
-/// set.
+/// Returns the names without repeats, the first of equal ones kept. If `drops` says so, the names
+/// of a set are dropped.
 pub(crate) fn names_left(
     alloc: Global,
     names: Names,
@@ -50,8 +50,8 @@ pub(crate) fn names_left(
     names_but(alloc, &seen, drops, dropped)
 }
 
-/// Whether nothing of some names can go: there is one at most, and none is dropped. Most names that are looked up stand
-/// for one.
+/// Returns whether no name can go: there is at most one, and none is dropped. Most names that are
+/// looked up stand for one.
 fn stays(names: &Names, drops: bool, dropped: &NameSet<'_>) -> bool
     ensures { result ≡ true → filter (λ name. not (drops && is_among dropped.now name)) (first_seen names.now) ≡ names.now }
 {
@@ -64,7 +64,7 @@ fn stays(names: &Names, drops: bool, dropped: &NameSet<'_>) -> bool
     true
 }
 
-/// The names without repeats, the first of equal ones kept.
+/// Returns the names without repeats, the first of equal ones kept.
 fn distinct(alloc: Global, names: &Names) -> Result<NameSet<'_>, AllocError>
     ensures { IfOk result (λ seen. seen ≡ first_seen names.now) }
 {
@@ -75,7 +75,7 @@ fn distinct(alloc: Global, names: &Names) -> Result<NameSet<'_>, AllocError>
     Ok(seen)
 }
 
-/// The names of a set, where `drops` says so without those of another.
+/// Returns the names of a set. If `drops` says so, the names of another are dropped.
 fn names_but(
     alloc: Global,
     names: &NameSet<'_>,
@@ -95,7 +95,7 @@ fn names_but(
     Ok(left)
 }
 
-/// Whether names are dropped, and this is one of them.
+/// Returns whether names are dropped, and this is one of them.
 fn is_dropped(drops: bool, dropped: &NameSet<'_>, name: &[u8]) -> bool
     ensures { result ≡ (drops && is_among dropped.now name.now) }
 {

@@ -11,8 +11,8 @@ use std::marker::Model;
 /// Vectors of values by names, which are hashed by SipHash.
 type Entries<'a, T> = IndexMap<&'a [u8], Vec<T>, BuildHasherDefault<DefaultHasher>>;
 
-/// Values in groups, each under a name, in the order in which they were put in. The names stand elsewhere, and may come
-/// from any file. Contracts see each name with the list of its values.
+/// Values in groups, each under a name, in the order in which they were put in. The names aren't
+/// copied, and may come from any file. Contracts see each name with the list of its values.
 #[derive(Drop)]
 pub struct NameGroups<'a, T> {
     groups: Entries<'a, T>,
@@ -28,7 +28,7 @@ impl<'a, T> Model for NameGroups<'a, T> {
 }
 
 impl<'a, T: Drop> NameGroups<'a, T> {
-    /// No value. It takes no memory.
+    /// Begins without values. It takes no memory.
     pub fn new(alloc: Global) -> Self
         ensures { (name : List ℕ) → group_of result name ≡ [] }
     {
@@ -45,7 +45,7 @@ impl<'a, T: Drop> NameGroups<'a, T> {
         push_value(alloc, &mut self.groups, name, value)
     }
 
-    /// The values of a name, none where it has none.
+    /// Returns the values of a name, of which there may be none.
     pub fn of(&self, name: &[u8]) -> &[T]
         ensures { result.now ≡ group_of self.now name.now }
     {

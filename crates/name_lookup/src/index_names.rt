@@ -9,7 +9,7 @@ use index_read::{Index, Values, plain};
 use km_names::{Name, Names};
 use std::alloc::{AllocError, Global};
 
-/// The texts of all values of the key, in their order.
+/// Returns the texts of all values of the key, in their order.
 pub(crate) fn names_under(alloc: Global, index: &Index, key: &[u8]) -> Result<Names, AllocError>
     ensures { IfOk result (λ names. names ≡ texts (values_of (contents index.now.nodes) key.now)) }
 {
@@ -17,8 +17,8 @@ pub(crate) fn names_under(alloc: Global, index: &Index, key: &[u8]) -> Result<Na
     names_of(alloc, &values)
 }
 
-/// The texts of the values of every key that as a pattern matches the name: by rising priority, then by the bytes of the
-/// key, then by place.
+/// Returns the texts of the values of every key that as a pattern matches the name: by rising
+/// priority, then by the bytes of the key, then by place.
 pub(crate) fn names_matching(alloc: Global, index: &Index, name: &[u8]) -> Result<Names, AllocError>
     ensures { IfOk result (λ names. names ≡ texts (wild_values (contents index.now.nodes) name.now)) }
 {
@@ -26,7 +26,7 @@ pub(crate) fn names_matching(alloc: Global, index: &Index, name: &[u8]) -> Resul
     names_of(alloc, &values)
 }
 
-/// The texts of values as names.
+/// Returns the texts of values as names.
 fn names_of(alloc: Global, values: &Values) -> Result<Names, AllocError>
     ensures { IfOk result (λ names. names ≡ texts (shown values.now)) }
 {

@@ -1,6 +1,7 @@
 use index_read::Index;
 
-/// The index files of a folder of modules that names are looked up in. depmod(8) tells what each has.
+/// The index files of a folder of modules that names are looked up in. depmod(8) says what each
+/// has.
 #[derive(Drop)]
 pub struct Indexes {
     /// modules.dep.bin: dependency lines by module names.

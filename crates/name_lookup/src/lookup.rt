@@ -38,17 +38,20 @@ impl<'a> Model for Lookup<'a> {
     ghost invariant = { λ l. AreTables l.aliases l.installed l.blacklisted l.rules.now };
 }
 
-/// What a name stands for: the first list that isn't empty, of these for the name in its normal form.
+/// Finds what a name stands for: the first list that isn't empty, of these for the name in its
+/// normal form.
 ///
-/// 1. the names of all aliases of the configuration whose pattern matches, in the order of the rules;
-/// 2. the name itself, where modules.dep.bin has it;
-/// 3. where it begins with `symbol:`, its values in modules.symbols.bin;
-/// 4. the name itself, where an install rule names it;
+/// 1. the names of all aliases of the configuration whose pattern matches, in the order of the
+///    rules;
+/// 2. the name itself, if modules.dep.bin has it;
+/// 3. if it begins with `symbol:`, its values in modules.symbols.bin;
+/// 4. the name itself, if an install rule names it;
 /// 5. the values of all patterns of modules.alias.bin that match, by their place in the tree;
-/// 6. the name itself, where modules.builtin.bin has it.
+/// 6. the name itself, if modules.builtin.bin has it.
 ///
-/// Of repeated names the first is kept. Blacklisted names are dropped from list 5, and with `use_blacklist` from each.
-/// Where many names are looked up, a [`Lookup`] is made once. modprobe(8), modprobe.d(5).
+/// Of repeated names the first is kept. Blacklisted names are dropped from list 5, and with
+/// `use_blacklist` from each. If many names are looked up, a [`Lookup`] is made once. modprobe(8),
+/// modprobe.d(5).
 pub fn resolve(
     alloc: Global,
     name: &Name,
@@ -63,7 +66,7 @@ pub fn resolve(
 }
 
 impl<'a> Lookup<'a> {
-    /// What names are looked up in, in time in proportion to the rules.
+    /// Puts the rules into tables, in time in proportion to them.
     pub fn new(
         alloc: Global,
         rules: &'a Rules,
@@ -83,22 +86,22 @@ impl<'a> Lookup<'a> {
         })
     }
 
-    /// The rules.
+    /// Returns the rules.
     pub fn rules(&self) -> &'a Rules
         ensures { result.now ≡ self.now.rules }
     {
         self.rules
     }
 
-    /// The index files.
+    /// Returns the index files.
     pub fn indexes(&self) -> &'a Indexes
         ensures { result.now ≡ self.now.indexes }
     {
         self.indexes
     }
 
-    /// What a name stands for, as [`resolve`] says. A rule costs nothing here, but for aliases whose pattern has a
-    /// wildcard.
+    /// Finds what a name stands for, as [`resolve`] says. A rule costs nothing here, but for
+    /// aliases whose pattern has a wildcard.
     #[tactic(auto, unfolding(crate::specs::Found::found))]
     pub fn find(&self, alloc: Global, name: &Name, use_blacklist: bool) -> Result<Found, AllocError>
         ensures { IfOk result (λ f. f ≡ found self.now.rules (maps_of self.now.indexes) use_blacklist name.now) }
@@ -112,7 +115,7 @@ impl<'a> Lookup<'a> {
         }
     }
 
-    /// The first list that isn't empty.
+    /// Finds the first list that isn't empty.
     fn first_found(&self, alloc: Global, name: &[u8]) -> Result<Found, AllocError>
         ensures { IfOk result (λ f. f ≡ first_list 1 (lists self.now.rules (maps_of self.now.indexes) name.now)) }
     {
@@ -140,7 +143,7 @@ impl<'a> Lookup<'a> {
         Ok(nothing(alloc))
     }
 
-    /// What is left of a list without repeats and names that are dropped.
+    /// Returns what is left of a list without repeats and dropped names.
     fn kept(&self, alloc: Global, first: Found, use_blacklist: bool) -> Result<Found, AllocError>
         ensures { IfOk result (λ f. f ≡ kept_of self.now.rules use_blacklist first) }
     {
@@ -153,7 +156,7 @@ impl<'a> Lookup<'a> {
     }
 }
 
-/// The modules of the symbol that a name asks for.
+/// Finds the modules of the symbol that a name asks for.
 fn symbol_modules(alloc: Global, name: &[u8], indexes: &Indexes) -> Result<Names, AllocError>
     ensures { IfOk result (λ names. names
         ≡ (if asks_symbol name.now then texts (values_of (contents indexes.now.symbols.nodes) name.now) else [])) }

@@ -8,7 +8,7 @@ use modprobe_conf::{Rule, Rules};
 use name_table::NameSet;
 use std::alloc::{AllocError, Global};
 
-/// The names that install rules have.
+/// Returns the names that install rules have.
 pub(crate) fn installed_names(alloc: Global, rules: &Rules) -> Result<NameSet<'_>, AllocError>
     ensures { IfOk result (λ names. (name : List ℕ) → is_among names name ≡ has_install rules.now name) }
 {
@@ -21,7 +21,7 @@ pub(crate) fn installed_names(alloc: Global, rules: &Rules) -> Result<NameSet<'_
     Ok(names)
 }
 
-/// The module that the rule has a command for loading.
+/// Returns the module that the rule has a command for loading.
 fn installed_name(rule: &Rule) -> Option<&[u8]>
     ensures { option_map (λ name. name.now) result ≡ installed_name_of rule.now }
 {
@@ -31,7 +31,7 @@ fn installed_name(rule: &Rule) -> Option<&[u8]>
     }
 }
 
-/// The names that blacklist rules have.
+/// Returns the names that blacklist rules have.
 pub(crate) fn blacklisted_names(alloc: Global, rules: &Rules) -> Result<NameSet<'_>, AllocError>
     ensures { IfOk result (λ names. (name : List ℕ) → is_among names name ≡ is_blacklisted rules.now name) }
 {
@@ -44,7 +44,7 @@ pub(crate) fn blacklisted_names(alloc: Global, rules: &Rules) -> Result<NameSet<
     Ok(names)
 }
 
-/// The module that the rule blacklists.
+/// Returns the module that the rule blacklists.
 fn blacklisted_name(rule: &Rule) -> Option<&[u8]>
     ensures { option_map (λ name. name.now) result ≡ blacklisted_name_of rule.now }
 {

@@ -10,7 +10,7 @@ use glob_match::matches;
 #[derive(Clone, Copy)]
 pub(crate) struct WildAlias<'a> {
     pub(crate) place: usize,
-    /// What stands in the pattern before its first wildcard.
+    /// The part of the pattern before its first wildcard.
     pub(crate) front: &'a [u8],
     /// The pattern from its first wildcard on.
     pub(crate) rest: &'a [u8],
@@ -18,14 +18,16 @@ pub(crate) struct WildAlias<'a> {
     ghost plain_front: { list_any is_wildcard_byte front.now ≡ false },
 }
 
-/// Whether a byte of a pattern is a wildcard or opens a set. Every other byte is itself. glob(7).
+/// Returns whether a byte of a pattern is a wildcard or opens a set. Every other byte is itself.
+/// glob(7).
 fn is_wildcard(byte: u8) -> bool
     ensures { result ≡ is_wildcard_byte byte }
 {
     byte == b'*' || byte == b'?' || byte == b'['
 }
 
-/// What stands in a pattern before its first wildcard, and the pattern from there on; none where it has no wildcard.
+/// Splits a pattern at its first wildcard, if it has one: what comes before it, and the pattern
+/// from there on.
 pub(crate) fn split_at_wildcard(pattern: &[u8]) -> Option<(&[u8], &[u8])>
     ensures { MatchOption result (list_any is_wildcard_byte pattern.now ≡ false) (λ parts. IsSplit pattern.now parts.0.now parts.1.now) }
 {
@@ -38,7 +40,8 @@ pub(crate) fn split_at_wildcard(pattern: &[u8]) -> Option<(&[u8], &[u8])>
 }
 
 impl WildAlias<'_> {
-    /// Whether the pattern matches a name. The plain bytes that it begins with are compared first.
+    /// Returns whether the pattern matches a name. The plain bytes that it begins with are compared
+    /// first.
     pub(crate) fn matches(&self, name: &[u8]) -> bool
         ensures { result ≡ is_match (self.now.front.now ++ self.now.rest.now) name.now }
     {

@@ -1,6 +1,6 @@
--- Numbers and truth values as options state them. The forms are those of the kernel's kstrtoull and
--- kstrtobool (lib/kstrtox.c). A number has to end where its digits do, and begins with at most one
--- sign, as there.
+-- Numbers and truth values as options state them. The forms are the ones of the kernel's kstrtoull
+-- and kstrtobool (lib/kstrtox.c). A number has to end where its digits do, and begins with at most
+-- one sign, as there.
 use Rattle.std.specs.Prelude.{ℕ, ◌+◌, ◌-◌, ◌/◌, ◌%◌, ◌^◌, ◌==◌, ◌&&◌, ◌||◌, nat_lt, nat_eq, not, Bool, if◌then◌else◌, List, length, drop, codes, Option, Some, None, option_map}
 use Rattle.std.specs.List.{list_all, starts_with}
 use Rattle.std.specs.Char.{is_digit}

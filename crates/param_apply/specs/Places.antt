@@ -35,7 +35,7 @@ is_in_value params k x = option_map_or (λ p. is_among p.at (value_width p) x) (
 abbrev pub is_of_other : List Parameter → ℕ → ℕ → Setting → Bool
 is_of_other params k x s = not (s.number == k) && is_in_value params s.number x
 
--- Whether the value of the parameter k is misplaced, after these words: its bytes leave the image,
+-- Whether the value of the parameter k is misplaced, after these words. Its bytes leave the image,
 -- or one of them is reserved or belongs to another parameter that one of the words names.
 unfoldable pub is_misplaced : FileObject → List Parameter → ℕ → List Setting → ℕ → Parameter → Bool
 is_misplaced o params len before k p =

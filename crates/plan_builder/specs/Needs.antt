@@ -14,9 +14,12 @@ use Rattle.name_lookup.specs.Maps.{Maps}
 use Rattle.name_lookup.specs.Found.{found}
 use Rattle.plan_builder.specs.Modules.{modules_of, name_at, line_at, path_at, places_of, needed_names}
 
--- What plans are made from: the rules of the configuration, the maps of the index files, the lines
--- of modules.unmet, the names of loaded modules, and whether blacklisted names are dropped
--- everywhere.
+-- What plans are made from:
+-- - the rules of the configuration;
+-- - the maps of the index files;
+-- - the lines of modules.unmet;
+-- - the names of loaded modules;
+-- - whether blacklisted names are dropped everywhere.
 pub record Sources : Type 0 where
   pub rules : List Rule
   pub maps : Maps

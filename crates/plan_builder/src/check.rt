@@ -42,7 +42,7 @@ pub(crate) fn check_lines<K: Known>(
     Ok(())
 }
 
-/// The paths of some modules.
+/// Returns the paths of some modules.
 pub(crate) fn paths_of<'a>(
     alloc: Global,
     modules: &Modules<'a>,
@@ -58,7 +58,7 @@ pub(crate) fn paths_of<'a>(
     Ok(paths)
 }
 
-/// The places of those names that are modules.
+/// Finds the places of the names that are modules.
 fn places_named(
     alloc: Global,
     modules: &Modules<'_>,
@@ -73,7 +73,7 @@ fn places_named(
     Ok(places)
 }
 
-/// The paths of loaded modules, and the kernel's.
+/// Returns the paths of loaded modules, and the kernel's.
 pub(crate) fn standing_paths<'a>(
     alloc: Global,
     planner: &Planner<'a>,
@@ -86,8 +86,8 @@ pub(crate) fn standing_paths<'a>(
     Ok(paths)
 }
 
-/// Tests that no line of a kind is an obstacle, over the paths of planned modules and of those that
-/// are there before.
+/// Tests that no line of a kind is an obstacle, over the paths of planned modules and of what is
+/// loaded before.
 pub(crate) fn check_unmet(
     alloc: Global,
     kind: LineKind,
@@ -106,7 +106,7 @@ pub(crate) fn check_unmet(
     Ok(())
 }
 
-/// Whether a line is an obstacle of a kind.
+/// Returns whether a line is an obstacle of a kind.
 fn is_obstacle(kind: LineKind, line: &Unbound, planned: &NameSet<'_>, there: &NameSet<'_>) -> bool
     ensures { result ≡ is_obstacle_of kind (is_among planned.now) (is_among there.now) line.now }
 {
@@ -124,7 +124,8 @@ fn is_obstacle(kind: LineKind, line: &Unbound, planned: &NameSet<'_>, there: &Na
     }
 }
 
-/// Whether both sides of a double line are planned or there before, and one at least is planned.
+/// Returns whether both sides of a double line are planned or loaded before, and at least one is
+/// planned.
 fn is_met(planned: &NameSet<'_>, there: &NameSet<'_>, first: &[u8], second: &[u8]) -> bool
     ensures { result ≡ are_met (is_among planned.now) (is_among there.now) first.now second.now }
 {
@@ -134,7 +135,7 @@ fn is_met(planned: &NameSet<'_>, there: &NameSet<'_>, first: &[u8], second: &[u8
     there.contains(first) && planned.contains(second)
 }
 
-/// A line as an obstacle.
+/// Makes an obstacle of a line.
 fn as_obstacle(alloc: Global, line: &Unbound) -> Result<Obstacle, AllocError>
     ensures { IfOk result (λ obstacle. obstacle ≡ obstacle_of_line line.now) }
 {

@@ -1,15 +1,21 @@
 //! Plans: which modules are loaded for some names, in which order, with which parameters, and what
-//! is done in place of loading them; or what keeps the names from having a plan. modprobe(8),
+//! is done in place of loading them. Or what keeps the names from having a plan. modprobe(8),
 //! modprobe.d(5), modules.dep(5).
 //!
-//! The definitions speak of the maps that a folder's index files stand for, of the rules of the
-//! configuration, of the lines of modules.unmet and of the list of loaded modules. A plan looks
-//! once at each dependency line of the folder and looks up each name of a soft dependency once;
-//! only planned modules are asked for what they need. The crate stands on `name_lookup` for what a
-//! name stands for, on `mod_tree` for dependency lines, on `memchr` for the names in paths, on
-//! `indexmap` for what the names of soft dependencies stand for, and on `plan_order` for the order
-//! of modules by their places in the tree. `Loaded` is that of `loaded_list`, `Unmet` that of
-//! `unmet_file`, and `line_path` that of `mod_tree`.
+//! The definitions speak of:
+//!
+//! - the maps that a folder's index files stand for;
+//! - the rules of the configuration;
+//! - the lines of modules.unmet;
+//! - the list of loaded modules.
+//!
+//! A plan looks once at each dependency line of the folder and looks up each name of a soft
+//! dependency once; only planned modules are asked for what they need.
+//!
+//! The crate builds on `name_lookup` for what a name stands for, and on `mod_tree` for dependency
+//! lines. It builds on `memchr` for the names in paths, and on `indexmap` for what the names of
+//! soft dependencies stand for. `plan_order` has the order of modules by their places in the tree.
+//! `Loaded` comes from `loaded_list`, `Unmet` from `unmet_file`, and `line_path` from `mod_tree`.
 #![tactic(auto)]
 
 mod check;

@@ -34,8 +34,8 @@ impl Known for Index {
     }
 }
 
-/// Whether modules.dep.bin has a value of the name, and its first value is the dependency line of
-/// the module of this name, in which each module that is needed has a value too. modules.dep(5).
+/// Returns whether modules.dep.bin has a value of the name, whose first value is the dependency
+/// line of the module of this name. Each module that is needed has a value too. modules.dep(5).
 pub fn well_formed(alloc: Global, name: &Name, indexes: &Indexes) -> Result<bool, AllocError>
     ensures { IfOk result (λ good. good ≡ is_well_formed (contents indexes.now.dep.nodes) name.now) }
 {
@@ -48,8 +48,8 @@ pub fn well_formed(alloc: Global, name: &Name, indexes: &Indexes) -> Result<bool
     }
 }
 
-/// Whether a text is the dependency line of the module of this name, and each module that it needs
-/// is known. The names of its modules are written to a buffer, one after the other.
+/// Returns whether a text is the dependency line of the module of this name, and each module that
+/// it needs is known. The names of its modules are written to a buffer, one after the other.
 pub(crate) fn is_line<K: Known>(
     buffer: &mut Vec<u8>,
     known: &K,
@@ -69,7 +69,7 @@ pub(crate) fn is_line<K: Known>(
     }
 }
 
-/// Whether the module at a path has this name.
+/// Returns whether the module at a path has this name.
 fn names_module(buffer: &mut Vec<u8>, path: &[u8], name: &[u8]) -> Result<bool, AllocError>
     ensures { IfOk result (λ same. same ≡ bytes_eq (module_name_of path.now) name.now) }
 {
@@ -81,8 +81,8 @@ fn names_module(buffer: &mut Vec<u8>, path: &[u8], name: &[u8]) -> Result<bool, 
     Ok(buffer.as_slice() == name)
 }
 
-/// Whether the module at a path is known. Most names are those that their paths have, and aren't
-/// copied.
+/// Returns whether the module at a path is known. Most names are the same as in their paths, and
+/// aren't copied.
 fn is_known<K: Known>(buffer: &mut Vec<u8>, known: &K, path: &[u8]) -> Result<bool, AllocError>
     ensures { IfOk result (λ there. there ≡ K.has known.now (module_name_of path.now)) }
 {
@@ -94,7 +94,7 @@ fn is_known<K: Known>(buffer: &mut Vec<u8>, known: &K, path: &[u8]) -> Result<bo
     Ok(known.has(buffer.as_slice()))
 }
 
-/// Whether each module that a dependency line needs is known.
+/// Returns whether each module that a dependency line needs is known.
 fn all_known<K: Known>(buffer: &mut Vec<u8>, known: &K, line: &[u8]) -> Result<bool, AllocError>
     ensures { IfOk result (λ all. all ≡ list_all (K.has known.now) (needed_names_of line.now)) }
 {
@@ -109,14 +109,14 @@ fn all_known<K: Known>(buffer: &mut Vec<u8>, known: &K, line: &[u8]) -> Result<b
     Ok(true)
 }
 
-/// What follows the first space of a text, where there is one.
+/// Returns what follows the first space of a text, if there is one.
 pub(crate) fn after_space(text: &[u8]) -> Option<&[u8]>
     ensures { IsAfterSpace text.now (option_copied result) }
 {
     split_at_space(text).1
 }
 
-/// What stands before the first space of a text, and what follows it, where there is one.
+/// Splits a text at its first space, if there is one: what comes before it, and what follows it.
 fn split_at_space(text: &[u8]) -> (&[u8], Option<&[u8]>)
     ensures before { result.0.now ≡ before_first (λ b. b == 32) text.now }
     ensures after { IsAfterSpace text.now (option_copied result.1) }

@@ -22,7 +22,7 @@ use name_lookup::Found;
 use name_table::NameSet;
 use std::alloc::{AllocError, Global};
 
-/// What is found for each name, or the first name that nothing is found for.
+/// Finds what each name stands for, or the first name for which nothing is found.
 pub(crate) fn find_each(
     alloc: Global,
     planner: &Planner<'_>,
@@ -43,7 +43,7 @@ pub(crate) fn find_each(
     Ok(founds)
 }
 
-/// The name that isn't found, in its normal form where it has one.
+/// Returns the name that isn't found, in its normal form if it has one.
 fn not_found(alloc: Global, name: &Name) -> Result<Obstacle, AllocError>
     ensures { IfOk result (λ o. o ≡ not_found_of name.now) }
 {
@@ -80,7 +80,7 @@ pub(crate) fn check_known(
     Ok(())
 }
 
-/// The names of all that was found.
+/// Returns the names of all that was found.
 fn names_in<'a>(alloc: Global, founds: &'a [Found]) -> Result<Vec<&'a Name>, AllocError>
     ensures { IfOk result (λ names. texts names.items ≡ all_names founds.now) }
 {
@@ -91,7 +91,7 @@ fn names_in<'a>(alloc: Global, founds: &'a [Found]) -> Result<Vec<&'a Name>, All
     Ok(names)
 }
 
-/// The modules of what was found for each name, by their places.
+/// Lists the modules of what was found for each name, by their places.
 pub(crate) fn requests_of(
     alloc: Global,
     planner: &Planner<'_>,
@@ -107,7 +107,7 @@ pub(crate) fn requests_of(
     Ok(requests)
 }
 
-/// The places of those names that are modules.
+/// Finds the places of the names that are modules.
 fn request_of(alloc: Global, planner: &Planner<'_>, names: &Names) -> Result<Vec<usize>, AllocError>
     ensures items { IfOk result (λ places. places.items ≡ places_of (modules_in (sources_of planner.now)) names.now) }
     ensures inside { IfOk result (λ places. All (λ y. y < length (modules_in (sources_of planner.now))) places.items) }
@@ -117,7 +117,7 @@ fn request_of(alloc: Global, planner: &Planner<'_>, names: &Names) -> Result<Vec
     Ok(places)
 }
 
-/// All names that were found.
+/// Lists all names that were found.
 pub(crate) fn member_names<'a>(
     alloc: Global,
     founds: &'a [Found],
@@ -141,7 +141,7 @@ pub(crate) fn insert_all<'a>(names: &mut NameSet<'a>, more: &'a Names) -> Result
     Ok(())
 }
 
-/// A mark for each module that isn't loaded.
+/// Makes a mark for each module that isn't loaded.
 pub(crate) fn free_marks(alloc: Global, planner: &Planner<'_>) -> Result<Vec<bool>, AllocError>
     ensures long { IfOk result (λ free. length free.items ≡ length (modules_in (sources_of planner.now))) }
     ensures marks { IfOk result (λ free. marks_places free.items ≡ unloaded (sources_of planner.now)) }
@@ -151,7 +151,7 @@ pub(crate) fn free_marks(alloc: Global, planner: &Planner<'_>) -> Result<Vec<boo
     Ok(marks)
 }
 
-/// A mark for each module whose name isn't among some.
+/// Makes a mark for each module whose name isn't among some.
 fn marks_but(
     alloc: Global,
     modules: &Modules<'_>,
@@ -166,7 +166,7 @@ fn marks_but(
     Ok(marks)
 }
 
-/// Whether a set has the name. Most often nothing is loaded, and no name is looked up then.
+/// Returns whether a set has the name. Most often nothing is loaded, and no name is looked up then.
 fn has_name(names: &NameSet<'_>, name: &[u8]) -> bool
     ensures { result ≡ is_among names.now name.now }
 {
@@ -184,7 +184,7 @@ fn name_set<'a>(alloc: Global, names: &'a [Name]) -> Result<NameSet<'a>, AllocEr
     Ok(set)
 }
 
-/// The first command that a rule has for loading the module of this name.
+/// Finds the first command that a rule has for loading the module of this name.
 fn install_command<'a>(rules: &'a RuleTable<'_>, name: &[u8]) -> Option<&'a [u8]>
     ensures { option_map (λ command. command.now) result ≡ install_command_of rules.now name.now }
 {
@@ -206,7 +206,7 @@ fn command_in<'a>(rule: &'a Rule, wanted: &[u8]) -> Option<&'a [u8]>
     }
 }
 
-/// The command that is run in place of loading the module of this name, unless commands are
+/// Returns the command that is run in place of loading the module of this name, unless commands are
 /// ignored.
 pub(crate) fn chosen_command<'a>(
     rules: &'a RuleTable<'_>,
@@ -222,7 +222,7 @@ pub(crate) fn chosen_command<'a>(
     }
 }
 
-/// Whether a member is nothing that is known.
+/// Returns whether a member is unknown: no module, no install rule, and not built in.
 fn is_unknown(planner: &Planner<'_>, ignored: bool, name: &[u8]) -> bool
     ensures { result ≡ is_unknown_of (sources_of planner.now) ignored name.now }
 {

@@ -36,7 +36,7 @@ impl<'a> Model for Modules<'a> {
 }
 
 impl<'a> Modules<'a> {
-    /// The modules of pairs that have each name once.
+    /// Returns the modules of pairs that have each name once.
     pub(crate) fn new(alloc: Global, pairs: &[&'a Pair]) -> Result<Modules<'a>, AllocError>
         ensures { IfOk result (λ modules. modules ≡ by_number (shown pairs.now)) }
     {
@@ -49,21 +49,21 @@ impl<'a> Modules<'a> {
         })
     }
 
-    /// How many modules there are.
+    /// Returns how many modules there are.
     pub(crate) fn len(&self) -> usize
         ensures { result ≡ length self.now }
     {
         self.pairs.len()
     }
 
-    /// The place of the module of this name.
+    /// Returns the place of the module of this name.
     pub(crate) fn place(&self, name: &[u8]) -> Option<usize>
         ensures { result ≡ place_of self.now name.now }
     {
         place_in(&self.names, name)
     }
 
-    /// The name of the module at a place.
+    /// Returns the name of the module at a place.
     pub(crate) fn name(&self, place: usize) -> &'a [u8]
         requires { place < length self.now }
         ensures { result.now ≡ name_at self.now place }
@@ -71,7 +71,7 @@ impl<'a> Modules<'a> {
         self.pairs[place].key.as_bytes()
     }
 
-    /// Its dependency line.
+    /// Returns its dependency line.
     pub(crate) fn line(&self, place: usize) -> &'a [u8]
         requires { place < length self.now }
         ensures { result.now ≡ line_at self.now place }
@@ -79,7 +79,7 @@ impl<'a> Modules<'a> {
         self.pairs[place].value.text.as_bytes()
     }
 
-    /// Its path.
+    /// Returns its path.
     pub(crate) fn path(&self, place: usize) -> &'a [u8]
         requires { place < length self.now }
         ensures { result.now ≡ path_at self.now place }
@@ -88,7 +88,7 @@ impl<'a> Modules<'a> {
     }
 }
 
-/// The table of the keys of pairs.
+/// Returns the table of the keys of pairs.
 fn table_of<'a>(alloc: Global, pairs: &[&'a Pair]) -> Result<NameTable<'a>, AllocError>
     ensures { IfOk result (λ names. IsNamed names (shown pairs.now)) }
 {
@@ -102,7 +102,7 @@ fn table_of<'a>(alloc: Global, pairs: &[&'a Pair]) -> Result<NameTable<'a>, Allo
     Ok(names)
 }
 
-/// The first pair of each key.
+/// Returns the first pair of each key.
 pub(crate) fn first_pairs(alloc: Global, pairs: &Pairs) -> Result<Vec<&Pair>, AllocError>
     ensures { IfOk result (λ firsts. shown firsts.items ≡ after_key None (shown_pairs pairs.now)) }
 {
@@ -118,7 +118,7 @@ pub(crate) fn first_pairs(alloc: Global, pairs: &Pairs) -> Result<Vec<&Pair>, Al
     Ok(firsts)
 }
 
-/// Whether there was a last key, and it is this one.
+/// Returns whether there was a last key, and it is this one.
 fn is_key(last: Option<&[u8]>, key: &[u8]) -> bool
     ensures { result ≡ option_map_or (bytes_eq key.now) (option_copied last.entry) false }
 {
@@ -139,7 +139,7 @@ impl<'a> Known for Modules<'a> {
     }
 }
 
-/// The place that a table has for a name.
+/// Returns the place that a table has for a name.
 fn place_in(names: &NameTable<'_>, name: &[u8]) -> Option<usize>
     ensures { result ≡ place_in_table names.now name.now }
 {

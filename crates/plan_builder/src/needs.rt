@@ -15,14 +15,14 @@ use plan_order::{Needed, Needs};
 use std::alloc::{AllocError, Global};
 use std::marker::Model;
 
-/// Where a soft dependency stands.
+/// On which side of a module a soft dependency is.
 #[derive(Clone, Copy)]
 pub(crate) enum Side {
     Before,
     After,
 }
 
-/// The names that soft dependencies have on one side of a module.
+/// Returns the names that soft dependencies have on one side of a module.
 fn soft_names<'a>(
     alloc: Global,
     rules: &'a RuleTable<'_>,
@@ -94,7 +94,7 @@ impl<'p, 'a> Model for ModuleNeeds<'p, 'a> {
 }
 
 impl<'p, 'a> ModuleNeeds<'p, 'a> {
-    /// The needs of a planner's modules.
+    /// Makes the needs of a planner's modules.
     pub(crate) fn new(
         alloc: Global,
         planner: &'p Planner<'a>,
@@ -105,7 +105,7 @@ impl<'p, 'a> ModuleNeeds<'p, 'a> {
         Ok(ModuleNeeds { planner, soft })
     }
 
-    /// The modules that soft dependencies name on one side of a module, each once.
+    /// Returns the modules that soft dependencies name on one side of a module, each once.
     fn soft_places(&self, alloc: Global, place: usize, side: Side) -> Result<Vec<usize>, AllocError>
         requires { place < length (modules_in (sources_of self.now)) }
         ensures { IfOk result (λ places. places.items ≡ once (places_for (sources_of self.now) place (flat_map (names_on side (name_at (modules_in (sources_of self.now)) place)) (sources_of self.now).rules))) }

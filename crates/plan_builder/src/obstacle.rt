@@ -3,7 +3,7 @@ ghost use Rattle.std.specs.Prelude.{◌≡◌};
 use km_names::{Name, Names, PathText};
 use std::alloc::{AllocError, AllocFailed};
 
-/// What keeps a request from having a plan. Paths are those of modules.dep; the kernel is written
+/// What keeps a request from having a plan. Paths are as in modules.dep, and the kernel is
 /// `vmlinux`.
 #[derive(Debug, Drop)]
 pub enum Obstacle {
@@ -21,7 +21,7 @@ pub enum Obstacle {
         path: PathText,
         symbol: Name,
     },
-    /// A planned module needs a symbol that is exported for GPL-compatible modules alone, and it
+    /// A planned module needs a symbol that is exported only for GPL-compatible modules, and it
     /// isn't one.
     Gpl {
         path: PathText,
@@ -40,11 +40,11 @@ pub enum Obstacle {
         symbol: Name,
         provider: PathText,
     },
-    /// Planned modules of which each comes after the next, and the last after the first.
+    /// Planned modules in a cycle: each comes after the next, and the last after the first.
     Cycle {
         names: Names,
     },
-    /// Two export a symbol, of which one at least is planned, and the other planned, loaded or the
+    /// Two export a symbol. At least one is planned, and the other is planned, loaded or the
     /// kernel.
     Double {
         symbol: Name,

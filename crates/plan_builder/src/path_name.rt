@@ -7,14 +7,14 @@ use km_names::split_at_byte;
 use memchr::{memchr, memrchr};
 use std::alloc::AllocError;
 
-/// What a path has for the name of its module, which has a `_` for each `-` of it.
+/// Returns the part of a path that names its module, in which a `-` counts as `_`.
 pub(crate) fn stem(path: &[u8]) -> &[u8]
     ensures { underscored result.now ≡ module_name path.now }
 {
     split_at_byte(file_name(path), b'.').0
 }
 
-/// Whether a text has no `-`, so that it is the name that it stands for.
+/// Returns whether a text has no `-`, so that it is a name in its normal form.
 pub(crate) fn is_plain(text: &[u8]) -> bool
     ensures { result ≡ true → underscored text.now ≡ text.now }
 {
@@ -33,7 +33,7 @@ pub(crate) fn write_name(buffer: &mut Vec<u8>, path: &[u8]) -> Result<(), AllocE
     Ok(())
 }
 
-/// What stands after the last `/` of a path.
+/// Returns what follows the last `/` of a path.
 fn file_name(path: &[u8]) -> &[u8]
     ensures { result.now ≡ after_last (λ b. b == 47) path.now }
 {
@@ -43,7 +43,7 @@ fn file_name(path: &[u8]) -> &[u8]
     }
 }
 
-/// The byte, or `_` for a `-`.
+/// Returns the byte, or `_` for a `-`.
 fn with_underscore(byte: u8) -> u8
     ensures { result ≡ (if byte == 45 then 95 else byte) }
 {

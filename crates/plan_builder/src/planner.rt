@@ -46,7 +46,7 @@ impl<'a> Model for Planner<'a> {
     ghost invariant = { λ p. IsPlanner p.modules p.troubled p.lookup.rules (record { rules = p.rules; indexes = p.lookup.indexes; unmet = p.unmet.now; loaded = p.loaded.now; use_blacklist = p.use_blacklist }) };
 }
 
-/// The paths of modules with a line on a need.
+/// Lists the paths of modules with a line on a need.
 pub(crate) fn troubled_paths(alloc: Global, unmet: &[Unbound]) -> Result<NameSet<'_>, AllocError>
     ensures { IfOk result (λ paths. (path : List ℕ) → is_among paths path ≡ is_troubled unmet.now path) }
 {
@@ -59,7 +59,7 @@ pub(crate) fn troubled_paths(alloc: Global, unmet: &[Unbound]) -> Result<NameSet
     Ok(paths)
 }
 
-/// The path of the module that a line is on, where it is on a need.
+/// Returns the path of the module that a line is on, if the line is on a need.
 pub(crate) fn path_of(line: &Unbound) -> Option<&[u8]>
     ensures { (path : List ℕ) → belongs path line.now ≡ option_map_or (λ own. bytes_eq own.now path) result false }
 {
@@ -138,7 +138,7 @@ fn push_at(
 }
 
 impl<'a> Planner<'a> {
-    /// What plans are made from.
+    /// Makes what plans are made from.
     pub(crate) fn new(
         alloc: Global,
         rules: &'a Rules,
@@ -165,49 +165,49 @@ impl<'a> Planner<'a> {
         })
     }
 
-    /// The modules, by their numbers in the tree.
+    /// Returns the modules, by their numbers in the tree.
     pub(crate) fn modules(&self) -> &Modules<'a>
         ensures { result.now ≡ modules_in (sources_of self.now) }
     {
         &self.modules
     }
 
-    /// The names of loaded modules.
+    /// Returns the names of loaded modules.
     pub(crate) fn loaded(&self) -> &'a [Name]
         ensures { result.now ≡ self.now.loaded }
     {
         self.loaded
     }
 
-    /// The lines of modules.unmet.
+    /// Returns the lines of modules.unmet.
     pub(crate) fn unmet(&self) -> &'a [Unbound]
         ensures { result.now ≡ self.now.unmet }
     {
         self.unmet
     }
 
-    /// The rules of the configuration.
+    /// Returns the rules of the configuration.
     pub(crate) fn rules(&self) -> &RuleTable<'a>
         ensures { result.now ≡ self.now.rules }
     {
         &self.rules
     }
 
-    /// Whether a built-in module has this name.
+    /// Returns whether a built-in module has this name.
     pub(crate) fn is_builtin(&self, name: &[u8]) -> bool
         ensures { result ≡ has_value (sources_of self.now).maps.builtin name.now }
     {
         self.lookup.indexes().builtin.has(name)
     }
 
-    /// What a name stands for.
+    /// Finds what a name stands for.
     pub(crate) fn found(&self, alloc: Global, name: &Name) -> Result<Found, AllocError>
         ensures { IfOk result (λ f. f ≡ found (sources_of self.now).rules (sources_of self.now).maps (sources_of self.now).use_blacklist name.now) }
     {
         self.lookup.find(alloc, name, self.use_blacklist)
     }
 
-    /// The places of the modules that the dependency line of a module names.
+    /// Finds the places of the modules that the dependency line of a module names.
     pub(crate) fn line_places(&self, alloc: Global, place: usize) -> Result<Vec<usize>, AllocError>
         requires { place < length (modules_in (sources_of self.now)) }
         ensures { IfOk result (λ places. places.items ≡ places_in_line (modules_in (sources_of self.now)) place) }
@@ -217,7 +217,7 @@ impl<'a> Planner<'a> {
         Ok(places)
     }
 
-    /// Whether a line is on a need of a module.
+    /// Returns whether a line is on a need of a module.
     fn is_troubled(&self, place: usize) -> bool
         requires { place < length (modules_in (sources_of self.now)) }
         ensures { result ≡ is_troubled (sources_of self.now).unmet (path_at (modules_in (sources_of self.now)) place) }
@@ -225,7 +225,7 @@ impl<'a> Planner<'a> {
         self.troubled.contains(self.modules.path(place))
     }
 
-    /// Whether a line is on a need of one of some modules.
+    /// Returns whether a line is on a need of one of some modules.
     fn any_troubled(&self, places: &[usize]) -> bool
         requires { All (λ y. y < length (modules_in (sources_of self.now))) places.now }
         ensures { result ≡ list_any (λ y. is_troubled (sources_of self.now).unmet (path_at (modules_in (sources_of self.now)) y)) places.now }
@@ -233,8 +233,8 @@ impl<'a> Planner<'a> {
         places.iter().any(|y| self.is_troubled(*y))
     }
 
-    /// Whether a module can be loaded: no line is on a need of it or of a module of its dependency
-    /// line.
+    /// Returns whether a module can be loaded: no line is on a need of it, or of a module of its
+    /// dependency line.
     pub(crate) fn is_available(&self, alloc: Global, place: usize) -> Result<bool, AllocError>
         requires { place < length (modules_in (sources_of self.now)) }
         ensures { IfOk result (λ available. available ≡ can_load (modules_in (sources_of self.now)) (sources_of self.now).unmet place) }

@@ -38,29 +38,35 @@ use std::alloc::{AllocError, Global};
 use symbol_binding::Unbound;
 use unmet_file::{LineKind, Unmet};
 
-/// The plan for a request: what is done for its names, in order, each module after those that it
-/// needs and that aren't loaded; or exactly the first obstacle. modprobe(8), modules.dep(5),
-/// modprobe.d(5).
+/// Makes the plan for a request: what is done for its names, in order, each module after those that
+/// it needs and that aren't loaded. Or it answers exactly the first obstacle. modprobe(8),
+/// modules.dep(5), modprobe.d(5).
 ///
 /// A name stands for what `name_lookup::resolve` finds. A module is planned after the modules of
-/// its dependency line and after those that its soft dependencies name before it; those that they
-/// name after it are planned last. A module that a soft dependency names is left out where
+/// its dependency line and after those that its soft dependencies name before it. Those that they
+/// name after it are planned last. A module that a soft dependency names is left out if
 /// modules.unmet has a line on a need of it or of a module of its dependency line. What is loaded
 /// is left out everywhere. A member that is no module has a step of its own before the modules of
 /// its name: its command, or that it is built in.
 ///
-/// Every plan is closed: its modules are distinct and none is loaded, each stands after those that
-/// its dependency line names and that aren't loaded, no line of modules.unmet is on a need of one,
-/// and none says that one exports what the kernel, a loaded module or another of them does.
+/// Every plan is closed:
+///
+/// - its modules are distinct, and none is loaded;
+/// - each comes after those that its dependency line names and that aren't loaded;
+/// - no line of modules.unmet is on a need of one;
+/// - no line says that one exports what the kernel, a loaded module or another of them does.
 ///
 /// # Errors
 ///
-/// In this order: `BadDepLine` exactly where a value of modules.dep.bin isn't the dependency line
-/// of its module over names that the file has; `NotFound` where a name is found nowhere, or where a
-/// member is neither a module, nor named by an install rule that isn't ignored, nor built in;
-/// `Missing`, `Gpl`, `Version`, `Namespace` where modules.unmet has such a line on a planned
-/// module; `Cycle` where a planned module comes before itself; `Double` where both sides of a
-/// double line are planned, loaded or the kernel, and one is planned. `Memory` where memory runs out.
+/// The first of these that is so, or `Memory` if memory runs out:
+///
+/// - `BadDepLine` exactly if a value of modules.dep.bin isn't the dependency line of its module
+///   over names that the file has;
+/// - `NotFound` if a name is found nowhere, or if a member is neither a module, nor named by an
+///   install rule that isn't ignored, nor built in;
+/// - `Missing`, `Gpl`, `Version`, `Namespace` if modules.unmet has such a line on a planned module;
+/// - `Cycle` if a planned module comes before itself;
+/// - `Double` if both sides of a double line are planned, loaded or the kernel, and one is planned.
 pub fn plan(
     alloc: Global,
     request: &Request,
@@ -88,7 +94,7 @@ pub fn plan(
     planned_steps(alloc, &planner, request)
 }
 
-/// The plan for a request over sound dependency lines, or the first obstacle.
+/// Makes the plan for a request over sound dependency lines, or finds the first obstacle.
 fn planned_steps(
     alloc: Global,
     planner: &Planner<'_>,
@@ -107,8 +113,8 @@ fn planned_steps(
     Ok(steps)
 }
 
-/// The modules of an index by its pairs, or the first name whose value isn't the dependency line of
-/// its module.
+/// Makes the modules of an index by its pairs, or finds the first name whose value isn't the
+/// dependency line of its module.
 fn sound_modules<'a>(alloc: Global, pairs: &'a Pairs) -> Result<Modules<'a>, Obstacle>
     ensures modules { IfOk result (λ modules. (dep : KeyValues) → IsListing (values_of dep) (shown_pairs pairs.now) → modules ≡ modules_of dep) }
     ensures passed { OnOk result ((dep : KeyValues) → IsListing (values_of dep) (shown_pairs pairs.now) → bad_name dep ≡ None) }
@@ -127,7 +133,7 @@ struct Planning {
     answer: PlanOrCycle,
 }
 
-/// What is planned for what was found.
+/// Finds what is planned for what was found.
 fn planned_answer(
     alloc: Global,
     planner: &Planner<'_>,
@@ -146,7 +152,7 @@ fn planned_answer(
     Ok(Planning { marks, answer })
 }
 
-/// The paths of the marked modules.
+/// Returns the paths of the marked modules.
 fn marked_paths<'a>(
     alloc: Global,
     planner: &Planner<'a>,
@@ -176,7 +182,7 @@ fn check_needs(
     check_unmet(alloc, LineKind::Namespace, unmet, planned, there)
 }
 
-/// The order, unless there is a cycle.
+/// Returns the order, unless there is a cycle.
 fn order_of(
     alloc: Global,
     planner: &Planner<'_>,
@@ -194,7 +200,7 @@ fn order_of(
     }
 }
 
-/// The names of the modules at some places.
+/// Returns the names of the modules at some places.
 fn names_at(alloc: Global, modules: &Modules<'_>, places: &[usize]) -> Result<Names, AllocError>
     requires { All (λ y. y < length modules.now) places.now }
     ensures { IfOk result (λ names. names ≡ map (name_at modules.now) places.now) }
@@ -206,7 +212,7 @@ fn names_at(alloc: Global, modules: &Modules<'_>, places: &[usize]) -> Result<Na
     Ok(names)
 }
 
-/// The order of the plan for what was found, or the first obstacle of what is planned.
+/// Makes the order of the plan for what was found, or finds the first obstacle of what is planned.
 fn checked_plan(
     alloc: Global,
     planner: &Planner<'_>,

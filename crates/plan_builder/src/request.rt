@@ -5,10 +5,10 @@ use km_names::{Blob, Names};
 pub struct Request {
     /// The names that are looked up, in order.
     pub names: Names,
-    /// Parameters for the modules that the names stand for, none where it is empty.
+    /// Parameters for the modules that the names stand for, or empty for none.
     pub options: Blob,
-    /// Blacklisted names are dropped from whatever is found, and not from modules' own aliases
-    /// alone.
+    /// Blacklisted names are dropped from whatever is found, and not only from modules' own
+    /// aliases.
     pub use_blacklist: bool,
     /// Commands of install rules aren't run for the modules that the names stand for.
     pub ignore_install: bool,

@@ -28,7 +28,7 @@ impl<'a> Model for RuleTable<'a> {
 }
 
 impl<'a> RuleTable<'a> {
-    /// The table of some rules.
+    /// Makes the table of some rules.
     pub(crate) fn new(alloc: Global, rules: &'a Rules) -> Result<RuleTable<'a>, AllocError>
         ensures { IfOk result (λ table. table ≡ rules.now) }
     {
@@ -41,14 +41,14 @@ impl<'a> RuleTable<'a> {
         Ok(RuleTable { rules, groups })
     }
 
-    /// All rules, in order.
+    /// Returns all rules, in order.
     pub(crate) fn all(&self) -> &'a Rules
         ensures { result.now ≡ self.now }
     {
         self.rules
     }
 
-    /// The rules on the module of this name, in order.
+    /// Returns the rules on the module of this name, in order.
     pub(crate) fn on(&self, name: &[u8]) -> &[&'a Rule]
         ensures { shown_rules result.now ≡ filter (is_on name.now) self.now }
     {
@@ -56,7 +56,7 @@ impl<'a> RuleTable<'a> {
     }
 }
 
-/// The module that a rule is on, where plans ask for rules on it.
+/// Returns the module that the rule is on, if plans ask for rules on it.
 fn owner(rule: &Rule) -> Option<&[u8]>
     ensures { option_map (λ name. name.now) result ≡ owner_of rule.now }
 {

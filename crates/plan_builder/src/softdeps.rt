@@ -21,8 +21,8 @@ pub(crate) type SoftTable<'a> = IndexMap<&'a [u8], Vec<usize>, BuildHasherDefaul
 /// Places of modules, each once, in the order in which they were found.
 type PlaceSet = IndexSet<usize, BuildHasherDefault<DefaultHasher>>;
 
-/// The table of all names that soft dependencies have. Each name is looked up once, and each module
-/// asked once whether it can be loaded.
+/// Makes the table of all names that soft dependencies have. Each name is looked up once, and each
+/// module asked once whether it can be loaded.
 pub(crate) fn soft_table<'a>(
     alloc: Global,
     planner: &Planner<'a>,
@@ -38,7 +38,7 @@ pub(crate) fn soft_table<'a>(
     Ok(table)
 }
 
-/// For each of some modules, that it isn't known yet whether it can be loaded.
+/// Makes, for each of some modules, the mark that it isn't known yet whether it can be loaded.
 fn nothing_known(alloc: Global, count: usize) -> Result<Vec<Option<bool>>, AllocError>
     ensures { IfOk result (λ known. known.items ≡ replicate count None) }
 {
@@ -94,7 +94,7 @@ fn add_names<'a>(
     Ok(())
 }
 
-/// Adds a name, unless it is there.
+/// Adds a name, unless it was added before.
 fn add_name<'a>(
     alloc: Global,
     planner: &Planner<'a>,
@@ -117,7 +117,7 @@ fn add_name<'a>(
     }
 }
 
-/// The modules that a name stands for and that can be loaded.
+/// Finds the modules that a name stands for and that can be loaded.
 fn loadable_places(
     alloc: Global,
     planner: &Planner<'_>,
@@ -134,7 +134,7 @@ fn loadable_places(
     only_loadable(alloc, planner, known, &places)
 }
 
-/// Those of some modules that can be loaded.
+/// Returns the modules among some that can be loaded.
 fn only_loadable(
     alloc: Global,
     planner: &Planner<'_>,
@@ -155,7 +155,7 @@ fn only_loadable(
     Ok(kept)
 }
 
-/// Whether a module can be loaded, as it is known, or else as the planner says.
+/// Returns whether a module can be loaded, as it is known, or else as the planner says.
 fn is_loadable(
     alloc: Global,
     planner: &Planner<'_>,
@@ -177,8 +177,8 @@ fn is_loadable(
     }
 }
 
-/// Those of the modules that names stand for that aren't this one, each once. A name that stands
-/// again is passed over, unless it stands for so few modules that they are found again as fast.
+/// Finds the modules that names stand for and that aren't this one, each once. A repeated name is
+/// skipped, unless it stands for so few modules that they are found again as fast.
 pub(crate) fn find_named(
     alloc: Global,
     table: &SoftTable<'_>,
@@ -202,7 +202,7 @@ pub(crate) fn find_named(
     Vec::from_slice(alloc, found.as_slice())
 }
 
-/// The modules that stand under a name, none if it isn't there.
+/// Returns the modules under a name, none if the table doesn't have it.
 fn places_under<'t>(table: &'t SoftTable<'_>, name: &[u8]) -> &'t [usize]
     ensures { result.now ≡ unwrap_or (kept_places table.now.entries name.now) [] }
 {
@@ -212,7 +212,7 @@ fn places_under<'t>(table: &'t SoftTable<'_>, name: &[u8]) -> &'t [usize]
     }
 }
 
-/// Finds those of some modules that aren't this one, unless they were found before.
+/// Finds the modules among some that aren't this one, unless they were found before.
 fn find_others(found: &mut PlaceSet, place: usize, places: &[usize]) -> Result<(), AllocError>
     ensures { OnOk result (found.new.keys ≡ with_items found.old.keys (filter (λ y. not (y == place)) places.now)) }
 {

@@ -36,7 +36,7 @@ pub(crate) fn spaced(alloc: Global, texts: &[&[u8]]) -> Result<Blob, AllocError>
     Ok(text)
 }
 
-/// The parameters that rules have for the module of this name.
+/// Returns the parameters that rules have for the module of this name.
 fn rule_texts<'a>(
     alloc: Global,
     rules: &'a RuleTable<'_>,
@@ -64,7 +64,7 @@ fn push_text<'a>(texts: &mut Vec<&'a [u8]>, rule: &'a Rule, wanted: &[u8]) -> Re
     }
 }
 
-/// The parameters that a module is loaded with.
+/// Returns the parameters that a module is loaded with.
 fn options_of(
     alloc: Global,
     planner: &Planner<'_>,
@@ -82,14 +82,14 @@ fn options_of(
     spaced(alloc, &texts)
 }
 
-/// Whether commands are ignored for the module of this name.
+/// Returns whether commands are ignored for the module of this name.
 fn is_ignored(request: &Request, members: &NameSet<'_>, name: &[u8]) -> bool
     ensures { result ≡ (request.now.ignore_install && is_among members.now name.now) }
 {
     request.ignore_install && members.contains(name)
 }
 
-/// The step of a module.
+/// Makes the step of a module.
 fn module_step(
     alloc: Global,
     planner: &Planner<'_>,
@@ -109,7 +109,7 @@ fn module_step(
     }
 }
 
-/// The step of a command.
+/// Makes the step of a command.
 fn command_step(alloc: Global, name: &[u8], command: &[u8]) -> Result<PlanStep, AllocError>
     ensures { IfOk result (λ step. step ≡ PlanStep.Install name.now command.now) }
 {
@@ -119,7 +119,7 @@ fn command_step(alloc: Global, name: &[u8], command: &[u8]) -> Result<PlanStep, 
     })
 }
 
-/// The step that loads a module.
+/// Makes the step that loads a module.
 fn insert_step(
     alloc: Global,
     planner: &Planner<'_>,
@@ -218,8 +218,8 @@ fn push_unless(
     push_own_step(alloc, steps, planner, request, name)
 }
 
-/// The steps of requested names, whose groups end at some places of an order, and then those of the
-/// rest of the order.
+/// Makes the steps of requested names, whose groups end at some places of an order, and then the
+/// steps of the rest of the order.
 pub(crate) fn all_steps(
     alloc: Global,
     planner: &Planner<'_>,

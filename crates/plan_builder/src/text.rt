@@ -15,8 +15,8 @@ use unmet_file::LineKind;
 impl Obstacle {
     ghost use Rattle.plan_builder.specs.Text.{obstacle_text};
 
-    /// The text of the obstacle, as it stands in a line on standard error. That of a line of
-    /// modules.unmet is the line.
+    /// Returns the text of the obstacle, as a line on standard error has it. For a line of
+    /// modules.unmet it is that line.
     #[tactic(auto, unfolding(unmet_file::specs::Line::line_text))]
     pub fn text(&self, alloc: Global) -> Result<Blob, AllocError>
         ensures { IfOk result (λ text. text ≡ obstacle_text self.now) }
@@ -57,7 +57,7 @@ fn two(alloc: Global, word: &[u8], a: &[u8]) -> Result<Blob, AllocError>
     spaced(alloc, &[word, a])
 }
 
-/// The text of a line on a symbol that nobody exports.
+/// Returns the text of a line on a symbol that nobody exports.
 fn missing(alloc: Global, path: &PathText, symbol: &Name) -> Result<Blob, AllocError>
     ensures { IfOk result (λ text. text ≡ two_text (first_word LineKind.Missing) (two_text path.now symbol.now)) }
 {
@@ -69,7 +69,7 @@ fn missing(alloc: Global, path: &PathText, symbol: &Name) -> Result<Blob, AllocE
     )
 }
 
-/// The text of a line that names a provider.
+/// Returns the text of a line that names a provider.
 fn provided(
     alloc: Global,
     kind: LineKind,
@@ -88,7 +88,7 @@ fn provided(
     )
 }
 
-/// The text of a line on a symbol that two export.
+/// Returns the text of a line on a symbol that two export.
 fn double(
     alloc: Global,
     symbol: &Name,
@@ -118,7 +118,7 @@ fn four(alloc: Global, word: &[u8], a: &[u8], b: &[u8], c: &[u8]) -> Result<Blob
     spaced(alloc, &[word, a, b, c])
 }
 
-/// The text of a cycle: its names, and the first again.
+/// Returns the text of a cycle: its names, and the first again.
 fn cycle_text(alloc: Global, names: &Names) -> Result<Blob, AllocError>
     ensures { IfOk result (λ text. text ≡ spaced_of (codes "cycle" ∷ round names.now)) }
 {
@@ -140,7 +140,7 @@ fn push_arrows<'a>(texts: &mut Vec<&'a [u8]>, names: &'a Names) -> Result<(), Al
     Ok(())
 }
 
-/// Adds the first of some names, where there is one.
+/// Adds the first of some names, if there is one.
 fn push_first<'a>(texts: &mut Vec<&'a [u8]>, names: &'a Names) -> Result<(), AllocError>
     ensures { OnOk result (byte_texts texts.new.items ≡ byte_texts texts.old.items ++ take 1 names.now) }
 {

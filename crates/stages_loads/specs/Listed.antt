@@ -1,5 +1,5 @@
--- The modules that are listed as loaded. They are loaded before any other, the oldest first, and nothing is said of them.
--- modprobe(8), proc(5).
+-- The modules that are listed as loaded. They are loaded before any other, the oldest first, and
+-- nothing is printed of them. modprobe(8), proc(5).
 use Rattle.std.specs.Prelude.{ℕ, List, reverse, Option, Some, None}
 use Rattle.index_read.specs.declared.index.Index.{Index}
 use Rattle.model_loader.specs.Machine.{Machine}

@@ -1,4 +1,4 @@
--- Loads into a machine, each with what is said of it. modprobe(8).
+-- Loads into a machine, each with the lines that are printed of it. modprobe(8).
 use Rattle.std.specs.Prelude.{◌≡◌, ℕ, ◌<◌, ◌-◌, List, [], ◌∷◌, length, map, find, slice_get, ◌++◌, codes, Option, Some, None, Result, Ok, Err, ⊤}
 use Rattle.std.specs.Fmt.{decimal}
 use Rattle.std.specs.Int.{w64, to_be_bytes}
@@ -46,8 +46,9 @@ loads cause machine m = given (load_outcome cause m.facts.name (step machine m))
 abbrev pub entered : Machine → Module → Entry
 entered machine m = entry_at machine m (module_base machine m)
 
--- The line of a module of the machine and of its image: a word, the name of the module, the address of the image in 16
--- hexadecimal digits, its size in decimal, and its digest in hexadecimal digits. SHA-256 is that of FIPS 180-4.
+-- The line of a module of the machine and of its image. It has a word, the name of the module, the
+-- address of the image in 16 hexadecimal digits, its size in decimal, and its SHA-256 in
+-- hexadecimal digits. FIPS 180-4.
 unfoldable pub entry_line : List ℕ → LoadedModule → List ℕ → List ℕ
 entry_line word loaded image =
     word ++ (codes " " ++ (loaded.name ++ (codes " " ++ (encode_lower (to_be_bytes w64 loaded.base)

@@ -21,7 +21,7 @@ pub passed-on : {X : Type 0} (test : Option X) (tests : List (Option X)) → fir
 passed-on None tests passed = passed
 passed-on (Some fault) tests passed = cc
 
--- where all tests of a module pass, those of its facts do
+-- if all tests of a module pass, the tests of its facts do
 pub facts-pass : (path bytes : List ℕ) → fact_fault path bytes ≡ None → first (facts_tests (file_object bytes) (facts_of path bytes)) ≡ None
 unfolding fact_fault module_tests
 facts-pass path bytes passed =
@@ -36,8 +36,8 @@ module_at path bytes passed = record {
   sound = IsSound-passed path (file_object bytes) (facts_of path bytes) refl (facts-pass path bytes passed);
 }
 
--- What the file of a module with this first failing test results in: the module at a path of the tree, or the refusal of
--- the file, by its whole path.
+-- What the file of a module with this first failing test results in: the module at a path of the
+-- tree, or the refusal of the file by its whole path.
 unfoldable pub module_outcome : List ℕ → (path bytes : List ℕ) (fault : Option ModuleFault) → fact_fault path bytes ≡ fault → Outcome Module
 module_outcome file path bytes None passed = value (module_at path bytes passed)
 module_outcome file path bytes (Some fault) first = end (Refused (BadModule file (module_fault_text fault)))

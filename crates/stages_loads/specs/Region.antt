@@ -19,6 +19,6 @@ abbrev pub region_when : (base size : ℕ) (answer : Bool) → is_region base si
 region_when base size true is = Some (record { base = base; size = size; pages = region-by base size is })
 region_when base size false is = None
 
--- The region of a base and a size, where they are one.
+-- The region of a base and a size, if there is one.
 unfoldable pub region_at : ℕ → ℕ → Option Region
 region_at base size = region_when base size (is_region base size) refl

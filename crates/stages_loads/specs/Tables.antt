@@ -46,7 +46,8 @@ kernel_with table = record {
   table = record { distinct = firsts-apart table.exports };
 }
 
--- the refusal of a kernel whose export of this name has no address; no kernel results in want of memory
+-- the refusal of a kernel whose export of this name has no address; no kernel results in out of
+-- memory
 abbrev pub machine_refusal : MachineFault → Refusal
 machine_refusal (faults.KernelWithoutAddress name) = KernelWithoutAddress name
 machine_refusal faults.Memory = InnerOutputFull
@@ -63,8 +64,9 @@ unfoldable pub addressed_outcome : List ℕ → Bool → Result (List KernelExpo
 addressed_outcome file known (Ok exports) = value (record { known = known; exports = exports })
 addressed_outcome file known (Err fault) = end (Refused (line_refusal file fault))
 
--- The exports of a kernel at their addresses: those of the Module.symvers where one is named, else those of the
--- System.map. The System.map is read and understood before the Module.symvers is read, and its addresses are added after.
+-- The exports of a kernel at their addresses. If a Module.symvers is named, they are its exports,
+-- else the System.map's. The System.map is read and understood before the Module.symvers is read,
+-- and its addresses are added after.
 abbrev pub reads_addressed : List ℕ → Option (List ℕ) → Stage Table
 reads_addressed map None = reads_map map
 reads_addressed map (Some symvers) = do

@@ -17,11 +17,10 @@ use provider_rel::Kernel;
 use stages_files::{read_map, read_symvers, stop_of_table};
 use std::alloc::Global;
 
-/// Reads the machine of a kernel, with no module, whose region is for the modules to load. Its
-/// exports are those of the Module.symvers, if one is named, or else those of the System.map, which
-/// has their addresses. The System.map is read and understood before the Module.symvers is read. A
-/// line that isn't understood is refused, and so is the first export without an address.
-/// modprobe(8).
+/// Reads the machine of a kernel, with no module, whose region is for the modules to load. If a
+/// Module.symvers is named, its exports are taken, or else the System.map's, which has their
+/// addresses. The System.map is read and understood before the Module.symvers is read. A line that
+/// isn't understood is refused, and so is the first export without an address. modprobe(8).
 pub fn read_machine<F: Reads>(
     alloc: Global,
     system_map: PathText,

@@ -178,8 +178,9 @@ fn image_path(alloc: Global, folder: &PathText, name: &[u8]) -> Result<PathText,
     join(alloc, folder, file.as_bytes())
 }
 
-/// Returns the line of a module of the machine with this image, which begins with a word: the name, the
-/// address of the image in 16 hexadecimal digits, its size in bytes, and its SHA-256 digest. FIPS 180-4.
+/// Returns the line of a module of the machine with this image. It begins with a word, followed by
+/// the name, the address of the image in 16 hexadecimal digits, its size in bytes, and its SHA-256
+/// digest. FIPS 180-4.
 #[tactic(auto, unfolding(crate::specs::Loads::entry_line))]
 pub fn entry_line(
     alloc: Global,
