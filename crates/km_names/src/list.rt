@@ -82,4 +82,9 @@ impl<T: Drop> List<T> {
     {
         self.elements.as_slice()
     }
+
+    /// Returns the allocator that the list takes memory from.
+    pub fn allocator(&self) -> Global {
+        *self.elements.allocator()
+    }
 }

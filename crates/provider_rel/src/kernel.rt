@@ -37,7 +37,6 @@ pub struct Kernel {
     pub known: bool,
     /// Its exports.
     pub exports: KernelExports,
-    alloc: Global,
     ghost table: { IsTable exports },
 }
 
@@ -50,7 +49,6 @@ impl Kernel {
         Kernel {
             known: false,
             exports: KernelExports::new(alloc),
-            alloc,
         }
     }
 
@@ -73,7 +71,6 @@ impl Kernel {
         Ok(Kernel {
             known: true,
             exports,
-            alloc,
         })
     }
 
@@ -96,7 +93,6 @@ impl Kernel {
         Ok(Kernel {
             known: true,
             exports,
-            alloc,
         })
     }
 
@@ -115,8 +111,9 @@ impl Kernel {
         ensures err { IfErr result (λ fault. (fault ≡ KernelFault.Memory)
             ⊎ (exports_with_addresses bytes.now self.old.exports ≡ Err fault)) }
     {
-        let symbols = Symbols::read(self.alloc, bytes)?;
-        self.exports = with_all_addresses(self.alloc, &self.exports, &symbols)?;
+        let alloc = self.exports.allocator();
+        let symbols = Symbols::read(alloc, bytes)?;
+        self.exports = with_all_addresses(alloc, &self.exports, &symbols)?;
         Ok(())
     }
 }
