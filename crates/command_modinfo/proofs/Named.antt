@@ -5,8 +5,8 @@ use Rattle.std.specs.List.{find, position, position_or_len, slice_get}
 use Rattle.std.proofs.lemmas.Bool.{lt-ltb, ltb-true}
 use Rattle.std.proofs.lemmas.Option.{slice_get_cases}
 use Rattle.std.proofs.lemmas.List.Folds.{find_at}
-use Rattle.elf_object.specs.declared.section.Section.{Section}
-use Rattle.elf_object.specs.Sections.{bytes_of}
+use Rattle.elf_sections.specs.declared.section.Section.{Section}
+use Rattle.elf_sections.specs.Sections.{bytes_of}
 use Rattle.command_modinfo.specs.ModuleInfo.{bytes_if_any}
 
 from_some : (b : Bool) (n i : ℕ) → Some i ≡ cond b (Some n) None → (b ≡ true) × (n ≡ i)

@@ -2,7 +2,7 @@
 use Rattle.std.proofs.Common.{◌≡◌, ℕ, ◌+◌, ◌<◌, List, ◌∷◌, length, drop, get_or, sym, ap, ◌∙◌, subst}
 use Rattle.std.proofs.lemmas.List.{drop_more}
 use Rattle.std.specs.Prelude.{Option, Some, Result, ⊤}
-use Rattle.elf_object.specs.Sections.{FileSections}
+use Rattle.elf_sections.specs.Sections.{FileSections}
 use Rattle.modinfo_tool.specs.declared.text.ShowOptions.{ShowOptions}
 use Rattle.modinfo_tool.specs.Show.{shown}
 use Rattle.km_course.specs.Course.{Stage, ◌>>=◌, each_from, gives, says_any}

@@ -2,8 +2,8 @@
 use Rattle.std.specs.Prelude.{ℕ, List, [], codes, Option, Some, None}
 use Rattle.std.specs.List.{find}
 use Rattle.std.specs.Str.{bytes_eq}
-use Rattle.elf_object.specs.declared.section.Section.{Section}
-use Rattle.elf_object.specs.Sections.{FileSections, bytes_of}
+use Rattle.elf_sections.specs.declared.section.Section.{Section}
+use Rattle.elf_sections.specs.Sections.{FileSections, bytes_of}
 use Rattle.modinfo_fields.specs.declared.piece.Field.{Field}
 use Rattle.modinfo_fields.specs.Fields.{fields_of}
 

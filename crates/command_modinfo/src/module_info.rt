@@ -3,7 +3,7 @@ ghost use Rattle.modinfo_tool.specs.Show.{shown};
 ghost use Rattle.command_modinfo.specs.ModuleInfo.{bytes_named, module_fields};
 ghost use Rattle.command_modinfo.specs.PlainKeys.{if_plain, plain_key};
 
-use elf_object::Sections;
+use elf_sections::Sections;
 use km_names::{Blob, Name, PathText};
 use modinfo_fields::fields;
 use modinfo_tool::{ShowOptions, show, show_values};

@@ -10,12 +10,12 @@ use Rattle.std.proofs.lemmas.List.Sums.{sum_by-cons}
 use Rattle.km_names.specs.First.{first}
 use Rattle.elf_object.specs.declared.place.RelaPlace.{RelaPlace}
 use Rattle.elf_object.specs.declared.fault.ObjectFault.TheVariants.{OverlappingPlaces}
-use Rattle.elf_object.specs.Shape.{each, section_count}
-use Rattle.elf_object.specs.Sections.{section_of}
+use Rattle.elf_sections.specs.Shape.{each, section_count}
+use Rattle.elf_sections.specs.Sections.{section_of}
 use Rattle.elf_object.specs.Places.{covers, is_shared, overlap_test, place_width, places_of}
 use Rattle.elf_object.specs.Object.{AreApart, Changes}
 use Rattle.elf_object.proofs.Inside.{IsInSection}
-use Rattle.elf_object.proofs.StringLemmas.{position-nowhere_is}
+use Rattle.elf_sections.proofs.StringLemmas.{position-nowhere_is}
 use Rattle.elf_object.proofs.TestLemmas.{each-none}
 
 -- an item that passes is counted

@@ -3,8 +3,8 @@ use Rattle.std.specs.Prelude.{◌≡◌, ◌≢◌, ℕ, ◌+◌, ◌^◌, ◌<�
 use Rattle.elf_format.specs.declared.section.TheConstants.{SHT_NOBITS}
 use Rattle.elf_format.specs.Relocation.{IsKnown}
 use Rattle.elf_object.specs.declared.place.RelaPlace.{RelaPlace}
-use Rattle.elf_object.specs.Shape.{section_count}
-use Rattle.elf_object.specs.Sections.{section_of, sections_of}
+use Rattle.elf_sections.specs.Shape.{section_count}
+use Rattle.elf_sections.specs.Sections.{section_of, sections_of}
 use Rattle.elf_object.specs.Symbols.{symbols_of}
 use Rattle.elf_object.specs.Places.{is_unkept, place_width}
 

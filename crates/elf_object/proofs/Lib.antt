@@ -3,10 +3,7 @@ pub mod Inside
 pub mod ObjectLemmas
 pub mod OverlapLemmas
 pub mod PlaceLemmas
-pub mod Positions
-pub mod ShapeLemmas
 pub mod SpanLemmas
-pub mod StringLemmas
 pub mod SymbolLemmas
 pub mod TableLemmas
 pub mod TestLemmas

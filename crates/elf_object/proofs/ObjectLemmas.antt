@@ -2,25 +2,26 @@
 use Rattle.km_names.specs.Limit.{file_limit}
 use Rattle.elf_object.specs.declared.symbol.Symbol.{Symbol}
 use Rattle.elf_object.specs.declared.place.RelaPlace.{RelaPlace}
-use Rattle.elf_object.specs.Sections.{IsRead, section_of, sections_of}
+use Rattle.elf_sections.specs.Sections.{IsRead, section_of, sections_of}
 use Rattle.std.proofs.lemmas.List.FromFn.{length-map-range_with_len}
 use Rattle.std.specs.Option.{option_map_or}
-use Rattle.elf_object.proofs.ShapeLemmas.{length-contents, length-sections_of, section_of-within, sections_of-slice_get}
+use Rattle.elf_sections.proofs.ShapeLemmas.{length-contents, length-sections_of, section_of-within, sections_of-slice_get}
 use Rattle.elf_object.specs.FaultText.{object_fault_from}
-use Rattle.elf_object.specs.declared.fault.SectionFault.TheVariants.{Memory}
+use Rattle.elf_sections.specs.declared.fault.SectionFault.TheVariants.{Memory}
 use Rattle.std.proofs.Common.{◌≡◌, ℕ, List, [], ◌∷◌, Option, Some, None, refl, ◌⊎◌, inl, inr, length, ◌≤◌, ◌<◌, ◌^◌, ◌&&◌, not, true, ◌∙◌, arith}
 use Rattle.km_names.specs.First.{first}
-use Rattle.elf_object.specs.declared.fault.SectionFault.{SectionFault}
+use Rattle.elf_sections.specs.declared.fault.SectionFault.{SectionFault}
 use Rattle.elf_object.specs.declared.fault.ObjectFault.{ObjectFault}
 use Rattle.elf_object.specs.declared.fault.ObjectFault.TheVariants.{Shape, BadAlign, Memory as OutOfMemory}
-use Rattle.elf_object.specs.Shape.{AllInFile, HasTable, each, section_count, shape_fault, contents}
+use Rattle.elf_sections.specs.Shape.{AllInFile, HasTable, each, section_count, shape_fault, contents}
 use Rattle.elf_object.specs.Symbols.{entries, rel_test, symbol_bytes, symbol_test, symbol_tests, table_test, symbols_of, symbols_in, symbol_in, symbol_names, symbol_table}
 use Rattle.elf_object.specs.Places.{align_test, is_alignment, overlap_test, place_tests, places_of, rela_test}
 use Rattle.elf_object.specs.Object.{IsLoadable, IsPlaceIn, IsSectionIn, IsSymbolIn, content_tests, file_object, object_fault, object_tests}
 use Rattle.elf_object.specs.declared.overlap.Order.{Order}
 use Rattle.elf_object.specs.Overlap.{IsOrderOf}
 use Rattle.elf_object.proofs.OverlapLemmas.{overlaps-none}
-use Rattle.elf_object.proofs.TestLemmas.{All-range, each-none, fault_if-none, first-failed, first-parts, first-passed}
+use Rattle.elf_object.proofs.TestLemmas.{All-range, each-none, fault_if-none, first-parts}
+use Rattle.elf_sections.proofs.TestLemmas.{first-failed, first-passed}
 use Rattle.elf_object.specs.Inner.{TablesFit}
 use Rattle.elf_object.proofs.ApartLemmas.{AllPairs-places_of}
 use Rattle.elf_object.proofs.Inside.{IsInSection}

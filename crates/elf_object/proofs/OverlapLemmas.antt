@@ -10,12 +10,12 @@ use Rattle.std.specs.List.{count_by}
 use Rattle.km_names.specs.First.{first}
 use Rattle.elf_object.specs.declared.place.RelaPlace.{RelaPlace}
 use Rattle.elf_object.specs.declared.fault.ObjectFault.TheVariants.{OverlappingPlaces}
-use Rattle.elf_object.specs.Shape.{each, section_count}
-use Rattle.elf_object.specs.Sections.{section_of}
+use Rattle.elf_sections.specs.Shape.{each, section_count}
+use Rattle.elf_sections.specs.Sections.{section_of}
 use Rattle.elf_object.specs.Places.{covers, is_shared, overlap_test, place_width, places_of}
 use Rattle.elf_object.proofs.Inside.{IsInSection}
 use Rattle.elf_object.specs.Overlap.{IsNear, count_at, is_between, place_end, place_start}
-use Rattle.elf_object.proofs.TestLemmas.{each-failed, each-passed}
+use Rattle.elf_sections.proofs.TestLemmas.{each-failed, each-passed}
 use Rattle.elf_object.proofs.TableLemmas.{position-no_number, position-number}
 
 -- a place of the file is near

@@ -4,25 +4,38 @@ use Rattle.elf_object.proofs.TestLemmas.{All-range, each-none, fault_if-none, fi
 use Rattle.std.specs.Prelude.{◌≢◌, is_none, nat_le, All, IsSome}
 use Rattle.elf_object.specs.declared.fault.ObjectFault.TheVariants.{BadRela, UnknownType}
 use Rattle.elf_object.specs.declared.place.RelaPlace.{RelaPlace}
-use Rattle.elf_object.proofs.ShapeLemmas.{has_content-kept, section_of-within}
+use Rattle.elf_sections.proofs.ShapeLemmas.{section_of-within}
 use Rattle.elf_object.specs.declared.symbol.Symbol.{Symbol}
-use Rattle.elf_object.specs.declared.section.Section.{Section}
+use Rattle.elf_sections.specs.declared.section.Section.{Section}
 use Rattle.std.proofs.Common.{◌≡◌, ℕ, zero, suc, ◌+◌, ◌<◌, ◌≤◌, ◌==◌, ◌&&◌, nat_lt, not, Bool, true, false, get_or, length, inl, inr, List, [], ◌∷◌, ◌++◌, map, None, Some, refl, sym, ap, ◌∙◌, subst, arith}
 use Rattle.std.proofs.lemmas.List.Elements.{All-append, All-map, All-nil}
-use Rattle.std.proofs.lemmas.Bool.{cases_Bool, and_cases, and_parts, eqb-false, eqb-true, ltb-false, not-false, or_parts, leb-false}
+use Rattle.std.proofs.lemmas.Bool.{cases_Bool, and_cases, and_from, and_parts, eqb-false, eqb-true, ltb-false, ne_eqb, not-false, or_parts, leb-false}
 use Rattle.std.proofs.lemmas.List.{append-nil, map-id}
 use Rattle.std.proofs.lemmas.List.Concat.{flat_map-append}
 use Rattle.std.proofs.lemmas.List.FromFn.{map-range_with_len_more}
 use Rattle.std.specs.List.{flat_map, range_with_len}
 use Rattle.km_names.specs.First.{first}
 use Rattle.elf_format.specs.declared.relocation.TheConstants.{R_X86_64_NONE}
-use Rattle.elf_format.specs.declared.section.TheConstants.{SHT_NOBITS, SHT_RELA}
+use Rattle.elf_format.specs.declared.section.TheConstants.{SHT_NOBITS, SHT_NULL, SHT_RELA}
 use Rattle.elf_format.specs.Relocation.{IsKnown, width}
 use Rattle.elf_object.proofs.Inside.{IsInSection}
-use Rattle.elf_object.specs.Shape.{AllInFile, HasTable, contents, each, fault_if, section_count}
-use Rattle.elf_object.specs.Sections.{section_of, sections_of}
+use Rattle.elf_sections.specs.Shape.{AllInFile, HasTable, contents, each, fault_if, has_content, is_kept, section_count, section_header}
+use Rattle.elf_sections.specs.Sections.{section_of, sections_of}
 use Rattle.elf_object.specs.Symbols.{entries, symbols_of}
 use Rattle.elf_object.specs.Places.{entry_test, is_applied, is_bad_place, is_unkept, place_in, place_width, place_of, place_test, places_of, rela_test, room_in, section_places}
+
+-- the first of three tests
+first_of_three : (x y z : Bool) → (x && y && z) ≡ true → x ≡ true
+first_of_three true y z passed = refl
+first_of_three false y z passed = passed
+
+-- A section that is kept and not of type NOBITS has bytes in the file.
+has_content-kept : (b : List ℕ) (i : ℕ) → (section_of b i).kept ≡ true → ((section_of b i).kind ≡ SHT_NOBITS → ⊥) → has_content (section_of b i).kind ≡ true
+unfolding section_of is_kept
+has_content-kept b i kept other =
+    let kind = (section_header b i).kind in
+    let section = first_of_three (not (kind == SHT_NULL)) _ _ kept in
+    and_from (not (kind == SHT_NULL)) (not (kind == SHT_NOBITS)) section (ap not (ne_eqb kind SHT_NOBITS other))
 
 pub section_places-none : (b : List ℕ) (i : ℕ) → is_applied b i ≡ false → section_places b i ≡ []
 unfolding section_places

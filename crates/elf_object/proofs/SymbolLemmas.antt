@@ -8,9 +8,9 @@ use Rattle.elf_format.specs.declared.symbol.TheConstants.{SHN_LORESERVE, SHN_ABS
 use Rattle.elf_object.specs.declared.symbol.Symbol.{Symbol}
 use Rattle.elf_object.specs.declared.symbol.SymbolEntry.{SymbolEntry}
 use Rattle.elf_object.specs.declared.fault.ObjectFault.TheVariants.{Shape, ExtendedIndex, CommonSymbol, BadSymbol}
-use Rattle.elf_object.specs.declared.fault.SectionFault.TheVariants.{BadString}
-use Rattle.elf_object.specs.Shape.{each, fault_if}
-use Rattle.elf_object.specs.Inner.{HasStrings}
+use Rattle.elf_sections.specs.declared.fault.SectionFault.TheVariants.{BadString}
+use Rattle.elf_sections.specs.Shape.{each, fault_if}
+use Rattle.elf_sections.specs.Strings.{HasStrings}
 use Rattle.elf_object.specs.Symbols.{binding, entries, is_bad_symbol, kind_test, symbol_entry, symbol_in, symbol_test_in, symbols_in}
 use Rattle.elf_object.proofs.TestLemmas.{fault_if-none, first-parts, map-range-same}
 

@@ -7,8 +7,8 @@ use Rattle.std.proofs.lemmas.List.FromFn.{get_or-range_with_len, length-range_wi
 use Rattle.std.specs.List.{position, range_with_len}
 use Rattle.elf_format.specs.declared.section.TheConstants.{SHT_REL, SHT_STRTAB, SHT_SYMTAB, SHT_RELA}
 use Rattle.elf_object.specs.declared.fault.ObjectFault.TheVariants.{RelSection, BadTable}
-use Rattle.elf_object.specs.Shape.{contents, section_count}
-use Rattle.elf_object.specs.Sections.{section_of}
+use Rattle.elf_sections.specs.Shape.{contents, section_count}
+use Rattle.elf_sections.specs.Sections.{section_of}
 use Rattle.elf_object.specs.Symbols.{has_entries, is_good_table, is_string_table, is_symbol_table, rel_test, symbol_bytes, symbol_names, symbol_table, table_test}
 use Rattle.elf_object.specs.Inner.{TablesFit}
 use Rattle.km_names.proofs.Positions.{position-found, position-none}

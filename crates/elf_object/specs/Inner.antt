@@ -2,20 +2,15 @@
 -- It belongs to the code: no public meaning rests on it.
 use Rattle.std.specs.Prelude.{◌≡◌, ℕ, ◌<◌, Bool, true, List, map, Some}
 use Rattle.elf_format.specs.declared.section.TheConstants.{SHT_RELA}
-use Rattle.km_names.specs.Strings.{string_at}
 use Rattle.elf_object.specs.declared.met.MetPlaces.{MetPlaces}
 use Rattle.elf_object.specs.declared.place.RelaPlace.{RelaPlace}
-use Rattle.elf_object.specs.declared.section.Section.{Section}
+use Rattle.elf_sections.specs.declared.section.Section.{Section}
 use Rattle.elf_object.specs.declared.symbol.Symbol.{Symbol}
 use Rattle.elf_object.specs.Overlap.{IsOrderOf}
 use Rattle.elf_object.specs.Places.{lies_unkept}
-use Rattle.elf_object.specs.Shape.{section_count}
-use Rattle.elf_object.specs.Sections.{section_of}
+use Rattle.elf_sections.specs.Shape.{section_count}
+use Rattle.elf_sections.specs.Sections.{section_of}
 use Rattle.elf_object.specs.Symbols.{symbol_table}
-
--- Both string tables have the same text at each place.
-pub record HasStrings (table other : List ℕ) : Type 0 where
-  pub strings : (at : ℕ) → string_at other at ≡ string_at table at
 
 -- The sections that the tables of a file name exist: the string table of the symbols, and the
 -- sections that relocations change.

@@ -3,6 +3,4 @@ pub mod Inner
 pub mod Object
 pub mod Overlap
 pub mod Places
-pub mod Sections
-pub mod Shape
 pub mod Symbols

@@ -6,13 +6,13 @@ use Rattle.elf_format.specs.declared.symbol.TheConstants.{SHN_LORESERVE, SHN_ABS
 use Rattle.elf_format.specs.Relocation.{IsKnown}
 use Rattle.km_names.specs.First.{first}
 use Rattle.km_names.specs.Limit.{file_limit}
-use Rattle.elf_object.specs.declared.section.Section.{Section}
+use Rattle.elf_sections.specs.declared.section.Section.{Section}
 use Rattle.elf_object.specs.declared.symbol.Symbol.{Symbol}
 use Rattle.elf_object.specs.declared.place.RelaPlace.{RelaPlace}
 use Rattle.elf_object.specs.declared.fault.ObjectFault.{ObjectFault}
 use Rattle.elf_object.specs.declared.fault.ObjectFault.TheVariants.{Shape}
-use Rattle.elf_object.specs.Shape.{has_content, shape_fault}
-use Rattle.elf_object.specs.Sections.{FileSections, sections_of}
+use Rattle.elf_sections.specs.Shape.{has_content, shape_fault}
+use Rattle.elf_sections.specs.Sections.{FileSections, sections_of}
 use Rattle.elf_object.specs.Symbols.{symbol_tests, symbols_of}
 use Rattle.elf_object.specs.Places.{is_alignment, is_unkept, place_tests, place_width, places_of}
 

@@ -10,13 +10,13 @@ use Rattle.elf_format.specs.declared.relocation.TheConstants.{R_X86_64_NONE}
 use Rattle.elf_format.specs.declared.section.TheConstants.{SHT_RELA, SHT_NOBITS, PAGE}
 use Rattle.elf_format.specs.declared.symbol.TheConstants.{SHN_UNDEF}
 use Rattle.elf_format.specs.Relocation.{known_width, width}
-use Rattle.elf_object.specs.declared.section.Section.{Section}
+use Rattle.elf_sections.specs.declared.section.Section.{Section}
 use Rattle.elf_object.specs.declared.symbol.Symbol.{Symbol}
 use Rattle.elf_object.specs.declared.place.RelaPlace.{RelaPlace}
 use Rattle.elf_object.specs.declared.fault.ObjectFault.{ObjectFault}
 use Rattle.elf_object.specs.declared.fault.ObjectFault.TheVariants.{BadAlign, BadRela, UnknownType, OverlappingPlaces}
-use Rattle.elf_object.specs.Shape.{contents, each, fault_if, section_count}
-use Rattle.elf_object.specs.Sections.{section_of, sections_of}
+use Rattle.elf_sections.specs.Shape.{contents, each, fault_if, section_count}
+use Rattle.elf_sections.specs.Sections.{section_of, sections_of}
 use Rattle.elf_object.specs.Symbols.{entries, symbols_of}
 
 -- An alignment is a power of two of at most a page, or 0, which counts as 1. gABI 4, "Sections",

@@ -12,9 +12,9 @@ use Rattle.elf_object.specs.declared.symbol.SymbolEntry.{SymbolEntry}
 use Rattle.elf_object.specs.declared.symbol.SymbolRef.{SymbolRef}
 use Rattle.elf_object.specs.declared.fault.ObjectFault.{ObjectFault}
 use Rattle.elf_object.specs.declared.fault.ObjectFault.TheVariants.{Shape, RelSection, BadTable, ExtendedIndex, CommonSymbol, BadSymbol}
-use Rattle.elf_object.specs.declared.fault.SectionFault.TheVariants.{BadString}
-use Rattle.elf_object.specs.Shape.{each, contents, fault_if, section_count}
-use Rattle.elf_object.specs.Sections.{entry_size, section_of}
+use Rattle.elf_sections.specs.declared.fault.SectionFault.TheVariants.{BadString}
+use Rattle.elf_sections.specs.Shape.{each, contents, fault_if, section_count}
+use Rattle.elf_sections.specs.Sections.{entry_size, section_of}
 
 -- A symbol with a borrowed name, as one with a name of its own. gABI 4, "Symbol Table", Elf64_Sym.
 abbrev pub owned_symbol : SymbolRef → Symbol

@@ -1,11 +1,10 @@
 //! Reads relocatable object files of x86-64: the sections of an ELF64 file, its symbols, and the
 //! places that its relocations change.
 //!
-//! `Sections::read` and `Object::read` keep the bytes that they get. A contract sees the file
-//! beside the lists that were read from it, which are functions of the file. Each number is the sum
-//! of its bytes at a computed place, and each name has the bytes up to its NUL. Every refusal is
-//! the first failing test of one list of tests over the whole file, with its numbers. Only out of
-//! memory is free.
+//! `Object::read` keeps the bytes that it gets. A contract sees the file beside the lists that were
+//! read from it, which are functions of the file. Each number is the sum of its bytes at a computed
+//! place, and each name has the bytes up to its NUL. Every refusal is the first failing test of one
+//! list of tests over the whole file, with its numbers. Only out of memory is free.
 //!
 //! A file may come from anywhere, and names may share their bytes in it, as may tables of
 //! relocations. So what may overlap is added up before it is kept. The names of the sections have
@@ -17,33 +16,26 @@
 //! An `ObjectView` shows a file that passed the same tests to readers that don't load it: names
 //! stay in the file, and the places are tested and not kept.
 //!
-//! The crate uses `elf_format` for the numbers of the format, `km_names` for names and numbers,
-//! `memchr` for the ends of names, and `thiserror` for the error traits. The bytes of sections
-//! aren't copied. Names are copied once if they are owned, and each table is read in place.
+//! The crate uses `elf_sections` for the sections, which it hands on, `elf_format` for the numbers
+//! of the format, `km_names` for names and numbers, and `thiserror` for the error traits. The bytes
+//! of sections aren't copied. Names are copied once if they are owned, and each table is read in
+//! place.
 #![tactic(auto)]
 
 mod fault;
-mod header;
 mod met;
 mod object;
 mod overlap;
 mod parts;
 mod place;
 mod places;
-mod section;
-mod section_table;
-mod sections;
-mod shape;
-mod strings;
 mod symbol;
 mod tables;
 mod view;
 
-pub use fault::{ObjectFault, SectionFault};
+pub use elf_sections::{NAME_LIMIT, Section, SectionFault, SectionRef, Sections};
+pub use fault::ObjectFault;
 pub use object::Object;
 pub use place::RelaPlace;
-pub use section::{Section, SectionRef};
-pub use sections::Sections;
-pub use strings::NAME_LIMIT;
 pub use symbol::{Symbol, SymbolRef};
 pub use view::ObjectView;

@@ -5,14 +5,15 @@ ghost use Rattle.std.specs.List.{position};
 ghost use Rattle.std.specs.Str.{bytes_eq};
 ghost use Rattle.km_names.specs.Limit.{file_limit};
 ghost use Rattle.elf_object.specs.Object.{IsLoadable, file_object, object_fault};
-ghost use Rattle.elf_object.specs.Sections.{IsRead, sections_of};
+ghost use Rattle.elf_sections.specs.Sections.{IsRead, sections_of};
 ghost use Rattle.elf_object.specs.Symbols.{symbols_of};
 ghost use Rattle.elf_object.specs.Places.{places_of};
 
 use crate::parts::read_parts;
 use crate::places::read_places;
 use crate::symbol::{borrowed_symbols, owned_symbols};
-use crate::{ObjectFault, ObjectView, RelaPlace, Section, Sections, Symbol};
+use crate::{ObjectFault, ObjectView, RelaPlace, Symbol};
+use elf_sections::{Section, Sections};
 use km_names::{Blob, List};
 use std::alloc::{AllocError, Global};
 use std::marker::Model;
@@ -59,7 +60,7 @@ fn read_lists(alloc: Global, bytes: &[u8]) -> Result<(List<Symbol>, List<RelaPla
 
 impl Object {
     ghost use Rattle.elf_format.specs.declared.symbol.TheConstants.{SHN_LORESERVE};
-    ghost use Rattle.elf_object.specs.Sections.{bytes_of};
+    ghost use Rattle.elf_sections.specs.Sections.{bytes_of};
     ghost use Rattle.elf_object.specs.Object.{IsPlaceIn, IsSectionIn, IsSymbolIn};
 
     /// Reads an object file, and keeps its bytes. After a refusal the bytes are dropped.

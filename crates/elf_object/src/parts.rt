@@ -6,14 +6,13 @@ ghost use Rattle.km_names.specs.First.{first};
 ghost use Rattle.elf_object.specs.Inner.{TablesFit, unkept_flags};
 ghost use Rattle.elf_object.specs.Object.{object_fault};
 ghost use Rattle.elf_object.specs.Places.{place_tests};
-ghost use Rattle.elf_object.specs.Sections.{IsRead, file_sections, sections_of};
+ghost use Rattle.elf_sections.specs.Sections.{IsRead, file_sections, sections_of};
 ghost use Rattle.elf_object.specs.Symbols.{owned_symbol, symbol_tests, symbols_of};
 
 use crate::place::unkept_symbols;
-use crate::section_table::SectionTable;
-use crate::shape::read_shape;
 use crate::tables::read_symbol_table;
 use crate::{ObjectFault, SymbolRef};
+use elf_sections::SectionTable;
 use km_names::List;
 use std::alloc::Global;
 
@@ -40,7 +39,7 @@ pub(crate) fn read_parts<'a>(alloc: Global, bytes: &'a [u8]) -> Result<FileParts
     ensures fault { IfErr result (λ e. (e ≡ ObjectFault.Memory)
         ⊎ (object_fault bytes.now ≡ Some e)) }
 {
-    let table = read_shape(alloc, bytes)?;
+    let table = SectionTable::read(alloc, bytes)?;
     let symbols = read_symbol_table(alloc, &table)?;
     let unkept = unkept_symbols(alloc, table.list(), symbols.as_slice())?;
     Ok(FileParts {

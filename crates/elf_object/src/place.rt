@@ -6,11 +6,12 @@ ghost use Rattle.km_names.specs.Number.{signed};
 ghost use Rattle.elf_format.specs.Relocation.{width};
 ghost use Rattle.elf_object.specs.Inner.{unkept_flags};
 ghost use Rattle.elf_object.specs.Places.{is_bad_place, lies_unkept, place_in, place_test, place_width, room_in};
-ghost use Rattle.elf_object.specs.Sections.{owned_section};
+ghost use Rattle.elf_sections.specs.Sections.{owned_section};
 ghost use Rattle.elf_object.specs.Symbols.{owned_symbol};
 
-use crate::{ObjectFault, SectionRef, SymbolRef};
+use crate::{ObjectFault, SymbolRef};
 use elf_format::{R_X86_64_NONE, RELA_SIZE, SHN_UNDEF, SHT_NOBITS, width};
+use elf_sections::SectionRef;
 use km_names::le_u64_at;
 use std::alloc::{AllocError, Global};
 

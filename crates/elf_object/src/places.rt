@@ -4,9 +4,9 @@ ghost use Rattle.std.specs.Prelude.{◌≡◌, ◌<◌, ◌≤◌, ◌⊎◌, �
 ghost use Rattle.std.specs.Result.{result_err};
 ghost use Rattle.km_names.specs.Limit.{file_limit};
 ghost use Rattle.km_names.specs.First.{first};
-ghost use Rattle.elf_object.specs.Shape.{each, section_count};
+ghost use Rattle.elf_sections.specs.Shape.{each, section_count};
 ghost use Rattle.elf_object.specs.declared.place.RelaPlace.{RelaPlace};
-ghost use Rattle.elf_object.specs.Sections.{IsRead, sections_of};
+ghost use Rattle.elf_sections.specs.Sections.{IsRead, sections_of};
 ghost use Rattle.elf_object.specs.Symbols.{symbols_of};
 ghost use Rattle.elf_object.specs.Places.{align_test, is_alignment, is_applied, overlap_test, place_tests, places_of, rela_test, section_places};
 ghost use Rattle.elf_object.specs.Inner.{HasMet, TablesFit, unkept_flags};
@@ -15,9 +15,9 @@ ghost use Rattle.elf_object.specs.Overlap.{IsOrderOf};
 use crate::met::MetPlaces;
 use crate::overlap::{Order, SECTION, find_shared};
 use crate::place::{check_place, place_at, room_in};
-use crate::section_table::SectionTable;
 use crate::{ObjectFault, RelaPlace};
 use elf_format::{PAGE, RELA_SIZE, SHT_RELA};
+use elf_sections::SectionTable;
 use km_names::{FILE_LIMIT, List};
 use std::alloc::{AllocError, Global};
 

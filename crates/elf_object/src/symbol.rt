@@ -4,14 +4,14 @@ ghost use Rattle.std.specs.Prelude.{◌≡◌, ◌+◌, ◌*◌, ◌≤◌, ◌�
 ghost use Rattle.std.specs.Result.{result_err};
 ghost use Rattle.km_names.specs.Limit.{file_limit};
 ghost use Rattle.km_names.specs.First.{first};
-ghost use Rattle.elf_object.specs.Shape.{each};
+ghost use Rattle.elf_sections.specs.Shape.{each};
 ghost use Rattle.elf_object.specs.Symbols.{entries, is_bad_symbol, kind_test, owned_symbol, symbol_entry, symbol_in, symbol_test_in, symbols_in};
 
-use crate::strings::{NAME_LIMIT, string_within};
-use crate::{ObjectFault, SectionFault};
+use crate::ObjectFault;
 use elf_format::{
     SHN_ABS, SHN_COMMON, SHN_LORESERVE, SHN_UNDEF, SHN_XINDEX, STB_LOCAL, STB_WEAK, SYM_SIZE,
 };
+use elf_sections::{NAME_LIMIT, SectionFault, string_within};
 use km_names::{List, Name, le_u16_at, le_u32_at, le_u64_at};
 use std::alloc::{AllocError, Global};
 

@@ -4,16 +4,15 @@ ghost use Rattle.std.specs.Prelude.{◌≡◌, ◌<◌, ◌≤◌, ◌⊎◌, le
 ghost use Rattle.std.specs.Result.{result_err};
 ghost use Rattle.km_names.specs.First.{first};
 ghost use Rattle.km_names.specs.Limit.{file_limit};
-ghost use Rattle.elf_object.specs.Shape.{each, section_count};
+ghost use Rattle.elf_sections.specs.Shape.{each, section_count};
 ghost use Rattle.elf_object.specs.Inner.{TablesFit};
-ghost use Rattle.elf_object.specs.Sections.{IsRead};
+ghost use Rattle.elf_sections.specs.Sections.{IsRead};
 ghost use Rattle.elf_object.specs.Symbols.{has_entries, is_good_table, is_string_table, is_symbol_table, owned_symbol, rel_test, symbol_bytes, symbol_names, symbol_table, symbol_tests, symbols_of, table_test};
 
-use crate::section_table::SectionTable;
-use crate::strings::up_to_last_nul;
 use crate::symbol::read_symbols;
 use crate::{ObjectFault, SymbolRef};
 use elf_format::{SHT_REL, SHT_RELA, SHT_STRTAB, SHT_SYMTAB, SYM_SIZE};
+use elf_sections::{SectionTable, up_to_last_nul};
 use km_names::List;
 use std::alloc::Global;
 

@@ -7,8 +7,8 @@ ghost use Rattle.km_names.specs.Limit.{file_limit};
 
 use crate::parts::{FileParts, read_parts};
 use crate::places::check_places;
-use crate::section_table::SectionTable;
-use crate::{ObjectFault, SectionRef, SymbolRef};
+use crate::{ObjectFault, SymbolRef};
+use elf_sections::{SectionRef, SectionTable};
 use km_names::List;
 use std::alloc::Global;
 use std::marker::Model;
@@ -42,7 +42,7 @@ impl<'a> Model for ObjectView<'a> {
 
 impl<'a> ObjectView<'a> {
     ghost use Rattle.elf_format.specs.declared.symbol.TheConstants.{SHN_LORESERVE};
-    ghost use Rattle.elf_object.specs.Sections.{bytes_of, owned_section};
+    ghost use Rattle.elf_sections.specs.Sections.{bytes_of, owned_section};
     ghost use Rattle.elf_object.specs.Symbols.{owned_symbol};
     ghost use Rattle.elf_object.specs.Object.{IsSectionIn, IsSymbolIn, file_object, object_fault};
 

@@ -10,7 +10,7 @@ use Rattle.std.proofs.lemmas.List.FromFn.{fill_by_all, length-map-range_with_len
 use Rattle.std.proofs.lemmas.Option.{get_or_from_slice_get, slice_get_within}
 use Rattle.std.proofs.Math.Seq.{drop-cons}
 use Rattle.elf_format.specs.Relocation.{known_width}
-use Rattle.elf_object.specs.declared.section.Section.{Section}
+use Rattle.elf_sections.specs.declared.section.Section.{Section}
 use Rattle.elf_object.specs.declared.place.RelaPlace.{RelaPlace}
 use Rattle.elf_object.specs.Object.{FileObject, IsPlaceIn, IsLoadable, AreApart}
 use Rattle.x86_relocate.specs.declared.patch.Patch.{Patch}

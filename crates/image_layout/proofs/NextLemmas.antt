@@ -3,7 +3,7 @@ use Rattle.std.proofs.Common.{◌≡◌, ◌<◌, ◌+◌, ◌^◌, ◌∙◌, i
 use Rattle.std.specs.Prelude.{◌&&◌}
 use Rattle.std.specs.List.{slice_get}
 use Rattle.std.proofs.lemmas.Bool.{cases_Bool}
-use Rattle.elf_object.specs.declared.section.Section.{Section}
+use Rattle.elf_sections.specs.declared.section.Section.{Section}
 use Rattle.image_layout.specs.declared.class.Class.{Class}
 use Rattle.image_layout.specs.declared.class.Class.TheVariants.{Code, Fixed, Variable}
 use Rattle.image_layout.specs.declared.layout.Ends.{Ends}

@@ -2,7 +2,7 @@
 use Rattle.std.proofs.Common.{◌≡◌, ◌≤◌, ◌<◌, ◌+◌, ◌∙◌, ◌⊎◌, inl, inr, ℕ, true, false, List, Some, refl, sym, ap, arith, take, subst}
 use Rattle.std.specs.List.{slice_get}
 use Rattle.std.proofs.lemmas.List.{take-take}
-use Rattle.elf_object.specs.declared.section.Section.{Section}
+use Rattle.elf_sections.specs.declared.section.Section.{Section}
 use Rattle.image_layout.specs.declared.class.Class.{Class}
 use Rattle.image_layout.specs.declared.class.Class.TheVariants.{Code, Fixed, Variable}
 use Rattle.image_layout.specs.Offsets.{aligned, class_of, class_start, class_end, end_of, fixed_start, variable_start, image_size, is_class, is_in, of_class, offset, offset_after}

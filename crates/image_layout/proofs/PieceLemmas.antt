@@ -7,9 +7,9 @@ use Rattle.std.proofs.lemmas.Grind.{common_steps}
 use Rattle.std.proofs.lemmas.List.FromFn.{map-range_with_len_more}
 use Rattle.std.proofs.lemmas.Option.{slice_get-get_or, slice_get_within, slice_get_cases}
 use Rattle.raw_image.specs.Bytes.{with_bytes}
-use Rattle.elf_object.specs.declared.section.Section.{Section}
+use Rattle.elf_sections.specs.declared.section.Section.{Section}
 use Rattle.elf_object.specs.Object.{FileObject}
-use Rattle.elf_object.specs.Shape.{content, has_content}
+use Rattle.elf_sections.specs.Shape.{content, has_content}
 use Rattle.image_layout.specs.Offsets.{offset, image_size}
 use Rattle.image_layout.specs.Plain.{piece, has_place, filled}
 use Rattle.image_layout.proofs.OffsetLemmas.{apart, lies_in, offset_unkept}

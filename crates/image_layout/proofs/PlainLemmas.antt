@@ -10,9 +10,9 @@ use Rattle.std.proofs.lemmas.Grind.{common_steps}
 use Rattle.std.proofs.lemmas.List.Folds.{find-append}
 use Rattle.std.proofs.lemmas.List.FromFn.{length-map-range_with_len, get_or-map-range_with_len, map-range_with_len_more, fill_by_all}
 use Rattle.raw_image.specs.Bytes.{with_bytes}
-use Rattle.elf_object.specs.declared.section.Section.{Section}
+use Rattle.elf_sections.specs.declared.section.Section.{Section}
 use Rattle.elf_object.specs.Object.{FileObject}
-use Rattle.elf_object.specs.Sections.{bytes_of}
+use Rattle.elf_sections.specs.Sections.{bytes_of}
 use Rattle.image_layout.specs.Offsets.{offset}
 use Rattle.image_layout.specs.Plain.{Piece, piece, has_place, plain_byte, filled}
 

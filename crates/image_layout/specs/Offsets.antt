@@ -5,7 +5,7 @@ use Rattle.std.specs.Prelude.{ℕ, ◌+◌, ◌-◌, ◌*◌, ◌/◌, ◌==◌,
 use Rattle.std.specs.List.{range_with_len}
 use Rattle.std.specs.Option.{option_map_or}
 use Rattle.elf_format.specs.declared.section.TheConstants.{SHF_WRITE, SHF_EXECINSTR, PAGE}
-use Rattle.elf_object.specs.declared.section.Section.{Section}
+use Rattle.elf_sections.specs.declared.section.Section.{Section}
 use Rattle.image_layout.specs.declared.class.Class.{Class}
 use Rattle.image_layout.specs.declared.class.Class.TheVariants.{Code, Fixed, Variable}
 

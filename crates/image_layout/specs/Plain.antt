@@ -3,7 +3,7 @@ use Rattle.std.specs.Prelude.{ℕ, ◌+◌, ◌-◌, ◌&&◌, nat_le, nat_lt, B
 use Rattle.std.specs.List.{range_with_len}
 use Rattle.std.specs.Option.{option_map_or}
 use Rattle.elf_object.specs.Object.{FileObject}
-use Rattle.elf_object.specs.Sections.{bytes_of}
+use Rattle.elf_sections.specs.Sections.{bytes_of}
 use Rattle.image_layout.specs.Offsets.{offset, image_size}
 
 -- Bytes from a place of the image on.

@@ -4,7 +4,7 @@ use Rattle.std.specs.Prelude.{ℕ, ◌+◌, ◌%◌, ◌^◌, ◌==◌, Bool, fa
 use Rattle.std.specs.List.{range_with_len}
 use Rattle.std.specs.Option.{option_map_or}
 use Rattle.elf_format.specs.declared.symbol.TheConstants.{SHN_UNDEF}
-use Rattle.elf_object.specs.declared.section.Section.{Section}
+use Rattle.elf_sections.specs.declared.section.Section.{Section}
 use Rattle.elf_object.specs.declared.symbol.Symbol.{Symbol}
 use Rattle.elf_object.specs.Object.{FileObject}
 use Rattle.image_layout.specs.Offsets.{offset}

@@ -4,7 +4,7 @@ ghost use Rattle.std.specs.Prelude.{ℕ, List, Some, take, slice_get, [], ◌≡
 ghost use Rattle.elf_object.specs.Places.{is_alignment};
 ghost use Rattle.image_layout.specs.Offsets.{aligned as the_aligned, class_of as the_class, class_start, end_of, fixed_start, image_size as size_of_image, is_class, offset, offsets, variable_start};
 ghost use Rattle.image_layout.specs.Ends.{AreEnds, AreNear, end_in};
-ghost use Rattle.elf_object.specs.declared.section.Section.{Section};
+ghost use Rattle.elf_sections.specs.declared.section.Section.{Section};
 ghost use Rattle.image_layout.specs.declared.class.Class.{Class};
 
 use crate::class::{Class, class_of};

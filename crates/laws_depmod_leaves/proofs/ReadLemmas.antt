@@ -15,7 +15,7 @@ use Rattle.km_course.specs.declared.end.End.TheVariants.{NoFile, Refused}
 use Rattle.km_course.specs.declared.refusal.Refusal.TheVariants.{Compressed}
 use Rattle.kmod_words.specs.declared.depmod.DepmodWords.{DepmodWords}
 use Rattle.elf_object.specs.Object.{file_object, object_fault}
-use Rattle.elf_object.specs.Shape.{fault_if}
+use Rattle.elf_sections.specs.Shape.{fault_if}
 use Rattle.relation_order.specs.Cycle.{cycle}
 use Rattle.relation_order.specs.Sets.{below}
 use Rattle.module_facts.specs.declared.facts.Facts.{Facts}

@@ -13,7 +13,7 @@ use Rattle.std.proofs.lemmas.Slice.Eq.{bytes_eq-Decides, ends_is}
 use Rattle.km_names.specs.Limit.{file_limit}
 use Rattle.km_names.specs.Path.{is_compressed, path_below, without_end_slashes}
 use Rattle.km_outside.specs.Contents.{Contents}
-use Rattle.elf_object.specs.Shape.{fault_if}
+use Rattle.elf_sections.specs.Shape.{fault_if}
 use Rattle.module_facts.specs.declared.fault.ModuleFault.{ModuleFault}
 use Rattle.module_facts.specs.declared.fault.ModuleFault.TheVariants.{Compressed as CompressedFile}
 use Rattle.module_facts.specs.declared.module.Module.{Module}

@@ -3,7 +3,7 @@ use Rattle.std.proofs.Common.{◌≡◌, ℕ, true, false, List, [], ◌∷◌, 
 use Rattle.km_names.specs.First.{first}
 use Rattle.km_names.specs.Path.{is_compressed}
 use Rattle.elf_object.specs.Object.{FileObject, file_object, object_fault}
-use Rattle.elf_object.specs.Shape.{fault_if}
+use Rattle.elf_sections.specs.Shape.{fault_if}
 use Rattle.module_facts.specs.declared.facts.Facts.{Facts}
 use Rattle.module_facts.specs.declared.fault.ModuleFault.TheVariants.{BadVersions}
 use Rattle.module_facts.specs.Exports.{exports_of}

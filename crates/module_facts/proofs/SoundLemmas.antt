@@ -10,7 +10,7 @@ use Rattle.std.specs.Str.{bytes_eq}
 use Rattle.km_names.specs.Ascii.{is_graphic}
 use Rattle.km_names.specs.First.{first}
 use Rattle.elf_object.specs.Object.{FileObject}
-use Rattle.elf_object.specs.Shape.{fault_if}
+use Rattle.elf_sections.specs.Shape.{fault_if}
 use Rattle.elf_object.specs.declared.symbol.Symbol.{Symbol}
 use Rattle.module_facts.specs.declared.facts.Export.{Export}
 use Rattle.module_facts.specs.declared.facts.Facts.{Facts}

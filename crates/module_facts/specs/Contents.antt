@@ -4,9 +4,9 @@ use Rattle.std.specs.List.{position}
 use Rattle.std.specs.Option.{option_map_or}
 use Rattle.std.specs.Str.{bytes_eq}
 use Rattle.elf_format.specs.declared.section.TheConstants.{SHT_NOBITS}
-use Rattle.elf_object.specs.declared.section.Section.{Section}
+use Rattle.elf_sections.specs.declared.section.Section.{Section}
 use Rattle.elf_object.specs.Object.{FileObject}
-use Rattle.elf_object.specs.Sections.{bytes_of}
+use Rattle.elf_sections.specs.Sections.{bytes_of}
 
 -- The bytes of the section i, and none if there is no such section.
 unfoldable pub section_contents : FileObject → ℕ → List ℕ

@@ -7,7 +7,7 @@ use Rattle.km_names.specs.Ascii.{is_graphic}
 use Rattle.km_names.specs.First.{first}
 use Rattle.km_names.specs.Path.{is_compressed}
 use Rattle.elf_object.specs.Object.{FileObject, file_object, object_fault}
-use Rattle.elf_object.specs.Shape.{fault_if}
+use Rattle.elf_sections.specs.Shape.{fault_if}
 use Rattle.module_facts.specs.declared.facts.Export.{Export}
 use Rattle.module_facts.specs.declared.facts.Need.{Need}
 use Rattle.module_facts.specs.declared.facts.Facts.{Facts}

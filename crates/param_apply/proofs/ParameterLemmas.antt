@@ -5,10 +5,10 @@ use Rattle.std.specs.List.{position}
 use Rattle.std.specs.Str.{bytes_eq}
 use Rattle.std.proofs.lemmas.Bool.{cases_Bool, eqb-true}
 use Rattle.elf_format.specs.declared.section.TheConstants.{SHT_NOBITS}
-use Rattle.elf_object.specs.declared.section.Section.{Section}
+use Rattle.elf_sections.specs.declared.section.Section.{Section}
 use Rattle.elf_object.specs.Object.{FileObject}
-use Rattle.elf_object.specs.Sections.{bytes_of}
-use Rattle.elf_object.specs.Shape.{content}
+use Rattle.elf_sections.specs.Sections.{bytes_of}
+use Rattle.elf_sections.specs.Shape.{content}
 use Rattle.module_facts.specs.Contents.{modinfo_bytes, named_bytes, named_section}
 use Rattle.image_layout.proofs.PieceLemmas.{item-at}
 

@@ -1,10 +1,10 @@
 -- The table of parameters, and its entries.
 use Rattle.std.proofs.Common.{◌≡◌, ◌≤◌, ◌<◌, ◌∙◌, ℕ, List, [], ◌∷◌, Option, Some, None, refl, ap, length}
 use Rattle.km_names.specs.First.{first}
-use Rattle.elf_object.specs.declared.section.Section.{Section}
-use Rattle.elf_object.specs.Sections.{bytes_of}
-use Rattle.elf_object.specs.Shape.{each}
-use Rattle.elf_object.proofs.TestLemmas.{each-passed, each-failed, first-failed, first-passed}
+use Rattle.elf_sections.specs.declared.section.Section.{Section}
+use Rattle.elf_sections.specs.Sections.{bytes_of}
+use Rattle.elf_sections.specs.Shape.{each}
+use Rattle.elf_sections.proofs.TestLemmas.{each-passed, each-failed, first-failed, first-passed}
 use Rattle.param_apply.specs.declared.fault.ParamFault.{ParamFault}
 use Rattle.param_apply.specs.declared.fault.ParamFault.TheVariants.{BadParamTable}
 use Rattle.param_apply.specs.declared.table.ParamTable.{ParamTable}

@@ -9,7 +9,7 @@ use Rattle.std.proofs.lemmas.List.Sums.{sum_by-cons}
 use Rattle.std.proofs.lemmas.Option.{get_or_from_slice_get, slice_get-get_or, slice_get_within}
 use Rattle.raw_image.specs.Bytes.{with_bytes}
 use Rattle.elf_object.specs.Object.{FileObject}
-use Rattle.elf_object.proofs.TestLemmas.{each-passed, each-failed}
+use Rattle.elf_sections.proofs.TestLemmas.{each-passed, each-failed}
 use Rattle.param_apply.specs.declared.claims.Claims.{Claims}
 use Rattle.param_apply.specs.declared.fault.ParamFault.{ParamFault}
 use Rattle.param_apply.specs.Words.{Parameter, Setting}

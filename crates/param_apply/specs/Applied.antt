@@ -3,7 +3,7 @@ use Rattle.std.specs.Prelude.{ℕ, ◌-◌, ◌==◌, Bool, List, [], ◌∷◌,
 use Rattle.std.specs.List.{count_by, list_any, range_with_len}
 use Rattle.std.specs.Option.{option_map_or}
 use Rattle.elf_object.specs.Object.{FileObject}
-use Rattle.elf_object.specs.Shape.{each, fault_if}
+use Rattle.elf_sections.specs.Shape.{each, fault_if}
 use Rattle.km_names.specs.First.{first}
 use Rattle.image_layout.specs.Plain.{Piece, has_place}
 use Rattle.param_apply.specs.declared.kind.Kind.{Kind}

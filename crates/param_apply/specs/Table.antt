@@ -5,10 +5,10 @@ use Rattle.std.specs.Prelude.{ℕ, ◌+◌, ◌-◌, ◌*◌, ◌/◌, ◌%◌, 
 use Rattle.std.specs.List.{position, range_with_len}
 use Rattle.std.specs.Option.{option_map_or}
 use Rattle.std.specs.Str.{bytes_eq}
-use Rattle.elf_object.specs.declared.section.Section.{Section}
+use Rattle.elf_sections.specs.declared.section.Section.{Section}
 use Rattle.elf_object.specs.Object.{FileObject}
-use Rattle.elf_object.specs.Sections.{bytes_of}
-use Rattle.elf_object.specs.Shape.{each, fault_if}
+use Rattle.elf_sections.specs.Sections.{bytes_of}
+use Rattle.elf_sections.specs.Shape.{each, fault_if}
 use Rattle.image_layout.specs.Offsets.{offset}
 use Rattle.km_names.specs.First.{first}
 use Rattle.km_names.specs.Number.{le}

@@ -1,7 +1,7 @@
 // The table of a module's parameters, in its image.
 
 ghost use Rattle.std.specs.Prelude.{◌≡◌, ◌+◌, ◌*◌, ◌<◌, ◌≤◌, ◌^◌, ◌⊎◌, true, length, None, Some, IfErr, IfOk, IfSome, OnOk, option_copied, slice_get};
-ghost use Rattle.elf_object.specs.declared.strings.TheConstants.{NAME_LIMIT};
+ghost use Rattle.elf_sections.specs.declared.strings.TheConstants.{NAME_LIMIT};
 ghost use Rattle.image_layout.specs.Offsets.{image_size, offset};
 ghost use Rattle.km_names.specs.Limit.{file_limit};
 ghost use Rattle.km_names.specs.Strings.{string_at as string_of};

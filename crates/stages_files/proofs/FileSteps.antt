@@ -1,11 +1,11 @@
 -- The stages of files that are read and checked.
 use Rattle.std.proofs.Common.{◌≡◌, ℕ, List, [], ◌∷◌, refl, sym, ap, ◌∙◌, arith, inl, inr}
 use Rattle.std.specs.Prelude.{Option, Some, None, ◌⊎◌, slice_get}
-use Rattle.elf_object.specs.declared.fault.SectionFault.{SectionFault}
-use Rattle.elf_object.specs.declared.fault.SectionFault.TheVariants as faults
-use Rattle.elf_object.specs.FaultText.{section_fault_text}
-use Rattle.elf_object.specs.Shape.{shape_fault}
-use Rattle.elf_object.specs.Sections.{FileSections, file_sections}
+use Rattle.elf_sections.specs.declared.fault.SectionFault.{SectionFault}
+use Rattle.elf_sections.specs.declared.fault.SectionFault.TheVariants as faults
+use Rattle.elf_sections.specs.FaultText.{section_fault_text}
+use Rattle.elf_sections.specs.Shape.{shape_fault}
+use Rattle.elf_sections.specs.Sections.{FileSections, file_sections}
 use Rattle.km_course.specs.declared.end.End.TheVariants.{Refused}
 use Rattle.km_course.specs.declared.refusal.Refusal.TheVariants.{BadModule, BadIndex}
 use Rattle.km_course.specs.Course.{Stage, given, gives}

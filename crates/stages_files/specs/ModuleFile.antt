@@ -1,10 +1,10 @@
 -- The file of a module, as the commands read it: its sections. gABI 4, "Sections".
 use Rattle.std.specs.Prelude.{ℕ, List, Option, Some, None}
 use Rattle.km_names.specs.Path.{is_compressed}
-use Rattle.elf_object.specs.declared.fault.SectionFault.{SectionFault}
-use Rattle.elf_object.specs.FaultText.{section_fault_text}
-use Rattle.elf_object.specs.Shape.{shape_fault}
-use Rattle.elf_object.specs.Sections.{FileSections, file_sections}
+use Rattle.elf_sections.specs.declared.fault.SectionFault.{SectionFault}
+use Rattle.elf_sections.specs.FaultText.{section_fault_text}
+use Rattle.elf_sections.specs.Shape.{shape_fault}
+use Rattle.elf_sections.specs.Sections.{FileSections, file_sections}
 use Rattle.km_course.specs.Course.{Outcome, Stage, ◌>>=◌, given, ends, when◌then◌else◌, reads}
 use Rattle.km_course.specs.Course.Outcome.{value, end}
 use Rattle.km_course.specs.declared.end.End.TheVariants.{Refused}

@@ -1,10 +1,10 @@
 ghost use Rattle.km_outside.specs.OutSeen.{OutSeen};
 ghost use Rattle.km_course.specs.World.{world};
 ghost use Rattle.km_course.specs.Follows.{Answers, Follows};
-ghost use Rattle.elf_object.specs.Shape.{shape_fault};
+ghost use Rattle.elf_sections.specs.Shape.{shape_fault};
 ghost use Rattle.stages_files.specs.ModuleFile.{reads_sections, sections_outcome};
 
-use elf_object::{SectionFault, Sections};
+use elf_sections::{SectionFault, Sections};
 use km_course::{Refusal, Stop, read_needed};
 use km_names::{Blob, PathText, is_compressed};
 use km_outside::Reads;

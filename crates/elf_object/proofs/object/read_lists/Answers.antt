@@ -1,6 +1,6 @@
 use Rattle.std.proofs.Common.{ap, ◌∙◌, inl, inr}
 use Rattle.std.proofs.lemmas.Result.{err_from_is_err_and}
-use Rattle.elf_object.specs.Sections.{FileSections}
+use Rattle.elf_sections.specs.Sections.{FileSections}
 use Rattle.elf_object.proofs.ObjectLemmas.{IsLoadable-passed}
 use Rattle.elf_object.proofs.object.read_lists.Goals as goal
 

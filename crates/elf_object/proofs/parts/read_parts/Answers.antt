@@ -1,6 +1,6 @@
 use Rattle.std.proofs.Common.{ap, ◌∙◌, inl, inr}
 use Rattle.std.proofs.lemmas.Result.{err_from_is_err_and}
-use Rattle.elf_object.specs.Sections.{FileSections}
+use Rattle.elf_sections.specs.Sections.{FileSections}
 use Rattle.elf_object.proofs.ObjectLemmas.{content_tests-places, content_tests-symbols, object_fault-content, object_fault-from}
 use Rattle.elf_object.proofs.parts.read_parts.Goals as goal
 

@@ -1,6 +1,6 @@
 use Rattle.std.proofs.Common.{◌≡◌, map, take}
 use Rattle.elf_object.specs.Inner.{unkept_flags}
-use Rattle.elf_object.specs.Sections.{owned_section}
+use Rattle.elf_sections.specs.Sections.{owned_section}
 use Rattle.elf_object.specs.Symbols.{owned_symbol}
 use Rattle.elf_object.proofs.place.unkept_symbols.Given as goal
 

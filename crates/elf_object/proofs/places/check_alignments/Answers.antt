@@ -1,10 +1,10 @@
 use Rattle.std.proofs.Common.{◌≡◌, true, false, refl, ap, sym, ◌∙◌, arith}
 use Rattle.elf_object.specs.declared.fault.ObjectFault.TheVariants.{BadAlign}
-use Rattle.elf_object.specs.declared.section.Section.{Section}
-use Rattle.elf_object.specs.Shape.{section_count}
-use Rattle.elf_object.specs.Sections.{section_of}
+use Rattle.elf_sections.specs.declared.section.Section.{Section}
+use Rattle.elf_sections.specs.Shape.{section_count}
+use Rattle.elf_sections.specs.Sections.{section_of}
 use Rattle.elf_object.specs.Places.{align_test, is_alignment}
-use Rattle.elf_object.proofs.TestLemmas.{each-failed, each-passed}
+use Rattle.elf_sections.proofs.TestLemmas.{each-failed, each-passed}
 use Rattle.elf_object.proofs.places.check_alignments.Goals as goal
 
 pub returns-then-not-is_alignment : goal.returns-then-not-is_alignment

@@ -1,5 +1,5 @@
 use Rattle.std.proofs.Common.{ap, arith}
-use Rattle.elf_object.specs.declared.section.Section.{Section}
+use Rattle.elf_sections.specs.declared.section.Section.{Section}
 use Rattle.elf_object.proofs.places.is_applied.Goals as goal
 
 pub section-requires : goal.section-requires

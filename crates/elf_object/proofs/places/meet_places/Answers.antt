@@ -1,9 +1,9 @@
 use Rattle.std.proofs.Common.{◌≡◌, ◌∙◌, inl, inr, below_more, arith}
 use Rattle.std.proofs.lemmas.Result.{err_from_is_err_and}
 use Rattle.std.specs.List.{flat_map, range_with_len}
-use Rattle.elf_object.specs.Shape.{section_count}
+use Rattle.elf_sections.specs.Shape.{section_count}
 use Rattle.elf_object.specs.Places.{places_of, rela_test, section_places}
-use Rattle.elf_object.proofs.TestLemmas.{each-failed, each-passed}
+use Rattle.elf_sections.proofs.TestLemmas.{each-failed, each-passed}
 use Rattle.elf_object.proofs.PlaceLemmas.{places-more}
 use Rattle.elf_object.proofs.places.meet_places.Goals as goal
 

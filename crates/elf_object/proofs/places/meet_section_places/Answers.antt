@@ -4,14 +4,14 @@ use Rattle.std.proofs.lemmas.List.FromFn.{map-range_with_len_more}
 use Rattle.std.proofs.lemmas.Result.{err_from_is_err_and}
 use Rattle.std.specs.Prelude.{Bool}
 use Rattle.elf_object.specs.declared.place.RelaPlace.{RelaPlace}
-use Rattle.elf_object.specs.declared.section.Section.{Section}
-use Rattle.elf_object.specs.Shape.{contents}
-use Rattle.elf_object.specs.Sections.{section_of, sections_of}
+use Rattle.elf_sections.specs.declared.section.Section.{Section}
+use Rattle.elf_sections.specs.Shape.{contents}
+use Rattle.elf_sections.specs.Sections.{section_of, sections_of}
 use Rattle.elf_object.specs.Symbols.{entries, symbols_of}
 use Rattle.elf_object.specs.Inner.{unkept_flags}
 use Rattle.elf_object.specs.Places.{entry_test, lies_unkept, place_of, place_test, room_in}
 use Rattle.elf_object.proofs.OverlapLemmas.{IsNear-inside}
-use Rattle.elf_object.proofs.TestLemmas.{each-failed, each-passed}
+use Rattle.elf_sections.proofs.TestLemmas.{each-failed, each-passed}
 use Rattle.elf_object.proofs.PlaceLemmas.{IsInSection-place, is_applied-kind, is_unkept-flag, rela_test-none, rela_test-some, section_places-none, section_places-some}
 use Rattle.elf_object.proofs.places.meet_section_places.Goals as goal
 

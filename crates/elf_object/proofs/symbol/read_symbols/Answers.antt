@@ -3,7 +3,7 @@ use Rattle.std.proofs.lemmas.List.{map-append}
 use Rattle.std.proofs.lemmas.Result.{err_from_is_err_and}
 use Rattle.std.proofs.lemmas.List.FromFn.{map-range_with_len_more}
 use Rattle.elf_object.specs.Symbols.{entries, owned_symbol, symbol_in, symbol_test_in, symbols_in}
-use Rattle.elf_object.proofs.TestLemmas.{each-failed, each-passed}
+use Rattle.elf_sections.proofs.TestLemmas.{each-failed, each-passed}
 use Rattle.elf_object.proofs.symbol.read_symbols.Goals as goal
 
 pub returns-in_err-symbol-clause-fault : goal.returns-in_err-symbol-clause-fault

@@ -1,6 +1,6 @@
 use Rattle.std.proofs.Common.{◌≡◌, ℕ, ◌<◌, ◌≤◌, List, map, None}
 use Rattle.std.specs.List.{range_with_len}
-use Rattle.elf_object.specs.declared.strings.TheConstants.{NAME_LIMIT}
+use Rattle.elf_sections.specs.declared.strings.TheConstants.{NAME_LIMIT}
 use Rattle.elf_object.specs.declared.symbol.SymbolRef.{SymbolRef}
 use Rattle.elf_object.specs.Symbols.{owned_symbol, symbol_in, symbol_test_in}
 use Rattle.elf_object.proofs.symbol.read_symbols.Given as goal

@@ -1,8 +1,8 @@
 use Rattle.std.proofs.Common.{ap, sym, arith}
-use Rattle.elf_object.specs.declared.section.Section.{Section}
-use Rattle.elf_object.specs.Shape.{section_count}
+use Rattle.elf_sections.specs.declared.section.Section.{Section}
+use Rattle.elf_sections.specs.Shape.{section_count}
 use Rattle.elf_object.specs.Symbols.{rel_test}
-use Rattle.elf_object.proofs.TestLemmas.{each-failed, each-passed}
+use Rattle.elf_sections.proofs.TestLemmas.{each-failed, each-passed}
 use Rattle.elf_object.proofs.TableLemmas.{rel_test-failed}
 use Rattle.elf_object.proofs.tables.check_rel.Goals as goal
 

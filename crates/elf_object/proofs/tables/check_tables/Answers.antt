@@ -1,7 +1,7 @@
 use Rattle.std.proofs.Common.{sym, ◌∙◌, arith}
-use Rattle.elf_object.specs.Shape.{section_count}
+use Rattle.elf_sections.specs.Shape.{section_count}
 use Rattle.elf_object.specs.Symbols.{table_test}
-use Rattle.elf_object.proofs.TestLemmas.{each-failed, each-passed}
+use Rattle.elf_sections.proofs.TestLemmas.{each-failed, each-passed}
 use Rattle.elf_object.proofs.TableLemmas.{TablesFit-good, table_test-failed, table_test-passed}
 use Rattle.elf_object.proofs.tables.check_tables.Goals as goal
 

@@ -2,7 +2,7 @@ use Rattle.std.proofs.Common.{◌≡◌, Some, map, ◌⊎◌, sym, ap, ◌∙�
 use Rattle.std.proofs.lemmas.Result.{IfErr-weaker, IfOk-weaker, err_from_is_err_and, on_ok_weaker}
 use Rattle.km_names.specs.First.{first}
 use Rattle.elf_object.specs.declared.fault.ObjectFault.TheVariants.{Memory}
-use Rattle.elf_object.specs.Shape.{each, section_count}
+use Rattle.elf_sections.specs.Shape.{each, section_count}
 use Rattle.elf_object.specs.Symbols.{entries, owned_symbol, symbol_bytes, symbol_names, symbol_test_in, symbol_tests, symbols_in, symbols_of}
 use Rattle.elf_object.proofs.ObjectLemmas.{symbol_tests-rel, symbol_tests-symbols, symbol_tests-tables}
 use Rattle.elf_object.proofs.SymbolLemmas.{symbol_tests-same, symbols_in-same}

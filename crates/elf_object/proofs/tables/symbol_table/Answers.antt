@@ -1,5 +1,5 @@
 use Rattle.std.proofs.Common.{ap, sym, arith}
-use Rattle.elf_object.specs.declared.section.Section.{Section}
+use Rattle.elf_sections.specs.declared.section.Section.{Section}
 use Rattle.elf_object.proofs.TableLemmas.{symbol_table-found, symbol_table-none}
 use Rattle.elf_object.proofs.tables.symbol_table.Goals as goal
 

@@ -1,7 +1,7 @@
 use Rattle.std.proofs.Common.{◌<◌, ap, sym, ◌∙◌, arith}
-use Rattle.elf_object.specs.declared.section.Section.{Section}
-use Rattle.elf_object.specs.Shape.{section_count}
-use Rattle.elf_object.proofs.ShapeLemmas.{length-read}
+use Rattle.elf_sections.specs.declared.section.Section.{Section}
+use Rattle.elf_sections.specs.Shape.{section_count}
+use Rattle.elf_sections.proofs.ShapeLemmas.{length-read}
 use Rattle.elf_object.proofs.TableLemmas.{symbol_bytes-at, symbol_bytes-none, symbol_names-at, symbol_names-none}
 use Rattle.elf_object.proofs.tables.symbol_tables.Goals as goal
 

@@ -1,6 +1,6 @@
 use Rattle.std.proofs.Common.{◌≡◌, ◌∙◌, ℕ, List, Some, true, ap, sym, arith, take}
 use Rattle.std.specs.List.{slice_get}
-use Rattle.elf_object.specs.declared.section.Section.{Section}
+use Rattle.elf_sections.specs.declared.section.Section.{Section}
 use Rattle.image_layout.specs.declared.class.Class.{Class}
 use Rattle.image_layout.specs.Offsets.{aligned, class_of, class_start, end_of, of_class, offset}
 use Rattle.image_layout.proofs.OffsetLemmas.{lies_in, offset_kept}

@@ -2,7 +2,7 @@ use Rattle.std.proofs.Common.{◌≡◌, true, false, ◌∷◌, [], ltb, length
 use Rattle.std.proofs.lemmas.Bool.{le-ltb}
 use Rattle.std.proofs.lemmas.Result.{err_from_is_err_and}
 use Rattle.km_names.specs.First.{first}
-use Rattle.elf_object.specs.Shape.{fault_if}
+use Rattle.elf_sections.specs.Shape.{fault_if}
 use Rattle.module_facts.specs.declared.fault.ModuleFault.TheVariants.{BadVersions}
 use Rattle.module_facts.specs.Faults.{has_bad_versions, has_good_names, space_test, twice_test, undefined_test}
 use Rattle.module_facts.proofs.FaultLemmas.{facts_tests-last, facts_tests-rest}

@@ -4,7 +4,7 @@ use Rattle.std.specs.List.{range_with_len}
 use Rattle.std.proofs.lemmas.Bool.{eq-eqb, ne_eqb}
 use Rattle.std.proofs.lemmas.List.FromFn.{map-range_with_len_more}
 use Rattle.std.proofs.lemmas.Result.{err_from_is_err_and}
-use Rattle.elf_object.specs.Shape.{fault_if}
+use Rattle.elf_sections.specs.Shape.{fault_if}
 use Rattle.param_apply.specs.declared.fault.ParamFault.TheVariants.{BadParamTable}
 use Rattle.param_apply.specs.declared.table.ParamTable.{ParamTable}
 use Rattle.param_apply.specs.Table.{Entry, end_fault, entries, entry, entry_count, entry_fault}

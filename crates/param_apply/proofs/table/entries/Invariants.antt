@@ -1,6 +1,6 @@
 use Rattle.std.proofs.Common.{◌≡◌, ◌<◌, ◌≤◌, ℕ, None, map}
 use Rattle.std.specs.List.{range_with_len}
-use Rattle.elf_object.specs.declared.strings.TheConstants.{NAME_LIMIT}
+use Rattle.elf_sections.specs.declared.strings.TheConstants.{NAME_LIMIT}
 use Rattle.param_apply.specs.Table.{entry, entry_fault}
 use Rattle.param_apply.proofs.table.entries.Given as goal
 

@@ -1,7 +1,7 @@
 use Rattle.std.proofs.Common.{sym, ap, arith}
 use Rattle.std.proofs.lemmas.List.{drop_all}
 use Rattle.km_names.specs.Strings.{first_string}
-use Rattle.elf_object.proofs.StringLemmas.{string_at-cut}
+use Rattle.elf_sections.proofs.StringLemmas.{string_at-cut}
 use Rattle.param_apply.proofs.table.string_within.Goals as goal
 
 pub returns-then-image-at-clause-string : goal.returns-then-image-at-clause-string

@@ -1,7 +1,7 @@
 use Rattle.std.proofs.Common.{sym, subst}
 use Rattle.std.specs.Prelude.{Err}
-use Rattle.elf_object.specs.Sections.{FileSections}
-use Rattle.elf_object.specs.Shape.{shape_fault}
+use Rattle.elf_sections.specs.Sections.{FileSections}
+use Rattle.elf_sections.specs.Shape.{shape_fault}
 use Rattle.km_course.specs.Follows.{Answers}
 use Rattle.stages_files.specs.ModuleFile.{sections_outcome}
 use Rattle.stages_files.proofs.FileSteps.{checked_ok, checked_fault}

@@ -2,8 +2,8 @@ use Rattle.std.proofs.Common.{refl, subst, sym}
 use Rattle.std.specs.Prelude.{Err}
 use Rattle.std.proofs.lemmas.Result.{err_from_is_err_and}
 use Rattle.km_names.specs.Path.{is_compressed}
-use Rattle.elf_object.specs.Sections.{FileSections}
-use Rattle.elf_object.specs.Shape.{shape_fault}
+use Rattle.elf_sections.specs.Sections.{FileSections}
+use Rattle.elf_sections.specs.Shape.{shape_fault}
 use Rattle.km_course.specs.Course.{◌>>=◌, ends, reads}
 use Rattle.km_course.specs.Course.Outcome.{end}
 use Rattle.km_course.specs.Follows.{Answers}

@@ -1,5 +1,5 @@
 use Rattle.std.proofs.Common.{refl, ap}
-use Rattle.elf_object.specs.Sections.{FileSections}
+use Rattle.elf_sections.specs.Sections.{FileSections}
 use Rattle.elf_object.proofs.ObjectLemmas.{length-symbols_of}
 use Rattle.elf_object.proofs.object.Object.read.Goals as goal
 

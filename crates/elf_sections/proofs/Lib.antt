@@ -1,0 +1,4 @@
+pub mod Positions
+pub mod ShapeLemmas
+pub mod StringLemmas
+pub mod TestLemmas

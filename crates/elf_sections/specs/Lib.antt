@@ -1,0 +1,4 @@
+pub mod FaultText
+pub mod Sections
+pub mod Shape
+pub mod Strings
