@@ -10,6 +10,7 @@ use Rattle.index_format.specs.Map.{IsText}
 use Rattle.index_format.specs.Listing.{KeyValue}
 use Rattle.index_format.specs.File.{file}
 use Rattle.index_format.specs.Holds.{Holds}
+use Rattle.index_write.proofs.StorableMaps.{Fits}
 use Rattle.index_write.proofs.VisibleWords.{both, characters, graphic-key, graphic-text, key-of, normal-key}
 use Rattle.module_facts.specs.declared.facts.Export.{Export}
 use Rattle.module_facts.specs.declared.facts.Facts.{Facts}
@@ -28,7 +29,7 @@ use Rattle.laws_closed_plans.specs.Members.{Member}
 use Rattle.laws_closed_plans.proofs.ListLemmas.{Member-cases, each-first}
 use Rattle.laws_closed_plans.proofs.UnmetLemmas.{all-member}
 use Rattle.laws_indexed_folder.specs.Standing.{FilesStand}
-use Rattle.laws_indexed_folder.proofs.HoldLemmas.{Fits, dep-holds, map-holds}
+use Rattle.laws_indexed_folder.proofs.HoldLemmas.{dep-holds, members-hold}
 use Rattle.laws_indexed_folder.proofs.IndexedLemmas.{size-passed}
 
 -- ---- no file is too large
@@ -118,12 +119,12 @@ symbol-fit n f low good =
 alias-holds : (tree : List Facts) → IsTree tree → length (file (alias_map tree)) ≤ 2 ^ 26 → Holds (file (alias_map tree)) (alias_map tree)
 unfolding alias_map
 alias-holds tree is_tree low =
-    map-holds (flat_map alias_values (enumerate_from 0 tree)) (tree-fit alias_values alias-fit tree is_tree) low
+    members-hold (flat_map alias_values (enumerate_from 0 tree)) (tree-fit alias_values alias-fit tree is_tree) low
 
 symbols-holds : (tree : List Facts) → IsTree tree → length (file (symbols_map tree)) ≤ 2 ^ 26 → Holds (file (symbols_map tree)) (symbols_map tree)
 unfolding symbols_map
 symbols-holds tree is_tree low =
-    map-holds (flat_map symbol_values (enumerate_from 0 tree)) (tree-fit symbol_values symbol-fit tree is_tree) low
+    members-hold (flat_map symbol_values (enumerate_from 0 tree)) (tree-fit symbol_values symbol-fit tree is_tree) low
 
 -- ---- built-in modules
 
@@ -147,7 +148,7 @@ built-in-words builtin =
 built-in-holds : (builtin : List ℕ) → length (file (built_in_map builtin)) ≤ 2 ^ 26 → Holds (file (built_in_map builtin)) (built_in_map builtin)
 unfolding built_in_map
 built-in-holds builtin low =
-    map-holds (map built_in_value (built_in_names builtin)) (names-fit (built_in_names builtin) (built-in-words builtin)) low
+    members-hold (map built_in_value (built_in_names builtin)) (names-fit (built_in_names builtin) (built-in-words builtin)) low
 
 -- ---- the files
 
