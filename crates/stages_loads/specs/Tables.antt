@@ -42,7 +42,6 @@ unfoldable pub kernel_with : Table → Kernel
 kernel_with table = record {
   known = table.known;
   exports = first_of_each table.exports;
-  alloc = record { memory = record { seal = tt } };
   table = record { distinct = firsts-apart table.exports };
 }
 
