@@ -79,6 +79,20 @@ fn push_linked(
     Ok(())
 }
 
+/// Puts the sections for linking a sheet with its additions at the end.
+fn push_linked_of(
+    alloc: Global,
+    parts: &mut Vec<Part>,
+    sheet: &Sheet,
+    more: &SheetMore,
+) -> Result<(), AllocError>
+    requires { IsTrue (is_sheet sheet.now more.now) }
+    ensures { OnOk result (parts.new.items ≡ parts.old.items ++ linked_parts sheet.now more.now) }
+{
+    let further = Further::new(alloc, more)?;
+    push_linked(alloc, parts, sheet, &further)
+}
+
 /// Puts the names of sections at the end, each with its NUL.
 fn push_names(out: &mut Vec<u8>, parts: &[Part]) -> Result<(), AllocError>
     ensures { OnOk result (out.new.items ≡ out.old.items ++ flat_map (λ p. with_nul p.name) parts.now) }
@@ -120,10 +134,9 @@ pub(crate) fn parts_of(
     requires { IsTrue (is_sheet sheet.now more.now) }
     ensures { IfOk result (λ parts. parts.items ≡ the_parts_of sheet.now more.now) }
 {
-    let further = Further::new(alloc, more)?;
     let mut parts = Vec::new(alloc);
     push_loaded(alloc, &mut parts, sheet)?;
-    push_linked(alloc, &mut parts, sheet, &further)?;
+    push_linked_of(alloc, &mut parts, sheet, more)?;
     push_further(alloc, &mut parts, further_parts(alloc, more)?)?;
     Ok(parts)
 }

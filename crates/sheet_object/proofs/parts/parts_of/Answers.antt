@@ -1,12 +1,6 @@
 use Rattle.sheet_object.proofs.SheetLemmas.{fits}
 use Rattle.sheet_object.proofs.parts.parts_of.Goals as goal
 
-pub new-requires-clause-gpl : goal.new-requires-clause-gpl
-new-requires-clause-gpl c = (fits c.args.sheet.now c.args.more.now c.requires).gpl
-
-pub new-requires-clause-spaces : goal.new-requires-clause-spaces
-new-requires-clause-spaces c = (fits c.args.sheet.now c.args.more.now c.requires).spaces
-
 pub push_loaded-requires-clause-exports : goal.push_loaded-requires-clause-exports
 push_loaded-requires-clause-exports c = (fits c.args.sheet.now c.args.more.now c.requires).exports
 
