@@ -31,9 +31,22 @@ pub(crate) fn parameter_values(alloc: Global, fields: &FieldList) -> Result<Text
     let names = parameter_names(alloc, fields)?;
     let parms = fields.values_of(alloc, b"parm")?;
     let types = fields.values_of(alloc, b"parmtype")?;
-    let texts = first_told(alloc, parms.as_slice())?;
-    let kinds = first_told(alloc, types.as_slice())?;
-    described_all(alloc, &names, &texts, &kinds)
+    described_by(alloc, &names, parms.as_slice(), types.as_slice())
+}
+
+// Returns the values of parameters, by the values of the two keys that describe parameters.
+fn described_by(
+    alloc: Global,
+    names: &NameSet<'_>,
+    parms: &[Blob],
+    types: &[Blob],
+) -> Result<Texts, AllocError>
+    ensures { IfOk result (λ values. values
+        ≡ map (λ name. described name (first_told_of parms.now name) (first_told_of types.now name)) names.now) }
+{
+    let texts = first_told(alloc, parms)?;
+    let kinds = first_told(alloc, types)?;
+    described_all(alloc, names, &texts, &kinds)
 }
 
 // Returns the values of parameters, by their descriptions.
