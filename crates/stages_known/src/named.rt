@@ -5,6 +5,7 @@ ghost use Rattle.km_course.specs.declared.end.End.TheVariants.{Refused};
 ghost use Rattle.km_course.specs.declared.refusal.Refusal.TheVariants.{NotFound};
 ghost use Rattle.km_course.specs.declared.stop.Stop.TheVariants.{Ended};
 ghost use Rattle.stages_known.specs.Named.{names_outcome, normal_or_itself};
+ghost use Rattle.stages_known.specs.declared.known.Known.{Known};
 
 use crate::known::Known;
 use km_course::{Refusal, Stop};
@@ -23,6 +24,19 @@ pub fn names_found(
     ensures { Answers (λ x. x) (names_outcome known.now use_blacklist names.now) result }
 {
     let lookup = Lookup::new(alloc, &known.rules, &known.indexes)?;
+    names_by(alloc, &lookup, use_blacklist, names)
+}
+
+/// Returns the names that names stand for by a lookup in what is known.
+fn names_by(
+    alloc: Global,
+    lookup: &Lookup<'_>,
+    use_blacklist: bool,
+    names: &[Name],
+) -> Result<Names, Stop>
+    ensures { (known : Known) → known.rules ≡ lookup.now.rules → known.indexes ≡ lookup.now.indexes
+        → Answers (λ x. x) (names_outcome known use_blacklist names.now) result }
+{
     let mut all = Names::new(alloc);
     for name in names {
         let found = lookup.find(alloc, name, use_blacklist)?;
