@@ -1,5 +1,7 @@
-//! Tests of whole runs of `depmod`, over files and outputs in memory. A row has the words that go
-//! in, and the status, the output, the lines on err and every file that come out.
+//! Tests of whole runs of `depmod`, over files and outputs in memory, and of the commands that look
+//! names up in the files of an index: `builtin-alias`, `static-nodes`, `modprobe -R` and
+//! `modinfo -k`. A row has the words that go in, and the status, the output, the lines on err and
+//! every file that come out.
 //!
 //! It builds on `test_rows`, which runs them.
 #![tactic(auto)]
@@ -9,10 +11,22 @@ mod again;
 #[cfg(test)]
 mod expect;
 #[cfg(test)]
+mod extra;
+#[cfg(test)]
+mod extra_lookups;
+#[cfg(test)]
+mod extra_trees;
+#[cfg(test)]
 mod failing;
 #[cfg(test)]
 mod indexes;
 #[cfg(test)]
 mod indexing;
+#[cfg(test)]
+mod lookup_rows;
+#[cfg(test)]
+mod modinfo_names;
+#[cfg(test)]
+mod modprobe_names;
 #[cfg(test)]
 mod sheets;

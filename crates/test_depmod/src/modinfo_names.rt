@@ -1,5 +1,5 @@
 // Modules that are shown by their names.
-use crate::expect::expect_over;
+use crate::lookup_rows::expect_over;
 use km_outside::CallKind;
 use std::alloc::Global;
 use std::process::Abort;

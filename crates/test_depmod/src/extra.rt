@@ -1,5 +1,5 @@
 // Trees that are indexed with `--extra`.
-use crate::trees::{NO_KEYS, NO_NODES, ONE_NODE, TTY, TTY_INDEX, TWO_NODES};
+use crate::extra_trees::{NO_KEYS, NO_NODES, ONE_NODE, TTY, TTY_INDEX, TWO_NODES};
 use km_names::{PathText, join};
 use km_outside::CallKind;
 use std::alloc::Global;

@@ -1,5 +1,5 @@
 // What names stand for, by files of a folder and a configuration.
-use crate::expect::expect_over;
+use crate::lookup_rows::expect_over;
 use crate::modinfo_names::{CUT_VALUE, FORWARD_CHILD, REACHED_TWICE};
 use std::alloc::Global;
 use std::process::Abort;

@@ -1,5 +1,5 @@
 // What the two commands answer over the files that a depmod left, and over bad ones.
-use crate::trees::{ONE_NODE, TTY, TWO_BUILT_IN, TWO_NODES};
+use crate::extra_trees::{ONE_NODE, TTY, TWO_BUILT_IN, TWO_NODES};
 use std::alloc::Global;
 use std::process::Abort;
 use std::test::Fail;
