@@ -1,4 +1,4 @@
--- The order in which values are put into a map matters only for those of one priority.
+-- The order in which values are put into a map matters only for values of one priority.
 use Rattle.std.proofs.Common.{◌≡◌, ℕ, ◌<◌, ◌+◌, Bool, true, false, ◌&&◌, cond, nat_le, List, [], ◌∷◌, ◌++◌, length, map, take, get_or, Option, Some, None, option_map, refl, sym, ap, ◌∙◌, subst, arith, All}
 use Rattle.std.specs.Prelude.{nat_lt, unwrap_or}
 use Rattle.std.specs.declared.cmp.Ordering.{Ordering}

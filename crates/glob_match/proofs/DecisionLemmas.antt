@@ -37,7 +37,7 @@ in_set (first ∷ items) byte = by_test (first == bang) (Decides-not _ (listed i
 
 -- ---- from the test to the relation
 
--- A pattern of which the items of an open set were read.
+-- A pattern whose items of an open set were read.
 abbrev front : Option (List ℕ) → List ℕ → List ℕ
 front None bytes = bytes
 front (Some items) bytes = bracket ∷ items ++ bytes

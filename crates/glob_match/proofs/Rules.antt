@@ -30,7 +30,7 @@ read (any byte m) = by_one byte _ refl (one_any refl m)
 read (set inside byte lacks has m) = by_one byte _ refl (one_set inside _ refl refl lacks has m)
 read (itself byte a b c m) = by_one byte _ refl (one_itself refl a b c m)
 
--- The empty pattern matches the empty text alone.
+-- The empty pattern matches only the empty text.
 pub of_empty : (text : List ℕ) → Matches [] text → text ≡ []
 of_empty text m = read m
 

@@ -1,4 +1,5 @@
--- What the search keeps: from the places where it is, the text still matches exactly where it did at the start.
+-- What the search keeps: from the places where it is, the text still matches exactly where it did
+-- at the start.
 use Rattle.std.proofs.Common.{◌≡◌, ◌≤◌, ◌+◌, ◌↔◌, ℕ, zero, suc, List, [], ◌∷◌, Option, Some, None, length, drop, Bor, refl, sym, ◌∙◌, arith}
 use Rattle.std.proofs.Common.{ap}
 use Rattle.std.proofs.lemmas.List.{drop-drop}
@@ -12,8 +13,9 @@ pub record TriesOnce (pattern text rest left : List ℕ) : Type 0 where
   pub rest_within : length rest ≤ length pattern
   pub left_within : length left ≤ length text
 
--- After a run: the text matches where the pattern after the run, `after`, matches some end of `tried`. Of that
--- pattern and of `tried` so many bytes are taken already, and `rest` and `left` remain.
+-- After a run: the text matches where the pattern after the run, `after`, matches some end of
+-- `tried`. This many bytes of that pattern and of `tried` are taken already, and `rest` and `left`
+-- remain.
 pub record TriesFrom (pattern text rest left after tried : List ℕ) : Type 0 where
   pub same : Matches pattern text ↔ ((skipped : ℕ) × Matches after (drop skipped tried))
   pub taken : ℕ
@@ -32,7 +34,8 @@ abbrev pub ends_left : List ℕ → Option (Bor (List ℕ) × Bor (List ℕ)) �
 ends_left text None = length text
 ends_left text (Some places) = length places.1.now
 
--- An end of the taken part's end, after so many bytes more were cut off before it, is an end of what is left.
+-- An end of the taken part's end, after this many more bytes were cut off before it, is an end of
+-- what is left.
 end_of_left : (j taken k : ℕ) (tried left : List ℕ) → left ≡ drop taken tried → drop j (drop taken (drop k tried)) ≡ drop (k + j) left
 end_of_left j taken k tried left e =
     let order : (k + taken) + j ≡ taken + (k + j) = omega arith in

@@ -1,5 +1,5 @@
--- A list by rising numbers, in which those of one number stand as they did, is one list: each is inserted, from the last
--- on, before the first whose number isn't less.
+-- A list by rising numbers, in which items of one number keep their order, is one list. Each item
+-- is inserted, from the last on, before the first whose number isn't less.
 use Rattle.std.proofs.Common.{◌≡◌, ◌≢◌, ◌≤◌, ◌<◌, ◌==◌, le-ltb, lt-ltb, ◌⊎◌, inl, inr, refl, sym, ap, ◌∙◌, ℕ, suc, Bool, true, false, cond, nat_le, List, [], ◌∷◌, length, filter, get_or, arith, if◌then◌else◌}
 use Rattle.std.specs.List.{AllByRecursion}
 use Rattle.std.specs.List.Sorted.{IsNonDecreasingBy, IsSortedByKey, IsStableByKey, ties}
@@ -172,7 +172,8 @@ module _ {A : Type 0} (n : A → ℕ) where
     ]
   ]
 
-  -- What a stable sort by the numbers gives is the list of the definition, where each number is that of some element.
+  -- What a stable sort by the numbers gives is the list of the definition, where each number is the
+  -- number of some element.
   pub stable-sorted_by : (some : ℕ → A) → ((p : ℕ) → n (some p) ≡ p) → (before after : List A) → IsSortedByKey n nat_cmp after → IsStableByKey n nat_cmp before after → after ≡ sorted_by before
   stable-sorted_by some is before after rises stable =
       same_list after (sorted_by before) (rises_from after (IsNonDecreasingBy-from_sort n after rises)) (sorted_by-rises before)

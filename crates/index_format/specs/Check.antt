@@ -31,7 +31,7 @@ children_fit b link =
     && (nat_lt 0 (first_byte b link) && nat_le (first_byte b link) (last_byte b link) && nat_le (last_byte b link) 127
     && nat_le (children_size b link) (length (after_prefix b link))))
 
--- Whether so many values are whole.
+-- Whether this many values are whole.
 unfoldable pub whole_values : ℕ → List ℕ → Bool
 whole_values zero bytes = true
 whole_values (suc n) bytes =

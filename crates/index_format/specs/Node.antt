@@ -51,7 +51,7 @@ child b link byte =
     then present (be (after_prefix b link) (2 + 4 * (byte - first_byte b link)) 4)
     else None
 
--- The numbers from start on, so many of them.
+-- The numbers from start on, this many of them.
 abbrev pub upward : ℕ → ℕ → List ℕ
 upward start zero = []
 upward start (suc n) = start ∷ upward (start + 1) n
@@ -66,7 +66,7 @@ unfoldable pub after_children : List ℕ → ℕ → List ℕ
 after_children b link =
     if has_children link then drop (children_size b link) (after_prefix b link) else after_prefix b link
 
--- So many values from the front of the bytes. Each has a priority of four bytes, and a text with
+-- This many values from the front of the bytes. Each has a priority of four bytes, and a text with
 -- its NUL.
 unfoldable pub values_in : ℕ → List ℕ → List Value
 values_in zero bytes = []

@@ -14,7 +14,7 @@ pub data IsNode (b : List ℕ) : ℕ → Type 0 where
 unfoldable pub node_count : List ℕ → ℕ
 node_count b = length (arrivals b (length b + 1) (root_arrival b))
 
--- The values from a place on, if so many of its node are left.
+-- The values from a place on, if this many of its node are left.
 abbrev pub values_from : List ℕ → ℕ → ℕ → List Value
 values_from b place left = values_in left (drop place b)
 

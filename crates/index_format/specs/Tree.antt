@@ -32,7 +32,7 @@ abbrev pub common_prefix : List Entry → List ℕ
 common_prefix [] = []
 common_prefix (e ∷ es) = narrowed e.0 es
 
--- The entries with so many bytes removed from the front of each key.
+-- The entries with this many bytes removed from the front of each key.
 abbrev pub cut : ℕ → List Entry → List Entry
 cut n es = map (λ e. (drop n e.0, e.1)) es
 

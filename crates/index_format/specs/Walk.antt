@@ -43,7 +43,7 @@ pub record Walk : Type 0 where
 abbrev pub through : ℕ → Walk → Walk
 through link w = record { nodes = link ∷ w.nodes; reached = w.reached }
 
--- The walk of a key from a node, of at most so many nodes.
+-- The walk of a key from a node, of at most this many nodes.
 unfoldable pub walk_within : List ℕ → ℕ → ℕ → List ℕ → Walk
 walk_within b zero link key = record { nodes = []; reached = None }
 walk_within b (suc n) link key =

@@ -8,7 +8,8 @@ use Rattle.index_nodes.specs.declared.check.Pending.{Pending}
 abbrev pub IsFree : List ℕ → ℕ → ℕ → Type 0
 IsFree seen low high = (place : ℕ) → low < place → place < high → list_any (nat_eq place) seen ≡ false
 
--- the places of each level that may still be visited are free, and all below those of the level before
+-- the places of each level that may still be visited are free, and all below those of the level
+-- before
 abbrev pub Nested : List ℕ → ℕ → List Pending → Type 0
 Nested seen bound [] = Unit {0}
 Nested seen bound (p ∷ ps) = (p.above ≤ bound) × (p.floor ≤ p.above) × IsFree seen p.floor p.above × Nested seen p.floor ps

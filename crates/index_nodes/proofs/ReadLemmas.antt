@@ -1,4 +1,4 @@
--- What stands in the fields of a sound node.
+-- What the fields of a sound node have.
 use Rattle.std.proofs.Common.{◌≡◌, sym, ap, ◌∙◌, ℕ, suc, ◌+◌, ◌-◌, ◌*◌, ◌<◌, ◌≤◌, true, false, cond, ◌&&◌, nat_le, List, [], ◌∷◌, length, take, drop, Option, Some, None, arith}
 use Rattle.std.proofs.lemmas.Bool.{lt-leb, le-leb, leb-true, ltb-true, and_parts, and_left, and_right}
 use Rattle.std.proofs.lemmas.List.{drop-drop, length-drop}

@@ -1,4 +1,4 @@
--- Each node of an accepted file is sound, and stands above its children.
+-- Each node of an accepted file is sound, and above its children.
 use Rattle.std.proofs.Common.{◌≡◌, refl, sym, ap, subst, ◌∙◌, ◌⊎◌, inl, inr, ⊎_elim, ℕ, zero, suc, ◌+◌, ◌-◌, ◌*◌, ◌<◌, ◌≤◌, Bool, true, false, cond, ◌==◌, ◌&&◌, nat_lt, nat_le, List, [], ◌∷◌, length, filter_map, Option, Some, None, arith}
 use Rattle.std.proofs.lemmas.Bool.{cases_eq, leb-true, ltb-false, and_parts}
 use Rattle.std.specs.List.{cons_option}

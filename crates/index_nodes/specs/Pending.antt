@@ -12,7 +12,7 @@ use Rattle.index_nodes.specs.declared.check.Visit.{Visit}
 use Rattle.index_nodes.specs.declared.place_set.PlaceSet.{PlaceSet}
 use Rattle.index_nodes.specs.Visited.{has_place}
 
--- The offsets of present children among so many from a place on.
+-- The offsets of present children among this many from a place on.
 unfoldable pub links_at : List ℕ → ℕ → ℕ → List ℕ
 links_at b place zero = []
 links_at b place (suc n) = cons_option (present (be b place 4)) (links_at b (place + 4) n)

@@ -4,7 +4,7 @@ use Rattle.std.specs.Prelude.{◌≡◌, ℕ, ◌<◌, ◌≤◌, true, false, L
 use Rattle.index_format.specs.Check.{whole_values}
 use Rattle.index_nodes.specs.declared.value_starts.ValueStarts.{ValueStarts}
 
--- So many values are whole from this place and from each before it, and from none after it.
+-- This many values are whole from this place and from each before it, and from none after it.
 pub record IsLastStart (b : List ℕ) (count start : ℕ) : Type 0 where
   pub within : start ≤ length b
   pub whole : (place : ℕ) → place ≤ start → whole_values count (drop place b) ≡ true

@@ -31,8 +31,9 @@ pub(crate) struct Visit {
     pub(crate) link: u32,
 }
 
-/// Children that are still to be visited: so many offsets from a place on, of the node at the place
-/// `above`. Where nodes are in a writer's order, no place between `floor` and `above` was visited.
+/// Children that are still to be visited: a number of offsets from a place on, of the node at the
+/// place `above`. If nodes are in a writer's order, no place between `floor` and `above` was
+/// visited.
 #[derive(Clone, Copy)]
 pub(crate) struct Pending {
     pub(crate) above: u32,
@@ -51,7 +52,7 @@ fn has_number(bytes: &[u8], at: usize, number: u32) -> bool
     bytes.len() >= at + 4 && be_u32_at(bytes, at) == number
 }
 
-/// The children of a node.
+/// Returns the children of a node.
 #[inline(always)]
 fn children_of(bytes: &[u8], node: &Node) -> Pending
     requires fields { HasFields bytes.now node.now }
@@ -84,7 +85,7 @@ fn has_field(link: u32) -> bool
     link & HAS_PREFIX != 0 || link & HAS_VALUES != 0 || link & HAS_CHILDREN != 0
 }
 
-/// The node of a visit. None where it isn't sound.
+/// Reads the node of a visit. Returns `None` if it isn't sound.
 #[inline(always)]
 fn sound_node(
     bytes: &[u8],
@@ -178,7 +179,7 @@ fn visit_new(
     Ok(children_of(bytes, &node))
 }
 
-/// The next child that is present, and those after it. None where there is none.
+/// Returns the next child that is present, and the children after it, or `None` if there is none.
 #[inline(always)]
 fn next_child(bytes: &[u8], pending: &Pending) -> Option<(u32, Pending)>
     requires { IsInside bytes.now pending.now }
@@ -218,8 +219,8 @@ fn push_pending(stack: &mut Vec<Pending>, pending: Pending) -> Result<(), AllocE
 }
 
 /// Visits all nodes of a file as long as they are in a writer's order: each after all nodes below
-/// its older siblings, so that no place is visited twice. False where one isn't; then nothing is
-/// known of the file.
+/// its older siblings, so that no place is visited twice. Returns false if a node isn't; then
+/// nothing is known of the file.
 fn check_in_order(alloc: Global, bytes: &[u8], ends: &TextEnds) -> Result<bool, IndexFault>
     requires first { FIRST_PLACE ≤ length bytes.now }
     requires ends { AreTextEnds bytes.now ends.now }

@@ -21,7 +21,7 @@ pub enum IndexFault {
     /// Two ways lead to the node at `offset`.
     #[error("index node twice at {offset}")]
     Revisited { offset: u32 },
-    /// Memory ran out.
+    /// Out of memory.
     #[error("out of memory")]
     Memory,
 }

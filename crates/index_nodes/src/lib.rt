@@ -1,17 +1,24 @@
-//! The nodes of a module index, read in place: a file is checked once, and from then on each node
-//! that is read is one step on a ledger that the caller gives.
+//! The nodes of a module index, read in place. A file is checked once. From then on each node that
+//! is read is one step on a ledger that the caller gives.
 //!
 //! `Nodes` keeps the bytes of a file and, for every 256 of them, where the text that begins there
 //! ends. [`Nodes::adopt`] refuses a file exactly for the first fault that a reader meets, in time
-//! linear in the file, also where nodes stand in one another: the end of a prefix is found within
-//! 256 bytes, and whether so many values are whole by one comparison with the last place from which
-//! they are. Beside that it takes one such place for each number of values up to the greatest that
-//! is asked for, and an entry for each level on which children are still to be visited; nothing in
-//! it calls itself. Where each node is after all nodes below its older siblings, as a writer leaves
-//! them, that alone shows that no place is visited twice. A file in another order is visited once
-//! more, with one bit a byte for the places that were visited. The crate is the only one
-//! that reads an index's bytes. It stands on `km_names` for numbers and names, on the definitions
-//! of `index_format`, on `memchr` for the search of NULs, and on `thiserror` for the error traits.
+//! linear in the file, also if nodes overlap:
+//! - The end of a prefix is found within 256 bytes.
+//! - One comparison decides whether a number of values is whole. It is with the last place from
+//!   which that many are whole.
+//!
+//! The check keeps one such place for each number of values up to the greatest that is asked for,
+//! and an entry for each level on which children are still to be visited. Nothing in it calls
+//! itself.
+//!
+//! A writer leaves each node after all nodes below its older siblings. In a file in this order no
+//! place is visited twice, and the order shows it. A file in another order is visited once more,
+//! with one bit a byte for the places that were visited.
+//!
+//! Only this crate reads an index's bytes. It uses `km_names` for numbers and names, the
+//! definitions of `index_format`, `memchr` for the search of NULs, and `thiserror` for the error
+//! traits.
 #![tactic(auto)]
 
 mod check;

@@ -13,7 +13,7 @@ pub(crate) struct PlaceSet {
 }
 
 impl PlaceSet {
-    /// Makes the empty set, with room for the places of so many bytes and for their end.
+    /// Makes the empty set, with room for the places of this many bytes and for their end.
     pub(crate) fn new(alloc: Global, len: usize) -> Result<PlaceSet, AllocError>
         requires { len < 2 ^ 63 }
         ensures empty { IfOk result (λ set. (place : ℕ) → has_place set place ≡ false) }

@@ -81,7 +81,7 @@ pub(crate) fn next_link(bytes: &[u8], node: &Node, from: u8) -> Option<(u8, u32)
     None
 }
 
-/// Returns the place of a value from which so many values are left, or `None` if none is left.
+/// Returns the place of a value from which this many values are left, or `None` if none is left.
 fn place_at(bytes: &[u8], start: usize, left: u32) -> Option<Place>
     requires within { start ≤ length bytes.now }
     requires whole { whole_values left (drop start bytes.now) ≡ true }

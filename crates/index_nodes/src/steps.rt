@@ -3,7 +3,8 @@ ghost use Rattle.std.specs.Prelude.{◌≡◌, ◌+◌, ◌<◌};
 use std::marker::Model;
 use std::sync::ledger::{Blank, Book, Ledger, Share};
 
-/// How many nodes were read, over any ledger. It takes no bytes, and only reading a node changes it.
+/// The number of nodes that were read, over any ledger. It takes no bytes, and only reading a node
+/// changes it.
 #[derive(Drop)]
 pub struct Steps<L: Ledger> {
     book: Book<L>,

@@ -30,7 +30,7 @@ fn start_of(bytes: &[u8], block: usize) -> usize
     (block * BLOCK).min(bytes.len())
 }
 
-/// Which of the bytes are NUL, a bit for each.
+/// Returns which of the bytes are NUL, with a bit for each.
 #[inline(always)]
 fn nuls(bytes: u8x32) -> u64
     ensures { result ≡ mask_l (map is_nul bytes) }
@@ -38,7 +38,7 @@ fn nuls(bytes: u8x32) -> u64
     bytes.simd_eq(u8x32::splat(0)).to_bitmask()
 }
 
-/// Where the first NUL stands, if it is near. None also where there are few bytes.
+/// Returns the place of the first NUL if it is near. Returns `None` also if there are few bytes.
 #[inline(always)]
 fn near_nul(bytes: &[u8]) -> Option<usize>
     ensures { IfSome result (λ place. IsFirstByte (is_byte 0) bytes.now (Some place)) }
@@ -96,7 +96,7 @@ impl TextEnds {
         Ok(TextEnds { ends })
     }
 
-    /// Where the text from a place on ends.
+    /// Returns where the text from a place on ends.
     #[inline(always)]
     pub(crate) fn end(&self, bytes: &[u8], start: usize) -> usize
         requires ends { AreTextEnds bytes.now self.now }
@@ -109,7 +109,7 @@ impl TextEnds {
         }
     }
 
-    /// The same, by the end of the text that begins with the next block.
+    /// Returns the same, by the end of the text that begins with the next block.
     fn far_end(&self, bytes: &[u8], start: usize) -> usize
         requires ends { AreTextEnds bytes.now self.now }
         requires within { start ≤ length bytes.now }

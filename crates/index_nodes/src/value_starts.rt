@@ -8,10 +8,10 @@ use std::alloc::{AllocError, Global};
 /// The bytes of a value before its text: its priority.
 const TEXT_PLACE: usize = 4;
 
-/// For each number of values the last place of a file from which so many are whole. They are whole
-/// from every place before it too, so that one comparison decides, however many values share their
-/// bytes. The places are found as they are asked for, from the end of the file on, so that all of
-/// them together take one pass.
+/// For each number of values, the last place of a file from which that many are whole. They are
+/// whole from every place before it too, so that one comparison decides, however many values share
+/// their bytes. The places are found as they are asked for, from the end of the file on, so that
+/// all of them together take one pass.
 #[derive(Drop)]
 pub(crate) struct ValueStarts {
     pub(crate) last: Vec<usize>,
@@ -38,7 +38,7 @@ impl ValueStarts {
         Ok(ValueStarts { last })
     }
 
-    /// Returns whether so many values are whole from a place on.
+    /// Returns whether this many values are whole from a place on.
     pub(crate) fn are_whole(
         &mut self,
         bytes: &[u8],

@@ -1,4 +1,4 @@
--- A key of which a plain byte isn't the text's matches nothing, however it goes on.
+-- A key with a plain byte that isn't the text's matches nothing, however it goes on.
 use Rattle.std.proofs.Common.{◌≡◌, ◌≢◌, refl, sym, ap, subst, ◌∙◌, ℕ, zero, suc, ◌<◌, ◌≤◌, false, List, [], ◌∷◌, ◌++◌, length, take, drop, slice_index, arith, rules}
 use Rattle.std.proofs.lemmas.Bool.{false≢true}
 use Rattle.std.specs.List.{AllByRecursion}
@@ -67,7 +67,8 @@ agrees_on key new text agreed kept n a same within le few =
       same = front ∙ sym (take_fewer n agreed key le) ∙ ap (take n) a.same ∙ take_fewer n agreed text le;
     }
 
--- A key matches exactly where what follows the bytes that agree matches what follows them in the text.
+-- A key matches exactly where what follows the bytes that agree matches what follows them in the
+-- text.
 abbrev Both : Type 0 → Type 0 → Type 0
 Both A B = (A → B) × (B → A)
 

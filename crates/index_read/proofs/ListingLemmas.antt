@@ -1,4 +1,4 @@
--- The lists of keys with their values are those of the nodes, in their order.
+-- The lists of keys with their values are the lists of the nodes, in their order.
 use Rattle.std.proofs.Common.{◌≡◌, refl, sym, ap, subst, ◌∙◌, ⊎_elim, ℕ, zero, suc, ◌+◌, ◌<◌, ◌≤◌, true, false, cond, nat_eq, nat_lt, nat_le, ◌&&◌, List, [], ◌∷◌, ◌++◌, length, drop, map, filter, get_or, Some, None, arith, append_assoc, length-append, Bool}
 use Rattle.std.proofs.lemmas.Bool.{cases_lt, leb-true, and_parts, false≢true}
 use Rattle.std.proofs.lemmas.List.{append-nil, append_cancel_left}

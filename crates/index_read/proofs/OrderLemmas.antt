@@ -1,4 +1,5 @@
--- The keys of an index rise along its nodes, and each key's values are those of the node with it.
+-- The keys of an index rise along its nodes, and each key's values are the values of the node with
+-- it.
 use Rattle.std.proofs.Common.{◌≡◌, refl, sym, ap, ◌∙◌, ⊎_elim, ℕ, zero, suc, ◌+◌, ◌<◌, ◌≤◌, true, false, cond, ◌==◌, ◌&&◌, nat_eq, List, [], ◌∷◌, ◌++◌, length, drop, flat_map, Option, Some, None, arith, append_assoc}
 use Rattle.std.proofs.lemmas.Bool.{cases_eq, eqb-true, eq-eqb, lt-ltb, le-ltb, false_from_ne_true}
 use Rattle.std.proofs.lemmas.List.{append-nil, append_cancel_left}

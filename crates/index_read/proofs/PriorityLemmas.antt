@@ -1,4 +1,5 @@
--- A list of values by rising priority, in which those of one priority stand as they did, is one list.
+-- A list of values by rising priority, in which values of one priority keep their order, is one
+-- list.
 use Rattle.std.proofs.Common.{◌≡◌, refl, sym, ap, ◌∙◌, nat_le, List, [], ◌∷◌, if◌then◌else◌}
 use Rattle.index_format.specs.Map.{Value}
 use Rattle.index_format.specs.Listing.{IsByPriority}

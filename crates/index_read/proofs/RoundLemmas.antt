@@ -1,4 +1,5 @@
--- A step of the walk, round by round: what a node and the walk leave to do, and what is owed for it.
+-- A step of the walk, round by round: what a node and the walk leave to do, and what is owed for
+-- it.
 use Rattle.std.proofs.Common.{◌≡◌, ℕ, ◌≤◌, List, [], ◌∷◌, length, Option, Some, None, arith}
 use Rattle.index_nodes.specs.Fields.{link_of, IsNodeOf}
 use Rattle.index_nodes.specs.declared.node.Node.{Node}
@@ -6,7 +7,7 @@ use Rattle.index_read.specs.declared.walk.KeyWalk.{KeyWalk}
 use Rattle.index_read.specs.Keys.{Item}
 use Rattle.index_read.specs.Walks.{left, GoesOn, IsWalking, IsAtNode}
 
--- The node that the walk came to and those after it; none where it came to none.
+-- The node that the walk reached and the nodes after it, or none if it reached none.
 abbrev pub to_do : List ℕ → KeyWalk → Option Node → List Item
 to_do b w None = []
 to_do b w (Some n) = (w.key.items, link_of n) ∷ left b w

@@ -8,7 +8,7 @@ use Rattle.glob_match.specs.Pattern.{star, question, bracket}
 abbrev pub is_special_byte : ℕ → Bool
 is_special_byte byte = byte == star || byte == question || byte == bracket
 
--- So many bytes at the front of the key are plain, and the text begins with them.
+-- This many bytes at the front of the key are plain, and the text begins with them.
 pub record Agrees (key text : List ℕ) (n : ℕ) : Type 0 where
   pub in_key : n ≤ length key
   pub in_text : n ≤ length text

@@ -1,4 +1,4 @@
--- The nodes of an index, each with the key that leads to it, in the order of their keys: after a
+-- The nodes of an index, each with the key that leads to it, in the order of their keys. After a
 -- node come the ones below it, by rising bytes, each with all that is below it.
 use Rattle.std.specs.Prelude.{ℕ, zero, suc, ◌+◌, ◌-◌, ◌≤◌, List, [], ◌∷◌, ◌++◌, length, take, Option, Some, None}
 use Rattle.index_format.specs.Link.{place_of}
@@ -15,8 +15,8 @@ abbrev pub on_child : Option ℕ → (ℕ → List Item) → List Item
 on_child None under = []
 on_child (Some next) under = under next
 
--- The nodes below a node with this key, by so many bytes from one on. `under` gives the nodes that
--- a child leads to, by its offset and by the key with its byte.
+-- The nodes below a node with this key, by this many bytes from one on. `under` gives the nodes
+-- that a child leads to, by its offset and by the key with its byte.
 unfoldable pub branches : (ℕ → List ℕ → List Item) → List ℕ → ℕ → List ℕ → ℕ → ℕ → List Item
 branches under b link key byte zero = []
 branches under b link key byte (suc n) =

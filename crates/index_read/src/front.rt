@@ -35,7 +35,7 @@ pub(crate) fn agreed_length(key: &[u8], text: &[u8], known: usize) -> usize
     agreed
 }
 
-/// Returns whether a key with so many agreeing bytes, or one that begins with it, may match the
+/// Returns whether a key with this many agreeing bytes, or one that begins with it, may match the
 /// text. If the next byte is plain, none does.
 pub(crate) fn may_match(key: &[u8], agreed: usize) -> bool
     ensures { result ≡ may_match_after key.now agreed }
@@ -43,7 +43,7 @@ pub(crate) fn may_match(key: &[u8], agreed: usize) -> bool
     agreed >= key.len() || is_special(key[agreed])
 }
 
-/// Returns whether a node has values, and its key, with so many agreeing bytes, matches the text.
+/// Returns whether a node has values, and its key, with this many agreeing bytes, matches the text.
 /// The bytes that agree aren't read again, and the others have to fit into the room.
 pub(crate) fn is_wanted(
     nodes: &Nodes,

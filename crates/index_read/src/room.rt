@@ -24,11 +24,11 @@ impl Room {
         Room { left: usize::MAX }
     }
 
-    /// Takes so many bytes.
+    /// Takes this many bytes.
     ///
     /// # Errors
     ///
-    /// Where there are fewer left.
+    /// Out of memory if fewer are left.
     pub(crate) fn take(&mut self, bytes: usize) -> Result<(), AllocError> {
         self.left = self.left.checked_sub(bytes).ok_or(AllocError)?;
         Ok(())

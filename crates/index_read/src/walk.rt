@@ -63,7 +63,7 @@ impl KeyWalk {
         Ok((walk, node))
     }
 
-    /// Comes to the child of a level for a byte.
+    /// Goes to the child of a level for a byte.
     fn enter(
         &mut self,
         nodes: &Nodes,

@@ -17,7 +17,7 @@ use Rattle.index_write.specs.Lists.{shown_values}
 use Rattle.index_write.specs.Parts.{Part, bytes_of, span_of, last_of, parts_of}
 use Rattle.index_write.specs.Groups.{entry_shown, shown, at_depth, group_of, groups_of, ended, leading, AllGoOn, part_of, below, part_for, root_part}
 
--- A group of which a node can be made: its keys rise, and have at most so many bytes.
+-- A group that can be made into a node: its keys rise, and have at most this many bytes.
 pub record IsReady (most : ℕ) (g : ℕ × List Entry) : Type 0 where
   pub rises : Rises g.1
   pub within : AllByRecursion (λ e. length e.0 ≤ most) g.1

@@ -25,7 +25,7 @@ use Rattle.index_write.proofs.Reading.{NoNul, Fits, place_of-link_to, fields, dr
 
 -- ---- where nodes stand
 
--- The node with this prefix and these entries behind it stands in b, with all that is below it.
+-- The node with this prefix and these entries behind it is in b, with all that is below it.
 pub record Stands (b : List ℕ) (d : ℕ) (p : List ℕ) (es : List Entry) (link : ℕ) : Type 0 where
   pub start : ℕ
   pub rest : List ℕ
@@ -34,7 +34,7 @@ pub record Stands (b : List ℕ) (d : ℕ) (p : List ℕ) (es : List Entry) (lin
   pub tail : drop start b ≡ (written start (nodes_below d es)).bytes ++ (node_bytes p (written start (nodes_below d es)).links (ending es) ++ rest)
   pub is : link ≡ link_to (start + length (written start (nodes_below d es)).bytes) p (written start (nodes_below d es)).links (ending es)
 
--- The nodes of groups stand in b from a place on.
+-- The nodes of groups are in b from a place on.
 pub record RowStands (b : List ℕ) (d : ℕ) (gs : List (ℕ × List Entry)) (start : ℕ) : Type 0 where
   pub rest : List ℕ
   pub high : FIRST_PLACE ≤ start

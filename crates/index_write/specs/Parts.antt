@@ -78,6 +78,6 @@ headed = record { bytes = number MAGIC ++ number VERSION ++ number 0; links = []
 abbrev pub rooted : Written → List ℕ
 rooted w = take 8 w.bytes ++ number (offset w.links 0) ++ drop FIRST_PLACE w.bytes
 
--- The offsets of children for so many bytes.
+-- The offsets of children for this many bytes.
 abbrev pub offsets_bytes : Links → ℕ → ℕ → List ℕ
 offsets_bytes links first count = flat_map (λ byte. number (offset links byte)) (upward first count)

@@ -64,7 +64,7 @@ fn offset_table(links: &[ChildLink]) -> [u32; 256]
     table
 }
 
-/// Puts the offsets for so many bytes at the end.
+/// Puts the offsets for this many bytes at the end.
 fn push_offsets(
     out: &mut Vec<u8>,
     links: &[ChildLink],

@@ -40,7 +40,7 @@ pub(crate) struct TreeNode<'a> {
     pub(crate) children: Span,
 }
 
-/// Returns the rest of a key without so many bytes at its front.
+/// Returns the rest of a key without this many bytes at its front.
 fn rest_of(key: &[u8], depth: usize) -> &[u8]
     ensures rest { result.now ≡ drop depth key.now }
     ensures fits { depth + length result.now < 2 ^ 64 }

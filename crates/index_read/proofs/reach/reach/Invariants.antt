@@ -4,7 +4,8 @@ use Rattle.index_format.specs.Walk.{walk, visits}
 use Rattle.index_format.specs.Nodes.{IsNode}
 use Rattle.index_read.proofs.reach.reach.Given as goal
 
--- the walk of what is left of the key ends where the key's does, and the nodes so far and those to come are its nodes
+-- the walk of what is left of the key ends where the key's does, and the nodes so far and those to
+-- come are its nodes
 pub record Walking (b key rest : List ℕ) (link before now : ℕ) : Type 0 where
   pub node : IsNode b link
   pub reached : (walk b link rest).reached ≡ (walk b (root b) key).reached
