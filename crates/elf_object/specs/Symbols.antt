@@ -67,7 +67,7 @@ symbol_entry table j = record {
 abbrev pub binding : SymbolEntry → ℕ
 binding e = e.info / 16
 
--- Whether a symbol of this name is invalid, in a file of so many sections. Its section is neither
+-- Whether a symbol of this name is invalid, in a file of this many sections. Its section is neither
 -- one of the file nor absolute, its binding is none of the three, or it is undefined and local or
 -- has no name.
 unfoldable pub is_bad_symbol : ℕ → List ℕ → SymbolEntry → Bool

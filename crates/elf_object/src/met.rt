@@ -20,7 +20,7 @@ pub(crate) struct MetPlaces {
 }
 
 impl MetPlaces {
-    /// Returns the state of no place met, with a list of so many to be kept.
+    /// Returns the state of no place met, with a list of this many to be kept.
     pub(crate) fn listing(alloc: Global, places: usize) -> Result<Self, AllocError>
         ensures none { IfOk result (λ m. HasMet m []) }
         ensures keeps { IfOk result (λ m. m.keeps ≡ true) }

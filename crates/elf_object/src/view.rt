@@ -50,7 +50,7 @@ impl<'a> ObjectView<'a> {
     ///
     /// # Errors
     ///
-    /// The same as of [`Object::read`](crate::Object::read).
+    /// The same as for [`Object::read`](crate::Object::read).
     pub fn read(alloc: Global, bytes: &'a [u8]) -> Result<ObjectView<'a>, ObjectFault>
         requires { length bytes.now ≤ file_limit }
         ensures object { IfOk result (λ v. v ≡ file_object bytes.now) }

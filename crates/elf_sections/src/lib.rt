@@ -2,8 +2,8 @@
 //! sections must have.
 //!
 //! `Sections::read` keeps the bytes that it gets. A contract sees the file beside the list of its
-//! sections, which is a function of the file: each number is the sum of its bytes at a computed
-//! place, and each name the bytes up to its NUL. Every refusal is the first failing test of one
+//! sections, which is a function of the file. Each number is the sum of its bytes at a computed
+//! place, and each name is the bytes up to its NUL. Every refusal is the first failing test of one
 //! list of tests over the whole file, with its numbers. Only out of memory is free.
 //!
 //! A `SectionTable` shows the sections of a file that its reader keeps: names stay in the file.
@@ -11,7 +11,7 @@
 //! Names may share their bytes, so they are added up before they are kept: together they have at
 //! most [`NAME_LIMIT`] bytes. Otherwise the answer is out of memory, before more than that was
 //! searched or copied. Time is linear in the file and those bytes. `string_within` and
-//! `up_to_last_nul` are what keeps it so, for the tables of other names too.
+//! `up_to_last_nul` keep it so, also for the tables of other names.
 //!
 //! The crate uses `elf_format` for the numbers of the format, `km_names` for names and numbers,
 //! `memchr` for the ends of names, and `thiserror` for the error traits. The bytes of sections

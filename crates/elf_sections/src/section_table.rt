@@ -38,7 +38,7 @@ impl<'a> SectionTable<'a> {
     ///
     /// # Errors
     ///
-    /// The same as of [`Sections::read`](crate::Sections::read).
+    /// The same as for [`Sections::read`](crate::Sections::read).
     pub fn read(alloc: Global, bytes: &'a [u8]) -> Result<SectionTable<'a>, SectionFault>
         ensures sections { IfOk result (λ table. table ≡ file_sections bytes.now) }
         ensures read { OnOk result (IsRead bytes.now (sections_of bytes.now)) }

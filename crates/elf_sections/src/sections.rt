@@ -51,8 +51,8 @@ impl Sections {
         Ok(Sections::tested(alloc, bytes)?)
     }
 
-    /// Returns the sections of a file that passed the tests of [`Sections::read`], which aren't made
-    /// again. After a refusal the bytes are dropped.
+    /// Returns the sections of a file that passed the tests of [`Sections::read`], which aren't
+    /// made again. After a refusal the bytes are dropped.
     pub fn tested(alloc: Global, bytes: Blob) -> Result<Sections, AllocError>
         requires { IsRead bytes (sections_of bytes) }
         ensures { IfOk result (λ s. s ≡ file_sections bytes) }

@@ -13,8 +13,8 @@ use std::alloc::AllocError;
 /// ask for any number. The names of a real module together have less than a tenth of this.
 pub const NAME_LIMIT: usize = 4 * FILE_LIMIT;
 
-/// Returns the string at the place `at` of a table, if one is there. Names may have `left` bytes more, and no more
-/// than one byte past those is read.
+/// Returns the string at the place `at` of a table, if one is there. Names may have `left` bytes
+/// more, and no more than one byte past those is read.
 ///
 /// # Errors
 ///

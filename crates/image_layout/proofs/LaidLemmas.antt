@@ -1,4 +1,4 @@
--- The words of relocations stand in the image, and apart; they are put in one by one.
+-- The words of relocations are in the image and apart, and are put in one by one.
 use Rattle.std.proofs.Common.{◌≡◌, ◌≤◌, ◌<◌, ◌+◌, ◌-◌, ◌%◌, ◌^◌, ◌∙◌, inl, inr, ℕ, suc, true, false, List, [], ◌∷◌, ◌++◌, Option, Some, None, refl, sym, ap, subst, arith, length, take, drop, map, get_or}
 use Rattle.std.specs.Prelude.{All, IfSome}
 use Rattle.std.specs.List.{slice_get}
@@ -36,7 +36,7 @@ module _ (o : FileObject) (base : ℕ) (addresses : List ℕ) where
   unfolding patch_of
   patch_kind p = refl
 
-  -- Where the bytes of a place that changes some stand in the image.
+  -- Where the bytes of a place that changes some are in the image.
   pub record Spot (p : RelaPlace) : Type 0 where
     pub target : Section
     pub is : slice_get o.sections p.target ≡ Some target
@@ -98,7 +98,7 @@ module _ (o : FileObject) (base : ℕ) (addresses : List ℕ) where
       (spot q inside_q small (omega (arith, wide_q, other.0)))
       free one.0 wide_p other.0 wide_q
 
-  -- The words of the first places don't meet that of the next.
+  -- The words of the first places don't meet the word of the next.
   pub earlier-apart : (i : ℕ) (p : RelaPlace) → IsLoadable o → slice_get o.places i ≡ Some p → image_size o.sections < 2 ^ 63 → All (λ one. IsApart one (the_patch p)) (map the_patch (take i o.places))
   earlier-apart i p loadable is small k d less =
       let within = slice_get_within o.places i p is in

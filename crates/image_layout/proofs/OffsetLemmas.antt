@@ -9,7 +9,7 @@ use Rattle.image_layout.specs.Offsets.{aligned, class_of, class_start, class_end
 use Rattle.image_layout.proofs.Aligning.{aligned_above, greater_right}
 use Rattle.image_layout.proofs.EndLemmas.{end-with, end-part, end_of-above}
 
--- The classes stand in order in the image.
+-- The classes are in order in the image.
 pub record InOrder (xs : List Section) : Type 0 where
   pub fixed : class_end xs Code ≤ class_start xs Fixed
   pub within_fixed : class_start xs Fixed ≤ class_end xs Fixed

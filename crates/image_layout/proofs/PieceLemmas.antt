@@ -1,4 +1,4 @@
--- The pieces of the sections of an object stand in the image, and apart.
+-- The pieces of the sections of an object are in the image and apart.
 use Rattle.std.proofs.Common.{◌≡◌, ◌≤◌, ◌<◌, ◌+◌, ◌∙◌, inl, inr, ℕ, true, false, List, Some, None, sym, ap, arith, length, map, get_or}
 use Rattle.std.specs.Prelude.{find}
 use Rattle.std.specs.List.{range_with_len, slice_get}

@@ -31,7 +31,7 @@ has_place x p = nat_le p.at x && nat_lt x (p.at + length p.bytes)
 abbrev pub plain_byte : List Piece → ℕ → ℕ
 plain_byte ps x = option_map_or (λ p. slice_index p.bytes (x - p.at)) (find (has_place x) ps) 0
 
--- So many bytes, with the pieces at their places and 0 elsewhere.
+-- This many bytes, with the pieces at their places and 0 elsewhere.
 unfoldable pub filled : ℕ → List Piece → List ℕ
 filled len ps = map (plain_byte ps) (range_with_len 0 len)
 

@@ -46,8 +46,8 @@ pub fn show(
 }
 
 /// Returns the lines that modinfo shows of a module for one key, from the bytes of its `.modinfo`
-/// section: the values of the fields with this key, in order, each with its end. Each value is
-/// copied once. For `filename` and `parm` modinfo shows something else, as [`show`] does.
+/// section. They are the values of the fields with this key, in order, each with its end. Each
+/// value is copied once. For `filename` and `parm` modinfo shows something else, as [`show`] does.
 /// modinfo(8), `-F`.
 pub fn show_values(
     alloc: Global,

@@ -84,7 +84,7 @@ fn is_gpl(object: &ObjectView, tables: &SymbolTables, name: &[u8]) -> bool
     }
 }
 
-/// Returns the export of a name, whose namespace has at most so many bytes.
+/// Returns the export of a name, whose namespace has at most this many bytes.
 ///
 /// # Errors
 ///

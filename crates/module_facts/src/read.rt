@@ -119,7 +119,7 @@ pub fn read_module(alloc: Global, path: &PathText, bytes: Blob) -> Result<Module
 ///
 /// # Errors
 ///
-/// The same as of [`read_module`](crate::read_module).
+/// The same as for [`read_module`](crate::read_module).
 #[tactic(auto, unfolding(crate::specs::Faults::fact_fault, crate::specs::Faults::module_tests))]
 pub fn read_facts(alloc: Global, path: &PathText, bytes: &[u8]) -> Result<Facts, ModuleFault>
     requires { length bytes.now ≤ file_limit }

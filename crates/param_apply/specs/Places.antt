@@ -10,7 +10,7 @@ use Rattle.param_apply.specs.Kinds.{width_of}
 use Rattle.param_apply.specs.Table.{table_of}
 use Rattle.param_apply.specs.Words.{Parameter, Setting}
 
--- Whether the byte at x is one of so many from a place on.
+-- Whether the byte at x is one of this many from a place on.
 abbrev pub is_among : ℕ → ℕ → ℕ → Bool
 is_among at size x = nat_le at x && nat_lt x (at + size)
 

@@ -80,7 +80,7 @@ pub(crate) struct Claims {
 }
 
 impl Claims {
-    /// Returns the claims of so many parameters before any word, by the bytes that are reserved.
+    /// Returns the claims of this many parameters before any word, by the bytes that are reserved.
     pub(crate) fn new(alloc: Global, taken: Vec<bool>, params: usize) -> Result<Claims, AllocError>
         ensures taken { IfOk result (λ c. c.taken.items ≡ taken.items) }
         ensures claims { IfOk result (λ c. (o : FileObject) (list : List Parameter) → length list ≡ params

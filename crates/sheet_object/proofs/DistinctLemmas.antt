@@ -1,4 +1,4 @@
--- Names that stand once, an item more at a time.
+-- Names that occur once, with one more item at a time.
 use Rattle.std.proofs.Common.{◌≡◌, ℕ, ◌+◌, ◌<◌, Bool, true, false, not, ◌&&◌, ◌||◌, List, [], ◌∷◌, ◌++◌, length, map, take, drop, get_or, Bor, Option, Some, is_some, refl, sym, ap, subst, ◌∙◌, true≢false, ◌≤◌, inl, inr, arith}
 use Rattle.std.proofs.lemmas.Bool.{cases_Bool, not_from_false, and_from, not-true}
 use Rattle.std.proofs.lemmas.Map.Made.{length-le_from_is_member}

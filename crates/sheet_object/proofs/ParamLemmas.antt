@@ -51,7 +51,7 @@ param_names-more ps k p a b d within is first second third =
     ∙ sym (flat_map-append f (take k ps) (p ∷ []))
     ∙ ap names_of_params (sym front)
 
--- The relocations of the first entries, with those of one more.
+-- The relocations of the first entries, with the relocations of one more.
 pub entries-more : (ps : List SheetParam) (k place : ℕ) (old new : List ℕ) → old ≡ flat_map (entry_addresses ps) (range_with_len 0 k) → place ≡ name_place ps k → new ≡ old ++ data_address (40 * k) place ++ data_address (40 * k + 32) (8 * k) → new ≡ flat_map (entry_addresses ps) (range_with_len 0 (k + 1))
 entries-more ps k place old new before at after =
     after

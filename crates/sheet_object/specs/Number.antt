@@ -14,7 +14,7 @@ word n = to_le_bytes w32 n
 unfoldable pub xword : ℕ → List ℕ
 xword n = to_le_bytes w64 n
 
--- So many zeros.
+-- This many zeros.
 unfoldable pub zeros : ℕ → List ℕ
 zeros n = replicate n 0
 

@@ -28,7 +28,7 @@ pub(crate) fn push_xword(out: &mut Vec<u8>, n: u64) -> Result<(), AllocError>
     out.extend_from_slice(&n.to_le_bytes())
 }
 
-/// Puts so many zeros at the end.
+/// Puts this many zeros at the end.
 #[tactic(auto, unfolding(crate::specs::Number::zeros))]
 pub(crate) fn push_zeros(out: &mut Vec<u8>, count: usize) -> Result<(), AllocError>
     ensures { OnOk result (out.new.items ≡ out.old.items ++ zeros count) }
@@ -39,7 +39,7 @@ pub(crate) fn push_zeros(out: &mut Vec<u8>, count: usize) -> Result<(), AllocErr
     Ok(())
 }
 
-/// Returns so many zeros.
+/// Returns this many zeros.
 pub(crate) fn zeros(alloc: Global, count: usize) -> Result<Vec<u8>, AllocError>
     ensures { IfOk result (λ v. v.items ≡ zeros count) }
 {

@@ -24,7 +24,7 @@ pub(crate) struct ObjectFile {
     names: u32,
 }
 
-/// Puts the file header of so many sections at the end, with the number of the section of names,
+/// Puts the file header of this many sections at the end, with the number of the section of names,
 /// and with 0 for the place of the section header table.
 #[tactic(auto, unfolding(crate::specs::File::header))]
 fn push_header(out: &mut Vec<u8>, count: u16, named: u16) -> Result<(), AllocError>
@@ -87,8 +87,8 @@ fn put_table_place(file: &mut [u8], place: u64)
 }
 
 impl ObjectFile {
-    /// Returns the file of so many sections before any is added. The section of the number `named`
-    /// has their names.
+    /// Returns the file of this many sections before any is added. The section of the number
+    /// `named` has their names.
     pub(crate) fn new(alloc: Global, count: u16, named: u16) -> Result<Self, AllocError>
         ensures { IfOk result (λ f. IsFileOf f start count named) }
     {

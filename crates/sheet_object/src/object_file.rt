@@ -9,9 +9,10 @@ use crate::sheet::{Sheet, SheetMore};
 use km_names::Blob;
 use std::alloc::{AllocError, Global};
 
-/// Writes the relocatable object of a sheet: the file header, the contents of eight sections, each
-/// begun at a multiple of 8, and the section header table. [`is_sheet`](crate::is_sheet) tests what
-/// it requires. gABI 4; x86-64 psABI. The only error is out of memory.
+/// Writes the relocatable object of a sheet: the file header, the contents of eight sections, and
+/// the section header table. The contents of each section begin at a multiple of 8.
+/// [`is_sheet`](crate::is_sheet) tests what it requires. gABI 4; x86-64 psABI. The only error is
+/// out of memory.
 pub fn object(alloc: Global, sheet: &Sheet) -> Result<Blob, AllocError>
     requires { IsTrue (is_sheet sheet.now no_more) }
     ensures { IfOk result (λ bytes. bytes ≡ object_of sheet.now) }

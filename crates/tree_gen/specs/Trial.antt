@@ -41,7 +41,7 @@ drawn i x = if i == 0 then [] else without_twin (draw i (after 1 x)) (draw i (af
 abbrev pub start_of : ℕ → ℕ → ℕ
 start_of seed i = after (2 * (i - 1)) seed
 
--- The draws of so many modules from the seed, from module 0 on.
+-- The draws of this many modules from the seed, from module 0 on.
 abbrev pub drawn_from : ℕ → ℕ → List (List ℕ)
 drawn_from seed count = map (λ i. drawn i (start_of seed i)) (range_with_len 0 count)
 
@@ -125,7 +125,7 @@ kernel_contents = insert (insert empty (codes "/t/Module.symvers") kernel_symver
 abbrev pub with_module : ℕ → Contents → ℕ → Contents
 with_module seed files i = insert files (module_path i) (module_file seed i)
 
--- The tree of a seed and a count: the files of the kernel, and of so many modules, from module 0
+-- The tree of a seed and a count: the files of the kernel, and of this many modules, from module 0
 -- on.
 unfoldable pub trial_contents : ℕ → ℕ → Contents
 trial_contents seed count = fold (with_module seed) kernel_contents (range_with_len 0 count)

@@ -157,7 +157,7 @@ room_for len patch written known within e some =
     let same : length (bytes_of (word_of patch)) ≡ length (bytes_of (Ok written)) = ap (λ r. length (bytes_of r)) e in
     elim (bytes_room len patch known within fit) [ inl none ↦ absurd (omega arith) | inr room ↦ omega arith ]
 
--- The state of the pass after so many patches.
+-- The state of the pass after this many patches.
 pub record IsSoFar (old image : List ℕ) (patches : List Patch) (count : ℕ) : Type 0 where
   pub image_is : image ≡ patched old (take count patches)
   pub all_fit : take_while fits patches ≡ take count patches ++ take_while fits (drop count patches)

@@ -20,7 +20,7 @@ Covers patch place = (patch.at ≤ place) × (place < patch.at + known_width pat
 abbrev pub covers : ℕ → Patch → Bool
 covers place patch = nat_le patch.at place && nat_lt place (patch.at + known_width patch.kind)
 
--- Each place of the patch is in an image of so many bytes.
+-- Each place of the patch is in an image of this many bytes.
 abbrev pub IsWithin : ℕ → Patch → Type 0
 IsWithin len patch = (place : ℕ) → Covers patch place → place < len
 
