@@ -22,7 +22,7 @@ use Rattle.laws_removal.proofs.PassLemmas.{left-outside}
 use Rattle.laws_removal.proofs.UnloadedLemmas.{removals-are-unloaded, removed-fall}
 use Rattle.model_loader.proofs.ListedLemmas.{name_of, same-name}
 
--- Where no two entries have one name, a name tells its place.
+-- If no two entries have one name, a name decides its place.
 abbrev name_in : List Entry → ℕ → List ℕ
 name_in es k = option_map_or name_of (slice_get es k) []
 

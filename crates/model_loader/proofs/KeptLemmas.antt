@@ -31,7 +31,7 @@ use Rattle.model_loader.specs.Step.{fault_if, named_pages, overflow_fault, entry
 use Rattle.model_loader.proofs.StandingLemmas.{find-map}
 use Rattle.model_loader.proofs.StepLemmas.{first-append}
 
--- What a list keeps of a name, where it was made for exports of an owner.
+-- What a list keeps of a name, if it was made for exports of an owner.
 second-fused : {X Y : Type 0} (f : X → List ℕ × Y) (o : Option X) → option_map (λ (p : List ℕ × Y). p.1) (option_map f o) ≡ option_map (λ x. (f x).1) o
 second-fused f None = refl
 second-fused f (Some x) = refl
@@ -43,7 +43,7 @@ standing_in-is x owner named exports same =
     ∙ ap (option_map (λ (p : List ℕ × Standing). p.1)) (sym (find-map test named_pair named) ∙ ap (find test) same ∙ find-map test (export_pair owner) exports)
     ∙ second-fused (export_pair owner) (export_named x exports)
 
--- What stands under a name with an entry more.
+-- What is under a name with one more entry.
 module _ (machine : Machine) (e : Entry) (x : List ℕ) where
   abbrev of_entry : Entry → Option Standing
   of_entry n = option_map (standing (Some n.loaded.name)) (export_named x n.exports)

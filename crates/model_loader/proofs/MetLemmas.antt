@@ -1,4 +1,4 @@
--- Who exports what a module needs, as the tables of a machine tell it.
+-- Who exports what a module needs, by the tables of a machine.
 use Rattle.std.proofs.Common.{◌≡◌, ◌<◌, ◌≤◌, ◌+◌, ◌-◌, ◌∙◌, ◌⊎◌, inl, inr, ℕ, zero, suc, Bool, true, false, List, [], ◌∷◌, ◌++◌, Option, Some, None, refl, sym, ap, subst, arith, length, map, get_or, take, drop, cond}
 use Rattle.std.specs.Prelude.{option_map, option_and_then, ◌&&◌, ◌||◌, nat_eq, nat_lt, not, flat_map, remove, slice_get}
 use Rattle.std.specs.List.{AllByRecursion, IsDistinct, list_any, position_or_len}
@@ -31,7 +31,7 @@ use Rattle.model_loader.proofs.WithoutLemmas.{none-kernel, none-standing, slice-
 use Rattle.model_loader.proofs.PlaceLemmas.{in-place, item, new-last, none≢some, old-stays, past, below-or-at}
 use Rattle.std.proofs.Math.Bool.{and-false, and-true, or-false}
 
--- What an entry exports stands under its name, as that entry's.
+-- What an entry exports is under its name, as that entry's.
 module _ (machine : Machine) (j : ℕ) (e : Entry) (at : slice_get machine.entries j ≡ Some e) where
   stands-after : (x : List ℕ) (p : PlacedExport) (es later : List Entry) → export_named x e.exports ≡ Some p → first (map (standing_by x) es) ≡ None → first (map (standing_by x) ((es ++ e ∷ []) ++ later)) ≡ Some (standing (Some e.loaded.name) p)
   stands-after x p es later is none =
@@ -224,7 +224,7 @@ module _ (t : ExportTable) (places : Table) (entries : List Entry) (is : IsTable
   bound-never free k j over (n ∷ ns) =
       ap (λ b. b || list_any (is_bound_at t places free k j) ns) (not-below j k (met_place t places free n) over) ∙ bound-never free k j over ns
 
--- What the tables tell of all entries is whom they bind to.
+-- What the tables have for all entries is whom they bind to.
 outside : {X : Type 0} (xs : List X) (i : ℕ) → slice_get xs i ≡ None → length xs ≤ i
 outside [] i none = omega arith
 outside (x ∷ xs) zero none = absurd (none≢some (sym none))

@@ -1,4 +1,4 @@
--- Places: what stands at one, what is found among them, and what is left without one.
+-- Places: what is at one, what is found among them, and what is left without one.
 use Rattle.std.proofs.Common.{◌≡◌, ◌≤◌, ◌<◌, ◌+◌, ◌-◌, ◌∙◌, ◌⊎◌, inl, inr, ℕ, zero, suc, Bool, true, false, List, [], ◌∷◌, ◌++◌, Option, Some, None, refl, sym, ap, arith, length, cond}
 use Rattle.std.specs.Prelude.{◌||◌, ◌&&◌, find, remove, slice_get, All}
 use Rattle.std.specs.List.{range_with_len}
@@ -17,7 +17,7 @@ below-or-at i k less = grind arith
 pub below-or-above : (i k : ℕ) → (i < k) ⊎ (k ≤ i)
 below-or-above i k = grind arith
 
--- What stands at a place.
+-- What is at a place.
 pub item : {X : Type 0} (xs : List X) (j : ℕ) → j < length xs → (x : X) × (slice_get xs j ≡ Some x)
 item [] j less = absurd (omega (arith, less))
 item (x ∷ xs) zero less = (x, refl)

@@ -92,7 +92,7 @@ bound-by (Some e) m n passes strong =
     shown true is = refl
     shown false is = absurd (false≢true (sym is))
 
--- The needs of the entry of a module are those of the module.
+-- The needs of the entry of a module are the needs of the module.
 pub needs-same : (ns : List FactsNeed) → map need_face (map bound_need ns) ≡ map facts_need ns
 needs-same [] = refl
 needs-same (n ∷ ns) = ap (λ rest. facts_need n ∷ rest) (needs-same ns)
@@ -201,7 +201,7 @@ distinct-append xs (y ∷ ys) d_xs d_ys apart =
     (λ z out other. join z xs (y ∷ []) out (rw other refl)) ys apart.1 (later-apart y ys (IsDistinct-head bytes_eq y ys d_ys)) in
     rw (sym (append_assoc xs (y ∷ []) ys)) (distinct-append (xs ++ y ∷ []) ys pushed (IsDistinct-tail bytes_eq y ys d_ys) rest)
 
--- Nothing stands under a name: nobody exports it.
+-- Nothing is under a name: nobody exports it.
 unexported-kernel : (x : List ℕ) (es : List KernelExport) → export_named x (map kernel_placed es) ≡ None → unlisted x (map (λ (e : KernelExport). e.name) es)
 unexported-kernel x [] none = refl
 unexported-kernel x (e ∷ es) none =

@@ -1,4 +1,4 @@
--- What a table keeps is what stands under a name.
+-- What a table keeps is what is under a name.
 use Rattle.std.proofs.Common.{◌≡◌, ◌∙◌, inl, inr, ℕ, Bool, true, false, List, [], ◌∷◌, Option, Some, None, refl, sym, ap, cond, map}
 use Rattle.std.specs.Prelude.{find, option_map, unwrap_or}
 use Rattle.std.specs.Str.{bytes_eq}

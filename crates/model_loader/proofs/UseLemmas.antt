@@ -38,7 +38,7 @@ abbrev pub Each : {X : Type 0} → (X → Type 0) → List X → Type 0
 Each P [] = Unit {0}
 Each P (x ∷ xs) = P x × Each P xs
 
--- What stands under a name, by a list of entries.
+-- What is under a name, by a list of entries.
 abbrev pub named_in : List ℕ → List Entry → Option PlacedExport
 named_in x es = first (map (λ (n : Entry). export_named x n.exports) es)
 
@@ -46,7 +46,8 @@ named_in x es = first (map (λ (n : Entry). export_named x n.exports) es)
 abbrev pub Alone : Entry → List Entry → Type 0
 Alone e es = (x : List ℕ) (p : PlacedExport) → export_named x e.exports ≡ Some p → named_in x es ≡ None
 
--- What stood under a name and what stands there without an entry: the same; or the export of that entry, and nothing.
+-- What was under a name and what is there without an entry: the same; or the export of that entry,
+-- and nothing.
 abbrev Cut : Entry → List ℕ → Option PlacedExport → Option PlacedExport → Type 0
 Cut e x old new = (new ≡ old) ⊎ ((p : PlacedExport) × (export_named x e.exports ≡ Some p) × (old ≡ Some p) × (new ≡ None))
 
@@ -156,7 +157,7 @@ module _ (machine : Machine) (before mid : List Entry) (e : Entry) (alone : Alon
     abbrev found_in : Machine → List ℕ → Option Export
     found_in n x = export_under (table (machine_kernel n) (faces n) x)
 
-    -- An export that is seen stands there without the entry too.
+    -- An export that is seen is there without the entry too.
     stays : (x : List ℕ) → Unseen x → (f : Export) → found_in old x ≡ Some f → is_seen u.free f.gpl ≡ true → found_in new x ≡ Some f
     stays x unseen f found seen = by (under x)
       where
@@ -167,7 +168,7 @@ module _ (machine : Machine) (before mid : List Entry) (e : Entry) (alone : Alon
             let gpl : gone.0.gpl ≡ f.gpl = ap (λ (o : Option Export). option_map_or (λ (y : Export). y.gpl) o true) is_it in
             absurd (false≢true (sym (unseen gone.0 gone.1) ∙ ap (is_seen u.free) gpl ∙ seen))
 
-    -- What stands there without the entry stood there before.
+    -- What is there without the entry was there before.
     stood : (x : List ℕ) (f : Export) → found_in new x ≡ Some f → found_in old x ≡ Some f
     stood x f found = by (under x)
       where

@@ -32,7 +32,7 @@ placed-without machine j all =
     all-remove (IsPlaced (without machine j)) machine.entries j
     (λ k d less. let is = all k d less in record { size = is.size; begins = is.begins; whole = is.whole; low = is.low; high = is.high })
 
--- What stands under a name without an entry: nothing, if that exported it, else what stood there.
+-- What is under a name without an entry: nothing, if that entry exported it, else what was there.
 pub none-kernel : (x : List ℕ) (es : List KernelExport) → unlisted x (map (λ (e : KernelExport). e.name) es) → export_named x (map kernel_placed es) ≡ None
 none-kernel x [] none = refl
 none-kernel x (y ∷ ys) none =

@@ -7,15 +7,15 @@ use Rattle.model_loader.specs.declared.entry.Entry.{Entry}
 use Rattle.model_loader.specs.declared.region.Region.{Region}
 use Rattle.model_loader.specs.Machine.{Machine}
 
--- Whether so many bytes from one place on, and so many from another, share a byte.
+-- Whether this many bytes from one place on, and this many from another, share a byte.
 abbrev pub meets : ℕ → ℕ → ℕ → ℕ → Bool
 meets one n other m = nat_lt one (other + m) && nat_lt other (one + n)
 
--- Whether so many bytes from a place on meet the image of an entry.
+-- Whether this many bytes from a place on meet the image of an entry.
 abbrev pub meets_entry : ℕ → ℕ → Entry → Bool
 meets_entry at n e = meets at n e.loaded.base (length e.image)
 
--- Whether so many bytes from a place on lie in the region and meet no entry's image.
+-- Whether this many bytes from a place on lie in the region and meet no entry's image.
 abbrev pub is_gap : Region → List Entry → ℕ → ℕ → Bool
 is_gap region entries n at =
     nat_le (at + n) (region.base + region.size) && not (list_any (meets_entry at n) entries)
@@ -24,10 +24,11 @@ is_gap region entries n at =
 abbrev pub pages : Region → List ℕ
 pages region = map (λ k. region.base + PAGE * k) (range_with_len 0 (region.size / PAGE))
 
--- The lowest page of a region such that so many bytes from there on are free, among these entries.
+-- The lowest page of a region such that this many bytes from there on are free, among these
+-- entries.
 unfoldable pub gap_among : Region → List Entry → ℕ → Option ℕ
 gap_among region entries n = find (is_gap region entries n) (pages region)
 
--- The lowest gap of a machine for so many bytes.
+-- The lowest gap of a machine for this many bytes.
 abbrev pub gap : Machine → ℕ → Option ℕ
 gap machine n = gap_among machine.region machine.entries n

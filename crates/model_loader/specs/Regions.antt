@@ -3,7 +3,7 @@
 use Rattle.std.specs.Prelude.{◌≡◌, ℕ, ◌+◌, ◌%◌, ◌^◌, ◌<◌, ◌≤◌, ◌==◌, ◌&&◌, nat_le, nat_lt, Bool}
 use Rattle.elf_format.specs.declared.section.TheConstants.{PAGE}
 
--- So many bytes from a base on are whole pages, at least one, and end no later than the last
+-- This many bytes from a base on are whole pages, at least one, and end no later than the last
 -- address of 64 bits.
 pub record IsRegion (base size : ℕ) : Type 0 where
   pub begins : base % 4096 ≡ 0
@@ -11,6 +11,6 @@ pub record IsRegion (base size : ℕ) : Type 0 where
   pub some : 0 < size
   pub ends : base + size ≤ 2 ^ 64
 
--- Whether so many bytes from a base on are a region.
+-- Whether this many bytes from a base on are a region.
 abbrev pub is_region : ℕ → ℕ → Bool
 is_region base size = base % PAGE == 0 && size % PAGE == 0 && nat_lt 0 size && nat_le (base + size) (2 ^ 64)

@@ -15,14 +15,14 @@ pub record IsPaged (r : Run) : Type 0 where
   pub begins : r.base % 4096 ≡ 0
   pub whole : r.size % 4096 ≡ 0
 
--- Whether so many bytes from a place on meet a run, or one of these runs.
+-- Whether this many bytes from a place on meet a run, or one of these runs.
 abbrev pub meets_run : ℕ → ℕ → Run → Bool
 meets_run n at r = meets at n r.base r.size
 
 abbrev pub meets_any : List Run → ℕ → ℕ → Bool
 meets_any runs n at = list_any (meets_run n at) runs
 
--- The lowest page from a base on such that so many bytes meet no run.
+-- The lowest page from a base on such that this many bytes meet no run.
 pub record IsLowest (base : ℕ) (runs : List Run) (n at : ℕ) : Type 0 where
   pub low : base ≤ at
   pub page : at % 4096 ≡ 0

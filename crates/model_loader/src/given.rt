@@ -26,7 +26,7 @@ fn address_of(table: &ExportTable, facts: &Facts, need: &Need) -> u64
     }
 }
 
-/// Returns so many zeros.
+/// Returns this many zeros.
 fn zeros(alloc: Global, count: usize) -> Result<Vec<u64>, AllocError>
     ensures { IfOk result (λ v. v.items ≡ replicate count 0) }
 {

@@ -83,7 +83,7 @@ fn entry_of(
     Ok(entry_with(alloc, module, base, image, &addresses)?)
 }
 
-/// Returns the number of pages of so many bytes, as a refusal states it.
+/// Returns the number of pages of this many bytes, as a refusal states it.
 fn named_pages(size: u128) -> u64
     ensures { result ≡ pages_in_a_refusal (size / 4096) }
 {

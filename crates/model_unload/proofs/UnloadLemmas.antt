@@ -17,7 +17,7 @@ pub place-within : (machine : Machine) (name : List ℕ) (j : ℕ) → Some j �
 place-within machine name j is =
     omega (arith, (found-within (is_named_at machine name) 0 (length machine.entries) j (sym is)).1)
 
--- An entry of which no user is found is unused.
+-- An entry without a user is unused.
 pub unused-by-none : (machine : Machine) (j : ℕ) → first_user machine j ≡ None → IsUnused machine j
 unused-by-none machine j none k =
     elim (cases_Bool (nat_lt k (length machine.entries))) [

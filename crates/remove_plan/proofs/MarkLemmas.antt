@@ -193,7 +193,7 @@ pub asked-by : (machine : Machine) (set names : List (List ℕ)) → ((name : Li
 asked-by machine set names same k =
     ap (λ (f : List ℕ → Bool). option_map_or (λ (e : Entry). f e.loaded.name) (slice_get machine.entries k) false) (fun_ext same)
 
--- The marks are those of the set.
+-- The marks are the marks of the set.
 pub set-is : (machine : Machine) (names : List (List ℕ)) (marks : List Bool) → AreAsked machine names marks → is_marked marks ≡ is_asked machine names
 set-is machine names marks are = λ i k. are.at k i
 

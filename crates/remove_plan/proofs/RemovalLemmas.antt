@@ -13,7 +13,7 @@ use Rattle.model_loader.proofs.PlaceLemmas.{in-place}
 use Rattle.remove_plan.specs.Removal.{AreFalling, IsClosed, IsLeast, Places, RemovedAreLeast, RemovedAreOne, among, is_asked, is_used_only, members_below, removed, user_outside}
 use Rattle.std.proofs.Math.Bool.{or-false}
 
--- Tests of two values of which the second decides whether the first counts.
+-- Tests of two values, where the second decides whether the first counts.
 and-same : (b c d : Bool) → (d ≡ true → b ≡ c) → (b && d) ≡ (c && d)
 and-same b c true same = ap (λ x. x && true) (same refl)
 and-same true true false same = refl
@@ -64,7 +64,7 @@ younger machine u k is =
     let less = (both-true (nat_lt k u) (option_map_or (λ user. option_map_or (uses_entry user) (slice_get machine.entries k) false) (slice_get machine.entries u) false) is).0 in
     grind (arith, nat_tests)
 
--- Whether only members of a set use an entry depends on the younger members alone.
+-- Whether only members of a set use an entry depends only on the younger members.
 left-same : (machine : Machine) (x y : Places) (k : ℕ) → ((u : ℕ) → k < u → x u ≡ y u) → is_used_only machine x k ≡ is_used_only machine y k
 left-same machine x y k same =
     ap (λ b. b && is_none (user_outside machine x k))
@@ -72,7 +72,7 @@ left-same machine x y k same =
     ∙ ap (λ o. list_any (λ u. y u && binds machine u k) (places machine) && is_none o)
     (find-same (λ u. binds machine u k && not (x u)) (λ u. binds machine u k && not (y u)) (λ u. but-same (x u) (y u) (binds machine u k) (λ b. same u (younger machine u k b))) (places machine))
 
--- What only members of a set use, only those of a greater one use.
+-- What only members of a set use, only members of a greater set use.
 left-grows : (machine : Machine) (x y : Places) (k : ℕ) → ((u : ℕ) → x u ≡ true → y u ≡ true) → is_used_only machine x k ≡ true → is_used_only machine y k ≡ true
 left-grows machine x y k more is =
     let parts = both-true (list_any (λ u. x u && binds machine u k) (places machine)) (is_none (user_outside machine x k)) is in
@@ -127,7 +127,7 @@ falling-push (x ∷ ks) k fall over = (
   falling-push ks k fall.1 (λ u member. over u (or_right (nat_eq x u) (among ks u) member)),
 )
 
--- What the pass keeps: of the places from k on it has just those of the least set.
+-- What the pass keeps: of the places from k on it has just the places of the least set.
 record IsStage (machine : Machine) (r : Places) (k : ℕ) (ks : List ℕ) : Type 0 where
   above : (u : ℕ) → among ks u ≡ true → k ≤ u
   falling : AreFalling ks
@@ -244,7 +244,7 @@ module _ (machine : Machine) (names : List (List ℕ)) where
   unfolding removed
   stage = stage-last machine (is_asked machine names) (length machine.entries) [] (stage-first machine (is_asked machine names) (asked-inside machine names))
 
-  -- Each that goes is asked for, or used by others that go alone.
+  -- Each that goes is asked for, or used, and only by others that go.
   pub removed-why : (u : ℕ) → among (removed machine (is_asked machine names)) u ≡ true → (is_asked machine names u ≡ true) ⊎ (is_used_only machine (among (removed machine (is_asked machine names))) u ≡ true)
   removed-why = stage.why
 

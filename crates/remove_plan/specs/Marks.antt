@@ -15,7 +15,7 @@ pub record AreAsked (machine : Machine) (names : List (List ℕ)) (marks : List 
   pub counted : length marks ≡ length machine.entries
   pub at : (k : ℕ) → is_marked marks k ≡ is_asked machine names k
 
--- So many entries at the end of a machine, from the one at a place on.
+-- This many entries at the end of a machine, from the one at a place on.
 abbrev pub from_place : Machine → ℕ → List ℕ
 from_place machine k = range_with_len k (length machine.entries - k)
 
