@@ -68,7 +68,7 @@ content fs SymbolsBin = fs.symbols_bin
 content fs BuiltinBin = fs.builtin_bin
 content fs Unmet = fs.unmet
 
--- The fault of a file of so many bytes: it is too large. A count past 64 bits is given as the
+-- The fault of a file of this many bytes: it is too large. A count past 64 bits is given as the
 -- greatest of 64.
 abbrev pub size_fault : OutputFile → List ℕ → Option OutputFault
 size_fault which bytes =

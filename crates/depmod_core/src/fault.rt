@@ -11,12 +11,12 @@ pub enum OutputFault {
     /// The name of the first file that would have more than 67,108,864 bytes, without its folder,
     /// and how many it would have. A length past 64 bits is given as the greatest number of 64.
     OutputTooLarge { file: Name, length: u64 },
-    /// Memory ran out.
+    /// Out of memory.
     Memory,
 }
 
 impl OutputFault {
-    /// Names a file that would have so many bytes, or reports that there was no memory for its
+    /// Names a file that would have this many bytes, or reports that there was no memory for its
     /// name.
     pub(crate) fn too_large(alloc: Global, file: OutputFile, length: u64) -> OutputFault
         ensures { (result ≡ OutputFault.Memory) ⊎ (result ≡ OutputFault.OutputTooLarge (file_name file) length) }

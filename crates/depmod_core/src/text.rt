@@ -25,7 +25,7 @@ impl Text {
         }
     }
 
-    /// Returns the empty text, whose bytes will be kept, with room for so many.
+    /// Returns the empty text, whose bytes will be kept, with room for this many.
     pub(crate) fn with_capacity(alloc: Global, capacity: usize) -> Result<Text, AllocError>
         ensures { IfOk result (λ text. text ≡ kept) }
     {

@@ -5,7 +5,8 @@ use Rattle.std.specs.List.{slice_split, onto_first, before_first, position_or_le
 use Rattle.std.proofs.lemmas.List.Splits.{slice_split-cons_no}
 use Rattle.mod_tree.specs.DependencyLine.{is_line_path, are_needed}
 
--- The first piece, and the others, which also follow an empty piece where the text begins with what parts it.
+-- The first piece, and the others, which also follow an empty piece where the text begins with what
+-- parts it.
 record Cut (p : ℕ → Bool) (xs : List ℕ) : Type 0 where
   pub more : List (List ℕ)
   pub front : slice_split p xs ≡ before_first p xs ∷ more

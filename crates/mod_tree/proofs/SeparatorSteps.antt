@@ -34,7 +34,7 @@ after_yes p x xs e = rw e refl
 after_no : (p : ℕ → Bool) (x : ℕ) (xs : List ℕ) → p x ≡ false → after_first p (x ∷ xs) ≡ after_first p xs
 after_no p x xs e = rw e (let n : 1 + position_or_len p xs + 1 ≡ suc (position_or_len p xs + 1) = omega arith in ap (λ m. drop m (x ∷ xs)) n)
 
--- What stands from the first byte on that passes.
+-- What begins with the first byte that passes.
 abbrev rest : (ℕ → Bool) → List ℕ → List ℕ
 rest p xs = drop (length (before_first p xs)) xs
 
@@ -60,8 +60,8 @@ rest-of p (x ∷ xs) = go (p x) refl (rest-of p xs)
     go false e (inr (y, is, passes, any)) =
         inr (y, rest_no p x xs e ∙ is ∙ ap (λ ys. y ∷ ys) (sym (after_no p x xs e)), passes, (λ i. e i || any i))
 
--- What ends at the first separator ends at the first byte w too, or it ends at another separator, which what ends at w
--- has then.
+-- What ends at the first separator ends at the first byte w too, or it ends at another separator,
+-- which what ends at w has then.
 abbrev Parts : ℕ → List ℕ → Type 0
 Parts w xs =
     ((before_first is_separator xs ≡ before_first (λ b. b == w) xs) × (list_any is_separator (before_first (λ b. b == w) xs) ≡ false))
@@ -153,7 +153,7 @@ module _ (line own after : List ℕ) (first : own ≡ before_first is_separator 
           absurd (other (ap (λ ys. slice_index ys 0) e ∙ eqb-true y 58 passes))
       go (inr (parted, some, other)) r h = ap (λ b. list_any colon line && (b && are_needed (pieces_after line))) (path_parted (own_path line) parted) ∙ and-false (list_any colon line)
 
-  -- Where a colon does, the text's form is that of its parts.
+  -- Where a colon does, the text's form is the form of its parts.
   pub line-by-parts : 0 < length after → slice_index after 0 ≡ 58 → line_path line ≡ cond (is_module_path own && are_needed (slice_split (λ b. b == 32) (drop 1 after))) (Some own) None
   unfolding line_path is_dependency_line
   line-by-parts some is58 = go (parts 58 refl line) (rest-of colon line)

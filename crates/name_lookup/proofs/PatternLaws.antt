@@ -1,4 +1,4 @@
--- Patterns that begin with plain bytes, and patterns of plain bytes alone.
+-- Patterns that begin with plain bytes, and patterns of only plain bytes.
 use Rattle.std.proofs.Common.{◌≡◌, ℕ, Bool, true, false, List, [], ◌∷◌, ◌++◌, length, take, drop, Option, Some, None, refl, sym, ap, ◌∙◌}
 use Rattle.std.specs.Prelude.{◌||◌, ◌&&◌, ◌==◌, nat_eq}
 use Rattle.std.specs.List.{list_any}

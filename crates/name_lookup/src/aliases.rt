@@ -18,7 +18,8 @@ pub(crate) struct PlainAlias<'a> {
     pub(crate) name: &'a [u8],
 }
 
-/// The aliases of a configuration: those without wildcards by their patterns, the others in the order of the rules.
+/// The aliases of a configuration: those without wildcards by their patterns, the others in the
+/// order of the rules.
 #[derive(Drop)]
 pub(crate) struct AliasTable<'a> {
     pub(crate) plain: NameGroups<'a, PlainAlias<'a>>,

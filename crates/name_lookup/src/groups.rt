@@ -45,7 +45,7 @@ impl<'a, T: Drop> NameGroups<'a, T> {
         push_value(alloc, &mut self.groups, name, value)
     }
 
-    /// Returns the values of a name, of which there may be none.
+    /// Returns the values of a name. There may be none.
     pub fn of(&self, name: &[u8]) -> &[T]
         ensures { result.now ≡ group_of self.now name.now }
     {

@@ -16,8 +16,8 @@ use name_table::NameSet;
 use std::alloc::{AllocError, Global};
 use std::marker::Model;
 
-/// What names are looked up in: the rules of a configuration, put into tables once, and the index files of a folder.
-/// Contracts see the rules and the index files.
+/// What names are looked up in: the rules of a configuration, put into tables once, and the index
+/// files of a folder. Contracts see the rules and the index files.
 #[derive(Drop)]
 pub struct Lookup<'a> {
     rules: &'a Rules,

@@ -57,7 +57,7 @@ impl<'a> NameTable<'a> {
         }
     }
 
-    /// Returns the table of no items, with room for so many names.
+    /// Returns the table of no items, with room for this many names.
     pub fn with_capacity(alloc: Global, names: usize) -> Result<Self, AllocError>
         ensures empty { IfOk result (λ table. IsTableOf table []) }
         ensures count { IfOk result (λ table. table.count ≡ 0) }

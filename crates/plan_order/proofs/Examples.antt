@@ -45,7 +45,8 @@ plan-loaded : plan twelve (0 ∷ 2 ∷ 3 ∷ []) twelve_post ((2 ∷ []) ∷ [])
 unfolding plan spread least_order
 plan-loaded = refl
 
--- a post-softdep of a greater number, whose own need is asked for later: 3 has post 0, 0 needs 2 and has post 1
+-- a post-softdep of a greater number, whose own need is asked for later: 3 has post 0, 0 needs 2
+-- and has post 1
 abbrev later : Relation
 later x y = nat_eq x 0 && nat_eq y 2
 

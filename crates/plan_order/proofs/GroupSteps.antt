@@ -1,4 +1,4 @@
--- A group is listed among all that was found as it would be alone.
+-- A group is listed among all that was found as it would be by itself.
 use Rattle.std.proofs.Common.{◌≡◌, ℕ, Bool, true, false, List, ◌++◌, length, take, drop, ◌-◌, sym, ap, ◌∙◌, subst, inl, inr, arith}
 use Rattle.std.specs.Prelude.{◌||◌, ◌⊎◌, not, slice_index_or}
 use Rattle.std.proofs.lemmas.Bool.{true≢false, or_cases, or_right}

@@ -1,4 +1,5 @@
--- What is planned by lists that have only what is planned is planned by the needs that they were made of.
+-- What is planned by lists that have only what is planned is planned by the needs that they were
+-- made of.
 use Rattle.std.proofs.Common.{◌≡◌, ℕ, zero, suc, true, List, [], ◌∷◌, length, take, sym, ap, ◌∙◌, subst, inl, inr}
 use Rattle.std.proofs.lemmas.Bool.{true≢false, or_cases, or_left, or_right}
 use Rattle.relation_order.specs.Sets.{has, goes, marked, successors}

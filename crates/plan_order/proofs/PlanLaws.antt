@@ -1,4 +1,5 @@
--- A plan's modules are distinct members of the set, each after all that come before it; this asks for no absence of cycles.
+-- A plan's modules are distinct members of the set, each after all that come before it; this asks
+-- for no absence of cycles.
 use Rattle.std.proofs.Common.{◌≡◌, ℕ, ◌≤◌, true, eqb, List, [], ◌∷◌, ◌++◌, length, sym, refl, ap, ◌∙◌, inl, inr, arith}
 use Rattle.std.specs.Prelude.{filter}
 use Rattle.std.specs.List.{IsDistinct}

@@ -64,8 +64,8 @@ asked-more n free requests i v found found' seen seen' a l e made marks long =
           ∙ ap (λ k. has (marked free) y && requested (items_of (take k requests)) y) (let s : suc i ≡ i + 1 = omega arith in s);
     }
 
--- The finding so far: those at the first places of what was found have been followed. Modules go to those in `before`
--- and in `after`.
+-- The finding so far: those at the first places of what was found have been followed. Modules go to
+-- those in `before` and in `after`.
 pub record Progress (count : ℕ) (free : List Bool) (before after : ℕ → List ℕ) (requests : List (Vec ℕ)) (next : ℕ) (found : List ℕ) (seen : List Bool) : Type 0 where
   pub long : length seen ≡ count
   pub marks : Marks found seen

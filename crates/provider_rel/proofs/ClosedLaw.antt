@@ -1,4 +1,5 @@
--- The closure of a module has whatever provides its needs and those of its members, where no walk leads back.
+-- If no walk leads back, the closure of a module has whatever provides its needs and the needs of
+-- its members.
 use Rattle.std.proofs.Common.{◌≡◌, ℕ, suc, ◌+◌, ◌<◌, Bool, true, false, cond, subst, inl, inr, List, [], ◌∷◌, ◌++◌, length, map, Option, Some, None, option_map, option_and_then, find, refl, sym, ap, ◌∙◌, arith}
 use Rattle.std.specs.Prelude.{not, ◌⊎◌}
 use Rattle.std.specs.List.{cons_option, filter_map, position_or_len, slice_get}
@@ -110,7 +111,8 @@ in-tree (m ∷ ms) x p e is = go (find (λ e. bytes_eq e.name x) m.face.exports)
     go None more rest = later (bytes_eq m.face.name p.face.name) (more rest)
     go (Some f) more rest = here (ap (λ o. option_map_or (λ q. module_or m q.owner) o m) rest)
 
--- Whatever provides a need of a module, or of a module in its closure, stands in its closure, where no walk leads back.
+-- If no walk leads back, whatever provides a need of a module, or of a module in its closure, is in
+-- its closure.
 pub closure-provides : (tree : List Module) (kernel : Kernel) (i j : ℕ) (m p : Module) (e : Export) (before after : List Need) (n : Need) → cycle (uses_at tree kernel) (below (length tree)) ≡ [] → slice_get tree j ≡ Some m → m.face.needs ≡ before ++ n ∷ after → provider tree kernel n.name ≡ Some (record { owner = ByModule p; export = e })
     → (j ≡ i) ⊎ (has (closure (uses_at tree kernel) (below (length tree)) i) j ≡ true) → has (closure (uses_at tree kernel) (below (length tree)) i) (place tree p) ≡ true
 closure-provides tree kernel i j m p e before after n none at is by where_j =

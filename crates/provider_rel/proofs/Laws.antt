@@ -90,8 +90,8 @@ lines-clear test line tree kernel m front back its is none =
     (λ n. its n.name (provider_path (provider tree kernel n.name))) m.face.needs
     (part-of (lines_of test line tree kernel) (belongs m.path) front m back (subst (λ ms. list_any (belongs m.path) (flat_map (lines_of test line tree kernel) ms) ≡ false) is none))
 
--- Where no line of modules.unmet is on a need of a module of the tree, none of its needs is at fault: so each strong one
--- is met by what provides it.
+-- Where no line of modules.unmet is on a need of a module of the tree, none of its needs is at
+-- fault: so each strong one is met by what provides it.
 pub unmet-clear : (tree : List Module) (kernel : Kernel) (m : Module) (front back : List Module) → tree ≡ front ++ m ∷ back → list_any (belongs m.path) (unmet tree kernel) ≡ false → IsClear tree kernel m
 unfolding unmet
 unmet-clear tree kernel m front back is none =

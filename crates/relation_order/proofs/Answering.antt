@@ -1,4 +1,5 @@
--- The least order of a set is an order of it where it is as long as the set, and else there is a cycle.
+-- The least order of a set is an order of it if it is as long as the set, and otherwise there is a
+-- cycle.
 use Rattle.std.proofs.Common.{◌≡◌, ℕ, true, List, [], length, Option, Some, None, sym, refl, ap, ◌∙◌, subst}
 use Rattle.std.specs.List.{find}
 use Rattle.std.specs.Prelude.{filter, slice_index_or}

@@ -158,7 +158,8 @@ module _ (r looked : Relation) (all : List ℕ) (states : List State) (stack sta
         ],
       )
 
--- a step from the last item of the path back to an open one: the components from that one's on become one
+-- a step from the last item of the path back to an open one: the components from that one's on
+-- become one
 module _ (r looked : Relation) (all : List ℕ) (states : List State) (stack starts starts' path front : List ℕ) (at q : ℕ) (s : Searching r looked all states stack starts path) (path-is : path ≡ front ++ at ∷ []) (q-open : q < length stack) (step : r (get_or stack at 0) (get_or stack q 0) ≡ true) (kept : (b : ℕ) → has starts' b ≡ (has starts b && leb b q)) (rises : Rising starts') where
   on-path : (b : ℕ) → has path b ≡ true → b ≤ at
   on-path b h = at-most front at b (subst Rising path-is s.path_rises) (ap (λ xs. has xs b) (sym path-is) ∙ h)

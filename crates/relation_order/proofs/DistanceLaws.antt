@@ -1,4 +1,4 @@
--- The distance of a member is that of the shortest walk.
+-- The distance of a member is the length of the shortest walk.
 use Rattle.std.proofs.Common.{◌≡◌, ℕ, zero, suc, ◌+◌, ◌<◌, ◌≤◌, Bool, true, false, cond, eqb, List, [], length, sym, refl, ap, ◌∙◌, subst, inl, inr, arith}
 use Rattle.std.specs.Prelude.{not, ◌⊎◌}
 use Rattle.std.specs.List.{list_any, range_with_len, position_or_len}

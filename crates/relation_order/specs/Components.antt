@@ -40,7 +40,7 @@ looked_at lists looked x y = has (take (slice_index looked x) (successors lists 
 abbrev pub with_step : Relation → ℕ → ℕ → Relation
 with_step r from to x y = r x y || (nat_eq x from && nat_eq y to)
 
--- The component of a second place is the same as of a first, or a later one.
+-- The component of a second place is the component of a first place, or a later one.
 abbrev pub IsNoEarlier : List ℕ → ℕ → ℕ → Type 0
 IsNoEarlier starts p q = (b : ℕ) → has starts b ≡ true → b ≤ p → b ≤ q
 

@@ -148,7 +148,7 @@ fn row_of(
     Ok(row)
 }
 
-// Whether an item is marked.
+// Returns whether an item is marked.
 fn is_marked(row: &[u64], item: usize) -> bool
     ensures { result ≡ has_mark row.now item }
 {
@@ -158,7 +158,7 @@ fn is_marked(row: &[u64], item: usize) -> bool
     }
 }
 
-// Whether an item is marked in a row and not in another.
+// Returns whether an item is marked in a row and not in another.
 fn is_missing(direct: &[u64], row: &[u64], item: usize) -> bool
     ensures { result ≡ (has_mark direct.now item && not (has_mark row.now item)) }
 {

@@ -192,7 +192,7 @@ fn new_states(alloc: Global, count: usize) -> Result<Vec<State>, AllocError>
     vec![in alloc; State::New; count]
 }
 
-// Whether a list ends in a number.
+// Returns whether a list ends in a number.
 fn ends_in(items: &[usize], item: usize) -> bool
     ensures { result ≡ (nat_lt 0 (length items.now)
         && nat_eq (slice_index items.now (length items.now - 1)) item) }

@@ -46,7 +46,7 @@ fn first_open(items: &[usize], from: usize, members: &[bool], listed: &[bool]) -
     at
 }
 
-// Whether an item is marked as a member and not as listed.
+// Returns whether an item is marked as a member and not as listed.
 fn is_open(members: &[bool], listed: &[bool], item: usize) -> bool
     requires member { item < length members.now }
     requires listed { item < length listed.now }

@@ -7,7 +7,7 @@ use Rattle.symbol_binding.specs.Symbols.{Module, Kernel}
 use Rattle.symbol_binding.specs.Unmet.{doubles_of, doubles_at, doubles}
 use Rattle.symbol_binding.specs.declared.unbound.Unbound.{Unbound}
 
--- The double lines of the modules of a list, where others stand before it.
+-- The double lines of the modules of a list that has others before it.
 abbrev pub doubles_after : Kernel → List Module → List Module → List Unbound
 doubles_after kernel earlier [] = []
 doubles_after kernel earlier (m ∷ ms) = doubles_of kernel earlier m ++ doubles_after kernel (earlier ++ m ∷ []) ms

@@ -1,4 +1,5 @@
--- Files whose lines each state something, or are refused: the first refused line, and what the lines state.
+-- Files whose lines each state something, or are refused: the first refused line, and what the
+-- lines state.
 use Rattle.std.proofs.Common.{◌≡◌, ℕ, ◌+◌, Bool, true, false, List, [], ◌∷◌, ◌++◌, cond, Option, Some, None, option_map, refl, sym, ap, ◌∙◌, append_assoc}
 use Rattle.std.proofs.lemmas.Iterator.Adapters.{position_from-zero}
 use Rattle.std.specs.List.{cons_option, position, position_from, filter_map}
