@@ -15,8 +15,8 @@ use Rattle.km_course.specs.declared.refusal.Refusal.TheVariants.{NotFound}
 use Rattle.stages_files.specs.IndexFile.{reads_index}
 use Rattle.stages_files.specs.KernelModules.{modules_folder}
 
--- The names of the modules that a name in its normal form stands for by an index, each once: the texts of the values of
--- all keys that match it.
+-- The names of the modules that a name in its normal form stands for by an index, each once: the
+-- texts of the values of all keys that match it.
 abbrev pub names_found : Index → Option (List ℕ) → List (List ℕ)
 names_found index None = []
 names_found index (Some normal) = first_seen (map (λ v. v.1) (wild_values (contents index.nodes) normal))
@@ -25,7 +25,8 @@ names_found index (Some normal) = first_seen (map (λ v. v.1) (wild_values (cont
 abbrev pub lines_of_names : List (List ℕ) → List ℕ
 lines_of_names names = flat_map (λ name. name ++ 10 ∷ []) names
 
--- what names result in: their lines, and if there are none, that the name that stands for them isn't found
+-- what names result in: their lines, and if there are none, that the name that stands for them
+-- isn't found
 abbrev pub unless_none : List ℕ → List (List ℕ) → Outcome (List ℕ)
 unless_none asked [] = end (Refused (NotFound asked))
 unless_none asked (name ∷ names) = value (lines_of_names (name ∷ names))

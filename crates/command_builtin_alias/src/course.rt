@@ -15,7 +15,8 @@ use name_table::NameSet;
 use stages_files::{modules_folder, read_index};
 use std::alloc::{AllocError, Global};
 
-/// Does what the words after `builtin-alias` ask for: it prints the names of the built-in modules that a name stands for.
+/// Does what the words after `builtin-alias` ask for: it prints the names of the built-in modules
+/// that a name stands for.
 pub fn builtin_alias<F: Reads, O: Out>(
     alloc: Global,
     words: &[Word],

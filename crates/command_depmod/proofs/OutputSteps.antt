@@ -21,8 +21,8 @@ use Rattle.command_depmod.specs.Extra.{extra_outcome, reads_info}
 use Rattle.command_depmod.specs.Relation.{Tree}
 use Rattle.command_depmod.specs.Outputs.{outputs_outcome, puts_file, puts_each, says_file, says_each}
 
--- the stages after modules.builtin was read, after modules.builtin.modinfo was, and after the nine files and the two others
--- were made
+-- the stages after modules.builtin was read, after modules.builtin.modinfo was, and after the nine
+-- files and the two others were made
 abbrev pub all_made : OutputFiles → Option ExtraFiles → Stage DepmodFiles
 all_made usual added = gives (record { usual = usual; extra = added })
 

@@ -32,7 +32,7 @@ reads_info extra folder =
 abbrev pub extra_files : List Facts → List ℕ → ExtraFiles
 extra_files tree info = record { builtin_alias_bin = file (alias_map info); devname = nodes_text (nodes_of tree) }
 
--- The refusal of a file of so many bytes, by its bare name: it is too large.
+-- The refusal of a file of this many bytes, by its bare name: it is too large.
 abbrev pub size_refusal : DepmodFile → List ℕ → Option Refusal
 size_refusal which bytes = if nat_lt file_limit (length bytes) then Some (OutputTooLarge (file_name which)) else None
 

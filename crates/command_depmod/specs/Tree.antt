@@ -32,8 +32,7 @@ tree_outcome (Ok paths) = value paths
 tree_outcome (Err fault) = end (Refused (tree_refusal fault))
 
 -- The paths of the tree in the folder, relative to it and in the order of the tree. The folder is
--- listed, which is needed, and then its modules.order is read, which counts as empty where it isn't
--- there.
+-- listed, which is needed. Then its modules.order is read, which counts as empty if it is absent.
 abbrev pub reads_tree : List ℕ → List (List ℕ) → Stage (List (List ℕ))
 reads_tree folder search = do
   listed ← lists_tree folder

@@ -1,4 +1,4 @@
-// The files that depmod makes, and what becomes of them.
+// The files that depmod makes, and where they are written.
 ghost use Rattle.km_outside.specs.FilesSeen.{FilesSeen};
 ghost use Rattle.km_outside.specs.OutSeen.{OutSeen};
 ghost use Rattle.km_course.specs.World.{world};

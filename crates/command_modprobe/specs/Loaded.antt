@@ -51,7 +51,7 @@ unless_install (Some name) inserts = end (Refused (InstallChosen name))
 unfoldable pub inserts_outcome : List PlanStep → Outcome (List Insertion)
 inserts_outcome steps = unless_install (first (map command_owner steps)) (flat_map inserted steps)
 
--- What becomes of the images of a load that is asked for.
+-- What happens to the images of a load that is requested.
 abbrev pub images_asked : ModprobeWords → Images
 images_asked asked = record { folder = asked.image; params = asked.params }
 

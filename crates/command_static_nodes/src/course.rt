@@ -15,8 +15,8 @@ use kmod_words::{StaticNodesWords, read_static_nodes};
 use stages_files::{modules_folder, stop_of_fault};
 use std::alloc::Global;
 
-/// Does what the words after `static-nodes` ask for: it prints the lines of the nodes in a kernel's modules.devname. kmod(8),
-/// "static-nodes".
+/// Does what the words after `static-nodes` ask for: it prints the lines of the nodes in a kernel's
+/// modules.devname. kmod(8), "static-nodes".
 pub fn static_nodes<F: Reads, O: Out>(
     alloc: Global,
     words: &[Word],

@@ -1,4 +1,4 @@
--- What a command inside a trial came to, as its course and its status say.
+-- What a command inside a trial resulted in, as its course and its status say.
 use Rattle.std.proofs.Common.{◌≡◌, ℕ, ◌≤◌, true, List, ◌++◌, length, drop, refl, sym, ◌∙◌, ap, subst, arith, inl, inr}
 use Rattle.std.proofs.Math.Seq.{drop-append_seam}
 use Rattle.std.specs.Prelude.{Some, Result, Ok, Err, ⊤}
@@ -42,7 +42,8 @@ warnings course shown old mid err (Err OutputFault) status tells f (inr c) one =
 warnings course shown old mid err (Err WarningFault) status tells f (inr c) one = absurd c.0
 warnings course shown old mid err (Err Memory) status tells f (inr c) one = absurd c.0
 
--- A command inside followed its course and was concluded: so its status says what the inner course came to.
+-- A command inside followed its course and was concluded. So its status says what the inner course
+-- resulted in.
 pub came : (room : ℕ) (course : Stage ⊤) (old mid : World) (err : OutSeen) (result : Result ⊤ Stop) (status : ℕ) (files : Contents) (left : Left) (warned bytes line : List ℕ) → Handed room files old → FitsRooms old × FitsRooms (world mid.files mid.out err) → Follows (λ x. x) course old mid result → Concludes result mid.err err status → mid.files.contents ≡ Some left.files → mid.out.told ≡ Some left.out → mid.err.told ≡ Some warned → err.told ≡ Some bytes → line ≡ drop (length warned) bytes → Came (inner_outcome room (course.run files) files) left line status
 came room course old mid err result status files left warned bytes line handed rooms f c tells-files tells-out tells-warned tells-err is = record {
   ended = λ zero. by_left (status_says.ended zero);
@@ -71,7 +72,8 @@ came room course old mid err result status files left warned bytes line handed r
         let same-line : line ≡ o.0 = is ∙ ap (λ n. drop (length n) bytes) same-warned ∙ ap (drop (length before)) same-bytes ∙ drop-append_seam before o.0 in
         o.1 ∙ ap (λ l. end (Inner l)) (sym same-line)
 
--- The same of a command with these words over files in memory, of which no call fails, and outputs in memory with room.
+-- The same for a command with these words over files in memory whose calls don't fail, and outputs
+-- in memory with this capacity.
 pub came_inside : (course : List (List ℕ) → Stage ⊤) (words want : List (List ℕ)) (files left : MemFilesSeen) (out err said warned concluded : MemOutSeen) (result : Result ⊤ Stop) (status : ℕ) (line : List ℕ) → words ≡ want → no_kind_listed files.kinds ≡ true → out ≡ empty_with_room inner_room → err ≡ empty_with_room inner_room → Follows (λ x. x) (course words) (world (mem_files_seen files) (mem_out_seen out) (mem_out_seen err)) (world (mem_files_seen left) (mem_out_seen said) (mem_out_seen warned)) result → Concludes result (mem_out_seen warned) (mem_out_seen concluded) status → line ≡ drop (length warned.bytes) concluded.bytes → Came (inner_outcome inner_room ((course want).run files.contents) files.contents) (record { files = left.contents; out = said.bytes }) line status
 came_inside course words want files left out err said warned concluded result status line same listed out-is err-is f c is =
     came inner_room (course want) old mid (mem_out_seen concluded) result status files.contents (record { files = left.contents; out = said.bytes }) warned.bytes concluded.bytes line handed rooms

@@ -65,7 +65,7 @@ loaded out = rests_of_lines (codes "loaded ") out
 abbrev pub stated : List ℕ → List ℕ → List ℕ
 stated what shown = what ++ (codes " " ++ (shown ++ 10 ∷ []))
 
--- The five lines of a trial of so many modules with so many dependencies:
+-- The five lines of a trial of this many modules with this many dependencies:
 -- - how many modules and how many dependencies there are;
 -- - how many modules modprobe planned, and how many it loaded;
 -- - the SHA-256 of all images in the order of the loads, in hexadecimal digits. FIPS 180-4.

@@ -13,7 +13,7 @@ use Rattle.command_modprobe.specs.Modprobe.{modprobe_course}
 use Rattle.command_trial.specs.Words.{depmod_words, modprobe_words}
 use Rattle.command_trial.specs.Summary.{dependencies_left, summary}
 
--- Each output of a command inside a trial has room for so many bytes.
+-- Each output of a command inside a trial has room for this many bytes.
 abbrev pub inner_room : ℕ
 inner_room = 4194304
 

@@ -15,6 +15,6 @@ modprobe_options =
     ∷ codes "--system-map" ∷ codes "/t/System.map" ∷ codes "--symvers" ∷ codes "/t/Module.symvers"
     ∷ codes "--image" ∷ codes "/t/img" ∷ []
 
--- The words after `modprobe`: the options, and the names of so many modules in their order.
+-- The words after `modprobe`: the options, and the names of this many modules in their order.
 unfoldable pub modprobe_words : ℕ → List (List ℕ)
 modprobe_words count = modprobe_options ++ map name_of (range_with_len 0 count)

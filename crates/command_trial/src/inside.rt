@@ -37,7 +37,7 @@ pub(crate) fn index_made(alloc: Global, files: &mut MemFiles) -> Result<MemOut, 
     Ok(out)
 }
 
-/// Loads so many modules of the made tree in these files, whose calls don't fail, and gives what
+/// Loads this many modules of the made tree in these files, whose calls don't fail, and gives what
 /// modprobe wrote to its output. If an output is full the trial is refused. Any other end of
 /// modprobe is the trial's.
 pub(crate) fn load_made(alloc: Global, count: u32, files: &mut MemFiles) -> Result<MemOut, Stop>

@@ -68,8 +68,8 @@ fn push_count(alloc: Global, text: &mut Blob, what: &[u8], count: usize) -> Resu
     push_stated(text, what, shown.as_bytes())
 }
 
-/// Returns the five lines of a trial of so many modules, with so many dependencies, that left these
-/// files and this output of modprobe.
+/// Returns the five lines of a trial of this many modules, with this many dependencies, that left
+/// these files and this output of modprobe.
 #[tactic(auto, unfolding(crate::specs::Summary::summary))]
 pub(crate) fn summary(
     alloc: Global,

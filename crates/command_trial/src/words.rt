@@ -31,7 +31,7 @@ pub(crate) fn depmod_words(alloc: Global) -> Result<List<Word>, AllocError>
     words_of(alloc, &DEPMOD)
 }
 
-/// Returns the words for the modprobe that loads so many of its modules.
+/// Returns the words for the modprobe that loads this many of its modules.
 pub(crate) fn modprobe_words(alloc: Global, count: u32) -> Result<List<Word>, AllocError>
     ensures { IfOk result (λ words. words ≡ words_of_modprobe count) }
 {

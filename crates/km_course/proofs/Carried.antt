@@ -96,7 +96,7 @@ line_told old mid new text k told = by_told old.told refl
     by_told (Some err) e =
         let more = subst (λ o. Extends o mid.told) e k.told in (more.0, told ∙ told_more mid.told (err ++ more.0) text more.1)
 
--- What was done is no less than what was told before.
+-- What was done is no less than what was known before.
 grows : (acts : List Act) (shown : Shown) → (length shown.out ≤ length (done acts shown).out) × (length shown.err ≤ length (done acts shown).err)
 grows [] shown = (omega arith, omega arith)
 grows (say bytes ∷ acts) shown =

@@ -16,8 +16,8 @@ use Rattle.km_course.specs.declared.end.End.TheVariants as ends
 use Rattle.km_course.specs.declared.refusal.Refusal.TheVariants.{InnerOutputFull}
 use Rattle.km_course.proofs.Steps.{done-append}
 
--- What a call inside another is handed: files that tell what they hold, of which no call fails, and two empty
--- outputs that tell this room.
+-- What a call inside another gets: files with known contents whose calls don't fail, and two empty
+-- outputs with this known capacity.
 pub record Handed (room : ℕ) (files : Contents) (old : World) : Type 0 where
   pub calls : ℕ
   pub tells : Tells old (record (bare files) { calls = calls })
@@ -82,9 +82,9 @@ inner-line (ends.NoFile path) h = refl
 inner-line (ends.TooLarge path) h = refl
 inner-line (ends.Inner line) h = refl
 
--- What the status of an inner call says of the inner course, where new is what the call left: with 0 what the
--- course left is told; with 1 it came to an end, whose line ends what err tells; with 2 its words weren't
--- understood; with 3 an output was full.
+-- What the status of an inner call says of the inner course, where new is what the call left: with
+-- 0 what the course left is known; with 1 it ended, and err ends with the line of that end; with 2
+-- its words weren't understood; with 3 an output was full.
 pub record InnerCame (room : ℕ) (run : Run ⊤) (files : Contents) (new : World) (status : ℕ) : Type 0 where
   pub ended : status ≡ 0 → (left : Left) × (inner_outcome room run files ≡ value left)
       × (new.files.contents ≡ Some left.files) × (new.out.told ≡ Some left.out)
@@ -93,7 +93,8 @@ pub record InnerCame (room : ℕ) (run : Run ⊤) (files : Contents) (new : Worl
   pub misunderstood : status ≡ 2 → inner_outcome room run files ≡ end ends.NotUnderstood
   pub full : status ≡ 3 → inner_outcome room run files ≡ end (ends.Refused InnerOutputFull)
 
--- A call that carries a course over what it was handed says by its status what the inner course came to.
+-- A call that carries a course over what it got says by its status what the inner course resulted
+-- in.
 pub inner_came : (room : ℕ) (course : Stage ⊤) (files : Contents) (old new : World) (status : ℕ) → Handed room files old → Carries course old new status → InnerCame room (course.run files) files new status
 inner_came room course files old new status handed c = record {
   ended = λ zero. by_value (course.run files).outcome refl zero;

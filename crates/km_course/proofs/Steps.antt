@@ -124,8 +124,8 @@ continued-value : {X Y : Type 0} (acts : List Act) (o : Outcome X) (x : X) (f : 
 unfolding continued
 continued-value acts o x f files e = subst (λ p. continued acts p f files ≡ record { acts = acts ++ ((f x).run (after acts files)).acts; outcome = ((f x).run (after acts files)).outcome }) (sym e) refl
 
--- what may come of the whole: what may come of the second stage after a value of the first, or an end of the
--- first
+-- what may come of the whole: what may come of the second stage after a value of the first, or an
+-- end of the first
 comes-next : {T U X Y : Type 0} (view : T → X) (look : U → Y) (stage : Stage X) (f : X → Stage Y) (x : T) (r : Result U Stop) → stage.possible (value (view x)) → Comes look (f (view x)) r → Comes look (stage >>= f) r
 unfolding ◌>>=◌ possible_after
 comes-next view look stage f x (Ok y) a b = inl (view x, a, b)
@@ -233,7 +233,7 @@ stops {T} {U} {X} {Y} {view} look {stage} {old} {new} {stop} f a = record {
   told = λ shown h. Stopped-more (stage.run shown.files) f shown.files shown new stop (a.told shown h);
 }
 
--- Memory was wanting before the first act.
+-- Out of memory before the first act.
 pub no_memory : {T X : Type 0} (view : T → X) (stage : Stage X) (w : World) → Follows view stage w w (Err Memory)
 no_memory view stage w = record {
   keeps = Keeps-same w;
@@ -273,11 +273,11 @@ answered view outcome w (Err WarningFault) h = absurd h
 pub exits : {T U X Y : Type 0} {view : T → X} (look : U → Y) {stage : Stage X} {old new : World} {e d : Stop} (r : Result U Stop) (f : X → Stage Y) → r ≡ Err d → d ≡ e → Follows view stage old new (Err e) → Follows look (stage >>= f) old new r
 exits look {stage} {old} {new} r f is same a = subst (λ q. Follows look (stage >>= f) old new q) (sym (is ∙ ap Err same)) (stops look f a)
 
--- The exit of a `?` on a call that wanted memory, before the first act.
+-- The exit of a `?` on a call that was out of memory, before the first act.
 pub wants : {T X : Type 0} (view : T → X) (stage : Stage X) (w : World) {d : Stop} (r : Result T Stop) → r ≡ Err d → d ≡ Memory → Follows view stage w w r
 wants view stage w r is same = subst (λ q. Follows view stage w w q) (sym (is ∙ ap Err same)) (no_memory view stage w)
 
--- An end that came may be given up for want of memory.
+-- An end may be replaced by out of memory.
 pub forgets : {T X : Type 0} (view : T → X) (stage : Stage X) (old new : World) (e : End) → Follows view stage old new (Err (Ended e)) → Follows view stage old new (Err Memory)
 forgets view stage old new e f = record {
   keeps = f.keeps;
@@ -300,7 +300,8 @@ chosen view test first second old new r h f = subst (λ b. Follows view (when b 
 pub passed_over : {T X : Type 0} (view : T → X) (test : Bool) (first second : Stage X) (old new : World) (r : Result T Stop) → false ≡ test → Follows view second old new r → Follows view (when test then first else second) old new r
 passed_over view test first second old new r h f = subst (λ b. Follows view (when b then first else second) old new r) h f
 
--- Whatever follows the rest of a stage from here follows the whole from where it began: what a loop keeps.
+-- Whatever follows the rest of a stage from here follows the whole from where it began: what a loop
+-- keeps.
 abbrev pub LeadsTo : {T X : Type 0} → (T → X) → Stage X → World → Stage X → World → Type 0
 LeadsTo {T} view whole began rest now = (new : World) (r : Result T Stop) → Follows view rest now new r → Follows view whole began new r
 

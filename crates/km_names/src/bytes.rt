@@ -21,7 +21,7 @@ impl<K> Model for Bytes<K> {
     ghost view = { λ b. b.bytes.items };
 }
 
-/// Shows the bytes as text in quotes, with escapes where they aren't UTF-8.
+/// Shows the bytes as text in quotes, with escapes for what isn't UTF-8.
 impl<K> fmt::Debug for Bytes<K> {
     fn fmt<W: fmt::Write>(&self, f: &mut fmt::Formatter<W>) -> fmt::Result {
         fmt::Debug::fmt(&BStr::new(self.as_bytes()), f)

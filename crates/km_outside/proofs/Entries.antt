@@ -1,4 +1,5 @@
--- A look-up among an ordered map's entries, and an insertion there, are those of the files that they hold.
+-- A lookup among an ordered map's entries, and an insertion there, are the same as in the files
+-- that they represent.
 use Rattle.std.proofs.Common.{◌≡◌, ℕ, cond, List, [], ◌∷◌, map, Some, Ordering, refl, sym, ap, ◌∙◌}
 use Rattle.std.specs.Ordering.{nat_cmp, is_eq, eq_by_cmp, match_ordering}
 use Rattle.std.specs.Cmp.Lexicographic.{slice_cmp, nat_list_cmp_total}

@@ -87,7 +87,7 @@ found (Some bytes) = if nat_lt file_limit (length bytes) then Err (TooLarge (min
 abbrev pub mem_read : MemFilesSeen → List ℕ → Result (List ℕ) FileAnswer
 mem_read files path = if kind_fails files Read then Err Failed else found (map.get files.contents path)
 
--- The answer to a listing if so many paths lie below the folder and these names are listed.
+-- The answer to a listing if this many paths lie below the folder and these names are listed.
 abbrev pub found_names : ℕ → List (List ℕ) → Result (List (List ℕ)) FileAnswer
 found_names below names =
     if below == 0 then Err Absent

@@ -4,7 +4,7 @@
 //! A contract sees how many calls an object had and, if they are known, its contents. Files in
 //! memory have known contents. Real files and outputs don't: they only count. So what is proved
 //! over known contents holds for the same code over real files. What a real file holds, and what
-//! becomes of the bytes written, is trusted. Files that are read one after the other may share the
+//! happens to the bytes written, is trusted. Files that are read one after the other may share the
 //! memory of one [`FileBuffer`]. The crate uses `km_names`.
 #![tactic(auto)]
 

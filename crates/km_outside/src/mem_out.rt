@@ -30,7 +30,7 @@ impl Model for MemOut {
 }
 
 impl MemOut {
-    /// Returns an empty output with room for so many bytes, which is reserved here.
+    /// Returns an empty output with room for this many bytes, which is reserved here.
     pub fn with_room(alloc: Global, room: usize) -> Result<MemOut, AllocError>
         ensures { IfOk result (λ out. out ≡ empty_with_room room) }
     {

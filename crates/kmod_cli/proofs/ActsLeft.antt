@@ -133,7 +133,7 @@ part-closed acts o shown held printed p = part-drop acts (closing_acts o) shown 
 
 -- ---- lines that are said
 
--- A first part of some lines was said.
+-- A first part of some lines was written.
 pub record Said (lines : List ℕ) (shown : Shown) (held : Contents) (printed : List ℕ) : Type 0 where
   pub bytes : ℕ
   pub few : bytes ≤ length lines

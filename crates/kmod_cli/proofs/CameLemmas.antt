@@ -1,4 +1,4 @@
--- What a call came to that carried out a course over files and outputs that are told.
+-- The outcome of a call that carried out a course over files and outputs with known contents.
 use Rattle.std.proofs.Common.{◌≡◌, ◌∙◌, ℕ, ◌≤◌, length, ap, subst, sym, inl, inr, arith}
 use Rattle.std.specs.Prelude.{Some, IsSomeAnd, ⊤}
 use Rattle.std.proofs.lemmas.Bool.{cases_eq, cases_lt}

@@ -138,7 +138,7 @@ index-left asked o before acts ends shown only are is =
 
 -- ---- a first part
 
--- So many files were replaced, and so many bytes printed.
+-- This many files were replaced, and this many bytes were printed.
 record IndexPart (folder : List ℕ) (made : DepmodFiles) (names : List DepmodFile) (text : List ℕ) (shown : Shown) (held : Contents) (out : List ℕ) : Type 0 where
   count : ℕ
   bytes : ℕ

@@ -1,4 +1,5 @@
--- depmod's half of the headline, by the course of a depmod and what a call that carries a course did.
+-- depmod's half of the headline, by the course of a depmod and what a call that carries a course
+-- did.
 use Rattle.std.proofs.Common.{◌≡◌, ◌∙◌, ℕ, ◌≤◌, List, [], ◌++◌, None, refl, sym, ap, subst, arith, append-nil}
 use Rattle.std.specs.Prelude.{Option, Some, ⊤}
 use Rattle.km_course.specs.Carries.{Carries, outcome_status, whole_acts}

@@ -70,8 +70,8 @@ doings-shown folder params [] = refl
 doings-shown folder params (w ∷ ws) =
     showings-shown (images_of params w) (doings folder params ws) ∙ ap (λ xs. images_of params w ++ xs) (doings-shown folder params ws)
 
--- Acts of loads: files are read, the lines of a plan are said, this is done, and then nothing more
--- but to read.
+-- Acts of loads: files are read, the lines of a plan are written, this is done, and then nothing
+-- more but to read.
 pub record AreOfLoads (lines : List ℕ) (images : Option (List ℕ)) (ds : List Doing) (acts : List Act) : Type 0 where
   pub before : List Act
   pub rest : List Act
@@ -137,8 +137,8 @@ loads-left lines images ds acts o shown a =
 
 -- ---- a first part
 
--- Some of the images are put, and a first part of the lines is said: an image before its line, and
--- after the lines before it.
+-- Some of the images are put, and a first part of the lines is written: an image before its line,
+-- and after the lines before it.
 pub record LoadsPart (lines : List ℕ) (images : Option (List ℕ)) (ss : List ShownImage) (shown : Shown) (held : Contents) (printed : List ℕ) : Type 0 where
   pub puts : ℕ
   pub bytes : ℕ

@@ -49,7 +49,7 @@ outcome-is : (known : Known) (asked : ModprobeWords) (o : Option Obstacle) → o
 unfolding plan_outcome
 outcome-is known asked o is = ap (λ f. plan_unless f (plan_steps (sources_asked asked known) (request_of asked))) is
 
--- Files are read, these lines are said, and this is the outcome.
+-- Files are read, these lines are written, and this is the outcome.
 pub record Prints (lines : List ℕ) (outcome : Outcome ⊤) (run : Run ⊤) : Type 0 where
   pub before : List Act
   pub reads : list_all is_reading before ≡ true

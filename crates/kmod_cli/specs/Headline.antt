@@ -133,8 +133,8 @@ told_after asked l ss err_line shown = record {
   err = shown.err ++ err_line;
 }
 
--- A first part of this was done: so many images were put and so many bytes printed. An image is put
--- before any of its line is printed, and after all lines of the images before it.
+-- A first part of this was done: this many images were put and this many bytes were printed. An
+-- image is put before any of its line is printed, and after all lines of the images before it.
 pub record IsFirstPart (asked : ModprobeWords) (l : Loading) (ss : List ShownImage) (shown : Shown) (new : World) : Type 0 where
   pub images : ℕ
   pub bytes : ℕ

@@ -60,8 +60,8 @@ told_of asked (value i) shown = record {
 }
 told_of asked (end e) shown = record shown { err = shown.err ++ end_line e }
 
--- So many of the files of an index were replaced, the first ones, each whole; and so many bytes
--- printed.
+-- This many of the files of an index were replaced, the first ones, each whole, and this many bytes
+-- were printed.
 pub record IsReplacedPart (asked : DepmodWords) (i : IndexedTree) (shown : Shown) (new : World) : Type 0 where
   pub count : ℕ
   pub bytes : ℕ

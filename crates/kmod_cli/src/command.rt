@@ -13,7 +13,7 @@ pub(crate) enum Command {
     Modprobe,
     /// Prints the device nodes that depmod listed. kmod(8), "static-nodes".
     StaticNodes,
-    /// Tells which built-in modules a name stands for.
+    /// Prints the built-in modules that a name stands for.
     BuiltinAlias,
     /// Makes a tree of modules in memory, indexes it and loads its modules there.
     Trial,

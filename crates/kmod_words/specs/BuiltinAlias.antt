@@ -22,6 +22,6 @@ builtin_alias_asked rows = option_and_then (λ version. option_and_then (λ name
     (value_of (codes "name") rows))
     (value_of (codes "set-version") rows)
 
--- What the words ask `builtin-alias` for; there is nothing where they aren't understood.
+-- What the words ask `builtin-alias` for, or nothing if they aren't understood.
 abbrev pub builtin_alias_request : List Text → Option BuiltinAliasWords
 builtin_alias_request words = option_and_then builtin_alias_asked (understood builtin_alias_command words)

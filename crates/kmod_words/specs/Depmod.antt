@@ -48,6 +48,6 @@ depmod_asked rows = option_and_then (λ version.
     then Some (depmod_of rows version) else None)
     (value_of (codes "version") rows)
 
--- What the words ask `depmod` for; there is nothing where they aren't understood.
+-- What the words ask `depmod` for, or nothing if they aren't understood.
 abbrev pub depmod_request : List Text → Option DepmodWords
 depmod_request words = option_and_then depmod_asked (understood depmod_command words)

@@ -64,6 +64,6 @@ modinfo_asked rows = option_and_then (λ field.
     if is_by_name_or_path rows then Some (modinfo_of rows field) else None)
     (single (keys_asked rows))
 
--- What the words ask `modinfo` for; there is nothing where they aren't understood.
+-- What the words ask `modinfo` for, or nothing if they aren't understood.
 abbrev pub modinfo_request : List Text → Option ModinfoWords
 modinfo_request words = option_and_then modinfo_asked (understood modinfo_command words)

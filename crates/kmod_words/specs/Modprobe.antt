@@ -93,6 +93,6 @@ modprobe_asked rows = option_map (λ choice. modprobe_of rows choice.0 choice.1 
 abbrev pub shown : Choice → Mode × Text × Region
 shown choice = (choice.mode, choice.version.now, choice.region)
 
--- What the words ask `modprobe` for; there is nothing where they aren't understood.
+-- What the words ask `modprobe` for, or nothing if they aren't understood.
 abbrev pub modprobe_request : List Text → Option ModprobeWords
 modprobe_request words = option_and_then modprobe_asked (understood modprobe_command words)

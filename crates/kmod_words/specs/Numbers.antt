@@ -6,7 +6,7 @@ use Rattle.std.specs.Str.Parse.{digits_value}
 use Rattle.km_names.specs.Ascii.{hexadecimal}
 use Rattle.kmod_words.specs.declared.region.Region.{Region}
 
--- The number below 2^64 that a text states in 1 to so many decimal digits, if it is such a text.
+-- The number below 2^64 that a text states in 1 to this many decimal digits, if it is such a text.
 unfoldable pub decimal : ℕ → List ℕ → Option ℕ
 decimal most text =
     if not (length text == 0) && nat_le (length text) most && list_all (λ b. is_digit b 10) text && nat_lt (digits_value 10 text) (2 ^ 64)

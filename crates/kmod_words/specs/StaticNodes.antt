@@ -24,6 +24,6 @@ static_nodes_asked rows = option_and_then (λ version. option_and_then (λ forma
     (value_of (codes "format") rows))
     (value_of (codes "set-version") rows)
 
--- What the words ask `static-nodes` for; there is nothing where they aren't understood.
+-- What the words ask `static-nodes` for, or nothing if they aren't understood.
 abbrev pub static_nodes_request : List Text → Option StaticNodesWords
 static_nodes_request words = option_and_then static_nodes_asked (understood static_nodes_command words)

@@ -10,7 +10,7 @@ use Rattle.kmod_words.specs.declared.trial.TrialWords.{TrialWords}
 unfoldable pub trial_command : App
 trial_command = command (codes "trial") (word (codes "seed") ∷ word (codes "count") ∷ [])
 
--- The number that the word of a name states in at most so many digits.
+-- The number that the word of a name states in at most this many digits.
 abbrev pub number_of : ℕ → Text → List Row → Option ℕ
 number_of most name rows = option_and_then (decimal most) (value_of name rows)
 
@@ -22,6 +22,6 @@ trial_asked rows = option_and_then (λ seed. option_and_then (λ count.
     (number_of 4 (codes "count") rows))
     (number_of 20 (codes "seed") rows)
 
--- What the words ask `trial` for; there is nothing where they aren't understood.
+-- What the words ask `trial` for, or nothing if they aren't understood.
 abbrev pub trial_request : List Text → Option TrialWords
 trial_request words = option_and_then trial_asked (understood trial_command words)

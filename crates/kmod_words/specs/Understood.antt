@@ -12,8 +12,8 @@ abbrev pub unless_fault : Kinds → List Row → Option (List Row)
 unless_fault [] rows = Some rows
 unless_fault (kind ∷ kinds) rows = None
 
--- The matches of the words, by the meaning that `clap` states for a simple command; there are none
--- where that meaning refuses the words.
+-- The matches of the words, by the meaning that `clap` states for a simple command, or none if that
+-- meaning refuses the words.
 unfoldable pub understood : App → List Text → Option (List Row)
 understood command words = unless_fault (fault_of command words) (matches_of command words)
 

@@ -71,7 +71,7 @@ fn asked(alloc: Global, matches: &ArgMatches<'_>) -> Result<Option<DepmodWords>,
     Ok(Some(words_for(alloc, matches, version)?))
 }
 
-// Whether both files of the kernel are given.
+// Returns whether both files of the kernel are given.
 fn has_two_kernels(matches: &ArgMatches<'_>) -> bool
     ensures { result ≡ has_both_files (rows_of (found_of matches.now)) }
 {

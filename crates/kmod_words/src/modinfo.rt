@@ -110,7 +110,8 @@ fn single<'a>(keys: &[&'a str]) -> Option<Option<&'a str>>
     }
 }
 
-// Whether the words are names and the version is one, or the words are paths and there is no root.
+// Returns whether the words are names and the version is one, or the words are paths and there is
+// no root.
 fn is_by_name_or_path(matches: &ArgMatches<'_>) -> bool
     ensures { result ≡ names_or_paths (rows_of (found_of matches.now)) }
 {

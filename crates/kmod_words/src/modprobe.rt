@@ -162,7 +162,7 @@ fn mode_by_flags(
     }
 }
 
-// Whether the mode has the addresses that it needs, and no option that isn't for it.
+// Returns whether the mode has the addresses that it needs, and no option that isn't for it.
 fn goes_with(matches: &ArgMatches<'_>, mode: Mode) -> bool
     ensures { result ≡ options_go_with (rows_of (found_of matches.now)) mode }
 {

@@ -4,7 +4,7 @@ ghost use Rattle.kmod_words.specs.Numbers.{is_region as is_region_of_pages, regi
 
 use km_names::{hexadecimal, split_at_byte};
 
-/// A region of addresses: where it begins, and how many bytes it has.
+/// A region of addresses: its first address and its number of bytes.
 #[derive(Clone, Copy)]
 pub(crate) struct Region {
     pub base: u64,
@@ -51,7 +51,7 @@ fn prefixed_hexadecimal(text: &[u8]) -> Option<u64>
     }
 }
 
-// Whether modules can be placed in the region.
+// Returns whether modules can be placed in the region.
 fn is_region(base: u64, size: u64) -> bool
     ensures { result ≡ is_region_of_pages base size }
 {

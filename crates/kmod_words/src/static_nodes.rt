@@ -61,7 +61,7 @@ fn asked(alloc: Global, matches: &ArgMatches<'_>) -> Result<Option<StaticNodesWo
     }))
 }
 
-// Whether a format is the one that is understood.
+// Returns whether a format is the one that is understood.
 fn is_devname(format: &str) -> bool
     ensures { result ≡ bytes_eq format.now (codes "devname") }
 {

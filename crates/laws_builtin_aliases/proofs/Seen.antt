@@ -1,4 +1,5 @@
--- Names by their places among others: those of a list that rises by them are first seen in the order of the others.
+-- Names by their places among others. The names of a list that rises by these places are first seen
+-- in the order of the others.
 use Rattle.std.proofs.Common.{◌≡◌, ◌≤◌, ◌+◌, ◌||◌, ℕ, Bool, true, false, not, cond, List, [], ◌∷◌, filter, refl, sym, ap, ◌∙◌, subst, arith}
 use Rattle.std.specs.List.{AllByRecursion}
 use Rattle.std.specs.Str.{bytes_eq}

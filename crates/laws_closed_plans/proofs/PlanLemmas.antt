@@ -60,7 +60,8 @@ one-loaded tree kernel listed plan before m x p q v w ready step in_p in_q gives
       | inr b ↦ one-planned tree kernel listed plan x p q v w alone tree_p tree_q (before-member plan before m p step b) (loaded-stands listed plan before m q step in_q) gives_p gives_q
     ]
 
--- where the kernel doesn't export a need of a step's module, the first exporter of what is loaded is the tree's
+-- where the kernel doesn't export a need of a step's module, the first exporter of what is loaded
+-- is the tree's
 pub same-first : (tree : List Module) (kernel : Kernel) (listed plan before : List Module) (m : Module) (n : Need) → IsReady tree kernel listed plan → IsStep plan before m → Member n m.face.needs → of_kernel {M = Module} kernel n.name ≡ None → of_first module_exports (listed ++ before) n.name ≡ of_first module_exports tree n.name
 same-first tree kernel listed plan before m n ready step needed no_kernel = by_tree (of_first module_exports tree n.name) refl
   where

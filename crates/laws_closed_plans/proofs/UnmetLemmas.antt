@@ -20,7 +20,8 @@ all-member P x [] all in' = absurd in'
 all-member P x (y ∷ xs) all (inl is) = subst P is (all 0 x (omega arith))
 all-member P x (y ∷ xs) all (inr later) = all-member P x xs (λ k d less. all (suc k) d (omega (arith, less))) later
 
--- where no line belongs to a module of the tree, none of its needs has a fault, by what its provider exports
+-- where no line belongs to a module of the tree, none of its needs has a fault, by what its
+-- provider exports
 pub faultless : (tree : List Module) (kernel : Kernel) (m : Module) (n : Need) → list_any (belongs m.path) (unmet tree kernel) ≡ false → Member m tree → Member n m.face.needs → Passes (export_under (provider tree kernel n.name)) m.face n
 faultless tree kernel m n none in' needed =
     let s = split_at m tree in' in

@@ -1,4 +1,5 @@
--- A depmod that puts all files of an index into the folder of its modules leaves that folder as it indexed it.
+-- A depmod that puts all files of an index into the folder of its modules leaves that folder as it
+-- indexed it.
 use Rattle.std.proofs.Common.{◌≡◌, ◌∙◌, None, sym, ap, subst}
 use Rattle.km_outside.specs.Contents.{Contents}
 use Rattle.kmod_words.specs.declared.depmod.DepmodWords.{DepmodWords}

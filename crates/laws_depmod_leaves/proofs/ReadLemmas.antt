@@ -1,4 +1,5 @@
--- How far the reading of a depmod comes: a tree of valid modules with its relation, or what ends it.
+-- How far the reading of a depmod comes: a tree of valid modules with its relation, or what ends
+-- it.
 use Rattle.std.proofs.Common.{◌≡◌, ◌∙◌, ◌≤◌, ◌||◌, ℕ, Bool, true, false, List, [], ◌∷◌, ◌++◌, length, refl, sym, ap, subst, arith, append_assoc, append-nil, inl, inr}
 use Rattle.std.specs.Prelude.{Option, Some, None, Result, Ok, Err, ◌⊎◌, All, codes, is_some, map, option_map}
 use Rattle.std.specs.FinMap.{get}

@@ -35,7 +35,8 @@ use Rattle.stages_files.specs.IndexFile.{index_of}
 use Rattle.laws_headline.proofs.Computing.{computing}
 use Rattle.laws_headline.proofs.MetFiles.{dep_bytes, earlier_bytes, empty_bytes, symbols_bytes}
 
--- the indexes of which that of dependency lines has these bytes, and the others are those of the two modules
+-- the indexes of which that of dependency lines has these bytes, and the others are those of the
+-- two modules
 abbrev pub indexes_by : List ℕ → Indexes
 indexes_by dep = record { dep = index_of dep; alias = index_of empty_bytes; symbols = index_of symbols_bytes; builtin = index_of empty_bytes }
 
@@ -50,7 +51,8 @@ sources_by stated loaded dep = sources stated (indexes_by dep) [] loaded request
 abbrev found_itself : Found
 found_itself = record { list = 2; names = codes "m" ∷ [] }
 
--- ---- plans by the modules of a folder, where no module is wanted before or after another by a rule
+-- ---- plans by the modules of a folder, where no module is wanted before or after another by a
+-- rule
 
 abbrev kind_step : List Rule → List ℕ → List KeyValue → List PlanStep
 kind_step stated dep ms =

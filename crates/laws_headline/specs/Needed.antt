@@ -1,5 +1,5 @@
--- What the premises of the headline are for: what becomes of the load of two modules where one of
--- them doesn't hold.
+-- What the premises of the headline are for: what happens to the load of two modules if a premise
+-- doesn't hold.
 use Rattle.std.specs.Prelude.{◌≡◌, ℕ, true, false, List, [], ◌∷◌, codes, Some, None, Err}
 use Rattle.km_course.specs.Course.{Outcome}
 use Rattle.km_course.specs.Course.Outcome.{value, end}

@@ -8,7 +8,7 @@ use Rattle.module_facts.specs.declared.facts.Facts.{Facts}
 
 -- ---- object files
 
--- A number in so many bytes, the least first.
+-- A number in this many bytes, the least first.
 abbrev pub number : ℕ → ℕ → List ℕ
 number zero v = []
 number (suc count) v = v % 256 ∷ number count (v / 256)

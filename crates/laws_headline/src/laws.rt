@@ -17,7 +17,7 @@ pub fn headline_is_met()
 /// - `no_command`: with an install rule for that module its step runs the command, and the load is
 ///   refused;
 /// - `as_indexed`: by an index of the tree as it was before, only the other module is planned;
-/// - `listed_load`: so it is if the module with the export is listed as loaded;
+/// - `listed_load`: the same if the module with the export is listed as loaded;
 /// - `alone`: and then it is refused, since nothing in the machine exports what it needs;
 /// - `addresses`: there is no machine if an export of the kernel has no address.
 ///

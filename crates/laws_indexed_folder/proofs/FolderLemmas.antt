@@ -1,4 +1,4 @@
--- Loads from a folder that stands as it was indexed.
+-- Loads from a folder that is as it was indexed.
 use Rattle.std.proofs.Common.{◌≡◌, ◌∙◌, ℕ, List, [], ◌∷◌, None, refl, sym, ap, subst, inl, inr}
 use Rattle.std.specs.Prelude.{Result, Ok, IsOk}
 use Rattle.km_names.specs.Path.{path_below}

@@ -1,4 +1,4 @@
--- What stands under the names of a map that depmod made.
+-- What is under the names of a map that depmod made.
 use Rattle.std.proofs.Common.{◌≡◌, ◌∙◌, ◌<◌, ◌==◌, ℕ, zero, suc, Bool, true, false, ◌&&◌, List, [], ◌∷◌, length, map, reverse, flat_map, Option, Some, None, refl, sym, ap, subst, inl, inr, arith}
 use Rattle.std.specs.Prelude.{◌⊎◌, not, slice_get, unwrap_or}
 use Rattle.std.specs.List.{list_any, list_all, slice_split}

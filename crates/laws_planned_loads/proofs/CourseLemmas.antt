@@ -1,4 +1,4 @@
--- The courses of loads over folders that stand as depmod indexed them.
+-- The courses of loads over folders that are as depmod indexed them.
 use Rattle.std.proofs.Common.{◌≡◌, ◌∙◌, ◌==◌, ℕ, Bool, true, false, ◌||◌, List, [], ◌∷◌, ◌++◌, length, map, reverse, flat_map, None, refl, sym, ap, subst, arith}
 use Rattle.std.specs.Prelude.{Option, Some, Result, Ok, Err, IsOk, IfErr, All, not, slice_get}
 use Rattle.std.specs.FinMap.{get}

@@ -1,4 +1,4 @@
--- For what stages may end, and what they come to where the first of them gives a value or ends.
+-- Why stages may end, and what they result in if the first of them gives a value or ends.
 use Rattle.std.proofs.Common.{◌≡◌, ◌∙◌, ℕ, Bool, true, false, cond, List, [], ◌∷◌, length, refl, sym, ap, subst}
 use Rattle.std.specs.Prelude.{Option, Some, None, nat_lt}
 use Rattle.std.specs.FinMap.{get}

@@ -1,4 +1,4 @@
--- Files of modules: what reading one comes to, and that images leave them as they were.
+-- Files of modules: what reading one results in, and that images leave them as they were.
 use Rattle.std.proofs.Common.{◌≡◌, ◌∙◌, ◌-◌, ◌≤◌, ◌==◌, ℕ, Bool, true, false, ◌||◌, cond, List, [], ◌∷◌, ◌++◌, length, take, reverse, None, refl, sym, ap, subst, arith, append_assoc}
 use Rattle.std.specs.Prelude.{Option, Some, codes, flat_map, nat_eq, nat_lt}
 use Rattle.std.specs.List.{ends_with, list_any}

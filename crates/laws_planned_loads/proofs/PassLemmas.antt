@@ -1,4 +1,5 @@
--- The courses of modprobe over a folder that stands as it was indexed end for no file that depmod wrote.
+-- The courses of modprobe over a folder that is as it was indexed end for no file that depmod
+-- wrote.
 use Rattle.std.proofs.Common.{◌≡◌, ◌∙◌, ℕ, Bool, true, false, List, [], ◌∷◌, ◌++◌, find, get_or, map, reverse, flat_map, take, None, refl, sym, ap, subst, arith}
 use Rattle.std.specs.Prelude.{Option, Some, Result, Ok, Err, codes, nat_eq, ⊤}
 use Rattle.std.specs.List.{ends_with}

@@ -1,4 +1,4 @@
--- What is read of a folder that stands as it was indexed.
+-- What is read of a folder that is as it was indexed.
 use Rattle.std.proofs.Common.{◌≡◌, ◌∙◌, ◌≤◌, ◌^◌, ℕ, List, [], ◌∷◌, ◌++◌, length, None, cond, refl, sym, ap, subst, arith}
 use Rattle.std.specs.Prelude.{Option, Ok, codes}
 use Rattle.std.proofs.lemmas.Bool.{le-ltb}

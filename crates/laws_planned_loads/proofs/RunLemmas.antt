@@ -1,4 +1,4 @@
--- Runs of stages: what those come to that are made of two, and stages that only read.
+-- Runs of stages: what stages that are made of two result in, and stages that only read.
 use Rattle.std.proofs.Common.{◌≡◌, ◌∙◌, ℕ, Bool, true, false, List, [], ◌∷◌, ◌++◌, refl, ap, subst}
 use Rattle.std.specs.Prelude.{◌&&◌}
 use Rattle.std.specs.FinMap.{get}

@@ -23,7 +23,7 @@ is_unknown known everywhere name = (found_in known everywhere name).list == 0
 abbrev pub found_names : Known → Bool → List (List ℕ) → List (List ℕ)
 found_names known everywhere names = flat_map (λ name. (found_in known everywhere name).names) names
 
--- A name in its normal form, or as it is where it has none.
+-- A name in its normal form, or as it is if it has none.
 abbrev pub normal_or_itself : List ℕ → List ℕ
 normal_or_itself name = unwrap_or (normal_alias name) name
 

@@ -1,4 +1,4 @@
--- The kernel of a table that was read: its exports are those of the table.
+-- The kernel of a table that was read: its exports are the exports of the table.
 use Rattle.std.proofs.Common.{◌≡◌, ℕ, List, ap, subst}
 use Rattle.std.specs.Prelude.{Option, Some, None, Ok, map}
 use Rattle.std.specs.List.{filter_map}

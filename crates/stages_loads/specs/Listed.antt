@@ -17,7 +17,8 @@ abbrev pub listed_outcome : List ℕ → Option (List ℕ) → Outcome (List ℕ
 listed_outcome name None = end (Refused (ListedNotFound name))
 listed_outcome name (Some path) = value path
 
--- The listed module of a name that has this path, if it has one, is read, and goes into the machine.
+-- The listed module of a name that has this path, if it has one, is read, and goes into the
+-- machine.
 abbrev pub loads_listed_at : List ℕ → Machine → List ℕ → Option (List ℕ) → Stage Machine
 loads_listed_at folder machine name found = do
   path ← given (listed_outcome name found)

@@ -58,14 +58,14 @@ entry_line word loaded image =
 abbrev pub loaded_line : LoadedModule → List ℕ → List ℕ
 loaded_line loaded image = entry_line (codes "loaded") loaded image
 
--- The line of a module whose parameters were written: its name, how many parameters the options name, and the digest
--- of the finished image.
+-- The line of a module whose parameters were written: its name, how many parameters the options
+-- name, and the digest of the finished image.
 unfoldable pub params_line : List ℕ → ℕ → List ℕ → List ℕ
 params_line name count image =
     codes "params " ++ (name ++ (codes " " ++ (decimal count ++ (codes " " ++ (encode_lower (sha256 image) ++ 10 ∷ [])))))
 
--- An image that is shown: it is put into the folder for images, if there is one, under a name with `.img` after it;
--- and then a line is printed.
+-- An image that is shown: it is put into the folder for images, if there is one, under a name with
+-- `.img` after it; and then a line is printed.
 pub record ShownImage : Type 0 where
   pub name : List ℕ
   pub image : List ℕ
@@ -91,7 +91,8 @@ abbrev pub params_unless : List ℕ → Option ParamFault → Params → Outcome
 params_unless name None p = value p
 params_unless name (Some fault) p = end (Refused (ParamsRefused name (param_fault_text fault)))
 
--- What the options of a module result in: they are written into a copy of its image, or their first fault is reported.
+-- What the options of a module result in: they are written into a copy of its image, or their first
+-- fault is reported.
 unfoldable pub params_outcome : Module → List ℕ → LoadedModule → List ℕ → Outcome Params
 params_outcome m options loaded image =
     params_unless loaded.name (param_fault m.object loaded.base image options) (finished_params m options loaded image)
@@ -113,15 +114,15 @@ shows_params folder m options loaded image = do
   p ← given (params_outcome m options loaded image)
   shows_image folder (params_image loaded.name p)
 
--- What becomes of a load with these options: the image is shown; and so is the one with the parameters in it, where those
--- are asked for.
+-- What happens to a load with these options: the image is shown; and so is the one with the
+-- parameters in it, where those are asked for.
 abbrev pub shows_load : Images → Module → List ℕ → Entry → Stage ⊤
 shows_load images m options e = do
   shown ← shows_image images.folder (machine_image e.loaded e.image)
   when images.params then shows_params images.folder m options e.loaded e.image else gives tt
 
--- The module at a path of the tree in the folder is read, and goes into the machine; then its images are shown. What it
--- gives is the machine after it.
+-- The module at a path of the tree in the folder is read, and goes into the machine; then its
+-- images are shown. What it gives is the machine after it.
 abbrev pub loads_one : List ℕ → Images → Machine → Insertion → Stage Machine
 loads_one folder images machine one = do
   m ← reads_module folder one.path

@@ -1,4 +1,5 @@
--- The modules that are to be loaded, each read and checked at its turn. modprobe(8), modules.dep(5).
+-- The modules that are to be loaded, each read and checked at its turn. modprobe(8),
+-- modules.dep(5).
 use Rattle.std.specs.Prelude.{◌≡◌, ℕ, List, ◌∷◌, Option, Some, None}
 use Rattle.std.proofs.Common.{refl}
 use Rattle.km_names.specs.First.{first}
@@ -36,7 +37,7 @@ module_at path bytes passed = record {
   sound = IsSound-passed path (file_object bytes) (facts_of path bytes) refl (facts-pass path bytes passed);
 }
 
--- What the file of a module with this first failing test results in: the module at a path of the
+-- What the file of a module results in, by its first failing test: the module at a path of the
 -- tree, or the refusal of the file by its whole path.
 unfoldable pub module_outcome : List ℕ → (path bytes : List ℕ) (fault : Option ModuleFault) → fact_fault path bytes ≡ fault → Outcome Module
 module_outcome file path bytes None passed = value (module_at path bytes passed)
@@ -46,7 +47,8 @@ module_outcome file path bytes (Some fault) first = end (Refused (BadModule file
 abbrev pub file_outcome : List ℕ → List ℕ → List ℕ → Outcome Module
 file_outcome file path bytes = module_outcome file path bytes (fact_fault path bytes) refl
 
--- The module at a path of the tree in the folder. A compressed one is refused unread. Refusals name the whole path.
+-- The module at a path of the tree in the folder. A compressed one is refused unread. Refusals name
+-- the whole path.
 abbrev pub reads_module : List ℕ → List ℕ → Stage Module
 reads_module folder path =
     when is_compressed path then ends (Refused (Compressed (path_below folder path))) else (do

@@ -1,5 +1,5 @@
--- The machine that a kernel's tables make: its exports at their addresses, and no module. nm(1); the kernel's
--- Documentation/kbuild/modules.rst, "Module.symvers".
+-- The machine that a kernel's tables make: its exports at their addresses, and no module. nm(1);
+-- the kernel's Documentation/kbuild/modules.rst, "Module.symvers".
 use Rattle.std.specs.Prelude.{◌≡◌, ℕ, true, not, Bool, List, [], ◌∷◌, AllPairs, filter, Option, Some, None, Result, Ok, Err}
 use Rattle.std.specs.Str.{bytes_eq}
 use Rattle.std.proofs.Common.{get_or, ap, sym, ◌∙◌, arith}
@@ -37,7 +37,8 @@ firsts-apart (e ∷ es) =
     (λ k d within. other-name e (get_or left k d) (filter_passes passes (first_of_each es) k d within))
     (AllPairs-filter (λ (a b : KernelExport). a.name ≡ b.name → ⊥) passes (first_of_each es) (firsts-apart es))
 
--- The kernel of a table. A kernel exports each name once: of the exports of one name the first counts.
+-- The kernel of a table. A kernel exports each name once: of the exports of one name the first
+-- counts.
 unfoldable pub kernel_with : Table → Kernel
 kernel_with table = record {
   known = table.known;
@@ -51,14 +52,14 @@ abbrev pub machine_refusal : MachineFault → Refusal
 machine_refusal (faults.KernelWithoutAddress name) = KernelWithoutAddress name
 machine_refusal faults.Memory = InnerOutputFull
 
--- What a table with this first export without an address results in: the machine of its kernel, with no module, or the
--- refusal of that export.
+-- What a table with this first export without an address results in: the machine of its kernel,
+-- with no module, or the refusal of that export.
 unfoldable pub machine_outcome : Table → Region → Option MachineFault → Outcome Machine
 machine_outcome table region None = value (new_machine (kernel_with table) region)
 machine_outcome table region (Some fault) = end (Refused (machine_refusal fault))
 
--- What a file that states these addresses of exports results in: the table with them, or the refusal of its first line that
--- isn't understood.
+-- What a file that states these addresses of exports results in: the table with them, or the
+-- refusal of its first line that isn't understood.
 unfoldable pub addressed_outcome : List ℕ → Bool → Result (List KernelExport) KernelFault → Outcome Table
 addressed_outcome file known (Ok exports) = value (record { known = known; exports = exports })
 addressed_outcome file known (Err fault) = end (Refused (line_refusal file fault))

@@ -4,8 +4,8 @@
 //!
 //! Each is a stage of a course. The crate builds on `km_course` for the relation between a call and
 //! its stage, on `stages_files` for tables and indexes, and on `module_facts` for modules. It
-//! builds on `model_loader` for the machine, on `param_apply` for parameters, and on `sha2` and `hex` for the
-//! digests of images.
+//! builds on `model_loader` for the machine, on `param_apply` for parameters, and on `sha2` and
+//! `hex` for the digests of images.
 #![tactic(auto)]
 
 mod listed;

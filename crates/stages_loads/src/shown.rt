@@ -17,7 +17,7 @@ use param_apply::{ParamFault, Params, apply_params};
 use sha2::{Digest, Sha256};
 use std::alloc::{AllocError, Global};
 
-/// What becomes of the images of modules that are loaded.
+/// What happens to the images of modules that are loaded.
 #[derive(Drop)]
 pub struct Images {
     /// The folder into which they are put, if there is one.

@@ -7,7 +7,8 @@ use Rattle.command_depmod.specs.Modules.{reads_modules_facts}
 use Rattle.command_depmod.proofs.ModuleSteps.{AreFactsOf, the_others}
 use Rattle.command_depmod.proofs.modules.read_modules_facts.Given as goal
 
--- Whatever reads the other modules from here reads all from the start, and the facts so far are those of the first paths.
+-- Whatever reads the other modules from here reads all from the start, and the facts so far are
+-- those of the first paths.
 abbrev pub invariant-loop-path : goal.invariant-loop-path
 invariant-loop-path g l = record {
   leads : (out err : OutSeen) → LeadsTo (λ (x : List Facts). x) (reads_modules_facts l.folder l.paths)
