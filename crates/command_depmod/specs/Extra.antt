@@ -36,7 +36,7 @@ extra_files tree info = record { builtin_alias_bin = file (alias_map info); devn
 abbrev pub size_refusal : DepmodFile → List ℕ → Option Refusal
 size_refusal which bytes = if nat_lt file_limit (length bytes) then Some (OutputTooLarge (file_name which)) else None
 
--- The two files, where modules.builtin.modinfo was read.
+-- The two files, if modules.builtin.modinfo was read.
 abbrev pub extra_made : List Facts → Option (List ℕ) → Option ExtraFiles
 extra_made tree info = option_map (extra_files tree) info
 
@@ -51,8 +51,8 @@ abbrev pub unless_refused : Option Refusal → Option ExtraFiles → Outcome (Op
 unless_refused None made = value made
 unless_refused (Some refusal) made = end (Refused refusal)
 
--- What the modules of a tree result in, where modules.builtin.modinfo was read: the two files, or a
--- refusal. Else there are no such files.
+-- What the modules of a tree result in, if modules.builtin.modinfo was read: the two files, or a
+-- refusal. Otherwise there are no such files.
 unfoldable pub extra_outcome : List Facts → Option (List ℕ) → Outcome (Option ExtraFiles)
 extra_outcome tree info = unless_refused (extra_refusal (extra_made tree info)) (extra_made tree info)
 

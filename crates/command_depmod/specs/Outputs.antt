@@ -54,8 +54,8 @@ says_file made file = says_any (content made file)
 abbrev pub says_each : DepmodFiles → List DepmodFile → Stage ⊤
 says_each made files = each_from (λ _ file. says_file made file) tt files
 
--- With `-n` the text files are written to the output, and nothing is replaced; else all files are
--- put into the folder.
+-- With `-n` the text files are written to the output, and nothing is replaced; otherwise all files
+-- are put into the folder.
 abbrev pub hands_out : Bool → Bool → List ℕ → DepmodFiles → Stage ⊤
 hands_out extra dry_run folder made =
     when dry_run then says_each made (text_files extra) else puts_each folder made (all_files extra)

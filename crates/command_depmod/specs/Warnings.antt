@@ -6,7 +6,7 @@ use Rattle.km_course.specs.Course.{Stage, gives, warns, each_from, when◌then�
 use Rattle.km_course.specs.Lines.{line}
 
 -- The line that warns of an obstacle: one of a symbol that nothing exports, and one of a version
--- that differs, where versions are known. The others are no warnings.
+-- that differs, if versions are known. The others are no warnings.
 abbrev pub warning_line : Bool → Unbound → Option (List ℕ)
 warning_line versions (Missing path symbol) =
     Some (line (codes "warning: " ++ (path ++ (codes " needs unknown symbol " ++ symbol))))

@@ -41,7 +41,7 @@ inserted (Builtin name) = []
 abbrev pub install_stop : List ℕ → Stop
 install_stop name = Ended (Refused (InstallChosen name))
 
--- what there is to load, where a command is run for a module of this name, or for none
+-- what there is to load, if a command is run for a module of this name, or for none
 abbrev pub unless_install : Option (List ℕ) → List Insertion → Outcome (List Insertion)
 unless_install None inserts = value inserts
 unless_install (Some name) inserts = end (Refused (InstallChosen name))

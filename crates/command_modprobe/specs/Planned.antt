@@ -24,7 +24,7 @@ use Rattle.stages_known.specs.Known.{reads_known}
 use Rattle.command_modprobe.specs.Resolved.{names_asked}
 
 -- Parameters for the module of the first word: the words after it with a space between each and the
--- next; none where all words are names.
+-- next; none if all words are names.
 abbrev pub options_asked : ModprobeWords → List ℕ
 options_asked asked = if asked.all then [] else spaced (drop 1 asked.words)
 
@@ -37,7 +37,7 @@ request_of asked = record {
   ignore_install = asked.ignore_install;
 }
 
--- What a plan is made from, where these modules are loaded.
+-- What a plan is made from, if these modules are loaded.
 abbrev pub sources_with : Known → List (List ℕ) → Request → Sources
 sources_with known loaded request = sources known.rules known.indexes known.unmet loaded request
 
@@ -46,7 +46,7 @@ abbrev pub plan_unless : Option Obstacle → List PlanStep → Outcome (List Pla
 plan_unless None steps = value steps
 plan_unless (Some obstacle) steps = end (Refused (Unplanned (obstacle_text obstacle)))
 
--- What a request results in, where these modules are loaded: its plan, or the refusal of its first
+-- What a request results in, if these modules are loaded: its plan, or the refusal of its first
 -- obstacle.
 unfoldable pub plan_outcome : Known → List (List ℕ) → Request → Outcome (List PlanStep)
 plan_outcome known loaded request =

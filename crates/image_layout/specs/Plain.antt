@@ -27,7 +27,7 @@ pieces o = map (piece o) (range_with_len 0 (length o.sections))
 abbrev pub has_place : ℕ → Piece → Bool
 has_place x p = nat_le p.at x && nat_lt x (p.at + length p.bytes)
 
--- The byte at the place x: from the piece that covers it, and else 0.
+-- The byte at the place x: from the piece that covers it, and otherwise 0.
 abbrev pub plain_byte : List Piece → ℕ → ℕ
 plain_byte ps x = option_map_or (λ p. slice_index p.bytes (x - p.at)) (find (has_place x) ps) 0
 

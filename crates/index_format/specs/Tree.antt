@@ -44,7 +44,7 @@ ending (([], values) ∷ es) = values
 ending ((byte ∷ key, values) ∷ es) = []
 
 -- The groups with one more entry in front: in the first group, if that is for the same byte, and
--- else in a group of its own.
+-- otherwise in a group of its own.
 abbrev pub grouped : ℕ → Entry → List (ℕ × List Entry) → List (ℕ × List Entry)
 grouped byte e [] = (byte, e ∷ []) ∷ []
 grouped byte e ((c, es) ∷ groups) = if byte == c then (c, e ∷ es) ∷ groups else (byte, e ∷ []) ∷ (c, es) ∷ groups

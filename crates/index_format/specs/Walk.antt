@@ -1,6 +1,6 @@
 -- The walk of a key through an index. At a node the prefix is removed from the key. If nothing is
--- left the walk ends there; else the first byte that is left picks a child and is removed. kmod's
--- index format 2.1, "searching".
+-- left the walk ends there; otherwise the first byte that is left picks a child and is removed.
+-- kmod's index format 2.1, "searching".
 use Rattle.std.specs.Prelude.{ℕ, zero, suc, ◌+◌, nat_eq, List, [], ◌∷◌, length, drop, Option, Some, None, if◌then◌else◌}
 use Rattle.std.specs.List.{starts_with}
 use Rattle.index_format.specs.Map.{Value}

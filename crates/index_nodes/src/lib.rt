@@ -2,14 +2,14 @@
 //! is read is one step on a ledger that the caller gives.
 //!
 //! `Nodes` keeps the bytes of a file and, for every 256 of them, where the text that begins there
-//! ends. [`Nodes::adopt`] refuses a file exactly for the first fault that a reader meets, in time
-//! linear in the file, also if nodes overlap:
+//! ends. [`Nodes::adopt`] refuses a file exactly for the first fault that a reader meets. Its time
+//! is linear in the file, also if nodes overlap:
 //! - The end of a prefix is found within 256 bytes.
 //! - One comparison decides whether a number of values is whole. It is with the last place from
 //!   which that many are whole.
 //!
-//! The check keeps one such place for each number of values up to the greatest that is asked for,
-//! and an entry for each level on which children are still to be visited. Nothing in it calls
+//! The check keeps one such place for each number of values up to the greatest that is asked for.
+//! It keeps an entry for each level on which children are still to be visited. Nothing in it calls
 //! itself.
 //!
 //! A writer leaves each node after all nodes below its older siblings. In a file in this order no

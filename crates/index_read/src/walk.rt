@@ -22,7 +22,7 @@ pub(crate) struct Level {
 /// A walk over all nodes in the order of their keys. It keeps the levels that it is on.
 #[derive(Drop)]
 pub(crate) struct KeyWalk {
-    /// The key of the node to which the walk came last.
+    /// The key of the node that the walk reached last.
     pub(crate) key: Vec<u8>,
     pub(crate) levels: Vec<Level>,
     /// How many bytes of the key are the same as of the key before.
@@ -118,7 +118,7 @@ impl KeyWalk {
         Ok(None)
     }
 
-    /// Leaves out the nodes below the one to which the walk came.
+    /// Leaves out the nodes below the one that the walk reached.
     pub(crate) fn skip_below(&mut self, nodes: &Nodes)
         requires walking { IsWalking nodes.now self.old }
         requires at_node { IsAtNode self.old }

@@ -92,7 +92,7 @@ abbrev pub ends : {X : Type 0} → End → Stage X
 ends e = given (end e)
 
 infix 1 when◌then◌else◌
--- The first stage if the test holds, and else the second.
+-- The first stage if the test holds, and otherwise the second.
 abbrev pub when◌then◌else◌ : {X : Type 0} → Bool → Stage X → Stage X → Stage X
 when◌then◌else◌ true first second = first
 when◌then◌else◌ false first second = second

@@ -39,8 +39,8 @@ abbrev pub inner_fitting : Outcome ⊤ → Shown → Outcome Left
 inner_fitting (value _) told = value (record { files = told.files; out = told.out })
 inner_fitting (end e) told = end (inner_end e)
 
--- The outcome of an inner course: an output that would be full refuses it, and else the outcome is
--- its own.
+-- The outcome of an inner course: an output that would be full refuses it, and otherwise the
+-- outcome is its own.
 abbrev pub inner_outcome : ℕ → Run ⊤ → Contents → Outcome Left
 inner_outcome room run files =
     if overfull room (inner_told run files) then end (ends.Refused InnerOutputFull)

@@ -72,8 +72,8 @@ pub record StandsAsIndexed (held : Contents) (asked : ModprobeWords) (l : Loadin
 
 -- ---- how far the loads of a plan go, only by the machine and the options
 
--- Why no more modules go into a machine, where these went in and these are left of the plan; with
--- the status, and the line on err.
+-- Why no more modules go into a machine, if these went in and these are left of the plan; with the
+-- status, and the line on err.
 pub data IsEndOfPlan (params : Bool) (machine : Machine) : List WentIn → List Module → ℕ → List ℕ → Type 0 where
   -- all are loaded
   all_loaded : (went : List WentIn) → All (AreWritable params) went → IsEndOfPlan params machine went [] 0 []

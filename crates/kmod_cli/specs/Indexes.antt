@@ -68,7 +68,7 @@ pub record IsReplacedPart (asked : DepmodWords) (i : IndexedTree) (shown : Shown
   pub files : new.files.contents ≡ Some (with_files (target_of_request asked) (made_of i) (take count (files_replaced asked)) shown.files)
   pub out : new.out.told ≡ Some (shown.out ++ take bytes (printed asked i))
 
--- A first part of this was done; where no index comes, no file is replaced and nothing printed.
+-- A first part of this was done. If there is no index, no file is replaced and nothing is printed.
 abbrev pub IsPartOf : DepmodWords → Outcome IndexedTree → Shown → World → Type 0
 IsPartOf asked (value i) shown new = IsReplacedPart asked i shown new
 IsPartOf asked (end e) shown new = IsPrintedPart [] shown new

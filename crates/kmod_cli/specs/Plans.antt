@@ -1,5 +1,5 @@
--- modprobe plans exactly where an order exists, and else it names the first obstacle, whatever the
--- files are. modprobe(8).
+-- modprobe plans exactly if an order exists, and otherwise it names the first obstacle, whatever
+-- the files are. modprobe(8).
 use Rattle.std.specs.Prelude.{◌≡◌, ℕ, List, [], ◌++◌, take, Some, None, ⊤}
 use Rattle.km_outside.specs.Contents.{Contents}
 use Rattle.km_course.specs.Course.Outcome.{value}
@@ -57,10 +57,10 @@ pub record IsPrintedPart (lines : List ℕ) (shown : Shown) (new : World) : Type
 -- What modprobe did over files and outputs with these known contents: it left new and answered this
 -- status.
 pub record IsPlanned (asked : ModprobeWords) (known : Known) (shown : Shown) (old new : World) (status : ℕ) : Type 0 where
-  -- where no load is asked for and nothing is in the way, the lines of the plan are printed, and
+  -- if no load is asked for and nothing is in the way, the lines of the plan are printed, and
   -- nothing else is written
   pub planned : ¬ (asked.mode ≡ Load) → obstacle_of (sources_asked asked known) (request_of asked) ≡ None → CameTo 0 (record shown { out = shown.out ++ lines_asked asked known }) (IsPrintedPart (lines_asked asked known) shown) old new status
-  -- where something is, the first obstacle is named on err, and nothing else is written
+  -- if something is, the first obstacle is named on err, and nothing else is written
   pub refused : (obstacle : Obstacle) → obstacle_of (sources_asked asked known) (request_of asked) ≡ Some obstacle → CameTo 1 (record shown { err = shown.err ++ line (obstacle_text obstacle) }) (IsPrintedPart [] shown) old new status
 
 -- modprobe with these words after its name, over files and outputs with known contents.

@@ -59,26 +59,26 @@ first_command asked r = first_owner (steps_asked asked r.known r.listed r.names)
 -- What modprobe did over files and outputs with these known contents: it left new and answered this
 -- status. Files are as they were.
 pub record IsTakenBack (asked : ModprobeWords) (dry_run : Bool) (r : Removing) (shown : Shown) (old new : World) (status : ℕ) : Type 0 where
-  -- the listed modules, oldest first, are loaded: each is all of a valid file, that at the first
+  -- the listed modules, oldest first, are loaded: each is all of a valid file, the one at the first
   -- path of its dependency line
   pub listed : List Module
   pub listed_paths : List (List ℕ)
   pub listed_lines : AreWellFormedPaths r.known.indexes (reverse r.known.loaded) listed_paths
   pub listed_files : AreFileModules shown.files (folder_asked asked) listed_paths listed
   pub listed_load : IsLoaded r.kernel r.region listed r.listed
-  -- where a module that is asked for is used by one that isn't, the oldest such module and its
-  -- oldest such user are named, and nothing is taken out
+  -- if a module that is asked for is used by one that isn't, the oldest such module and its oldest
+  -- such user are named, and nothing is taken out
   pub used : (j k : ℕ) → in_use r.listed (is_asked r.listed r.names) ≡ Some (j, k)
       → CameTo 1 (record shown { err = shown.err ++ line (name_at r.listed j ++ (codes " is in use by " ++ name_at r.listed k)) }) (IsPrintedPart [] shown) old new status
-  -- where a command would be run, the first module with one is named, and nothing is taken out
+  -- if a command would be run, the first module with one is named, and nothing is taken out
   pub chosen : NoneInUse r → dry_run ≡ false → (name : List ℕ) → first_command asked r ≡ Some name
       → CameTo 1 (record shown { err = shown.err ++ line (codes "remove chosen " ++ name) }) (IsPrintedPart [] shown) old new status
   -- with `-n` the lines of the steps are printed, and that is all
   pub printed : NoneInUse r → dry_run ≡ true
       → CameTo 0 (record shown { out = shown.out ++ step_lines (steps_asked asked r.known r.listed r.names) }) (IsPrintedPart (step_lines (steps_asked asked r.known r.listed r.names)) shown) old new status
-  -- else the lines of what is taken out are printed, the youngest first. Then come the lines of
-  -- what was taken out, and then a line for each module that is left, the oldest first. That line
-  -- has the module's address, its size and the digest of its image
+  -- otherwise the lines of what is taken out are printed, the youngest first. Then come the lines
+  -- of what was taken out, and then a line for each module that is left, the oldest first. That
+  -- line has the module's address, its size and the digest of its image
   pub done : NoneInUse r → dry_run ≡ false → first_command asked r ≡ None
       → CameTo 0 (record shown { out = shown.out ++ taken_out_lines r.listed r.names }) (IsPrintedPart (taken_out_lines r.listed r.names) shown) old new status
   -- no step is refused

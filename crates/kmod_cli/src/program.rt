@@ -143,7 +143,7 @@ fn modinfo<F: Reads, O: Out, E: Out>(
 /// only prints the plan, or prints what names stand for.
 ///
 /// It lists no folder of modules, so that their paths come only from the index. If what it reads is
-/// understood, it plans exactly if an order exists, and else names the first obstacle.
+/// understood, it plans exactly if an order exists, and otherwise names the first obstacle.
 ///
 /// The modules that it loads bind while tree and kernel are as depmod indexed them, no install
 /// command is chosen, and the listed modules load. Then status 0 means that all modules of the plan

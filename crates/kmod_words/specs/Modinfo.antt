@@ -42,8 +42,7 @@ single [] = Some None
 single (key ∷ []) = Some (Some key)
 single (key ∷ other ∷ keys) = None
 
--- Whether the words name modules by their names where a version is given, and by their paths else:
--- then there is no root.
+-- Whether the words are names and the version is one, or the words are paths and there is no root.
 abbrev pub is_by_name_or_path : List Row → Bool
 is_by_name_or_path rows =
     option_map_or is_version (value_of (codes "set-version") rows) (not (is_some (value_of (codes "basedir") rows)))

@@ -51,7 +51,7 @@ pub enum Mode {
 pub struct ModprobeWords {
     /// What is to be done.
     pub mode: Mode,
-    /// Whether every word is a name. Else the words after the first are options of the module.
+    /// Whether every word is a name. Otherwise the words after the first are options of the module.
     pub all: bool,
     /// Whether the blacklist applies to names too.
     pub use_blacklist: bool,

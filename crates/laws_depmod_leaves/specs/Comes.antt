@@ -1,4 +1,4 @@
--- How far a depmod comes, by the files that it finds: it indexes the tree in a folder, or something
+-- How far a depmod gets, by the files that it finds: it indexes the tree in a folder, or something
 -- ends it. depmod(8), modules.dep(5).
 use Rattle.std.specs.Prelude.{◌≡◌, ℕ, true, false, List, [], ◌∷◌, ◌++◌, length, map, codes, Option, Some, None, Ok}
 use Rattle.km_names.specs.Path.{is_compressed, path_below}
@@ -131,7 +131,7 @@ pub data IsEnded (held : Contents) (asked : DepmodWords) : End → Type 0 where
   no_table : (search paths : List (List ℕ)) → ((reads_search asked.config).run held).outcome ≡ value search → ((reads_tree (modules_of_request asked) search).run held).outcome ≡ value paths → (e : End) → ((reads_kernel asked.filesyms asked.symvers).run held).outcome ≡ end e → IsEnded held asked e
   -- a module, after valid ones
   bad_module : (paths : List (List ℕ)) (table : Table) → HasTree held asked paths table → (before : List Facts) (path : List ℕ) (later : List (List ℕ)) → AreValid held (modules_of_request asked) paths before (path ∷ later) → (e : End) → IsBadModule held (modules_of_request asked) path e → IsEnded held asked e
-  -- a cycle, where all modules are valid
+  -- a cycle, if all modules are valid
   has_cycle : (tree : List Facts) (table : Table) → IsRead held asked tree table → (i : ℕ) (is : List ℕ) → cycle_in tree table ≡ i ∷ is → IsEnded held asked (Refused (Cycle (map (name_at (modules_of tree)) (i ∷ is))))
   -- if there is none, a limit of dependencies or of double lines
   too_many : (tree : List Facts) (table : Table) → IsRead held asked tree table → cycle_in tree table ≡ [] → (fault : RelationFault) → relation_fault (modules_of tree) (seen_kernel table) ≡ Some fault → IsEnded held asked (Refused (relation_refusal fault))
@@ -141,7 +141,7 @@ pub data IsEnded (held : Contents) (asked : DepmodWords) : End → Type 0 where
   no_info : (tree : List Facts) (table : Table) → IsRead held asked tree table → relation_fault (modules_of tree) (seen_kernel table) ≡ None → (builtin : List ℕ) → built_in held asked ≡ value builtin → (e : End) → built_in_info held asked ≡ end e → IsEnded held asked e
   -- the first of the nine files that is too large
   too_large : (i : IndexedTree) → IsRead held asked i.tree i.table → relation_fault (modules_of i.tree) (seen_kernel i.table) ≡ None → built_in held asked ≡ value i.builtin → built_in_info held asked ≡ value i.info → (fault : OutputFault) → output_fault (files_of i) ≡ Some fault → IsEnded held asked (Refused (output_refusal fault))
-  -- where none of them is, the first of the two others
+  -- if none of them is, the first of the two others
   extra_too_large : (i : IndexedTree) → IsRead held asked i.tree i.table → relation_fault (modules_of i.tree) (seen_kernel i.table) ≡ None → built_in held asked ≡ value i.builtin → built_in_info held asked ≡ value i.info → output_fault (files_of i) ≡ None → (refusal : Refusal) → extra_refusal (extra_made i.tree i.info) ≡ Some refusal → IsEnded held asked (Refused refusal)
 
 -- What a depmod results in over the files that it finds.

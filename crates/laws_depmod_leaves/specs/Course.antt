@@ -1,4 +1,4 @@
--- What the course of a depmod is, by how far it comes. depmod(8).
+-- What the course of a depmod is, by how far it gets. depmod(8).
 use Rattle.std.specs.Prelude.{◌≡◌, ℕ, Bool, true, List, [], ◌∷◌, ◌++◌, map, flat_map, Option, Some, None, is_some, if◌then◌else◌, ⊤}
 use Rattle.std.specs.List.{list_all}
 use Rattle.km_names.specs.Path.{path_below}
@@ -60,6 +60,6 @@ pub record IsIndexingCourse (held : Contents) (asked : DepmodWords) (run : Run �
   pub acts : run.acts ≡ before ++ writes asked outcome
   pub ends : run.outcome ≡ closes outcome
 
--- So is the course of each depmod, over any files.
+-- The course of each depmod is such a course, over any files.
 abbrev pub CoursesIndex : Type 0
 CoursesIndex = (held : Contents) (asked : DepmodWords) → IsIndexingCourse held asked ((indexes asked).run held)

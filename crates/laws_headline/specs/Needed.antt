@@ -34,7 +34,7 @@ kernel_x = record { name = codes "x"; crc = None; address = None; gpl = false; s
 abbrev pub placed_x : KernelExport
 placed_x = record kernel_x { address = Some 4096 }
 
--- What is known over the files of an index, where the configuration states these rules and these
+-- What is known over the files of an index, if the configuration states these rules and these
 -- modules are listed as loaded.
 abbrev pub known_of_files : IndexedTree → List Rule → List (List ℕ) → Known
 known_of_files i stated loaded = record { rules = stated; indexes = indexes_of (files_of i); unmet = []; loaded = loaded }
@@ -43,22 +43,22 @@ known_of_files i stated loaded = record { rules = stated; indexes = indexes_of (
 abbrev pub plan_over : IndexedTree → List Rule → List (List ℕ) → Outcome (List PlanStep)
 plan_over i stated loaded = plan_outcome (known_of_files i stated loaded) loaded (request_of load_asked)
 
--- The same table: where the machine's kernel exports `x`, and the one that was indexed doesn't, a
+-- The same table: if the machine's kernel exports `x`, and the one that was indexed doesn't, a
 -- module that exports it is refused.
 abbrev pub OtherTableIsRefused : Type 0
 OtherTableIsRefused =
     (passed : fact_fault (codes "p.ko") giver_file ≡ None) (region : Region)
     → load_all (new_machine (kernel_with (record { known = true; exports = placed_x ∷ [] })) region) (module_at (codes "p.ko") giver_file passed ∷ []) ≡ Err (ExportTaken (codes "x") (codes "vmlinux"))
 
--- The module that uses the other is refused if that one isn't loaded before it. So it is if a
--- command is run in its place, if listed modules don't load, and if the folder isn't as depmod
+-- The module that uses the other is refused if that one isn't loaded before it. It is refused too
+-- if a command is run in its place, if listed modules don't load, and if the folder isn't as depmod
 -- indexed it.
 abbrev pub AloneIsRefused : Type 0
 AloneIsRefused =
     (passed : fact_fault (codes "m.ko") taker_file ≡ None) (region : Region)
     → load_all (new_machine (kernel_with indexed.table) region) (module_at (codes "m.ko") taker_file passed ∷ []) ≡ Err (MissingSymbol (codes "x"))
 
--- The listed modules load: where the other module is listed as loaded, the plan leaves it out.
+-- The listed modules load: if the other module is listed as loaded, the plan leaves it out.
 abbrev pub ListedIsLeftOut : Type 0
 ListedIsLeftOut = plan_over indexed [] (codes "p" ∷ []) ≡ value (Insert (codes "m") (codes "m.ko") [] ∷ [])
 

@@ -75,14 +75,14 @@ pub record IsLoadingCourse (held : Contents) (folder : List ℕ) (images : Image
   pub acts : run.acts ≡ before ++ (said (plan_lines folder steps) ++ ((loads_all folder images machine inserts).run held).acts)
   pub outcome : run.outcome ≡ ended ((loads_all folder images machine inserts).run held).outcome
 
--- What is asked for has a System.map and a region, and from these came the machine of the kernel.
+-- What is asked for has a System.map and a region, and the machine of the kernel is made of these.
 pub record HasMachine (held : Contents) (asked : ModprobeWords) (addressed : Kernel) (region : Region) : Type 0 where
   pub map : List ℕ
   pub mapped : asked.system_map ≡ Some map
   pub in_region : region_at asked.region_base asked.region_size ≡ Some region
   pub made : ((reads_machine map asked.symvers region).run held).outcome ≡ value (new_machine addressed region)
 
--- A course that came past its reading is one of loads, over any files.
+-- A course that got past its reading is one of loads, over any files.
 abbrev pub CoursesLoad : Type 0
 CoursesLoad =
     (held : Contents) (asked : ModprobeWords) (addressed : Kernel) (region : Region) (known : Known) (machine : Machine) (steps : List PlanStep) (inserts : List Insertion)

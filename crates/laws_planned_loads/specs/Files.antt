@@ -19,7 +19,7 @@ pub record IsFileModule (held : Contents) (folder path : List ℕ) (m : Module) 
   pub passed : fact_fault path bytes ≡ None
   pub read : m ≡ module_at path bytes passed
 
--- So is each of some modules, in the order of their paths.
+-- Each of some modules is what its file states, in the order of their paths.
 abbrev pub AreFileModules : Contents → List ℕ → List (List ℕ) → List Module → Type 0
 AreFileModules held folder [] [] = Unit {0}
 AreFileModules held folder [] (m ∷ ms) = ⊥

@@ -71,7 +71,7 @@ FoldersAreRead =
     → Indexed held folder tree kernel builtin
     → IsFolderRead held folder tree kernel builtin
 
--- What is known of a tree, where the configuration states these rules and these modules are loaded.
+-- What is known of a tree, if the configuration states these rules and these modules are loaded.
 abbrev pub known_of : List Facts → Kernel → List ℕ → List Rule → List (List ℕ) → Known
 known_of tree kernel builtin stated loaded = record {
   rules = stated ++ softdep_rules tree;

@@ -55,8 +55,8 @@ const MODULE_LIMIT: usize = 10_000;
 /// # Errors
 ///
 /// `BadPath` exactly if the path of a module has a byte outside 33 to 126 or a `:`, with the least
-/// such path by bytes. Else `TooManyModules` exactly if there are more than 10,000 module names. Or
-/// `Memory`.
+/// such path by bytes. Otherwise `TooManyModules` exactly if there are more than 10,000 module
+/// names. Or `Memory`.
 pub fn choose(
     alloc: Global,
     paths: &Paths,

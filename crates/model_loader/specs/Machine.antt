@@ -61,8 +61,8 @@ kernel_placed e = record { name = e.name; crc = e.crc; gpl = e.gpl; space = e.sp
 abbrev pub export_named : List ℕ → List PlacedExport → Option PlacedExport
 export_named x exports = find (λ e. bytes_eq e.name x) exports
 
--- What a name is bound to: the kernel's export, and else the export of the module that was loaded
--- first.
+-- What a name is bound to: the kernel's export, and otherwise the export of the module that was
+-- loaded first.
 unfoldable pub placed_under : Machine → List ℕ → Option PlacedExport
 placed_under machine x =
     first (

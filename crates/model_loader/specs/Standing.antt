@@ -15,8 +15,8 @@ use Rattle.model_loader.specs.Machine.{Machine, export_named, kernel_placed}
 abbrev pub standing : Option (List ℕ) → PlacedExport → Standing
 standing owner e = record { crc = e.crc; gpl = e.gpl; space = e.space; address = e.address; owner = owner }
 
--- What is kept of a name: of the kernel's export, and else of the export of the module that was
--- loaded first.
+-- What is kept of a name: of the kernel's export, and otherwise of the export of the module that
+-- was loaded first.
 unfoldable pub standing_under : Machine → List ℕ → Option Standing
 standing_under machine x =
     first (

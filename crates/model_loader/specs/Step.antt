@@ -30,8 +30,8 @@ use Rattle.model_loader.specs.Gap.{gap}
 abbrev pub fault_if : Bool → LoadFault → Option LoadFault
 fault_if failed fault = if failed then Some fault else None
 
--- The address of a need: the address of its export, if there is one that the module sees, and else
--- 0.
+-- The address of a need: the address of its export, if there is one that the module sees, and
+-- otherwise 0.
 abbrev pub need_address : Machine → Facts → FactsNeed → ℕ
 need_address machine f n =
     option_map_or (λ e. if is_seen f.free e.gpl then e.address else 0) (placed_under machine n.name) 0

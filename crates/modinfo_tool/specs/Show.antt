@@ -35,7 +35,7 @@ lines_asked (Some key) path fields = values_under key path fields
 abbrev pub ended : ℕ → List (List ℕ) → List ℕ
 ended end lines = flat_map (λ line. line ++ end ∷ []) lines
 
--- The byte that ends a line: a NUL if that is asked for, and else a line end.
+-- The byte that ends a line: a NUL if that is asked for, and otherwise a line end.
 abbrev pub line_end : Bool → ℕ
 line_end zero = if zero then 0 else 10
 

@@ -70,8 +70,8 @@ are_bad_entries bytes = not (length bytes % 64 == 0) || list_any (λ k. is_none 
 abbrev pub entry_bytes : FileObject → Option (List ℕ)
 entry_bytes o = named_bytes o (codes "__versions")
 
--- The version list: from the extended form if the file has it, even an empty one, and else from the
--- entries. It is empty if the file has neither form.
+-- The version list: from the extended form if the file has it, even an empty one, and otherwise
+-- from the entries. It is empty if the file has neither form.
 unfoldable pub version_list : FileObject → List (List ℕ × ℕ)
 version_list o = option_map_or (λ p. extended_list p.0 p.1) (extended_bytes o) (option_map_or entry_list (entry_bytes o) [])
 

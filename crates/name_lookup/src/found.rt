@@ -8,7 +8,7 @@ use std::alloc::{AllocError, Global};
 /// What was found for a name.
 #[derive(Drop)]
 pub struct Found {
-    /// Which of the six lists gave the names, from 1; 0 where all are empty.
+    /// Which of the six lists gave the names, from 1; 0 if all are empty.
     pub list: u8,
     /// The names, each once. A list that was found may lose all of them to the blacklist.
     pub names: Names,

@@ -51,7 +51,7 @@ piece params s = record {
   bytes = option_map_or (value_bytes s) (slice_get params s.number) [];
 }
 
--- The byte at x: from the last of some pieces that covers it, and else from the image.
+-- The byte at x: from the last of some pieces that covers it, and otherwise from the image.
 abbrev pub byte_of : List ℕ → List Piece → ℕ → ℕ
 byte_of image ps x = option_map_or (λ p. slice_index p.bytes (x - p.at)) (find (has_place x) (reverse ps)) (slice_index image x)
 

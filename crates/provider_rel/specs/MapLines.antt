@@ -34,7 +34,7 @@ map_line text =
 abbrev pub is_global : MapSymbol → Bool
 is_global s = is_ascii_uppercase s.letter
 
--- The symbol of a name: the first global one that has it, and else the first that has it.
+-- The symbol of a name: the first global one that has it, and otherwise the first that has it.
 abbrev pub symbol_of : List MapSymbol → List ℕ → Option MapSymbol
 symbol_of symbols name =
     option_or (find (λ s. is_global s && bytes_eq s.name name) symbols) (find (λ s. bytes_eq s.name name) symbols)

@@ -71,8 +71,8 @@ reads_files paths = each_from reads_file [] paths
 abbrev pub reads_listed : List ListedFolder → Stage (List ConfFile)
 reads_listed folders = reads_files (paths_of folders)
 
--- The configuration at a path that was given: one file if the path ends in `.conf`, and else one
--- folder.
+-- The configuration at a path that was given: one file if the path ends in `.conf`, and otherwise
+-- one folder.
 abbrev pub reads_given : List ℕ → Stage (List ConfFile)
 reads_given path =
     when ends_with nat_eq path (codes ".conf") then reads_files (path ∷ []) else (do

@@ -11,7 +11,7 @@ use Rattle.km_course.specs.declared.end.End.TheVariants.{Refused}
 use Rattle.km_course.specs.declared.refusal.Refusal.TheVariants.{NotFound}
 use Rattle.stages_known.specs.declared.known.Known.{Known}
 
--- What is found for a name, where the blacklist applies to names too or not.
+-- What is found for a name. The blacklist applies to names too, or not.
 abbrev pub found_in : Known → Bool → List ℕ → Found
 found_in known everywhere name = found known.rules (maps_of known.indexes) everywhere name
 
@@ -27,7 +27,7 @@ found_names known everywhere names = flat_map (λ name. (found_in known everywhe
 abbrev pub normal_or_itself : List ℕ → List ℕ
 normal_or_itself name = unwrap_or (normal_alias name) name
 
--- what a name that stands for nothing results in, if there is one, and else the names
+-- what a name that stands for nothing results in, if there is one, and otherwise the names
 abbrev pub unless_unknown : Option (List ℕ) → List (List ℕ) → Outcome (List (List ℕ))
 unless_unknown None names = value names
 unless_unknown (Some name) names = end (Refused (NotFound (normal_or_itself name)))

@@ -65,8 +65,8 @@ addressed_outcome file known (Ok exports) = value (record { known = known; expor
 addressed_outcome file known (Err fault) = end (Refused (line_refusal file fault))
 
 -- The exports of a kernel at their addresses. If a Module.symvers is named, they are its exports,
--- else the System.map's. The System.map is read and understood before the Module.symvers is read,
--- and its addresses are added after.
+-- and otherwise the System.map's. The System.map is read and understood before the Module.symvers
+-- is read, and its addresses are added after.
 abbrev pub reads_addressed : List ℕ → Option (List ℕ) → Stage Table
 reads_addressed map None = reads_map map
 reads_addressed map (Some symvers) = do

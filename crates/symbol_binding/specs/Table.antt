@@ -1,5 +1,5 @@
--- What a name is bound to in a machine: the kernel's export, and else the export of the module that
--- was loaded first. The kernel's find_symbol, kernel/module/main.c.
+-- What a name is bound to in a machine: the kernel's export, and otherwise the export of the module
+-- that was loaded first. The kernel's find_symbol, kernel/module/main.c.
 use Rattle.std.specs.Prelude.{ℕ, Bool, List, [], ◌∷◌, find, Option, option_map}
 use Rattle.std.specs.List.{list_any}
 use Rattle.std.specs.Str.{bytes_eq}

@@ -27,12 +27,12 @@ after (suc n) x = next (after n x)
 abbrev pub draw : ℕ → ℕ → ℕ
 draw end x = (x / 2 ^ 33) % end
 
--- One of two equal numbers, and else both.
+-- One of two equal numbers, and otherwise both.
 abbrev pub without_twin : ℕ → ℕ → List ℕ
 without_twin a b = if a == b then a ∷ [] else a ∷ b ∷ []
 
--- The modules before module i that it draws: none for the first module, and else the modules of the
--- two numbers after x.
+-- The modules before module i that it draws: none for the first module, and otherwise the modules
+-- of the two numbers after x.
 unfoldable pub drawn : ℕ → ℕ → List ℕ
 drawn i x = if i == 0 then [] else without_twin (draw i (after 1 x)) (draw i (after 2 x))
 

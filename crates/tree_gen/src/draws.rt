@@ -38,8 +38,8 @@ impl Draws {
         ((self.last >> LOW_BITS) % u64::from(end)) as u32
     }
 
-    /// Draws the modules that the module of this number needs: none for the first, and else the
-    /// next two numbers below its own, or one if they are equal.
+    /// Draws the modules that the module of this number needs: none for the first, and otherwise
+    /// the next two numbers below its own, or one if they are equal.
     #[tactic(auto, unfolding(crate::specs::Trial::drawn))]
     pub(crate) fn modules(&mut self, alloc: Global, number: u32) -> Result<Vec<u32>, AllocError>
         ensures modules { IfOk result (λ v. v.items ≡ drawn number self.old.last) }
