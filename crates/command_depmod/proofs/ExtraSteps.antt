@@ -17,7 +17,7 @@ use Rattle.command_depmod.specs.Extra.{extra_files, extra_outcome, extra_refusal
 abbrev pub info_given : List ℕ → Stage (Option (List ℕ))
 info_given bytes = gives (Some bytes)
 
--- one that isn't made stops for its refusal, or for want of memory
+-- one that isn't made stops for its refusal, or because it is out of memory
 abbrev pub StopsFor : Option Refusal → Stop → Type 0
 StopsFor refused stop = (stop ≡ Memory) ⊎ (option_map refused_stop refused ≡ Some stop)
 

@@ -38,7 +38,7 @@ pub checked_ok : (path bytes : List ℕ) (facts : Facts) (o : Option ModuleFault
 unfolding facts_outcome
 checked_ok path bytes facts o is passed = ap (facts_outcome path bytes) passed ∙ ap value (sym is)
 
--- a fault that isn't want of memory is the first test that fails
+-- a fault that isn't out of memory is the first test that fails
 pub checked_not : (path bytes text named : List ℕ) (o : Option ModuleFault) (fault : ModuleFault) → (fault ≡ Memory) ⊎ (o ≡ Some fault) → (fault ≡ Memory → ⊥) → text ≡ module_fault_text fault → named ≡ path → facts_outcome path bytes o ≡ end (Refused (BadModule named text))
 unfolding facts_outcome
 checked_not path bytes text named o fault (inl m) wanting is same = absurd (wanting m)

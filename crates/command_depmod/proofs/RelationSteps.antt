@@ -15,7 +15,7 @@ pub related_ok : (tree : Tree) → relation_fault (modules_of tree.facts) tree.k
 unfolding relation_outcome
 related_ok tree passed = ap (tree_unless tree) passed
 
--- a fault of a tree is what keeps it from having a relation, or want of memory
+-- a fault of a tree is what keeps it from having a relation, or out of memory
 pub related_not : (tree : Tree) (fault : RelationFault) (stop : Stop) → (fault ≡ Memory) ⊎ (relation_fault (modules_of tree.facts) tree.kernel ≡ Some fault) → stop ≡ relation_stop fault → Answers seen_tree (relation_outcome tree) (Err stop)
 unfolding relation_outcome
 related_not tree Memory stop cause is = subst (λ s. Answers seen_tree (relation_outcome tree) (Err s)) (sym is) tt

@@ -14,7 +14,7 @@ use Rattle.stages_files.specs.Configuration.{stated_outcome, stop_of}
 abbrev pub understood : List ConfFile → Stage (List (List ℕ))
 understood files = given (stated_outcome (search_of files))
 
--- a fault of the configuration is its first line that isn't understood, or want of memory
+-- a fault of the configuration is its first line that isn't understood, or out of memory
 pub understood_not : (stated : Result (List (List ℕ)) ConfFault) (fault : ConfFault) (stop : Stop) → (fault ≡ Memory) ⊎ (stated ≡ Err fault) → stop ≡ stop_of fault → Answers (λ (x : List (List ℕ)). x) (stated_outcome stated) (Err stop)
 understood_not stated Memory stop cause is = subst (λ s. Answers (λ (x : List (List ℕ)). x) (stated_outcome stated) (Err s)) (sym is) tt
 understood_not stated (BadLine file line) stop (inl m) is = cc

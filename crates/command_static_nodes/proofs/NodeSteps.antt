@@ -20,7 +20,7 @@ use Rattle.command_static_nodes.specs.StaticNodes.{reads_nodes, shows_nodes}
 pub stated_ok : (o : Result (List Node) ConfFault) (x : List Node) → o ≡ Ok x → stated_outcome o ≡ value x
 stated_ok o x is = ap stated_outcome is
 
--- a fault is want of memory, or the first line that is refused
+-- a fault is out of memory, or the first line that is refused
 pub stated_fault : (o : Result (List Node) ConfFault) (fault : ConfFault) (stop : Stop) → stop ≡ stop_of fault → (fault ≡ faults.Memory) ⊎ (o ≡ Err fault) → Answers (λ (x : List Node). x) (stated_outcome o) (Err stop)
 stated_fault o faults.Memory stop is why = subst (λ s. Answers (λ (x : List Node). x) (stated_outcome o) (Err s)) (sym is) tt
 stated_fault o (faults.BadLine file number) stop is (inl wanting) = absurd (cc)

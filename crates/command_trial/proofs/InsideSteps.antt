@@ -29,7 +29,7 @@ not-one : (stop : Stop) (answer : Result ⊤ OutFailed) (status : ℕ) → statu
 not-one stop (Ok x) status is written unwritten one = omega arith
 not-one stop (Err d) status is written unwritten one = omega arith
 
--- what err told when the line of an end was to be written: the warnings of the course
+-- what err had when the line of an end was to be written: the warnings of the course
 warnings : (course : Stage ⊤) (shown : Shown) (old mid : World) (err : OutSeen) (result : Result ⊤ Stop) (status : ℕ) → Tells old shown → Follows (λ x. x) course old mid result → Concludes result mid.err err status → status ≡ 1 → mid.err.told ≡ Some (done (course.run shown.files).acts shown).err
 warnings course shown old mid err (Ok x) status tells f c one = (f.told shown tells).1.err
 warnings course shown old mid err (Err (Ended e)) status tells f c one = (f.told shown tells).1.err

@@ -16,12 +16,12 @@ use Rattle.km_course.specs.Inner.{Left}
 abbrev pub bytes_at : List ℕ → Contents → List ℕ
 bytes_at path files = unwrap_or (map.get files path) []
 
--- what follows the start in the line, if the line begins so
+-- what follows the start in the line, if the line begins with it
 abbrev pub rest_if_any : Option (List ℕ) → List (List ℕ)
 rest_if_any None = []
 rest_if_any (Some rest) = rest ∷ []
 
--- What follows the start in each line of a text that begins so, in the order of the lines.
+-- What follows the start in each line of a text that begins with it, in the order of the lines.
 abbrev pub rests_of_lines : List ℕ → List ℕ → List (List ℕ)
 rests_of_lines start text = flat_map (λ line. rest_if_any (rest_after start line)) (lines_of text)
 

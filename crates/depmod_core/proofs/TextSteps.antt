@@ -85,7 +85,7 @@ too-long which bytes n is past =
     ap (λ b. cond b (Some (OutputTooLarge (file_name which) (min (length bytes) 18446744073709551615))) None) (lt-ltb file_limit (length bytes) (omega arith))
     ∙ ap (λ k. Some (OutputTooLarge (file_name which) k)) (sym is)
 
--- a fault that names a file as long, or is want of memory
+-- a fault that names a file as long, or is out of memory
 pub named-too-long : (which : OutputFile) (bytes : List ℕ) (n : ℕ) (fault : OutputFault) → n ≡ min (length bytes) 18446744073709551615 → file_limit < n → (fault ≡ Memory) ⊎ (fault ≡ OutputTooLarge (file_name which) n) → (fault ≡ Memory) ⊎ (size_fault which bytes ≡ Some fault)
 named-too-long which bytes n fault is past (inl memory) = inl memory
 named-too-long which bytes n fault is past (inr named) = inr (too-long which bytes n is past ∙ ap Some (sym named))

@@ -3,8 +3,9 @@
 //!
 //! `Object::read` keeps the bytes that it gets. A contract sees the file beside the lists that were
 //! read from it, which are functions of the file. Each number is the sum of its bytes at a computed
-//! place, and each name has the bytes up to its NUL. Every refusal is the first failing test of one
-//! list of tests over the whole file, with its numbers. Only out of memory is free.
+//! place, and each name has the bytes up to its NUL. Any file may be refused for out of memory.
+//! Every other refusal is the first failing test of one list of tests over the whole file, with its
+//! numbers.
 //!
 //! A file may come from anywhere, and names may share their bytes in it, as may tables of
 //! relocations. So what may overlap is added up before it is kept. The names of the sections have

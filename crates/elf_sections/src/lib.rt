@@ -3,8 +3,9 @@
 //!
 //! `Sections::read` keeps the bytes that it gets. A contract sees the file beside the list of its
 //! sections, which is a function of the file. Each number is the sum of its bytes at a computed
-//! place, and each name is the bytes up to its NUL. Every refusal is the first failing test of one
-//! list of tests over the whole file, with its numbers. Only out of memory is free.
+//! place, and each name is the bytes up to its NUL. Any file may be refused for out of memory.
+//! Every other refusal is the first failing test of one list of tests over the whole file, with its
+//! numbers.
 //!
 //! A `SectionTable` shows the sections of a file that its reader keeps: names stay in the file.
 //!

@@ -7,8 +7,8 @@
 //! and images as functions of the object file.
 //!
 //! The crate uses `elf_object` for sections, symbols and places, `x86_relocate` for the words,
-//! `raw_image` for the block, and `elf_format` and `km_names`. Out of memory is free; the only
-//! other refusal is a word that is too wide.
+//! `raw_image` for the block, and `elf_format` and `km_names`. Any call may be out of memory. The
+//! only other refusal is a word that is too wide.
 #![tactic(auto)]
 
 mod class;

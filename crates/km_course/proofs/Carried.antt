@@ -295,7 +295,7 @@ carried_fault course old mid err text n cause rooms k rose told none some w whol
     cut : (shown : Shown) → Tells old shown → CutShort (whole_acts (course.run shown.files)) shown old (closed mid err) failed_line (ActFailed old (closed mid err))
     cut shown h = cut_short (course.run shown.files).acts (closing_acts (course.run shown.files).outcome) shown old mid err text n cause (told shown h) none some w whole
 
--- a stop for want of memory
+-- a stop that is out of memory
 carried_memory : (course : Stage ⊤) (old mid : World) (err : OutSeen) (n : ℕ) → FitsRooms old × FitsRooms (closed mid err) → Follows (λ (y : ⊤). y) course old mid (Err Memory) → Wrote out_of_memory mid err n → (length out_of_memory ≤ n) ⊎ Rose old.err.faults err.faults → Carries course old (closed mid err) 4
 carried_memory course old mid err n rooms f w whole = record {
   statuses = omega arith;

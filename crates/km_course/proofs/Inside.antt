@@ -69,7 +69,7 @@ two-is (ends.NoFile path) h = absurd (omega (arith, h))
 two-is (ends.TooLarge path) h = absurd (omega (arith, h))
 two-is (ends.Inner line) h = absurd (omega (arith, h))
 
--- how many calls were made before changes nothing else that is told
+-- how many calls were made before changes nothing else that is known
 pub done-calls : (acts : List Act) (shown : Shown) (calls : ℕ) → (n : ℕ) × (done acts (record shown { calls = calls }) ≡ record (done acts shown) { calls = n })
 done-calls [] shown calls = (calls, refl)
 done-calls (act ∷ acts) shown calls = done-calls acts (act_done act shown) (calls_done act calls)

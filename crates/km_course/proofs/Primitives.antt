@@ -55,7 +55,7 @@ fell counts answers.Memory = fell_ok counts
 no_fault : (old : FilesSeen) (counts : CallCounts) (out err : OutSeen) → counts.faults ≡ old.counts.faults → NoFault (world old out err) (world (counting old counts) out err)
 no_fault old counts out err e = record { files = e; out = refl; err = refl }
 
--- what is told after a call that was made, with these counts
+-- what is known after a call that was made, with these counts
 tells_called : (old : FilesSeen) (counts : CallCounts) (out err : OutSeen) (shown : Shown) → counts.calls ≡ one_more old.counts.calls → Tells (world old out err) shown → Tells (world (counting old counts) out err) (record shown { calls = one_more shown.calls })
 tells_called old counts out err shown e h = record { files = h.files; calls = e ∙ ap one_more h.calls; out = h.out; err = h.err }
 
@@ -131,7 +131,7 @@ call_wanting view path act outcome possible old out err is =
 long : (n m limit : ℕ) → limit < n → n ≡ min m count_end → limit < m
 long n m limit h e = omega arith
 
--- what is told of a read decides its outcome
+-- what is known of a read decides its outcome
 read_told : (absent : Outcome (List ℕ)) (path bytes : List ℕ) (files : FilesSeen) → IsReadAt path files (Ok bytes) → (told : Contents) → files.contents ≡ Some told → read_outcome absent path (map.get told path) ≡ value bytes
 read_told absent path bytes files a told h =
     ap (read_outcome absent path) (some_at (λ t. map.get t path ≡ Some bytes) files.contents told h a.1)
@@ -192,7 +192,7 @@ pub conf_is_path : (name : List ℕ) → is_conf_name name ≡ true → is_path 
 conf_is_path [] e = cc
 conf_is_path (byte ∷ name) e = lt-ltb 0 (length (byte ∷ name)) (omega arith)
 
--- what is told of a listing decides its outcome
+-- what is known of a listing decides its outcome
 list_few : (absent : Outcome (List (List ℕ))) (folder : List ℕ) (below names : List (List ℕ)) → below ≢ [] → length names ≤ list_limit → list_outcome absent folder below names ≡ value names
 list_few absent folder [] names some few = absurd (some refl)
 list_few absent folder (x ∷ below) names some few = ap (λ b. if b then end (TooLarge folder) else value names) (le-ltb list_limit (length names) few)

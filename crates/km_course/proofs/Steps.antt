@@ -110,7 +110,7 @@ StopsAt-after {acts} {shown} {new} {cause} first s = record {
   because = subst (λ w. cause s.count w (next_act s.rest)) (sym (done-append first s.before shown)) s.because;
 }
 
--- what acts more, done before, make of what is told after a call
+-- what more acts, done before, make of what is known after a call
 Told-after : {T X : Type 0} (view : T → X) (first : List Act) (run : Run X) (shown : Shown) (new : World) (r : Result T Stop) → Told view run (done first shown) new r → Told view (record { acts = first ++ run.acts; outcome = run.outcome }) shown new r
 Told-after view first run shown new (Ok x) t = (t.0, subst (Tells new) (sym (done-append first run.acts shown)) t.1)
 Told-after view first run shown new (Err (Ended e)) t = (t.0, subst (Tells new) (sym (done-append first run.acts shown)) t.1)
@@ -215,7 +215,7 @@ ended : {X Y : Type 0} (run : Run X) (f : X → Stage Y) (files : Contents) (sho
 ended {X} {Y} run f files shown new e t =
     subst (λ w. (w.outcome ≡ end e) × Tells new (done w.acts shown)) (sym (continued-end run.acts run.outcome e f files t.0)) (refl, t.1)
 
--- what was told of a stop in a run is told of the run that would have gone on
+-- what was known of a stop in a run is known of the run that would have gone on
 Stopped-more : {X Y : Type 0} (run : Run X) (f : X → Stage Y) (files : Contents) (shown : Shown) (new : World) (stop : Stop) → Stopped run shown new stop → Stopped (continued run.acts run.outcome f files) shown new stop
 Stopped-more run f files shown new (Ended e) t = ended run f files shown new e t
 Stopped-more run f files shown new (FileFault path) t = let more = continued-acts run.acts run.outcome f files in StopsAt-more _ more.0 more.1 (wide-failed path new) t

@@ -61,7 +61,7 @@ WarningFailed new count shown _ = ⊥
 abbrev pub Free : ℕ → Shown → Option Act → Type 0
 Free count shown next = ⊤
 
--- What is seen after a call that stopped so, if the stage has this run.
+-- What is seen after a call that stopped in this way, if the stage has this run.
 abbrev pub Stopped : {X : Type 0} → Run X → Shown → World → Stop → Type 0
 Stopped run shown new (Ended e) = (run.outcome ≡ end e) × Tells new (done run.acts shown)
 Stopped run shown new (FileFault path) = StopsAt run.acts shown new (CallFailed path new)

@@ -2,7 +2,7 @@
 use Rattle.std.specs.Prelude.{ℕ, ◌-◌, List, ◌∷◌, ◌++◌, Bool, ◌||◌, ◌==◌, if◌then◌else◌, codes, map, length, take, nat_eq}
 use Rattle.std.specs.List.{before_first, after_last, suffix_len, ends_with}
 
--- The text with each `-` replaced by `_`: names of modules that differ only so are the same.
+-- The text with each `-` replaced by `_`: names of modules that differ only in this are the same.
 -- modprobe(8).
 abbrev pub underscored : List ℕ → List ℕ
 underscored text = map (λ b. if b == 45 then 95 else b) text

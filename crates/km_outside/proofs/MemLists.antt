@@ -84,7 +84,7 @@ some_names xs h e = differ (ap (λ l. length l == 0) e) h
     differ : {b : Bool} → b ≡ true → b ≡ false → ⊥
     differ e f = cc
 
--- what is found of told contents is a listing of them
+-- what is found of known contents is a listing of them
 found_list : (fits : List ℕ → Bool) (folder : List ℕ) (files : MemFilesSeen) → IsListOf fits folder (mem_files_seen files) (found_names (length (listed is_path folder files.contents)) (listed fits folder files.contents))
 found_list fits folder files =
     by_below (length below == 0) refl

@@ -8,7 +8,7 @@ use Rattle.km_outside.specs.declared.listing.Listing.TheVariants.{Conf, Tree}
 use Rattle.km_outside.specs.declared.mem_files.CallKind.{CallKind}
 use Rattle.km_outside.specs.declared.mem_files.CallKind.TheVariants.{ListConf, ListTree}
 
--- The kind of calls that list so.
+-- The kind of calls that list in this way.
 abbrev pub kind_of : Listing → CallKind
 kind_of Conf = ListConf
 kind_of Tree = ListTree

@@ -83,7 +83,7 @@ abbrev pub found : Option (List ℕ) → Result (List ℕ) FileAnswer
 found None = Err Absent
 found (Some bytes) = if nat_lt file_limit (length bytes) then Err (TooLarge (min (length bytes) count_end)) else Ok bytes
 
--- The answer to the next read of the path if memory is ample.
+-- The answer to the next read of the path if there is enough memory.
 abbrev pub mem_read : MemFilesSeen → List ℕ → Result (List ℕ) FileAnswer
 mem_read files path = if kind_fails files Read then Err Failed else found (map.get files.contents path)
 
@@ -93,7 +93,7 @@ found_names below names =
     if below == 0 then Err Absent
     else if nat_lt list_limit (length names) then Err (TooLarge (min (length names) count_end)) else Ok names
 
--- The answer to the next listing of this kind if memory is ample.
+-- The answer to the next listing of this kind if there is enough memory.
 abbrev pub mem_list : MemFilesSeen → CallKind → (List ℕ → Bool) → List ℕ → Result (List (List ℕ)) FileAnswer
 mem_list files kind fits folder =
     if kind_fails files kind then Err Failed

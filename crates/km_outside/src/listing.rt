@@ -15,7 +15,7 @@ pub(crate) enum Listing {
 }
 
 impl Listing {
-    /// Returns the kind of calls that list so.
+    /// Returns the kind of calls that list in this way.
     pub(crate) fn kind(self) -> CallKind
         ensures { result ≡ kind_of self }
     {

@@ -146,7 +146,7 @@ module _ (asked : ModprobeWords) (l : Loading) (listed plan : List Module) (run 
   are-shown : shown_of loads_doings ≡ shown_images
   are-shown = doings-shown (folder_asked asked) asked.params h.loads.went
 
-  -- what is told after the whole of it
+  -- what is known after the whole of it
   whole-told : Shows (done (whole_acts run) shown) (with_images asked.image shown_images shown.files) (shown.out ++ printed asked l shown_images) (shown.err ++ h.loads.err_line)
   whole-told =
       let all = loads-left (plan_lines (folder_asked asked) l.steps) asked.image loads_doings run.acts run.outcome shown h.acts in

@@ -113,7 +113,7 @@ after-writes asked (value i) shown =
     }) in
     subst (λ acts. Shows (done acts shown) (told_of asked (value i) shown).files (told_of asked (value i) shown).out (told_of asked (value i) shown).err) (sym (append-nil (index_acts asked i))) whole
 
--- what is told of files and outputs that hold the same is the same
+-- what is known of files and outputs that hold the same is the same
 told-same : (asked : DepmodWords) (o : Outcome IndexedTree) (s shown left : Shown) → Shows s shown.files shown.out shown.err → Shows left (told_of asked o s).files (told_of asked o s).out (told_of asked o s).err → Shows left (told_of asked o shown).files (told_of asked o shown).out (told_of asked o shown).err
 told-same asked (value i) s shown left same h = record {
   files = h.files ∙ ap (with_files (target_of_request asked) (made_of i) (files_replaced asked)) same.files;

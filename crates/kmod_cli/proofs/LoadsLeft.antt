@@ -85,7 +85,7 @@ no-images : (images : Option (List ℕ)) (files : Contents) → with_images imag
 no-images None files = refl
 no-images (Some images) files = refl
 
--- what is told after the first image, by what is told after the others
+-- what is known after the first image, by what is known after the others
 after-one : (first rest : List Act) (shown : Shown) (files : Contents) (line lines : List ℕ) (err : List ℕ) → (done first shown).out ≡ shown.out ++ line → Shows (done rest (done first shown)) files ((done first shown).out ++ lines) err → Shows (done (first ++ rest) shown) files (shown.out ++ (line ++ lines)) err
 after-one first rest shown files line lines err one h =
     let all = done-append first rest shown in

@@ -68,7 +68,7 @@ one-module tree apart p q in_p in_q same =
     let names : a.0.name ≡ b.0.name = ap (λ (m : SeenModule). m.face.name) a.2 ∙ same ∙ sym (ap (λ (m : SeenModule). m.face.name) b.2) in
     sym a.2 ∙ ap module_of (one-name (λ (f : Facts). f.name) tree apart a.0 b.0 a.1 b.1 names) ∙ b.2
 
--- names that are apart are told apart
+-- names that differ are distinct
 distinct-names : {X : Type 0} (f : X → List ℕ) (xs : List X) → AllPairs (λ a b. f a ≡ f b → ⊥) xs → IsDistinct bytes_eq (map f xs)
 unfolding IsDistinct
 distinct-names f [] apart = tt

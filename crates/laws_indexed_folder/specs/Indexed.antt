@@ -70,7 +70,7 @@ pub record ReadsAsIndexed (held : Contents) (folder : List ℕ) (tree : List Fac
   pub lines : (bytes : List ℕ) (dep : KeyValues) → HasFile held (path_below folder (file_name DepBin)) bytes → Holds bytes dep → StandsAsIndexed tree kernel dep
   pub unmet : (path bytes : List ℕ) → HasFile held (path_below folder (file_name Unmet)) bytes → unmet_of path bytes ≡ Ok (unmet (modules_of tree) (kernel_of kernel))
 
--- Folders that are as depmod indexed them are read so.
+-- Folders that are as depmod indexed them are read in this way.
 abbrev pub FoldersReadAsIndexed : Type 0
 FoldersReadAsIndexed =
     (held : Contents) (folder : List ℕ) (tree : List Facts) (kernel : Kernel) (builtin : List ℕ)

@@ -64,7 +64,7 @@ abbrev finished_acts : Images → WentIn → List Act
 finished_acts images w =
     flat_map (image_acts images.folder) (if images.params && is_none (fault_of w) then finished_image w ∷ [] else [])
 
--- the options can be written, or aren't to be, or else that is told
+-- the options can be written, or aren't to be, or there is a fault
 data Written (images : Images) (w : WentIn) : Type 0 where
   is_writable : AreWritable images.params w → Written images w
   is_unwritable : images.params ≡ true → (fault : ParamFault) → fault_of w ≡ Some fault → Written images w

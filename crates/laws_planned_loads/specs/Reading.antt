@@ -64,7 +64,7 @@ pub record IsFolderRead (held : Contents) (folder : List ℕ) (tree : List Facts
   pub softdep : (configuration : List ConfFile) (stated : List Rule) → rules_of configuration ≡ Ok stated → ((reads_rules configuration folder).run held).outcome ≡ value (stated ++ softdep_rules tree)
   pub unmet : ((reads_unmet folder).run held).outcome ≡ value (unmet (modules_of tree) (kernel_of kernel))
 
--- A folder that is as depmod indexed it is read so: none of its files is refused.
+-- A folder that is as depmod indexed it is read in this way: none of its files is refused.
 abbrev pub FoldersAreRead : Type 0
 FoldersAreRead =
     (held : Contents) (folder : List ℕ) (tree : List Facts) (kernel : Kernel) (builtin : List ℕ)

@@ -41,7 +41,7 @@ told-one : (name value : List ℕ) (b : Bool) → bytes_eq (name_of value) name 
 told-one name value true is = ap (λ b. option_map rest_of (cond b (Some value) None)) is ∙ sym (ap (λ b. cond b (Some (rest_of value)) None) is)
 told-one name value false is = ap (λ b. option_map rest_of (cond b (Some value) None)) is ∙ sym (ap (λ b. cond b (Some (rest_of value)) None) is)
 
--- what is told with the next value looked at
+-- the first description, with the next value looked at
 pub first_told-next : (values : List (List ℕ)) (i : ℕ) (value name : List ℕ) → i < length values → value ≡ get_or values i value
     → first_told (take (i + 1) values) name ≡ option_or (first_told (take i values) name) (cond (bytes_eq (name_of value) name) (Some (rest_of value)) None)
 unfolding first_told
@@ -67,7 +67,7 @@ told-push test (e ∷ es) k v =
       | false ↦ told-push test es k v
     ]
 
--- what is told goes to the end of the entries
+-- a new description goes to the end of the entries
 pub put-last : (old new : List (NameKey × Bor (List ℕ))) (k : NameKey) (v : Bor (List ℕ)) (other : List ℕ) → new ≡ old ++ (k, v) ∷ []
     → option_map (λ (t : Bor (List ℕ)). t.now) (lookup (λ (key : NameKey). bytes_eq other key.bytes.now) new)
     ≡ option_or (option_map (λ (t : Bor (List ℕ)). t.now) (lookup (λ (key : NameKey). bytes_eq other key.bytes.now) old)) (cond (bytes_eq k.bytes.now other) (Some v.now) None)

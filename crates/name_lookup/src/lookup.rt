@@ -100,7 +100,7 @@ impl<'a> Lookup<'a> {
         self.indexes
     }
 
-    /// Finds what a name stands for, as [`resolve`] says. A rule costs nothing here, but for
+    /// Finds what a name stands for, as [`resolve`] says. A rule costs nothing here, except for
     /// aliases whose pattern has a wildcard.
     #[tactic(auto, unfolding(crate::specs::Found::found))]
     pub fn find(&self, alloc: Global, name: &Name, use_blacklist: bool) -> Result<Found, AllocError>

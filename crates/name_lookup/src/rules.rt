@@ -1,4 +1,4 @@
-// What the rules of the configuration say of names, but for aliases.
+// What the rules of the configuration say of names, except for aliases.
 ghost use Rattle.std.specs.Prelude.{◌≡◌, ℕ, List, IfOk, option_map};
 ghost use Rattle.name_table.specs.FirstSeen.{is_among};
 ghost use Rattle.name_lookup.specs.Found.{has_install, blacklisted_name as blacklisted_name_of, is_blacklisted};

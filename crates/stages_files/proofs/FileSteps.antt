@@ -29,7 +29,7 @@ pub checked_ok : (path bytes : List ℕ) (sections : FileSections) → sections 
 unfolding sections_outcome
 checked_ok path bytes sections e n = ap (sections_outcome path bytes) n ∙ ap value (sym e)
 
--- a fault that isn't want of memory is the first test that fails
+-- a fault that isn't out of memory is the first test that fails
 pub checked_fault : (path bytes text : List ℕ) (fault : SectionFault) → (fault ≡ faults.Memory) ⊎ (shape_fault bytes ≡ Some fault) → (fault ≡ faults.Memory → ⊥) → text ≡ section_fault_text fault → sections_outcome path bytes (shape_fault bytes) ≡ end (Refused (BadModule path text))
 unfolding sections_outcome
 checked_fault path bytes text fault (inl m) wanting is = absurd (wanting m)
@@ -43,7 +43,7 @@ pub adopted_ok : (file bytes : List ℕ) (index : Index) (o : Option Fault) → 
 unfolding index_outcome
 adopted_ok file bytes index o e n = ap (index_outcome file bytes) n ∙ ap (λ b. value (index_of b)) (sym e)
 
--- a fault that isn't want of memory is the first one of the file
+-- a fault that isn't out of memory is the first one of the file
 pub adopted_fault : (file bytes text : List ℕ) (o : Option Fault) (fault : IndexFault) → IsFirstFault o fault → (fault ≡ told.Memory → ⊥) → text ≡ index_fault_text fault → index_outcome file bytes o ≡ end (Refused (BadIndex file text))
 unfolding index_outcome
 adopted_fault file bytes text o told.BadMagic first wanting is = ap (index_outcome file bytes) first ∙ ap (λ t. end (Refused (BadIndex file t))) (sym is)

@@ -27,7 +27,7 @@ unfolding table_outcome
 tabled file stated kernel known is =
     ap (table_outcome file) is ∙ ap (λ k. value (record { known = k; exports = kernel.exports })) (sym known)
 
--- a fault of a table is its first line that isn't understood, or want of memory
+-- a fault of a table is its first line that isn't understood, or out of memory
 pub tabled_not : (file : List ℕ) (stated : Result (List KernelExport) KernelFault) (fault : KernelFault) (stop : Stop) → (fault ≡ Memory) ⊎ (stated ≡ Err fault) → stop ≡ table_stop file fault → Answers table_of (table_outcome file stated) (Err stop)
 unfolding table_outcome
 tabled_not file stated Memory stop cause is = subst (λ s. Answers table_of (table_outcome file stated) (Err s)) (sym is) tt

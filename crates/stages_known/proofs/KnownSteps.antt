@@ -27,7 +27,7 @@ use Rattle.stages_known.specs.Known.{reads_index_in, reads_indexes, reads_unmet,
 pub stated_ok : {X : Type 0} (o : Result X ConfFault) (x : X) → o ≡ Ok x → stated_outcome o ≡ value x
 stated_ok o x is = ap stated_outcome is
 
--- a fault is want of memory, or the first line that isn't understood
+-- a fault is out of memory, or the first line that isn't understood
 pub stated_fault : {X : Type 0} (o : Result X ConfFault) (fault : ConfFault) (stop : Stop) → stop ≡ stop_of fault → (fault ≡ faults.Memory) ⊎ (o ≡ Err fault) → Answers (λ (x : X). x) (stated_outcome o) (Err stop)
 stated_fault {X} o faults.Memory stop is why = subst (λ s. Answers (λ (x : X). x) (stated_outcome o) (Err s)) (sym is) tt
 stated_fault {X} o (faults.BadLine file number) stop is (inl wanting) = absurd (cc)

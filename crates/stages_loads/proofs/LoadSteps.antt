@@ -67,7 +67,7 @@ pub loaded_ok : (cause : Cause) (name : List ℕ) (r : Result Machine LoadFault)
 unfolding load_outcome
 loaded_ok cause name r after is = ap (load_outcome cause name) is
 
--- a fault that isn't want of memory is that of the step
+-- a fault that isn't out of memory is that of the step
 pub loaded_not : (cause : Cause) (name named text : List ℕ) (r : Result Machine LoadFault) (fault : LoadFault) (refused : Refusal) → (fault ≡ Memory) ⊎ (r ≡ Err fault) → (fault ≡ Memory → ⊥) → text ≡ load_fault_text fault → named ≡ name → refused ≡ load_refusal cause named text → load_outcome cause name r ≡ end (Refused refused)
 unfolding load_outcome
 loaded_not cause name named text r fault refused (inl m) wanting is same made = absurd (wanting m)
@@ -165,7 +165,7 @@ params_ok m options loaded image p bytes count passed =
     ap (λ f. params_unless loaded.name f (finished_params m options loaded image)) passed
     ∙ ap value (sym (same-params p (finished_params m options loaded image) bytes count))
 
--- a fault that isn't want of memory is that of the options
+-- a fault that isn't out of memory is that of the options
 pub params_not : (m : Module) (options : List ℕ) (loaded : LoadedModule) (image named text : List ℕ) (fault : ParamFault) → (fault ≡ NoMemory) ⊎ (param_fault m.object loaded.base image options ≡ Some fault) → (fault ≡ NoMemory → ⊥) → text ≡ param_fault_text fault → named ≡ loaded.name → params_outcome m options loaded image ≡ end (Refused (ParamsRefused named text))
 unfolding params_outcome
 params_not m options loaded image named text fault (inl ran_out) unlike is same = absurd (unlike ran_out)

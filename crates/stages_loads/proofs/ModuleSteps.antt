@@ -46,7 +46,7 @@ unfolding module_outcome
 checked_ok file path bytes m None is object facts passed = ap value (module_at-same path bytes m is object facts)
 checked_ok file path bytes m (Some fault) is object facts passed = cc
 
--- a fault that isn't want of memory is the first test that fails
+-- a fault that isn't out of memory is the first test that fails
 pub checked_not : (file path bytes text : List ℕ) (o : Option ModuleFault) (is : fact_fault path bytes ≡ o) (fault : ModuleFault) → (fault ≡ Memory) ⊎ (o ≡ Some fault) → (fault ≡ Memory → ⊥) → text ≡ module_fault_text fault → module_outcome file path bytes o is ≡ end (Refused (BadModule file text))
 unfolding module_outcome
 checked_not file path bytes text o is fault (inl m) wanting same = absurd (wanting m)
