@@ -2,7 +2,7 @@
 use Rattle.std.specs.Prelude.{ℕ, List, reverse, Option, None, if◌then◌else◌}
 use Rattle.index_read.specs.Contents.{contents}
 use Rattle.name_lookup.specs.declared.indexes.Indexes.{Indexes}
-use Rattle.plan_builder.specs.Modules.{is_well_formed}
+use Rattle.dependency_lines.specs.Modules.{is_well_formed}
 use Rattle.model_loader.specs.Machine.{Machine}
 use Rattle.km_course.specs.Course.{Stage, each_from}
 use Rattle.stages_files.specs.KernelModules.{path_listed}

@@ -19,8 +19,8 @@ use Rattle.name_table.specs.FirstSeen.{is_among}
 use Rattle.relation_order.specs.Cycle.{cycle}
 use Rattle.relation_order.specs.Sets.{below}
 use Rattle.plan_builder.specs.Members.{chosen_command, found_for, kind_unless}
-use Rattle.plan_builder.specs.Modules.{bad_among, bad_name, by_number, first_value, modules_of, name_at, path_at, place_of, places_of}
-use Rattle.plan_builder.specs.Needs.{Sources, after, before, line_places, modules, unloaded}
+use Rattle.dependency_lines.specs.Modules.{line_places, bad_among, bad_name, by_number, first_value, modules_of, name_at, path_at, place_of, places_of}
+use Rattle.plan_builder.specs.Needs.{Sources, after, before, modules, unloaded}
 use Rattle.plan_builder.specs.Obstacles.{cycle_obstacle, is_unknown_kind, not_found, obstacle_of, plan_tests, is_unfound, is_unknown, all_names}
 use Rattle.plan_builder.specs.Sources.{sources}
 use Rattle.plan_builder.specs.Steps.{later, plan_steps, rule_options, spaced, step_of_kind, step_unless, steps_from, module_step}

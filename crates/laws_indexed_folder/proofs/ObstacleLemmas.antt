@@ -18,11 +18,11 @@ use Rattle.name_lookup.specs.declared.found.Found.{Found}
 use Rattle.plan_builder.specs.declared.obstacle.Obstacle.{Obstacle}
 use Rattle.plan_builder.specs.declared.obstacle.Obstacle.TheVariants.{BadDepLine}
 use Rattle.plan_builder.specs.Members.{found_for}
-use Rattle.plan_builder.specs.Modules.{bad_name, first_values, is_line_of, module_at, modules_of, name_at}
+use Rattle.dependency_lines.specs.Modules.{bad_name, first_values, is_line_of, module_at, modules_of, name_at}
 use Rattle.plan_builder.specs.Needs.{Sources}
 use Rattle.plan_builder.specs.Obstacles.{all_names, as_obstacle, cycle_obstacle, is_unfound, is_unknown, not_found, obstacle_of, plan_tests}
-use Rattle.plan_builder.proofs.Firsts.{any-by, modules-are}
-use Rattle.plan_builder.proofs.Keys.{module-first}
+use Rattle.dependency_lines.proofs.Firsts.{any-by, modules-are}
+use Rattle.dependency_lines.proofs.Keys.{module-first}
 use Rattle.laws_closed_plans.specs.Members.{Member}
 use Rattle.laws_closed_plans.proofs.ListLemmas.{find-none, none_passes}
 use Rattle.laws_indexed_folder.specs.Binding.{StandsAsIndexed}

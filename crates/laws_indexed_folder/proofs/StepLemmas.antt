@@ -21,7 +21,7 @@ use Rattle.name_lookup.specs.Maps.{has_value}
 use Rattle.plan_builder.specs.declared.step.PlanStep.{PlanStep}
 use Rattle.plan_builder.specs.declared.step.PlanStep.TheVariants.{Insert, Install, Builtin}
 use Rattle.plan_builder.specs.Needs.{Sources}
-use Rattle.plan_builder.specs.Modules.{needed_names}
+use Rattle.dependency_lines.specs.Modules.{needed_names}
 use Rattle.plan_builder.specs.Steps.{plan_steps}
 use Rattle.plan_builder.specs.Closed.{first_text, step_module, step_modules, is_at_one, collides, IsOwnPath, IsAtOwnPath, IsClosed}
 use Rattle.plan_builder.proofs.ClosedLemmas.{plans-are-closed}

@@ -28,9 +28,9 @@ use Rattle.name_lookup.specs.Maps.{has_value}
 use Rattle.plan_builder.specs.declared.step.PlanStep.{PlanStep}
 use Rattle.plan_builder.specs.declared.step.PlanStep.TheVariants.{Builtin, Insert, Install}
 use Rattle.plan_builder.specs.Closed.{IsAtOwnPath, IsOwnPath}
-use Rattle.plan_builder.specs.Modules.{bad_name, first_values, is_line_of, is_well_formed}
-use Rattle.plan_builder.proofs.Finds.{option-none}
-use Rattle.plan_builder.proofs.Firsts.{find-map-firsts}
+use Rattle.dependency_lines.specs.Modules.{bad_name, first_values, is_line_of, is_well_formed}
+use Rattle.dependency_lines.proofs.Finds.{option-none}
+use Rattle.dependency_lines.proofs.Firsts.{find-map-firsts}
 use Rattle.stages_files.specs.IndexFile.{first_text, text_of_first}
 use Rattle.stages_files.specs.KernelModules.{path_listed}
 use Rattle.km_course.specs.Course.{each_from}

@@ -11,7 +11,7 @@ use Rattle.model_loader.specs.declared.fault.LoadFault.{LoadFault}
 use Rattle.model_loader.specs.Machine.{Machine}
 use Rattle.model_loader.specs.Step.{step}
 use Rattle.name_lookup.specs.declared.indexes.Indexes.{Indexes}
-use Rattle.plan_builder.specs.Modules.{is_well_formed}
+use Rattle.dependency_lines.specs.Modules.{is_well_formed}
 use Rattle.km_course.specs.Course.{after, given, each_from, ends, reads, ◌>>=◌}
 use Rattle.km_course.specs.Course.Act.{read}
 use Rattle.km_course.specs.Course.Outcome.{value, end}

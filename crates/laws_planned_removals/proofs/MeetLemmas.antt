@@ -23,7 +23,7 @@ use Rattle.plan_builder.specs.declared.obstacle.Obstacle.{Obstacle}
 use Rattle.plan_builder.specs.declared.request.Request.{Request}
 use Rattle.plan_builder.specs.declared.step.PlanStep.{PlanStep}
 use Rattle.plan_builder.specs.Closed.{IsAtOwnPath}
-use Rattle.plan_builder.specs.Modules.{bad_name}
+use Rattle.dependency_lines.specs.Modules.{bad_name}
 use Rattle.plan_builder.specs.Obstacles.{obstacle_of}
 use Rattle.plan_builder.specs.Steps.{plan_steps}
 use Rattle.plan_builder.proofs.ClosedLemmas.{plans-are-closed}

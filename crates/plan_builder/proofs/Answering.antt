@@ -22,7 +22,7 @@ use Rattle.plan_order.specs.declared.plan.PlanOrCycle.{PlanOrCycle}
 use Rattle.plan_order.specs.declared.plan.PlanOrCycle.TheVariants as answers
 use Rattle.plan_builder.specs.declared.obstacle.Obstacle.{Obstacle}
 use Rattle.plan_builder.specs.declared.obstacle.Obstacle.TheVariants.{Cycle}
-use Rattle.plan_builder.specs.Modules.{name_at}
+use Rattle.dependency_lines.specs.Modules.{name_at}
 use Rattle.plan_builder.specs.Needs.{Sources, modules, unloaded}
 use Rattle.plan_builder.specs.Obstacles.{cycle_obstacle}
 use Rattle.plan_builder.specs.Answers.{ShortCycle, IsCycleOf}
@@ -67,10 +67,6 @@ module _ (r : Relation) (set : List ℕ) where
 
 pub marked-inside : (marks : List Bool) (n : ℕ) → length marks ≡ n → All (λ y. y < n) (marked marks)
 marked-inside marks n long = all-within n (marked marks) (λ y h. let l = seen-inside marks y (sym (has-marked marks y) ∙ h) in omega (arith, l, long))
-
-pub right : {A B C : Type 0} → (B → C) → A ⊎ B → A ⊎ C
-right f (inl a) = inl a
-right f (inr b) = inr (f b)
 
 module _ (ms : List KeyValue) (r : Relation) (set : List ℕ) (post : ℕ → List ℕ) (requests : List (List ℕ)) where
   -- the cycle that is answered is the obstacle

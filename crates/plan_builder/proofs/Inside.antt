@@ -10,7 +10,7 @@ use Rattle.relation_order.specs.Sets.{has}
 use Rattle.relation_order.proofs.Saturation.{kept}
 use Rattle.relation_order.proofs.PlaceSteps.{all-within}
 use Rattle.index_format.specs.Listing.{KeyValue}
-use Rattle.plan_builder.specs.Modules.{place_of, places_of}
+use Rattle.dependency_lines.specs.Modules.{place_of, places_of}
 use Rattle.relation_order.proofs.Finding.{has-items}
 use Rattle.plan_builder.specs.Softdeps.{once}
 use Rattle.plan_builder.specs.Needs.{Sources, modules, soft_places, found_names, is_available}

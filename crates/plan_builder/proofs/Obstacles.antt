@@ -1,5 +1,6 @@
 -- The first obstacle of a request, test by test, and the steps of its plan.
-use Rattle.std.proofs.Common.{◌≡◌, ◌<◌, subst, List, [], ◌∷◌, ◌++◌, length, map, drop, Option, Some, None, sym, ap, ◌∙◌}
+use Rattle.std.proofs.Common.{◌≡◌, ◌<◌, subst, List, [], ◌∷◌, ◌++◌, length, map, drop, Option, Some, None, sym, ap, ◌∙◌, ℕ, inl, inr}
+use Rattle.std.specs.Prelude.{◌⊎◌}
 use Rattle.std.specs.List.{find}
 use Rattle.std.specs.Option.{option_map}
 use Rattle.std.proofs.lemmas.List.{length-map}
@@ -10,10 +11,13 @@ use Rattle.plan_order.specs.Lists.{among}
 use Rattle.plan_order.specs.Plan.{with_groups}
 use Rattle.plan_order.specs.Answer.{IsPlan}
 use Rattle.plan_order.specs.declared.plan.GroupedOrder.{GroupedOrder}
+use Rattle.dependency_lines.specs.declared.fault.LineFault.{LineFault}
+use Rattle.dependency_lines.specs.declared.fault.LineFault.TheVariants as faults
+use Rattle.dependency_lines.specs.Modules.{bad_name, places_of}
 use Rattle.plan_builder.specs.declared.request.Request.{Request}
 use Rattle.plan_builder.specs.declared.obstacle.Obstacle.{Obstacle}
-use Rattle.plan_builder.specs.declared.obstacle.Obstacle.TheVariants.{BadDepLine}
-use Rattle.plan_builder.specs.Modules.{bad_name, places_of}
+use Rattle.plan_builder.specs.declared.obstacle.Obstacle.TheVariants.{BadDepLine, Memory}
+use Rattle.plan_builder.specs.Answers.{line_obstacle}
 use Rattle.plan_builder.specs.Needs.{Sources, modules, before, after, unloaded}
 use Rattle.plan_builder.specs.Members.{found_for, asked}
 use Rattle.plan_builder.specs.Steps.{module_step, steps_from, later, plan_steps}
@@ -26,6 +30,15 @@ module _ (s : Sources) (request : Request) where
   unfolding obstacle_of
   when-bad o e =
       ap (λ x. first (x ∷ option_map not_found (find (is_unfound s) request.names) ∷ option_map not_found (find (is_unknown s request.ignore_install) (all_names (found_for s request))) ∷ plan_tests s (found_for s request))) e
+
+  -- a fault of dependency lines is the first obstacle
+  pub when-fault : (fault : LineFault) → (fault ≡ faults.Memory) ⊎ (option_map faults.BadLine (bad_name s.maps.dep) ≡ Some fault) → (line_obstacle fault ≡ Memory) ⊎ (obstacle_of s request ≡ Some (line_obstacle fault))
+  when-fault fault (inl e) = inl (ap line_obstacle e)
+  when-fault fault (inr e) = inr (when-bad (line_obstacle fault) (mapped (bad_name s.maps.dep) e))
+    where
+      mapped : (o : Option (List ℕ)) → option_map faults.BadLine o ≡ Some fault → option_map BadDepLine o ≡ Some (line_obstacle fault)
+      mapped None e = absurd (let bad = e in cc)
+      mapped (Some name) e = let same : faults.BadLine name ≡ fault = cc in ap (λ f. Some (line_obstacle f)) same
 
   module _ (sound : bad_name s.maps.dep ≡ None) where
     pub when-unfound : (o : Obstacle) → option_map not_found (find (is_unfound s) request.names) ≡ Some o → obstacle_of s request ≡ Some o

@@ -9,11 +9,11 @@ use Rattle.unmet_file.specs.declared.kind.LineKind.{LineKind}
 use Rattle.unmet_file.specs.declared.kind.LineKind.TheVariants as kinds
 use Rattle.plan_builder.specs.declared.request.Request.{Request}
 use Rattle.plan_builder.specs.declared.obstacle.Obstacle.TheVariants.{BadDepLine}
-use Rattle.plan_builder.specs.Modules.{bad_name, name_at}
+use Rattle.dependency_lines.specs.Modules.{bad_name, name_at}
 use Rattle.plan_builder.specs.Needs.{Sources, modules, before}
 use Rattle.plan_builder.specs.Members.{found_for, planned}
 use Rattle.plan_builder.specs.Obstacles.{is_unfound, is_unknown, all_names, not_found, is_path_of, stands, is_obstacle, as_obstacle, line_of, cycle_obstacle, plan_tests, obstacle_of}
-use Rattle.plan_builder.proofs.Finds.{option-none}
+use Rattle.dependency_lines.proofs.Finds.{option-none}
 
 first-two : {F : Type 0} (t : Option F) (ts : List (Option F)) → first (t ∷ ts) ≡ None → (t ≡ None) × (first ts ≡ None)
 first-two None ts none = (refl, none)

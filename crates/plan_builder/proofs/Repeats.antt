@@ -21,8 +21,8 @@ use Rattle.plan_order.specs.declared.plan.PlanOrCycle.TheVariants as answers
 use Rattle.plan_order.proofs.Complete.{requested-singles, groups-asked, planned-before, planned-post, after-within}
 use Rattle.plan_order.proofs.PlanKeeps.{has-append, undone-is}
 use Rattle.plan_order.proofs.QueueLaws.{queue-plans}
-use Rattle.plan_builder.specs.Modules.{name_at}
-use Rattle.plan_builder.specs.Needs.{Sources, modules, line_places, soft_places, before, names_before}
+use Rattle.dependency_lines.specs.Modules.{name_at, line_places}
+use Rattle.plan_builder.specs.Needs.{Sources, modules, soft_places, before, names_before}
 use Rattle.plan_builder.specs.Softdeps.{once, before_once}
 
 pub has-once : (xs : List ℕ) (y : ℕ) → has (once xs) y ≡ has xs y

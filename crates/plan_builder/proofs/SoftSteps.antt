@@ -22,7 +22,7 @@ use Rattle.relation_order.specs.Search.{with_item, with_items}
 use Rattle.relation_order.proofs.Finding.{has-items}
 use Rattle.plan_builder.specs.declared.needs.Side.{Side}
 use Rattle.plan_builder.specs.declared.needs.Side.TheVariants.{Before, After}
-use Rattle.plan_builder.specs.Modules.{places_of}
+use Rattle.dependency_lines.specs.Modules.{places_of}
 use Rattle.plan_builder.specs.Needs.{Sources, modules, is_available, found_names, soft_places}
 use Rattle.plan_builder.specs.Planner.{names_on}
 use Rattle.plan_builder.proofs.Troubled.{or-false}

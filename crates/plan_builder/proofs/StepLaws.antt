@@ -11,7 +11,7 @@ use Rattle.relation_order.specs.Sets.{Relation}
 use Rattle.plan_order.specs.Plan.{group, with_group, with_groups, plan, plan_after, singles, post_at}
 use Rattle.plan_order.specs.Lists.{among}
 use Rattle.plan_order.proofs.Complete.{groups-more}
-use Rattle.plan_builder.specs.Modules.{places_of}
+use Rattle.dependency_lines.specs.Modules.{places_of}
 use Rattle.name_table.specs.FirstSeen.{is_among}
 use Rattle.name_lookup.specs.declared.found.Found.{Found}
 use Rattle.plan_builder.specs.declared.request.Request.{Request}

@@ -6,10 +6,18 @@ use Rattle.symbol_binding.specs.declared.unbound.Unbound.{Unbound}
 use Rattle.plan_order.specs.declared.plan.PlanOrCycle.{PlanOrCycle}
 use Rattle.plan_order.specs.declared.plan.PlanOrCycle.TheVariants as answers
 use Rattle.unmet_file.specs.declared.kind.LineKind.TheVariants as kinds
+use Rattle.dependency_lines.specs.declared.fault.LineFault.{LineFault}
+use Rattle.dependency_lines.specs.declared.fault.LineFault.TheVariants as faults
+use Rattle.dependency_lines.specs.Modules.{name_at}
 use Rattle.plan_builder.specs.declared.obstacle.Obstacle.{Obstacle}
-use Rattle.plan_builder.specs.declared.obstacle.Obstacle.TheVariants.{Cycle}
-use Rattle.plan_builder.specs.Modules.{name_at}
+use Rattle.plan_builder.specs.declared.obstacle.Obstacle.TheVariants.{BadDepLine, Cycle}
+use Rattle.plan_builder.specs.declared.obstacle.Obstacle.TheVariants as obstacles
 use Rattle.plan_builder.specs.Obstacles.{first_line}
+
+-- What a fault of dependency lines keeps a request from.
+abbrev pub line_obstacle : LineFault → Obstacle
+line_obstacle (faults.BadLine name) = BadDepLine name
+line_obstacle faults.Memory = obstacles.Memory
 
 -- The tests of the lines on needs.
 abbrev pub need_tests : (List ℕ → Bool) → (List ℕ → Bool) → List Unbound → List (Option Obstacle)

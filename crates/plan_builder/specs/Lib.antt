@@ -1,5 +1,3 @@
-pub mod Modules
-pub mod Pairs
 pub mod Tables
 pub mod Text
 pub mod Needs

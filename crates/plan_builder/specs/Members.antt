@@ -12,7 +12,7 @@ use Rattle.name_lookup.specs.Found.{found}
 use Rattle.plan_order.specs.Plan.{planned as planned_for}
 use Rattle.plan_order.specs.Lists.{among}
 use Rattle.plan_builder.specs.declared.request.Request.{Request}
-use Rattle.plan_builder.specs.Modules.{place_of, places_of}
+use Rattle.dependency_lines.specs.Modules.{place_of, places_of}
 use Rattle.plan_builder.specs.Needs.{Sources, modules, before, after, unloaded}
 
 -- What is found for each of some names.

@@ -12,7 +12,7 @@ use Rattle.name_table.specs.FirstSeen.{is_among}
 use Rattle.relation_order.specs.Sets.{below}
 use Rattle.name_lookup.specs.Maps.{Maps}
 use Rattle.name_lookup.specs.Found.{found}
-use Rattle.plan_builder.specs.Modules.{modules_of, name_at, line_at, path_at, places_of, needed_names}
+use Rattle.dependency_lines.specs.Modules.{modules_of, name_at, path_at, places_of, line_places}
 
 -- What plans are made from:
 -- - the rules of the configuration;
@@ -30,10 +30,6 @@ pub record Sources : Type 0 where
 -- The modules, by their numbers in the tree.
 abbrev pub modules : Sources → List KeyValue
 modules s = modules_of s.maps.dep
-
--- The places of the modules that the dependency line of a module names after its `:`.
-abbrev pub line_places : List KeyValue → ℕ → List ℕ
-line_places ms x = places_of ms (needed_names (line_at ms x))
 
 -- Whether a line is on a need of the module at this path.
 abbrev pub is_troubled : List Unbound → List ℕ → Bool

@@ -18,7 +18,7 @@ use Rattle.unmet_file.specs.declared.kind.LineKind.TheVariants as kinds
 use Rattle.plan_builder.specs.declared.request.Request.{Request}
 use Rattle.plan_builder.specs.declared.obstacle.Obstacle.{Obstacle}
 use Rattle.plan_builder.specs.declared.obstacle.Obstacle.TheVariants.{BadDepLine, NotFound, Missing, Gpl, Version, Namespace, Cycle, Double}
-use Rattle.plan_builder.specs.Modules.{bad_name, name_at, path_at, places_of}
+use Rattle.dependency_lines.specs.Modules.{bad_name, name_at, path_at, places_of}
 use Rattle.plan_builder.specs.Needs.{Sources, modules, before}
 use Rattle.plan_builder.specs.Members.{found_for, planned, Kind, loadable, installed, inside, unknown, kind_of}
 

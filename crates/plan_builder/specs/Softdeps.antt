@@ -10,8 +10,8 @@ use Rattle.modprobe_conf.specs.declared.rule.Rule.{Rule}
 use Rattle.modprobe_conf.specs.declared.rule.Rule.TheVariants.{Softdep}
 use Rattle.name_table.specs.FirstSeen.{is_among}
 use Rattle.relation_order.specs.Search.{with_items}
-use Rattle.plan_builder.specs.Modules.{name_at, places_of}
-use Rattle.plan_builder.specs.Needs.{Sources, modules, is_available, found_names, line_places, soft_places, names_before, names_after}
+use Rattle.dependency_lines.specs.Modules.{name_at, places_of, line_places}
+use Rattle.plan_builder.specs.Needs.{Sources, modules, is_available, found_names, soft_places, names_before, names_after}
 
 -- The names that the soft dependencies of a rule have, before and after its module.
 abbrev pub soft_names_in : Rule → List (List ℕ)

@@ -11,7 +11,7 @@ use Rattle.plan_order.specs.Lists.{among}
 use Rattle.plan_builder.specs.declared.request.Request.{Request}
 use Rattle.plan_builder.specs.declared.step.PlanStep.{PlanStep}
 use Rattle.plan_builder.specs.declared.step.PlanStep.TheVariants.{Insert, Install, Builtin}
-use Rattle.plan_builder.specs.Modules.{name_at, path_at, places_of}
+use Rattle.dependency_lines.specs.Modules.{name_at, path_at, places_of}
 use Rattle.plan_builder.specs.Needs.{Sources, modules, before, after, unloaded}
 use Rattle.plan_builder.specs.Members.{found_for, asked, is_member, Kind, loadable, installed, inside, unknown, kind_of, chosen_command}
 

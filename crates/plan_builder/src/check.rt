@@ -1,46 +1,17 @@
 // What keeps a request from having a plan.
-ghost use Rattle.std.specs.Prelude.{◌≡◌, ◌<◌, ◌⊎◌, ℕ, List, length, All, Some, None, IfOk, IfErr, OnOk, option_map};
+ghost use Rattle.std.specs.Prelude.{◌≡◌, ◌<◌, ◌⊎◌, ℕ, List, length, All, Some, None, IfOk, IfErr, OnOk};
 ghost use Rattle.name_table.specs.FirstSeen.{is_among};
-ghost use Rattle.plan_builder.specs.Modules.{bad_among, places_of};
 ghost use Rattle.plan_builder.specs.Obstacles.{is_path_of, is_met as are_met, is_obstacle as is_obstacle_of, as_obstacle as obstacle_of_line, first_line as first_line_of, stands};
 ghost use Rattle.plan_builder.specs.Planner.{sources_of};
-ghost use Rattle.plan_builder.specs.Tables.{shown};
 
-use crate::line::{Known, is_line};
-use crate::modules::Modules;
 use crate::obstacle::Obstacle;
-use crate::planner::{Planner, push_place};
-use index_read::Pair;
+use crate::planner::Planner;
+use dependency_lines::Modules;
 use km_names::{Name, PathText};
 use name_table::NameSet;
 use std::alloc::{AllocError, Global};
 use symbol_binding::Unbound;
 use unmet_file::LineKind;
-
-/// Tests that each pair's value is the dependency line of its module.
-pub(crate) fn check_lines<K: Known>(
-    alloc: Global,
-    known: &K,
-    pairs: &[&Pair],
-) -> Result<(), Obstacle>
-    ensures passed { OnOk result (bad_among (K.has known.now) (shown pairs.now) ≡ None) }
-    ensures err { IfErr result (λ o. (o ≡ Obstacle.Memory) ⊎ (option_map Obstacle.BadDepLine (bad_among (K.has known.now) (shown pairs.now)) ≡ Some o)) }
-{
-    let mut buffer = Vec::new(alloc);
-    for pair in pairs {
-        if !is_line(
-            &mut buffer,
-            known,
-            pair.key.as_bytes(),
-            pair.value.text.as_bytes(),
-        )? {
-            return Err(Obstacle::BadDepLine {
-                name: Name::from_slice(alloc, pair.key.as_bytes())?,
-            });
-        }
-    }
-    Ok(())
-}
 
 /// Returns the paths of some modules.
 pub(crate) fn paths_of<'a>(
@@ -58,21 +29,6 @@ pub(crate) fn paths_of<'a>(
     Ok(paths)
 }
 
-/// Finds the places of the names that are modules.
-fn places_named(
-    alloc: Global,
-    modules: &Modules<'_>,
-    names: &[Name],
-) -> Result<Vec<usize>, AllocError>
-    ensures { IfOk result (λ places. places.items ≡ places_of modules.now names.now) }
-{
-    let mut places = Vec::new(alloc);
-    for name in names {
-        push_place(&mut places, modules, name.as_bytes())?;
-    }
-    Ok(places)
-}
-
 /// Returns the paths of loaded modules, and the kernel's.
 pub(crate) fn standing_paths<'a>(
     alloc: Global,
@@ -80,7 +36,7 @@ pub(crate) fn standing_paths<'a>(
 ) -> Result<NameSet<'a>, AllocError>
     ensures { IfOk result (λ paths. (path : List ℕ) → is_among paths path ≡ stands (sources_of planner.now) path) }
 {
-    let places = places_named(alloc, planner.modules(), planner.loaded())?;
+    let places = planner.modules().places_of(alloc, planner.loaded())?;
     let mut paths = paths_of(alloc, planner.modules(), &places)?;
     paths.insert(b"vmlinux".as_slice())?;
     Ok(paths)

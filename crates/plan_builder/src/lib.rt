@@ -12,19 +12,17 @@
 //! A plan looks once at each dependency line of the folder and looks up each name of a soft
 //! dependency once; only planned modules are asked for what they need.
 //!
-//! The crate builds on `name_lookup` for what a name stands for, and on `mod_tree` for dependency
-//! lines. It builds on `memchr` for the names in paths, and on `indexmap` for what the names of
-//! soft dependencies stand for. `plan_order` has the order of modules by their places in the tree.
-//! `Loaded` comes from `loaded_list`, `Unmet` from `unmet_file`, and `line_path` from `mod_tree`.
+//! The crate builds on `dependency_lines` for the modules and what their lines name, on
+//! `name_lookup` for what a name stands for, and on `indexmap` for what the names of soft
+//! dependencies stand for. `plan_order` has the order of modules by their places in the tree.
+//! `well_formed` comes from `dependency_lines`, `Loaded` from `loaded_list`, `Unmet` from
+//! `unmet_file`, and `line_path` from `mod_tree`.
 #![tactic(auto)]
 
 mod check;
-mod line;
 mod members;
-mod modules;
 mod needs;
 mod obstacle;
-mod path_name;
 mod planner;
 mod planning;
 mod request;
@@ -34,7 +32,7 @@ mod step;
 mod steps;
 mod text;
 
-pub use line::well_formed;
+pub use dependency_lines::well_formed;
 pub use loaded_list::Loaded;
 pub use mod_tree::line_path;
 pub use obstacle::Obstacle;

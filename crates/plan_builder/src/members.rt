@@ -5,17 +5,17 @@ ghost use Rattle.relation_order.specs.Sets.{below, marked as marks_places};
 ghost use Rattle.relation_order.specs.Search.{Inside};
 ghost use Rattle.plan_order.specs.Lists.{items_of};
 ghost use Rattle.name_table.specs.FirstSeen.{is_among};
-ghost use Rattle.plan_builder.specs.Modules.{places_of, name_at};
+ghost use Rattle.dependency_lines.specs.Modules.{places_of, name_at};
 ghost use Rattle.plan_builder.specs.Needs.{modules as modules_in, unloaded};
 ghost use Rattle.plan_builder.specs.Planner.{sources_of, texts};
 ghost use Rattle.plan_builder.specs.Members.{founds_of, is_member_of, chosen_command as chosen_command_of, install_command as install_command_of, command_of};
 ghost use Rattle.plan_builder.specs.Obstacles.{is_unfound, is_unknown as is_unknown_of, all_names, not_found as not_found_of, shown_name as shown_name_of};
 
-use crate::modules::Modules;
 use crate::needs::push_all;
 use crate::obstacle::Obstacle;
-use crate::planner::{Planner, push_places};
+use crate::planner::Planner;
 use crate::rule_table::RuleTable;
+use dependency_lines::Modules;
 use km_names::{Name, Names, normal_alias};
 use modprobe_conf::Rule;
 use name_lookup::Found;
@@ -112,8 +112,7 @@ fn request_of(alloc: Global, planner: &Planner<'_>, names: &Names) -> Result<Vec
     ensures items { IfOk result (λ places. places.items ≡ places_of (modules_in (sources_of planner.now)) names.now) }
     ensures inside { IfOk result (λ places. All (λ y. y < length (modules_in (sources_of planner.now))) places.items) }
 {
-    let mut places = Vec::new(alloc);
-    push_places(&mut places, planner.modules(), names)?;
+    let places = planner.modules().places_of(alloc, names.as_slice())?;
     Ok(places)
 }
 

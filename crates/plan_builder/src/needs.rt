@@ -1,7 +1,7 @@
 // What each module needs.
 ghost use Rattle.std.specs.Prelude.{◌≡◌, ◌<◌, ◌++◌, length, IfOk, OnOk};
 ghost use Rattle.std.specs.List.{flat_map};
-ghost use Rattle.plan_builder.specs.Modules.{name_at};
+ghost use Rattle.dependency_lines.specs.Modules.{name_at};
 ghost use Rattle.plan_builder.specs.Needs.{modules as modules_in, soft_places as places_for};
 ghost use Rattle.plan_builder.specs.Planner.{sources_of, names_on, names_of_side, texts};
 ghost use Rattle.plan_builder.specs.Softdeps.{once};

@@ -1,5 +1,6 @@
 ghost use Rattle.std.specs.Prelude.{◌≡◌};
 
+use dependency_lines::LineFault;
 use km_names::{Name, Names, PathText};
 use std::alloc::{AllocError, AllocFailed};
 
@@ -72,5 +73,18 @@ impl<T: Drop> From<AllocFailed<T>> for Obstacle {
 
     fn from(_failed: AllocFailed<T>) -> Obstacle {
         Obstacle::Memory
+    }
+}
+
+impl From<LineFault> for Obstacle {
+    ghost use Rattle.plan_builder.specs.Answers.{line_obstacle};
+
+    ghost from_gives = { λ fault obstacle. obstacle ≡ line_obstacle fault };
+
+    fn from(fault: LineFault) -> Obstacle {
+        match fault {
+            LineFault::BadLine { name } => Obstacle::BadDepLine { name },
+            LineFault::Memory => Obstacle::Memory,
+        }
     }
 }

@@ -1,22 +1,20 @@
 // What plans are made from.
-ghost use Rattle.std.specs.Prelude.{◌≡◌, ◌<◌, ◌++◌, false, ℕ, List, length, All, IfOk, OnOk};
+ghost use Rattle.std.specs.Prelude.{◌≡◌, ◌<◌, false, ℕ, List, length, All, IfOk};
 ghost use Rattle.std.specs.List.{list_any};
-ghost use Rattle.std.specs.Option.{option_map_or, option_to_list};
+ghost use Rattle.std.specs.Option.{option_map_or};
 ghost use Rattle.std.specs.Str.{bytes_eq};
 ghost use Rattle.symbol_binding.specs.Unmet.{belongs};
 ghost use Rattle.name_lookup.specs.Found.{found};
 ghost use Rattle.name_table.specs.FirstSeen.{is_among};
 ghost use Rattle.name_lookup.specs.Maps.{maps_of, has_value};
-ghost use Rattle.km_names.specs.Path.{module_name};
-ghost use Rattle.plan_builder.specs.Modules.{modules_of, needed_names, place_of, places_of, path_at};
-ghost use Rattle.plan_builder.specs.Needs.{modules as modules_in, is_troubled, is_available as can_load, line_places as places_in_line};
+ghost use Rattle.dependency_lines.specs.Modules.{modules_of, path_at, line_places as places_in_line};
+ghost use Rattle.plan_builder.specs.Needs.{modules as modules_in, is_troubled, is_available as can_load};
 ghost use Rattle.plan_builder.specs.Planner.{sources_of};
 
-use crate::line::{Known, after_space};
-use crate::modules::Modules;
-use crate::path_name::{is_plain, stem, write_name};
 use crate::rule_table::RuleTable;
-use km_names::{Name, Names, split_at_byte};
+use dependency_lines::Modules;
+use index_read::plain;
+use km_names::Name;
 use modprobe_conf::Rules;
 use name_lookup::{Found, Indexes, Lookup};
 use name_table::NameSet;
@@ -70,71 +68,6 @@ pub(crate) fn path_of(line: &Unbound) -> Option<&[u8]>
         | Unbound::Namespace { path, .. } => Some(path.as_bytes()),
         Unbound::Double { .. } => None,
     }
-}
-
-/// Adds the places of those names that are modules.
-pub(crate) fn push_places(
-    places: &mut Vec<usize>,
-    modules: &Modules<'_>,
-    names: &Names,
-) -> Result<(), AllocError>
-    ensures { OnOk result (places.new.items ≡ places.old.items ++ places_of modules.now names.now) }
-{
-    for name in names.as_slice() {
-        push_place(places, modules, name.as_bytes())?;
-    }
-    Ok(())
-}
-
-/// Adds the place of a name that is a module.
-pub(crate) fn push_place(
-    places: &mut Vec<usize>,
-    modules: &Modules<'_>,
-    name: &[u8],
-) -> Result<(), AllocError>
-    ensures { OnOk result (places.new.items ≡ places.old.items ++ option_to_list (place_of modules.now name.now)) }
-{
-    if let Some(place) = modules.place(name) {
-        places.push(place)?;
-    }
-    Ok(())
-}
-
-/// Adds the places of the modules that a dependency line needs.
-fn push_needed(
-    alloc: Global,
-    places: &mut Vec<usize>,
-    modules: &Modules<'_>,
-    line: &[u8],
-) -> Result<(), AllocError>
-    ensures { OnOk result (places.new.items ≡ places.old.items ++ places_of modules.now (needed_names line.now)) }
-{
-    let mut buffer = Vec::new(alloc);
-    let mut rest = split_at_byte(line, b':').1;
-    while let Some(after) = after_space(rest) {
-        let path = split_at_byte(after, b' ').0;
-        push_at(&mut buffer, places, modules, path)?;
-        rest = after;
-    }
-    Ok(())
-}
-
-/// Adds the place of the module at a path, if there is one of its name. Most names are those that
-/// their paths have, and aren't copied.
-fn push_at(
-    buffer: &mut Vec<u8>,
-    places: &mut Vec<usize>,
-    modules: &Modules<'_>,
-    path: &[u8],
-) -> Result<(), AllocError>
-    ensures { OnOk result (places.new.items ≡ places.old.items ++ option_to_list (place_of modules.now (module_name path.now))) }
-{
-    let text = stem(path);
-    if is_plain(text) {
-        return push_place(places, modules, text);
-    }
-    write_name(buffer, path)?;
-    push_place(places, modules, buffer.as_slice())
 }
 
 impl<'a> Planner<'a> {
@@ -197,7 +130,7 @@ impl<'a> Planner<'a> {
     pub(crate) fn is_builtin(&self, name: &[u8]) -> bool
         ensures { result ≡ has_value (sources_of self.now).maps.builtin name.now }
     {
-        self.lookup.indexes().builtin.has(name)
+        plain::has_value(&self.lookup.indexes().builtin, name)
     }
 
     /// Finds what a name stands for.
@@ -212,9 +145,7 @@ impl<'a> Planner<'a> {
         requires { place < length (modules_in (sources_of self.now)) }
         ensures { IfOk result (λ places. places.items ≡ places_in_line (modules_in (sources_of self.now)) place) }
     {
-        let mut places = Vec::new(alloc);
-        push_needed(alloc, &mut places, &self.modules, self.modules.line(place))?;
-        Ok(places)
+        self.modules.line_places(alloc, place)
     }
 
     /// Returns whether a line is on a need of a module.

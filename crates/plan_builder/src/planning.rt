@@ -1,13 +1,10 @@
-ghost use Rattle.std.specs.Prelude.{◌≡◌, ◌<◌, ◌⊎◌, ℕ, List, Some, None, map, length, All, IfOk, IfErr, OnOk, option_map};
+ghost use Rattle.std.specs.Prelude.{◌≡◌, ◌<◌, ◌⊎◌, ℕ, List, Some, None, map, length, All, IfOk, IfErr, OnOk};
 ghost use Rattle.km_names.specs.First.{first};
-ghost use Rattle.index_format.specs.Map.{KeyValues, values_of};
-ghost use Rattle.index_format.specs.Listing.{IsListing};
-ghost use Rattle.index_read.specs.Values.{shown_pairs};
 ghost use Rattle.name_table.specs.FirstSeen.{is_among};
 ghost use Rattle.relation_order.specs.Sets.{marked as marks_places};
 ghost use Rattle.plan_order.specs.Lists.{among};
 ghost use Rattle.plan_order.specs.Answer.{IsPlan, IsAnswer};
-ghost use Rattle.plan_builder.specs.Modules.{name_at, bad_name, modules_of};
+ghost use Rattle.dependency_lines.specs.Modules.{name_at, bad_name};
 ghost use Rattle.plan_builder.specs.Needs.{modules as modules_in, before, after, unloaded};
 ghost use Rattle.plan_builder.specs.Members.{asked, planned as planned_for};
 ghost use Rattle.plan_builder.specs.Steps.{plan_steps};
@@ -17,16 +14,16 @@ ghost use Rattle.plan_builder.specs.Answers.{need_tests, ShortCycle, IsCycleOf};
 ghost use Rattle.plan_builder.specs.Sources.{sources};
 ghost use Rattle.plan_builder.specs.Planner.{sources_of};
 
-use crate::check::{check_lines, check_unmet, paths_of, standing_paths};
+use crate::check::{check_unmet, paths_of, standing_paths};
 use crate::members::{check_known, find_each, free_marks, requests_of};
-use crate::modules::{Modules, first_pairs};
 use crate::needs::ModuleNeeds;
 use crate::obstacle::Obstacle;
 use crate::planner::Planner;
 use crate::request::Request;
 use crate::step::PlanSteps;
 use crate::steps::all_steps;
-use index_read::{Pairs, plain};
+use dependency_lines::Modules;
+use index_read::plain;
 use km_names::{Name, Names};
 use loaded_list::Loaded;
 use modprobe_conf::Rules;
@@ -81,7 +78,7 @@ pub fn plan(
     ensures err { IfErr result (λ o. (o ≡ Obstacle.Memory) ⊎ (obstacle_of (sources rules.now indexes.now unmet.now loaded.now request.now) request.now ≡ Some o)) }
 {
     let pairs = plain::all_pairs(alloc, &indexes.dep)?;
-    let modules = sound_modules(alloc, &pairs)?;
+    let modules = Modules::new(alloc, &pairs)?;
     let planner = Planner::new(
         alloc,
         rules,
@@ -111,19 +108,6 @@ fn planned_steps(
     let plan = checked_plan(alloc, planner, &founds)?;
     let steps = all_steps(alloc, planner, request, &founds, &plan)?;
     Ok(steps)
-}
-
-/// Makes the modules of an index by its pairs, or finds the first name whose value isn't the
-/// dependency line of its module.
-fn sound_modules<'a>(alloc: Global, pairs: &'a Pairs) -> Result<Modules<'a>, Obstacle>
-    ensures modules { IfOk result (λ modules. (dep : KeyValues) → IsListing (values_of dep) (shown_pairs pairs.now) → modules ≡ modules_of dep) }
-    ensures passed { OnOk result ((dep : KeyValues) → IsListing (values_of dep) (shown_pairs pairs.now) → bad_name dep ≡ None) }
-    ensures err { IfErr result (λ o. (o ≡ Obstacle.Memory) ⊎ ((dep : KeyValues) → IsListing (values_of dep) (shown_pairs pairs.now) → option_map Obstacle.BadDepLine (bad_name dep) ≡ Some o)) }
-{
-    let firsts = first_pairs(alloc, pairs)?;
-    let modules = Modules::new(alloc, &firsts)?;
-    check_lines(alloc, &modules, &firsts)?;
-    Ok(modules)
 }
 
 /// What is planned, with a mark for each module, and the order of it, or a cycle.

@@ -6,7 +6,7 @@ ghost use Rattle.plan_builder.specs.Needs.{modules as modules_in, is_available a
 ghost use Rattle.plan_builder.specs.Planner.{sources_of, texts};
 ghost use Rattle.plan_builder.specs.Softdeps.{IsSoftTable, KnowsAvailable, all_soft_names, soft_names_in, kept_places, loadable_places as places_for, once};
 
-use crate::planner::{Planner, push_places};
+use crate::planner::Planner;
 use indexmap::{IndexMap, IndexSet};
 use km_names::{Name, Names};
 use modprobe_conf::Rule;
@@ -129,8 +129,9 @@ fn loadable_places(
     ensures places { IfOk result (λ places. places.items ≡ places_for (sources_of planner.now) name.now) }
 {
     let found = planner.found(alloc, name)?;
-    let mut places = Vec::new(alloc);
-    push_places(&mut places, planner.modules(), &found.names)?;
+    let places = planner
+        .modules()
+        .places_of(alloc, found.names.as_slice())?;
     only_loadable(alloc, planner, known, &places)
 }
 

@@ -2,7 +2,7 @@
 ghost use Rattle.std.specs.Prelude.{◌≡◌, ◌<◌, ◌&&◌, ◌++◌, [], ℕ, List, map, length, All, IfOk, OnOk};
 ghost use Rattle.std.specs.List.{flat_map};
 ghost use Rattle.name_table.specs.FirstSeen.{is_among};
-ghost use Rattle.plan_builder.specs.Modules.{name_at, path_at};
+ghost use Rattle.dependency_lines.specs.Modules.{name_at, path_at};
 ghost use Rattle.plan_builder.specs.Needs.{modules as modules_in};
 ghost use Rattle.plan_builder.specs.Members.{found_for, is_member};
 ghost use Rattle.plan_builder.specs.Planner.{sources_of};

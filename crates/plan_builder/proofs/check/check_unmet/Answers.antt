@@ -3,7 +3,7 @@ use Rattle.std.specs.List.{find}
 use Rattle.std.specs.Option.{option_map}
 use Rattle.name_table.specs.FirstSeen.{is_among}
 use Rattle.plan_builder.specs.Obstacles.{is_obstacle, as_obstacle}
-use Rattle.plan_builder.proofs.Finds.{plain-here, plain-more, option-none}
+use Rattle.dependency_lines.proofs.Finds.{plain-here, plain-more, option-none}
 use Rattle.plan_builder.proofs.check.check_unmet.Goals as goal
 
 pub returns-then-is_obstacle-clause-err : goal.returns-then-is_obstacle-clause-err

@@ -1,8 +1,8 @@
 use Rattle.std.proofs.Common.{◌||◌, get_or, ap, sym, ◌∙◌, arith}
 use Rattle.std.specs.Str.{bytes_eq}
 use Rattle.std.proofs.lemmas.List.Folds.{list_any_more}
-use Rattle.plan_builder.specs.Modules.{path_at}
-use Rattle.plan_builder.proofs.Troubled.{bytes-sym}
+use Rattle.dependency_lines.specs.Modules.{path_at}
+use Rattle.dependency_lines.proofs.Firsts.{bytes-sym}
 use Rattle.plan_builder.proofs.check.paths_of.Goals as goal
 
 pub loop-place-preserved : goal.loop-place-preserved

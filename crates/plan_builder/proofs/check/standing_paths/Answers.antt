@@ -1,6 +1,6 @@
 use Rattle.std.proofs.Common.{◌<◌, length, sym, ap, ◌∙◌, subst}
 use Rattle.std.specs.Prelude.{All}
-use Rattle.plan_builder.specs.Modules.{places_of}
+use Rattle.dependency_lines.specs.Modules.{places_of}
 use Rattle.plan_builder.proofs.Inside.{places-inside}
 use Rattle.plan_builder.proofs.check.standing_paths.Goals as goal
 

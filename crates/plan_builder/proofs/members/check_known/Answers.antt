@@ -3,7 +3,7 @@ use Rattle.std.specs.List.{find}
 use Rattle.std.specs.Option.{option_map}
 use Rattle.plan_builder.specs.Obstacles.{is_unknown, not_found}
 use Rattle.plan_builder.specs.Planner.{sources_of, texts}
-use Rattle.plan_builder.proofs.Finds.{find-here, find-more}
+use Rattle.dependency_lines.proofs.Finds.{find-here, find-more}
 use Rattle.plan_builder.proofs.members.check_known.Goals as goal
 
 pub returns-then-is_unknown-clause-err : goal.returns-then-is_unknown-clause-err

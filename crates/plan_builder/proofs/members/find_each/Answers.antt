@@ -6,7 +6,8 @@ use Rattle.name_lookup.specs.Found.{found}
 use Rattle.plan_builder.specs.Members.{founds_of}
 use Rattle.plan_builder.specs.Obstacles.{is_unfound, not_found}
 use Rattle.plan_builder.specs.Planner.{sources_of}
-use Rattle.plan_builder.proofs.Finds.{plain-here, plain-more, map-more}
+use Rattle.dependency_lines.proofs.Finds.{plain-here, plain-more}
+use Rattle.plan_builder.proofs.Finds.{map-more}
 use Rattle.plan_builder.proofs.members.find_each.Goals as goal
 
 pub returns-then-found-eq0-clause-err : goal.returns-then-found-eq0-clause-err

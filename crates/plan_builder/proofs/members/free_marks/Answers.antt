@@ -3,7 +3,7 @@ use Rattle.std.specs.Prelude.{filter}
 use Rattle.name_table.specs.FirstSeen.{is_among}
 use Rattle.relation_order.specs.Sets.{below}
 use Rattle.relation_order.proofs.Saturation.{filter-same}
-use Rattle.plan_builder.specs.Modules.{name_at}
+use Rattle.dependency_lines.specs.Modules.{name_at}
 use Rattle.plan_builder.specs.Needs.{modules}
 use Rattle.plan_builder.specs.Planner.{sources_of}
 use Rattle.plan_builder.proofs.Marks.{marked-map, length-marks}

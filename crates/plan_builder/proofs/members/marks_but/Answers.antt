@@ -1,6 +1,6 @@
 use Rattle.std.proofs.Common.{not, ap, ◌∙◌}
 use Rattle.name_table.specs.FirstSeen.{is_among}
-use Rattle.plan_builder.specs.Modules.{name_at}
+use Rattle.dependency_lines.specs.Modules.{name_at}
 use Rattle.plan_builder.proofs.Marks.{mark-more}
 use Rattle.plan_builder.proofs.members.marks_but.Goals as goal
 

@@ -1,7 +1,7 @@
 use Rattle.std.proofs.Common.{◌≡◌, map, not}
 use Rattle.relation_order.specs.Sets.{below}
 use Rattle.name_table.specs.FirstSeen.{is_among}
-use Rattle.plan_builder.specs.Modules.{name_at}
+use Rattle.dependency_lines.specs.Modules.{name_at}
 use Rattle.plan_builder.proofs.members.marks_but.Given as goal
 
 abbrev pub invariant-loop-place : goal.invariant-loop-place

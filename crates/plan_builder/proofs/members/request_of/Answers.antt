@@ -1,6 +1,6 @@
-use Rattle.std.proofs.Common.{◌<◌, ◌++◌, length, sym, ap, ◌∙◌, subst}
+use Rattle.std.proofs.Common.{◌<◌, length, sym, ◌∙◌, subst}
 use Rattle.std.specs.Prelude.{All}
-use Rattle.plan_builder.specs.Modules.{places_of}
+use Rattle.dependency_lines.specs.Modules.{places_of}
 use Rattle.plan_builder.specs.Needs.{modules}
 use Rattle.plan_builder.specs.Planner.{sources_of}
 use Rattle.plan_builder.proofs.Inside.{places-inside}
@@ -8,5 +8,5 @@ use Rattle.plan_builder.proofs.members.request_of.Goals as goal
 
 pub returns-clause-inside : goal.returns-clause-inside
 returns-clause-inside c =
-    let made = c.in_ok-push_places.ensures ∙ ap (λ xs. xs ++ places_of c.modules.result.now c.args.names.now) c.new-places.ensures.items ∙ ap (λ ms. places_of ms c.args.names.now) c.modules.ensures in
+    let made = c.in_ok-places.ensures ∙ (λ i. places_of (c.modules.ensures i) (c.as_slice.ensures i)) in
     subst (All (λ y. y < length (modules (sources_of c.args.planner.now)))) (sym made) (places-inside (modules (sources_of c.args.planner.now)) c.args.names.now)

@@ -1,7 +1,7 @@
 use Rattle.std.proofs.Common.{◌≡◌, take, map, length}
 use Rattle.relation_order.specs.Search.{Inside}
 use Rattle.plan_order.specs.Lists.{items_of}
-use Rattle.plan_builder.specs.Modules.{places_of}
+use Rattle.dependency_lines.specs.Modules.{places_of}
 use Rattle.plan_builder.specs.Needs.{modules}
 use Rattle.plan_builder.specs.Planner.{sources_of}
 use Rattle.plan_builder.proofs.members.requests_of.Given as goal

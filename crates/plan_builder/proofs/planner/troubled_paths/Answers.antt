@@ -1,7 +1,8 @@
 use Rattle.std.proofs.Common.{◌||◌, take, sym, ap, ◌∙◌}
 use Rattle.name_table.specs.FirstSeen.{is_among}
+use Rattle.dependency_lines.proofs.Firsts.{bytes-sym}
 use Rattle.plan_builder.specs.Needs.{is_troubled}
-use Rattle.plan_builder.proofs.Troubled.{troubled-more, bytes-sym, or-false}
+use Rattle.plan_builder.proofs.Troubled.{troubled-more, or-false}
 use Rattle.plan_builder.proofs.planner.troubled_paths.Goals as goal
 use Rattle.plan_builder.proofs.planner.troubled_paths.Goals.{in-Some+in_ok-insert, in_default}
 

@@ -7,13 +7,14 @@ use Rattle.relation_order.specs.Sets.{marked}
 use Rattle.relation_order.specs.Cycle.{cycle}
 use Rattle.plan_order.specs.Lists.{among}
 use Rattle.unmet_file.specs.declared.kind.LineKind.TheVariants as kinds
-use Rattle.plan_builder.specs.Modules.{name_at}
+use Rattle.dependency_lines.specs.Modules.{name_at}
+use Rattle.dependency_lines.proofs.Faults.{right}
 use Rattle.plan_builder.specs.Needs.{modules, before, after, unloaded}
 use Rattle.plan_builder.specs.Members.{asked, planned}
 use Rattle.plan_builder.specs.Obstacles.{is_path_of, stands, line_of, first_line, cycle_obstacle}
 use Rattle.plan_builder.specs.Answers.{need_tests}
 use Rattle.plan_builder.specs.Planner.{sources_of}
-use Rattle.plan_builder.proofs.Answering.{first-none, first-some, right, cycle-answer, plan-answer, short-answer, unloaded-low}
+use Rattle.plan_builder.proofs.Answering.{first-none, first-some, cycle-answer, plan-answer, short-answer, unloaded-low}
 use Rattle.plan_builder.proofs.planning.checked_plan.Goals as goal
 
 pub returns-in_err-check_needs-clause-err : goal.returns-in_err-check_needs-clause-err

@@ -2,15 +2,15 @@ use Rattle.std.proofs.Common.{◌≡◌, Some, None, ap, sym, ◌∙◌, subst}
 use Rattle.std.specs.Prelude.{◌⊎◌, IfOk, OnOk, IfErr}
 use Rattle.std.proofs.lemmas.Result.{err_from_is_err_and}
 use Rattle.index_read.specs.Contents.{contents}
+use Rattle.dependency_lines.proofs.Faults.{right}
 use Rattle.plan_builder.specs.declared.obstacle.Obstacle.TheVariants.{Memory}
-use Rattle.plan_builder.specs.Modules.{bad_name}
+use Rattle.dependency_lines.specs.Modules.{bad_name}
 use Rattle.plan_builder.specs.Steps.{plan_steps}
 use Rattle.plan_builder.specs.Obstacles.{obstacle_of}
 use Rattle.plan_builder.specs.Planner.{sources_of}
 use Rattle.plan_builder.specs.Sources.{sources}
 use Rattle.plan_builder.specs.Closed.{IsClosed}
-use Rattle.plan_builder.proofs.Answering.{right}
-use Rattle.plan_builder.proofs.Obstacles.{when-bad}
+use Rattle.plan_builder.proofs.Obstacles.{when-fault}
 use Rattle.plan_builder.proofs.planning.plan.Goals as goal
 
 pub returns-in_err-modules-clause-err : goal.returns-in_err-modules-clause-err
@@ -18,7 +18,8 @@ returns-in_err-modules-clause-err c =
     let s = sources c.args.rules.now c.args.indexes.now c.args.unmet.now c.args.loaded.now c.args.request.now in
     let request = c.args.request.now in
     let p = err_from_is_err_and c.from_residual-in_err-modules.result c.from_residual-in_err-modules.ensures.1 in
-    rw (p.1, p.2) (right (λ e. when-bad s request c.in_err-modules.field-0.0 (e (contents c.args.indexes.now.dep.nodes) c.in_ok-pairs.ensures)) c.in_err-modules.ensures.err)
+    rw (p.1, p.2)
+    (when-fault s request c.in_err-modules.field-0.0 (right (λ e. e (contents c.args.indexes.now.dep.nodes) c.in_ok-pairs.ensures) c.in_err-modules.ensures.err))
 
 pub new-requires : goal.new-requires
 new-requires c = c.in_ok-modules.ensures.modules (contents c.args.indexes.now.dep.nodes) c.in_ok-pairs.ensures

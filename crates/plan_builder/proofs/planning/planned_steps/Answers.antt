@@ -8,11 +8,12 @@ use Rattle.relation_order.proofs.PlaceSteps.{all-within}
 use Rattle.plan_order.specs.Plan.{needs, requested}
 use Rattle.plan_order.specs.Lists.{among}
 use Rattle.plan_order.specs.Answer.{IsPlan}
+use Rattle.dependency_lines.proofs.Faults.{right}
 use Rattle.plan_builder.specs.Needs.{modules, before, after, unloaded}
 use Rattle.plan_builder.specs.Members.{found_for, asked}
 use Rattle.plan_builder.specs.Obstacles.{is_unknown, all_names, not_found, plan_tests}
 use Rattle.plan_builder.specs.Planner.{sources_of}
-use Rattle.plan_builder.proofs.Answering.{right, unloaded-low}
+use Rattle.plan_builder.proofs.Answering.{unloaded-low}
 use Rattle.plan_builder.proofs.Obstacles.{when-unfound, when-unknown, when-known, steps-are}
 use Rattle.plan_builder.proofs.StepLaws.{ends-rising}
 use Rattle.plan_builder.specs.Closed.{IsClosed}

@@ -2,7 +2,7 @@ use Rattle.std.proofs.Common.{◌≡◌, ◌==◌, ℕ, List, [], not, filter, a
 use Rattle.std.specs.Prelude.{IfOk}
 use Rattle.std.specs.List.{flat_map}
 use Rattle.std.specs.Option.{unwrap_or}
-use Rattle.plan_builder.specs.Modules.{name_at}
+use Rattle.dependency_lines.specs.Modules.{name_at}
 use Rattle.plan_builder.specs.Needs.{modules, soft_places}
 use Rattle.plan_builder.specs.Planner.{sources_of, names_on, texts}
 use Rattle.plan_builder.specs.Softdeps.{kept_places, once}

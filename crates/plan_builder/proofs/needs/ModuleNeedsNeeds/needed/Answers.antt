@@ -1,8 +1,8 @@
 use Rattle.std.proofs.Common.{◌<◌, ◌++◌, length, sym, ap, ◌∙◌, subst}
 use Rattle.std.specs.Prelude.{All}
 use Rattle.std.specs.List.{flat_map}
-use Rattle.plan_builder.specs.Modules.{needed_names, line_at, name_at}
-use Rattle.plan_builder.specs.Needs.{modules, line_places, names_before, names_after}
+use Rattle.dependency_lines.specs.Modules.{needed_names, line_at, name_at, line_places}
+use Rattle.plan_builder.specs.Needs.{modules, names_before, names_after}
 use Rattle.plan_builder.specs.Planner.{sources_of}
 use Rattle.plan_builder.proofs.Inside.{both-once, soft-once}
 use Rattle.plan_builder.proofs.needs.ModuleNeedsNeeds.needed.Goals as goal

@@ -1,6 +1,6 @@
 use Rattle.std.proofs.Common.{◌<◌, length, sym, ◌∙◌, subst}
 use Rattle.std.specs.Prelude.{All}
-use Rattle.plan_builder.specs.Modules.{needed_names, line_at}
+use Rattle.dependency_lines.specs.Modules.{needed_names, line_at}
 use Rattle.plan_builder.specs.Needs.{modules}
 use Rattle.plan_builder.specs.Planner.{sources_of}
 use Rattle.plan_builder.proofs.Inside.{places-inside}

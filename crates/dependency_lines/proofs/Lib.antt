@@ -1,0 +1,9 @@
+pub mod ByNumber
+pub mod Faults
+pub mod Finds
+pub mod Firsts
+pub mod Keys
+pub mod Lines
+pub mod Named
+pub mod Sorting
+pub mod Stems

@@ -1,0 +1,26 @@
+//! The modules of a folder by their dependency lines, as modules.dep.bin has them. modules.dep(5),
+//! depmod(8).
+//!
+//! [`Modules`] has the modules of an index by their places in the order of the tree, once each line
+//! is known to be well formed:
+//!
+//! - a line is kept under the name of the module whose path it begins with;
+//! - each module that it names has a line too.
+//!
+//! It hands out the place of a name, and the name, the path and the needs of the module at a place.
+//! [`well_formed`] tests the line of one name in the index itself.
+//!
+//! The crate builds on `mod_tree` for what a dependency line is, on `index_read` for the values of
+//! an index, on `name_table` for the places of names, and on `memchr` for the names in paths.
+#![tactic(auto)]
+
+mod fault;
+mod line;
+mod modules;
+mod pairs;
+mod path_name;
+mod places;
+
+pub use fault::LineFault;
+pub use line::well_formed;
+pub use modules::Modules;

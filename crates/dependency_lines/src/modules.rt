@@ -1,0 +1,165 @@
+// The modules of modules.dep.bin, in the order of the tree.
+ghost use Rattle.std.specs.Prelude.{◌≡◌, ◌<◌, ◌⊎◌, Some, None, length, IfOk, IfErr, OnOk, option_map};
+ghost use Rattle.index_format.specs.Map.{KeyValues, values_of};
+ghost use Rattle.index_format.specs.Listing.{IsListing};
+ghost use Rattle.index_read.specs.Values.{shown_pairs};
+ghost use Rattle.name_table.specs.NameTable.{place_of as place_in_table};
+ghost use Rattle.dependency_lines.specs.Modules.{bad_name, by_number, line_at, line_places, modules_of, name_at, path_at, place_of, places_of};
+ghost use Rattle.dependency_lines.specs.Tables.{shown, IsNamed};
+
+use crate::fault::LineFault;
+use crate::line::{Known, check_lines};
+use crate::pairs::first_pairs;
+use crate::places::{push_needed, push_place};
+use index_read::{Pair, Pairs};
+use km_names::{Name, split_at_byte};
+use name_table::NameTable;
+use std::alloc::{AllocError, Global};
+use std::marker::Model;
+
+/// The modules of modules.dep.bin, each at its place: by their numbers in the tree, and those of
+/// one number by the bytes of their names. Contracts see each module's name with its number and its
+/// dependency line.
+#[derive(Drop)]
+pub struct Modules<'a> {
+    pairs: Vec<&'a Pair>,
+    names: NameTable<'a>,
+}
+
+impl<'a> Model for Modules<'a> {
+    ghost use Rattle.std.specs.Prelude.{List};
+    ghost use Rattle.index_format.specs.Listing.{KeyValue};
+    ghost use Rattle.dependency_lines.specs.Tables.{shown, IsNamed};
+
+    ghost Value = { List KeyValue };
+
+    ghost view = { λ m. shown m.pairs.items };
+
+    ghost invariant = { λ m. IsNamed m.names (shown m.pairs.items) };
+}
+
+impl<'a> Modules<'a> {
+    /// Returns the modules of the index that these pairs list. Of a name with several values the
+    /// first one counts. modules.dep(5).
+    ///
+    /// # Errors
+    ///
+    /// `BadLine` exactly if a value isn't the dependency line of its module over names that the
+    /// index has. Or `Memory`.
+    pub fn new(alloc: Global, pairs: &'a Pairs) -> Result<Modules<'a>, LineFault>
+        ensures modules { IfOk result (λ modules. (dep : KeyValues) → IsListing (values_of dep) (shown_pairs pairs.now) → modules ≡ modules_of dep) }
+        ensures passed { OnOk result ((dep : KeyValues) → IsListing (values_of dep) (shown_pairs pairs.now) → bad_name dep ≡ None) }
+        ensures err { IfErr result (λ fault. (fault ≡ LineFault.Memory) ⊎ ((dep : KeyValues) → IsListing (values_of dep) (shown_pairs pairs.now) → option_map LineFault.BadLine (bad_name dep) ≡ Some fault)) }
+    {
+        let firsts = first_pairs(alloc, pairs)?;
+        let modules = numbered(alloc, &firsts)?;
+        check_lines(alloc, &modules, &firsts)?;
+        Ok(modules)
+    }
+
+    /// Returns how many modules there are.
+    pub fn len(&self) -> usize
+        ensures { result ≡ length self.now }
+    {
+        self.pairs.len()
+    }
+
+    /// Returns the place of the module of this name, if there is one.
+    pub fn place(&self, name: &[u8]) -> Option<usize>
+        ensures { result ≡ place_of self.now name.now }
+    {
+        place_in(&self.names, name)
+    }
+
+    /// Returns the name of the module at a place.
+    pub fn name(&self, place: usize) -> &'a [u8]
+        requires { place < length self.now }
+        ensures { result.now ≡ name_at self.now place }
+    {
+        self.pairs[place].key.as_bytes()
+    }
+
+    /// Returns the dependency line of the module at a place.
+    fn line(&self, place: usize) -> &'a [u8]
+        requires { place < length self.now }
+        ensures { result.now ≡ line_at self.now place }
+    {
+        self.pairs[place].value.text.as_bytes()
+    }
+
+    /// Returns the path of the module at a place, the first of its dependency line.
+    pub fn path(&self, place: usize) -> &'a [u8]
+        requires { place < length self.now }
+        ensures { result.now ≡ path_at self.now place }
+    {
+        split_at_byte(self.line(place), b':').0
+    }
+
+    /// Finds the places of the names that are modules, in the order of the names.
+    pub fn places_of(&self, alloc: Global, names: &[Name]) -> Result<Vec<usize>, AllocError>
+        ensures { IfOk result (λ places. places.items ≡ places_of self.now names.now) }
+    {
+        let mut places = Vec::new(alloc);
+        for name in names {
+            push_place(&mut places, self, name.as_bytes())?;
+        }
+        Ok(places)
+    }
+
+    /// Finds the places of the modules that the dependency line of the module at a place names
+    /// after its `:`, in the order of the line.
+    pub fn line_places(&self, alloc: Global, place: usize) -> Result<Vec<usize>, AllocError>
+        requires { place < length self.now }
+        ensures { IfOk result (λ places. places.items ≡ line_places self.now place) }
+    {
+        let mut places = Vec::new(alloc);
+        push_needed(alloc, &mut places, self, self.line(place))?;
+        Ok(places)
+    }
+}
+
+/// Returns the modules of pairs that have each name once.
+fn numbered<'a>(alloc: Global, pairs: &[&'a Pair]) -> Result<Modules<'a>, AllocError>
+    ensures { IfOk result (λ modules. modules ≡ by_number (shown pairs.now)) }
+{
+    let mut sorted = Vec::from_slice(alloc, pairs)?;
+    sorted.sort_by_key(|pair| pair.value.priority)?;
+    let names = table_of(alloc, &sorted)?;
+    Ok(Modules {
+        pairs: sorted,
+        names,
+    })
+}
+
+/// Returns the table of the keys of pairs.
+fn table_of<'a>(alloc: Global, pairs: &[&'a Pair]) -> Result<NameTable<'a>, AllocError>
+    ensures { IfOk result (λ names. IsNamed names (shown pairs.now)) }
+{
+    if pairs.len() >= u32::MAX as usize {
+        return Err(AllocError);
+    }
+    let mut names = NameTable::with_capacity(alloc, pairs.len())?;
+    for pair in pairs {
+        names.push(Some(pair.key.as_bytes()))?;
+    }
+    Ok(names)
+}
+
+impl<'a> Known for Modules<'a> {
+    ghost use Rattle.std.specs.Prelude.{is_some};
+    ghost use Rattle.dependency_lines.specs.Modules.{place_of};
+
+    ghost has = { λ modules name. is_some (place_of modules name) };
+
+    fn has(&self, name: &[u8]) -> bool {
+        self.place(name).is_some()
+    }
+}
+
+/// Returns the place that a table has for a name.
+fn place_in(names: &NameTable<'_>, name: &[u8]) -> Option<usize>
+    ensures { result ≡ place_in_table names.now name.now }
+{
+    let place = names.place(name)?;
+    Some(place as usize)
+}

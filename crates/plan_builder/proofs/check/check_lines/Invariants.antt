@@ -1,7 +1,0 @@
-use Rattle.std.proofs.Common.{◌≡◌, take, None}
-use Rattle.plan_builder.specs.Modules.{bad_among}
-use Rattle.plan_builder.specs.Tables.{shown}
-use Rattle.plan_builder.proofs.check.check_lines.Given as goal
-
-abbrev pub invariant-loop-pair : goal.invariant-loop-pair
-invariant-loop-pair g l = bad_among (g.K.Known.has l.known) (shown (take l.pair-index l.pairs)) ≡ None

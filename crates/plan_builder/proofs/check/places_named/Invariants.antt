@@ -1,6 +1,0 @@
-use Rattle.std.proofs.Common.{◌≡◌, take}
-use Rattle.plan_builder.specs.Modules.{places_of}
-use Rattle.plan_builder.proofs.check.places_named.Given as goal
-
-abbrev pub invariant-loop-name : goal.invariant-loop-name
-invariant-loop-name l = l.places.items ≡ places_of l.modules (take l.name-index l.names)
