@@ -1,19 +1,19 @@
 -- A plan doesn't change where modules that are wanted more than once are named once.
-use Rattle.std.proofs.Common.{◌≡◌, ℕ, zero, suc, Bool, true, false, cond, eqb, List, [], ◌∷◌, ◌++◌, length, map, refl, sym, ap, ◌∙◌, inl, inr}
-use Rattle.std.specs.Prelude.{◌||◌, ◌⊎◌, slice_index_or}
-use Rattle.std.specs.List.{fold, flat_map}
+use Rattle.std.proofs.Common.{◌≡◌, ℕ, zero, suc, Bool, true, false, cond, eqb, List, [], ◌∷◌, ◌++◌, length, refl, sym, ap, ◌∙◌, inl, inr}
+use Rattle.std.specs.Prelude.{◌||◌, ◌⊎◌}
+use Rattle.std.specs.List.{flat_map}
 use Rattle.std.proofs.Math.Path.{fun_ext}
 use Rattle.std.proofs.lemmas.Bool.{true≢false, or_cases, or_left, or_right, eqb-true, eq-eqb}
 use Rattle.std.proofs.lemmas.List.{append-nil, append_assoc, map-append}
 use Rattle.std.proofs.lemmas.List.Sums.{fold-append}
 use Rattle.relation_order.specs.Sets.{Relation, has}
-use Rattle.relation_order.specs.Search.{with_item, with_items}
+use Rattle.relation_order.specs.Search.{with_items}
 use Rattle.relation_order.specs.Spread.{spread}
 use Rattle.relation_order.specs.Least.{least_order}
 use Rattle.relation_order.specs.Cycle.{cycle}
 use Rattle.relation_order.proofs.Finding.{has-items}
 use Rattle.relation_order.proofs.SpreadLaws.{spread-only}
-use Rattle.plan_order.specs.Plan.{needs, planned, requested, undone, members, group, with_group, with_groups, singles, post_at, plan_after, plan}
+use Rattle.plan_order.specs.Plan.{planned, requested, undone, members, with_group, with_groups, singles, post_at, plan_after, plan}
 use Rattle.plan_order.specs.Lists.{among}
 use Rattle.plan_order.specs.Answer.{IsAnswer}
 use Rattle.plan_order.specs.declared.plan.PlanOrCycle.{PlanOrCycle}

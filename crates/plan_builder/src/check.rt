@@ -1,7 +1,11 @@
 // What keeps a request from having a plan.
 ghost use Rattle.std.specs.Prelude.{◌≡◌, ◌<◌, ◌⊎◌, ℕ, List, length, All, Some, None, IfOk, IfErr, OnOk};
+ghost use Rattle.km_names.specs.First.{first as first_test};
 ghost use Rattle.name_table.specs.FirstSeen.{is_among};
+ghost use Rattle.relation_order.specs.Sets.{marked as marks_places};
 ghost use Rattle.plan_builder.specs.Obstacles.{is_path_of, is_met as are_met, is_obstacle as is_obstacle_of, as_obstacle as obstacle_of_line, first_line as first_line_of, stands};
+ghost use Rattle.plan_builder.specs.Needs.{modules as modules_in};
+ghost use Rattle.plan_builder.specs.Answers.{need_tests};
 ghost use Rattle.plan_builder.specs.Planner.{sources_of};
 
 use crate::obstacle::Obstacle;
@@ -9,12 +13,51 @@ use crate::planner::Planner;
 use dependency_lines::Modules;
 use km_names::{Name, PathText};
 use name_table::NameSet;
+use relation_order::marked;
 use std::alloc::{AllocError, Global};
 use symbol_binding::Unbound;
 use unmet_file::LineKind;
 
+/// The paths that lines of modules.unmet are compared with.
+#[derive(Drop)]
+pub(crate) struct ComparedPaths<'a> {
+    /// Those of planned modules.
+    pub(crate) planned: NameSet<'a>,
+    /// Those of loaded modules, and the kernel's.
+    pub(crate) there: NameSet<'a>,
+}
+
+/// Returns the paths that lines are compared with if the marked modules are planned.
+pub(crate) fn compared_paths<'a>(
+    alloc: Global,
+    planner: &Planner<'a>,
+    marks: &[bool],
+) -> Result<ComparedPaths<'a>, AllocError>
+    requires { length marks.now ≡ length (modules_in (sources_of planner.now)) }
+    ensures planned { IfOk result (λ paths. (path : List ℕ) → is_among paths.planned path ≡ is_path_of (modules_in (sources_of planner.now)) (marks_places marks.now) path) }
+    ensures there { IfOk result (λ paths. (path : List ℕ) → is_among paths.there path ≡ stands (sources_of planner.now) path) }
+{
+    let planned = marked_paths(alloc, planner, marks)?;
+    let there = standing_paths(alloc, planner)?;
+    Ok(ComparedPaths { planned, there })
+}
+
+/// Returns the paths of the marked modules.
+fn marked_paths<'a>(
+    alloc: Global,
+    planner: &Planner<'a>,
+    marks: &[bool],
+) -> Result<NameSet<'a>, AllocError>
+    requires { length marks.now ≡ length (modules_in (sources_of planner.now)) }
+    ensures { IfOk result (λ paths. (path : List ℕ) → is_among paths path ≡ is_path_of (modules_in (sources_of planner.now)) (marks_places marks.now) path) }
+{
+    let places = marked(alloc, marks)?;
+    let paths = paths_of(alloc, planner.modules(), &places)?;
+    Ok(paths)
+}
+
 /// Returns the paths of some modules.
-pub(crate) fn paths_of<'a>(
+fn paths_of<'a>(
     alloc: Global,
     modules: &Modules<'a>,
     places: &[usize],
@@ -30,16 +73,29 @@ pub(crate) fn paths_of<'a>(
 }
 
 /// Returns the paths of loaded modules, and the kernel's.
-pub(crate) fn standing_paths<'a>(
-    alloc: Global,
-    planner: &Planner<'a>,
-) -> Result<NameSet<'a>, AllocError>
+fn standing_paths<'a>(alloc: Global, planner: &Planner<'a>) -> Result<NameSet<'a>, AllocError>
     ensures { IfOk result (λ paths. (path : List ℕ) → is_among paths path ≡ stands (sources_of planner.now) path) }
 {
     let places = planner.modules().places_of(alloc, planner.loaded())?;
     let mut paths = paths_of(alloc, planner.modules(), &places)?;
     paths.insert(b"vmlinux".as_slice())?;
     Ok(paths)
+}
+
+/// Tests that no line is on a need of a planned module.
+pub(crate) fn check_needs(
+    alloc: Global,
+    unmet: &[Unbound],
+    planned: &NameSet<'_>,
+    there: &NameSet<'_>,
+) -> Result<(), Obstacle>
+    ensures passed { OnOk result (first_test (need_tests (is_among planned.now) (is_among there.now) unmet.now) ≡ None) }
+    ensures err { IfErr result (λ o. (o ≡ Obstacle.Memory) ⊎ (first_test (need_tests (is_among planned.now) (is_among there.now) unmet.now) ≡ Some o)) }
+{
+    check_unmet(alloc, LineKind::Missing, unmet, planned, there)?;
+    check_unmet(alloc, LineKind::Gpl, unmet, planned, there)?;
+    check_unmet(alloc, LineKind::Version, unmet, planned, there)?;
+    check_unmet(alloc, LineKind::Namespace, unmet, planned, there)
 }
 
 /// Tests that no line of a kind is an obstacle, over the paths of planned modules and of what is

@@ -30,7 +30,7 @@ pub(crate) struct Planner<'a> {
     unmet: &'a [Unbound],
     loaded: &'a [Name],
     use_blacklist: bool,
-    modules: Modules<'a>,
+    modules: &'a Modules<'a>,
     troubled: NameSet<'a>,
 }
 
@@ -41,7 +41,7 @@ impl<'a> Model for Planner<'a> {
 
     ghost view = { λ p. record { rules = p.rules; indexes = p.lookup.indexes; unmet = p.unmet.now; loaded = p.loaded.now; use_blacklist = p.use_blacklist } };
 
-    ghost invariant = { λ p. IsPlanner p.modules p.troubled p.lookup.rules (record { rules = p.rules; indexes = p.lookup.indexes; unmet = p.unmet.now; loaded = p.loaded.now; use_blacklist = p.use_blacklist }) };
+    ghost invariant = { λ p. IsPlanner p.modules.now p.troubled p.lookup.rules (record { rules = p.rules; indexes = p.lookup.indexes; unmet = p.unmet.now; loaded = p.loaded.now; use_blacklist = p.use_blacklist }) };
 }
 
 /// Lists the paths of modules with a line on a need.
@@ -79,14 +79,14 @@ impl<'a> Planner<'a> {
         unmet: &'a [Unbound],
         loaded: &'a [Name],
         use_blacklist: bool,
-        modules: Modules<'a>,
+        modules: &'a Modules<'a>,
     ) -> Result<Planner<'a>, AllocError>
-        requires { modules ≡ modules_of (maps_of indexes.now).dep }
+        requires { modules.now ≡ modules_of (maps_of indexes.now).dep }
         ensures { IfOk result (λ planner. planner ≡ record { rules = rules.now; indexes = indexes.now; unmet = unmet.now; loaded = loaded.now; use_blacklist = use_blacklist }) }
     {
+        let troubled = troubled_paths(alloc, unmet)?;
         let table = RuleTable::new(alloc, rules)?;
         let lookup = Lookup::new(alloc, rules, indexes)?;
-        let troubled = troubled_paths(alloc, unmet)?;
         Ok(Planner {
             rules: table,
             lookup,
@@ -99,10 +99,10 @@ impl<'a> Planner<'a> {
     }
 
     /// Returns the modules, by their numbers in the tree.
-    pub(crate) fn modules(&self) -> &Modules<'a>
+    pub(crate) fn modules(&self) -> &'a Modules<'a>
         ensures { result.now ≡ modules_in (sources_of self.now) }
     {
-        &self.modules
+        self.modules
     }
 
     /// Returns the names of loaded modules.

@@ -4,17 +4,18 @@ ghost use Rattle.name_table.specs.FirstSeen.{is_among};
 ghost use Rattle.relation_order.specs.Sets.{marked as marks_places};
 ghost use Rattle.plan_order.specs.Lists.{among};
 ghost use Rattle.plan_order.specs.Answer.{IsPlan, IsAnswer};
-ghost use Rattle.dependency_lines.specs.Modules.{name_at, bad_name};
+ghost use Rattle.name_lookup.specs.Maps.{maps_of};
+ghost use Rattle.dependency_lines.specs.Modules.{name_at, bad_name, modules_of};
 ghost use Rattle.plan_builder.specs.Needs.{modules as modules_in, before, after, unloaded};
 ghost use Rattle.plan_builder.specs.Members.{asked, planned as planned_for};
 ghost use Rattle.plan_builder.specs.Steps.{plan_steps};
 ghost use Rattle.plan_builder.specs.Closed.{IsClosed};
-ghost use Rattle.plan_builder.specs.Obstacles.{is_path_of, plan_tests, obstacle_of};
-ghost use Rattle.plan_builder.specs.Answers.{need_tests, ShortCycle, IsCycleOf};
+ghost use Rattle.plan_builder.specs.Obstacles.{is_path_of, stands, plan_tests, obstacle_of};
+ghost use Rattle.plan_builder.specs.Answers.{ShortCycle, IsCycleOf};
 ghost use Rattle.plan_builder.specs.Sources.{sources};
 ghost use Rattle.plan_builder.specs.Planner.{sources_of};
 
-use crate::check::{check_unmet, paths_of, standing_paths};
+use crate::check::{ComparedPaths, check_needs, check_unmet, compared_paths};
 use crate::members::{check_known, find_each, free_marks, requests_of};
 use crate::needs::ModuleNeeds;
 use crate::obstacle::Obstacle;
@@ -28,11 +29,8 @@ use km_names::{Name, Names};
 use loaded_list::Loaded;
 use modprobe_conf::Rules;
 use name_lookup::{Found, Indexes};
-use name_table::NameSet;
 use plan_order::{GroupedOrder, PlanOrCycle, Planned, find_planned, plan_or_cycle};
-use relation_order::marked;
 use std::alloc::{AllocError, Global};
-use symbol_binding::Unbound;
 use unmet_file::{LineKind, Unmet};
 
 /// Makes the plan for a request: what is done for its names, in order, each module after those that
@@ -79,6 +77,26 @@ pub fn plan(
 {
     let pairs = plain::all_pairs(alloc, &indexes.dep)?;
     let modules = Modules::new(alloc, &pairs)?;
+    planned_over(alloc, request, rules, indexes, unmet, loaded, &modules)
+}
+
+/// Makes the plan for a request over the modules of an index, or finds the first obstacle.
+fn planned_over(
+    alloc: Global,
+    request: &Request,
+    rules: &Rules,
+    indexes: &Indexes,
+    unmet: &Unmet,
+    loaded: &Loaded,
+    modules: &Modules<'_>,
+) -> Result<PlanSteps, Obstacle>
+    requires modules { modules.now ≡ modules_of (maps_of indexes.now).dep }
+    requires sound { bad_name (maps_of indexes.now).dep ≡ None }
+    ensures plan { IfOk result (λ steps. steps ≡ plan_steps (sources rules.now indexes.now unmet.now loaded.now request.now) request.now) }
+    ensures passed { OnOk result (obstacle_of (sources rules.now indexes.now unmet.now loaded.now request.now) request.now ≡ None) }
+    ensures closed { IfOk result (IsClosed (sources rules.now indexes.now unmet.now loaded.now request.now)) }
+    ensures err { IfErr result (λ o. (o ≡ Obstacle.Memory) ⊎ (obstacle_of (sources rules.now indexes.now unmet.now loaded.now request.now) request.now ≡ Some o)) }
+{
     let planner = Planner::new(
         alloc,
         rules,
@@ -136,36 +154,6 @@ fn planned_answer(
     Ok(Planning { marks, answer })
 }
 
-/// Returns the paths of the marked modules.
-fn marked_paths<'a>(
-    alloc: Global,
-    planner: &Planner<'a>,
-    marks: &[bool],
-) -> Result<NameSet<'a>, AllocError>
-    requires { length marks.now ≡ length (modules_in (sources_of planner.now)) }
-    ensures { IfOk result (λ paths. (path : List ℕ) → is_among paths path ≡ is_path_of (modules_in (sources_of planner.now)) (marks_places marks.now) path) }
-{
-    let places = marked(alloc, marks)?;
-    let paths = paths_of(alloc, planner.modules(), &places)?;
-    Ok(paths)
-}
-
-/// Tests that no line is on a need of a planned module.
-fn check_needs(
-    alloc: Global,
-    unmet: &[Unbound],
-    planned: &NameSet<'_>,
-    there: &NameSet<'_>,
-) -> Result<(), Obstacle>
-    ensures passed { OnOk result (first (need_tests (is_among planned.now) (is_among there.now) unmet.now) ≡ None) }
-    ensures err { IfErr result (λ o. (o ≡ Obstacle.Memory) ⊎ (first (need_tests (is_among planned.now) (is_among there.now) unmet.now) ≡ Some o)) }
-{
-    check_unmet(alloc, LineKind::Missing, unmet, planned, there)?;
-    check_unmet(alloc, LineKind::Gpl, unmet, planned, there)?;
-    check_unmet(alloc, LineKind::Version, unmet, planned, there)?;
-    check_unmet(alloc, LineKind::Namespace, unmet, planned, there)
-}
-
 /// Returns the order, unless there is a cycle.
 fn order_of(
     alloc: Global,
@@ -207,10 +195,29 @@ fn checked_plan(
     ensures err { IfErr result (λ o. (o ≡ Obstacle.Memory) ⊎ (first (plan_tests (sources_of planner.now) founds.now) ≡ Some o)) }
 {
     let Planning { marks, answer } = planned_answer(alloc, planner, founds)?;
-    let planned = marked_paths(alloc, planner, &marks)?;
-    let there = standing_paths(alloc, planner)?;
-    check_needs(alloc, planner.unmet(), &planned, &there)?;
+    let paths = compared_paths(alloc, planner, &marks)?;
+    checked_order(alloc, planner, founds, answer, &paths)
+}
+
+/// Returns the order that was found, or finds the first obstacle of what is planned. `founds` is
+/// only for the contract.
+fn checked_order(
+    alloc: Global,
+    planner: &Planner<'_>,
+    founds: &[Found],
+    answer: PlanOrCycle,
+    paths: &ComparedPaths<'_>,
+) -> Result<GroupedOrder, Obstacle>
+    requires answer { IsAnswer (among (before (sources_of planner.now))) (unloaded (sources_of planner.now)) (after (sources_of planner.now)) (asked (sources_of planner.now) founds.now) answer }
+    requires planned { (path : List ℕ) → is_among paths.now.planned path ≡ is_path_of (modules_in (sources_of planner.now)) (planned_for (sources_of planner.now) founds.now) path }
+    requires there { (path : List ℕ) → is_among paths.now.there path ≡ stands (sources_of planner.now) path }
+    ensures plan { IfOk result (IsPlan (among (before (sources_of planner.now))) (unloaded (sources_of planner.now)) (after (sources_of planner.now)) (asked (sources_of planner.now) founds.now)) }
+    ensures passed { OnOk result (first (plan_tests (sources_of planner.now) founds.now) ≡ None) }
+    ensures err { IfErr result (λ o. (o ≡ Obstacle.Memory) ⊎ (first (plan_tests (sources_of planner.now) founds.now) ≡ Some o)) }
+{
+    let unmet = planner.unmet();
+    check_needs(alloc, unmet, &paths.planned, &paths.there)?;
     let order = order_of(alloc, planner, answer)?;
-    check_unmet(alloc, LineKind::Double, planner.unmet(), &planned, &there)?;
+    check_unmet(alloc, LineKind::Double, unmet, &paths.planned, &paths.there)?;
     Ok(order)
 }

@@ -129,9 +129,7 @@ fn loadable_places(
     ensures places { IfOk result (λ places. places.items ≡ places_for (sources_of planner.now) name.now) }
 {
     let found = planner.found(alloc, name)?;
-    let places = planner
-        .modules()
-        .places_of(alloc, found.names.as_slice())?;
+    let places = planner.modules().places_of(alloc, found.names.as_slice())?;
     only_loadable(alloc, planner, known, &places)
 }
 

@@ -235,30 +235,39 @@ pub(crate) fn all_steps(
 {
     let members = member_names(alloc, founds)?;
     let mut steps = PlanSteps::new(alloc);
+    push_groups(alloc, &mut steps, planner, request, &members, founds, plan)?;
+    Ok(steps)
+}
+
+/// Adds the steps of requested names, whose groups end at some places of an order, and then the
+/// steps of the rest of the order.
+fn push_groups(
+    alloc: Global,
+    steps: &mut PlanSteps,
+    planner: &Planner<'_>,
+    request: &Request,
+    members: &NameSet<'_>,
+    founds: &[Found],
+    plan: &GroupedOrder,
+) -> Result<(), AllocError>
+    requires members { (other : List ℕ) → is_among members.now other ≡ is_member (sources_of planner.now) request.now other }
+    requires long { length plan.now.ends.items ≡ length founds.now }
+    requires ends { RisingEnds plan.now.ends.items (length plan.now.order.items) }
+    requires order { All (λ y. y < length (modules_in (sources_of planner.now))) plan.now.order.items }
+    ensures { OnOk result (steps.new ≡ steps.old ++ steps_by (sources_of planner.now) request.now [] 0 founds.now plan.now.ends.items plan.now.order.items) }
+{
     let mut earlier = NameSet::new(alloc);
     let mut start = 0;
     for k in 0..founds.len() {
         let end = plan.ends[k];
         let names = &founds[k].names;
-        push_own_steps(alloc, &mut steps, planner, request, &earlier, names)?;
-        push_modules(
-            alloc,
-            &mut steps,
-            planner,
-            request,
-            &members,
-            &plan.order[start..end],
-        )?;
+        let places = &plan.order[start..end];
+        push_own_steps(alloc, steps, planner, request, &earlier, names)?;
+        push_modules(alloc, steps, planner, request, members, places)?;
         insert_all(&mut earlier, names)?;
         start = end;
     }
-    push_modules(
-        alloc,
-        &mut steps,
-        planner,
-        request,
-        &members,
-        &plan.order[start..],
-    )?;
-    Ok(steps)
+    let places = &plan.order[start..];
+    push_modules(alloc, steps, planner, request, members, places)?;
+    Ok(())
 }

@@ -1,7 +1,7 @@
 use Rattle.std.proofs.Common.{◌<◌, length, sym, ap, ◌∙◌, subst}
 use Rattle.std.specs.Prelude.{All}
 use Rattle.plan_builder.proofs.Answering.{marked-inside}
-use Rattle.plan_builder.proofs.planning.marked_paths.Goals as goal
+use Rattle.plan_builder.proofs.check.marked_paths.Goals as goal
 
 pub paths_of-requires : goal.paths_of-requires
 paths_of-requires c =

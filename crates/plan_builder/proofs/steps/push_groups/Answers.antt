@@ -7,7 +7,7 @@ use Rattle.plan_builder.specs.Planner.{sources_of}
 use Rattle.plan_builder.specs.Steps.{own_steps, module_step}
 use Rattle.plan_builder.specs.Ends.{steps_by}
 use Rattle.plan_builder.proofs.StepLaws.{steps-next, steps-past, rest-slice}
-use Rattle.plan_builder.proofs.steps.all_steps.Goals as goal
+use Rattle.plan_builder.proofs.steps.push_groups.Goals as goal
 
 pub loop-k-preserved : goal.loop-k-preserved
 loop-k-preserved c =
