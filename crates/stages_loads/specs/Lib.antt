@@ -2,4 +2,5 @@ pub mod Tables
 pub mod Modules
 pub mod Loads
 pub mod Listed
+pub mod Read
 pub mod Region

@@ -4,6 +4,7 @@ ghost use Rattle.km_outside.specs.OutSeen.{OutSeen};
 ghost use Rattle.km_course.specs.World.{world};
 ghost use Rattle.km_course.specs.Follows.{Answers, Follows};
 ghost use Rattle.stages_loads.specs.Listed.{listed_outcome, loads_listed, loads_listed_at, loads_listed_one};
+ghost use Rattle.stages_loads.specs.Read.{loads_listed_file};
 
 use crate::load::{Cause, load};
 use crate::module::read_module_in;
@@ -69,7 +70,21 @@ pub fn load_listed_at<F: Reads>(
         (world (F.seen files.old) out err) (world (F.seen files.new) out err) result }
 {
     let path = path_of_listed(alloc, name, found)?;
-    let module = read_module_in(alloc, folder, &path, files)?;
+    load_listed_file(alloc, folder, machine, &path, files)
+}
+
+/// Loads the listed module at a path in the folder.
+fn load_listed_file<F: Reads>(
+    alloc: Global,
+    folder: &PathText,
+    machine: Machine,
+    path: &PathText,
+    files: &mut F,
+) -> Result<Machine, Stop>
+    ensures { (out err : OutSeen) → Follows (λ x. x) (loads_listed_file folder.now machine path.now)
+        (world (F.seen files.old) out err) (world (F.seen files.new) out err) result }
+{
+    let module = read_module_in(alloc, folder, path, files)?;
     load(alloc, Cause::Listed, machine, &module)
 }
 

@@ -5,6 +5,7 @@ ghost use Rattle.km_course.specs.World.{world};
 ghost use Rattle.km_course.specs.Follows.{Answers, Follows};
 ghost use Rattle.model_loader.specs.Step.{step};
 ghost use Rattle.stages_loads.specs.Loads.{load_outcome, load_refusal, loads_all, loads_one};
+ghost use Rattle.stages_loads.specs.Read.{loads_read};
 
 use crate::module::read_module_in;
 use crate::shown::{Images, show_load};
@@ -72,8 +73,24 @@ fn load_one<F: Writes, O: Out>(
         (world (F.seen files.old) (O.seen out.old) err) (world (F.seen files.new) (O.seen out.new) err) result }
 {
     let module = read_module_in(alloc, folder, &insert.path, files)?;
-    let after = load(alloc, Cause::Planned, machine, &module)?;
-    show_load(alloc, images, &after, &module, &insert.options, files, out)?;
+    load_read(alloc, images, machine, &module, &insert.options, files, out)
+}
+
+/// Loads a module that was read and shows it, and gives the machine after it.
+fn load_read<F: Writes, O: Out>(
+    alloc: Global,
+    images: &Images,
+    machine: Machine,
+    module: &Module,
+    options: &Blob,
+    files: &mut F,
+    out: &mut O,
+) -> Result<Machine, Stop>
+    ensures { (err : OutSeen) → Follows (λ x. x) (loads_read images.now options.now machine «module».now)
+        (world (F.seen files.old) (O.seen out.old) err) (world (F.seen files.new) (O.seen out.new) err) result }
+{
+    let after = load(alloc, Cause::Planned, machine, module)?;
+    show_load(alloc, images, &after, module, options, files, out)?;
     Ok(after)
 }
 

@@ -1,13 +1,9 @@
 use Rattle.std.proofs.Common.{ℕ, List}
 use Rattle.std.specs.Prelude.{Ok, Err, option_copied}
 use Rattle.std.proofs.lemmas.Result.{err_from_is_err_and}
-use Rattle.model_loader.specs.Machine.{Machine}
-use Rattle.model_loader.specs.Step.{step}
 use Rattle.km_course.proofs.Steps.{next, exits, answered}
-use Rattle.stages_loads.specs.declared.load.Cause.TheVariants.{Listed}
 use Rattle.stages_loads.specs.Listed.{listed_outcome}
-use Rattle.stages_loads.specs.Loads.{load_outcome}
-use Rattle.stages_loads.proofs.ListedSteps.{listed_found, listed_read}
+use Rattle.stages_loads.proofs.ListedSteps.{listed_found}
 use Rattle.stages_loads.proofs.listed.load_listed_at.Goals as goal
 
 pub returns-in_err-path : goal.returns-in_err-path
@@ -16,17 +12,8 @@ returns-in_err-path g c = λ out err.
     exits _ _ (listed_found c.args.folder.now c.args.machine) p.1 p.2
     (answered (λ (x : List ℕ). x) (listed_outcome c.args.name.now (option_copied c.args.found)) _ (Err _) c.in_err-path.ensures)
 
-pub returns-in_err-module : goal.returns-in_err-module
-returns-in_err-module g c = λ out err.
-    let p = err_from_is_err_and c.from_residual-in_err-module.result c.from_residual-in_err-module.ensures.1 in
-    next (listed_found c.args.folder.now c.args.machine)
-    (answered (λ (x : List ℕ). x) (listed_outcome c.args.name.now (option_copied c.args.found)) _ (Ok c.in_ok-path.path) c.in_ok-path.ensures)
-    (exits _ _ (listed_read c.args.machine) p.1 p.2 (c.in_err-module.ensures out err))
-
 pub returns : goal.returns
 returns g c = λ out err.
-    let m = c.in_ok-module.module in
     next (listed_found c.args.folder.now c.args.machine)
     (answered (λ (x : List ℕ). x) (listed_outcome c.args.name.now (option_copied c.args.found)) _ (Ok c.in_ok-path.path) c.in_ok-path.ensures)
-    (next (listed_read c.args.machine) (c.in_ok-module.ensures out err)
-    (answered (λ (x : Machine). x) (load_outcome Listed m.facts.name (step c.args.machine m)) _ c.load.result c.load.ensures))
+    (c.load_listed_file.ensures out err)
