@@ -80,7 +80,7 @@ unfolding kernel_with
 kernel_with-same kernel = by_exports _ kernel.exports (firsts-same kernel.exports kernel.table) _ kernel.table
   where
     with_exports : (es : List KernelExport) → IsTable es → Kernel
-    with_exports es apart = record { known = kernel.known; exports = es; alloc = kernel.alloc; table = apart }
+    with_exports es apart = record { known = kernel.known; exports = es; table = apart }
 
     by_exports : (a b : List KernelExport) → a ≡ b → (s : IsTable a) (t : IsTable b) → with_exports a s ≡ with_exports b t
     by_exports a b is s t = subst (λ es. (u : IsTable es) → with_exports a s ≡ with_exports es u) is (λ u. ap (with_exports a) (IsTable-prop a s u)) t
