@@ -1,31 +1,20 @@
 -- The lines of what is left.
-use Rattle.std.proofs.Common.{Bor, ◌≡◌, ◌∙◌, ◌<◌, ◌≤◌, ◌+◌, ℕ, zero, suc, true, false, List, [], ◌∷◌, ◌++◌, Option, Some, None, refl, sym, ap, subst, length, cond, map, drop, arith, append_assoc, append-nil}
+use Rattle.std.proofs.Common.{Bor, ◌≡◌, ◌∙◌, ◌<◌, ◌≤◌, ◌+◌, ℕ, zero, suc, true, false, List, [], ◌∷◌, ◌++◌, Option, Some, None, refl, sym, ap, length, cond, map, drop, append_assoc, append-nil}
 use Rattle.std.specs.Prelude.{find, is_some, slice_get, option_map, option_copied}
-use Rattle.std.specs.List.{AllByRecursion, IsDistinct, flat_map}
+use Rattle.std.specs.List.{IsDistinct}
 use Rattle.std.specs.Option.{option_map_or}
 use Rattle.std.specs.Str.{bytes_eq}
 use Rattle.std.proofs.lemmas.List.{drop_more, drop_all}
 use Rattle.std.proofs.lemmas.Option.{get_or_from_slice_get}
-use Rattle.std.proofs.lemmas.Slice.Eq.{bytes_eq-Decides}
 use Rattle.model_loader.specs.declared.entry.Entry.{Entry}
 use Rattle.model_loader.specs.declared.entry.LoadedModule.{LoadedModule}
 use Rattle.model_loader.specs.Machine.{Machine}
 use Rattle.model_loader.specs.Sound.{entry_names}
 use Rattle.model_loader.proofs.PlaceLemmas.{item, none≢some}
 use Rattle.command_remove.specs.Lines.{left_line, left_lines}
+use Rattle.model_loader.proofs.ListedLemmas.{at-place, name_of, same-name}
 
 -- ---- an entry by its name
-
-abbrev name_of : Entry → List ℕ
-name_of e = e.loaded.name
-
-at-place : (P : List ℕ → Type 0) (es : List Entry) (k : ℕ) (e : Entry) → slice_get es k ≡ Some e → AllByRecursion P (map name_of es) → P e.loaded.name
-at-place P [] k e at all = absurd (none≢some at)
-at-place P (y ∷ ys) zero e at all = let same : y ≡ e = ap (λ o. option_map_or (λ (x : Entry). x) o y) at in subst (λ (x : Entry). P x.loaded.name) same all.0
-at-place P (y ∷ ys) (suc k) e at all = at-place P ys k e at all.1
-
-same-name : (x : List ℕ) → bytes_eq x x ≡ true
-same-name x = (bytes_eq-Decides x x).1 refl
 
 -- where no two entries have one name, the first of a name is the one that has it
 found-at : (es : List Entry) (i : ℕ) (e : Entry) → IsDistinct bytes_eq (map name_of es) → slice_get es i ≡ Some e → find (λ (x : Entry). bytes_eq x.loaded.name e.loaded.name) es ≡ Some e

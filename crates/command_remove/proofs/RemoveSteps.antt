@@ -1,6 +1,7 @@
 -- The stages of a removal, joined.
 use Rattle.std.proofs.Common.{◌≡◌, ◌∙◌, ◌+◌, ◌<◌, ◌≤◌, ℕ, Bool, true, false, List, [], ◌∷◌, ◌++◌, Option, Some, None, refl, sym, ap, subst, map, drop, length, inl, inr}
 use Rattle.std.specs.Prelude.{◌⊎◌, Result, Ok, Err, option_map, ⊤}
+use Rattle.std.specs.Option.{option_map_or}
 use Rattle.std.proofs.lemmas.List.{drop_all}
 use Rattle.km_names.specs.First.{first}
 use Rattle.km_course.specs.Course.{Outcome, Stage, ◌>>=◌, each_from, ends, given, gives, says_any}
@@ -17,9 +18,10 @@ use Rattle.kmod_words.specs.declared.modprobe.ModprobeWords.{ModprobeWords}
 use Rattle.modprobe_conf.specs.declared.rule.Rule.{Rule}
 use Rattle.model_loader.specs.declared.region.Region.{Region}
 use Rattle.model_loader.specs.Machine.{Machine}
-use Rattle.model_loader.specs.Use.{name_at}
+use Rattle.model_loader.specs.Use.{name_at, without}
 use Rattle.model_unload.specs.declared.UnloadFault.{UnloadFault}
-use Rattle.model_unload.specs.Unload.{unload_all, unloaded, unless_refused}
+use Rattle.model_unload.specs.declared.UnloadFault.TheVariants as UnloadFaults
+use Rattle.model_unload.specs.Unload.{first_user, place_of, unload_all, unloaded, unloaded_at, unless_refused}
 use Rattle.name_lookup.specs.declared.indexes.Indexes.{Indexes}
 use Rattle.remove_plan.specs.declared.step.RemoveStep.{RemoveStep}
 use Rattle.remove_plan.specs.declared.step.RemoveFault.{RemoveFault}
@@ -33,7 +35,7 @@ use Rattle.stages_loads.specs.Tables.{reads_machine}
 use Rattle.command_remove.specs.declared.course.Removal.{Removal}
 use Rattle.command_remove.specs.Listed.{takes_listed}
 use Rattle.command_remove.specs.Lines.{left_lines, step_lines}
-use Rattle.command_remove.specs.Remove.{carries_out, chosen_outcome, command_owner, first_owner, machine_after, removal_of, removes_from, removes_listed, removes_names, step_name, steps_outcome, steps_unless, unless_owner, unloads_all, unloads_one, unloads_unless}
+use Rattle.command_remove.specs.Remove.{carries_out, chosen_outcome, command_owner, first_owner, removal_of, removes_from, removes_listed, removes_names, step_name, steps_outcome, steps_unless, unless_owner, unloads_all, unloads_one, unloads_unless, without_named}
 
 -- ---- the stages after each part of a removal
 
@@ -44,7 +46,7 @@ abbrev pub after_left : Machine → Stage ⊤
 after_left left = says_any (left_lines left.entries)
 
 abbrev pub one_unloaded : Machine → RemoveStep → ⊤ → Stage Machine
-one_unloaded machine step said = gives (machine_after machine (unloaded machine (step_name step)))
+one_unloaded machine step said = gives (without_named machine (step_name step))
 
 abbrev pub after_lines : Bool → Machine → List RemoveStep → ⊤ → Stage ⊤
 after_lines dry_run machine steps said = unloads_unless dry_run machine steps
@@ -146,6 +148,18 @@ others-unload machine after steps i step whole cut took is =
 
 pub same-machine : (a b : Machine) → ◌≡◌ {A = Result Machine UnloadFault} (Ok a) (Ok b) → a ≡ b
 same-machine a b is = cc
+
+-- the machine after a module is removed is the machine without it
+pub removed-is : (machine : Machine) (name : List ℕ) (after : Machine) → unloaded machine name ≡ Ok after → after ≡ without_named machine name
+removed-is machine name after is = by_place (place_of machine name) is
+  where
+    by_user : (j : ℕ) (u : Option ℕ) → option_map_or (λ k. Err (UnloadFaults.InUse k)) u (Ok (without machine j)) ≡ Ok after → after ≡ without machine j
+    by_user j None is = sym (same-machine (without machine j) after is)
+    by_user j (Some k) is = absurd (let e : ◌≡◌ {A = Result Machine UnloadFault} (Err (UnloadFaults.InUse k)) (Ok after) = is in cc)
+
+    by_place : (o : Option ℕ) → option_map_or (unloaded_at machine) o (Err UnloadFaults.NotLoaded) ≡ Ok after → after ≡ option_map_or (without machine) o machine
+    by_place None is = absurd (let e : ◌≡◌ {A = Result Machine UnloadFault} (Err UnloadFaults.NotLoaded) (Ok after) = is in cc)
+    by_place (Some j) is = by_user j (first_user machine j) is
 
 -- ---- the first module for which a command is run
 

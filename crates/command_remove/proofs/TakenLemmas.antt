@@ -46,7 +46,7 @@ came-given : {X : Type 0} (o : Outcome X) (x : X) → (given o).possible (value 
 unfolding given
 came-given o x is = is
 
-same-value : {X : Type 0} (x y : X) → ◌≡◌ {A = Outcome X} (value x) (value y) → x ≡ y
+pub same-value : {X : Type 0} (x y : X) → ◌≡◌ {A = Outcome X} (value x) (value y) → x ≡ y
 same-value x y is = cc
 
 -- ---- the machine of the listed modules

@@ -1,6 +1,7 @@
 -- The course of `modprobe -r`: modules are taken out of the modelled machine. modprobe(8), modprobe.d(5), -r.
-use Rattle.std.specs.Prelude.{◌≡◌, ℕ, Bool, true, false, List, map, Option, Some, None, Result, Ok, Err, ⊤, if◌then◌else◌}
+use Rattle.std.specs.Prelude.{◌≡◌, ℕ, Bool, true, false, List, map, Option, Some, None, Ok, ⊤, if◌then◌else◌}
 use Rattle.std.specs.List.{IsDistinct}
+use Rattle.std.specs.Option.{option_map_or}
 use Rattle.std.specs.Str.{bytes_eq}
 use Rattle.km_names.specs.First.{first}
 use Rattle.kmod_words.specs.declared.modprobe.ModprobeWords.{ModprobeWords}
@@ -8,9 +9,8 @@ use Rattle.modprobe_conf.specs.declared.rule.Rule.{Rule}
 use Rattle.model_loader.specs.declared.region.Region.{Region}
 use Rattle.model_loader.specs.Machine.{Machine}
 use Rattle.model_loader.specs.Sound.{entry_names}
-use Rattle.model_loader.specs.Use.{name_at}
-use Rattle.model_unload.specs.declared.UnloadFault.{UnloadFault}
-use Rattle.model_unload.specs.Unload.{unload_all, unloaded}
+use Rattle.model_loader.specs.Use.{name_at, without}
+use Rattle.model_unload.specs.Unload.{place_of, unload_all}
 use Rattle.remove_plan.specs.declared.step.RemoveStep.{RemoveStep}
 use Rattle.remove_plan.specs.declared.step.RemoveStep.TheVariants.{Rmmod, Command}
 use Rattle.remove_plan.specs.Removal.{in_use, is_asked}
@@ -66,16 +66,15 @@ chosen_outcome dry_run steps = if dry_run then value tt else unless_owner (first
 
 -- ---- what is taken out
 
--- The machine after a module was taken out; a refusal leaves it as it was.
-abbrev pub machine_after : Machine → Result Machine UnloadFault → Machine
-machine_after machine (Ok after) = after
-machine_after machine (Err fault) = machine
+-- The machine without the module of this name, if it has one.
+abbrev pub without_named : Machine → List ℕ → Machine
+without_named machine name = option_map_or (without machine) (place_of machine name) machine
 
--- The module of a step is taken out, and its line is printed. What it gives is the machine after it.
+-- The line of a step's module is printed. The stage gives the machine without that module.
 abbrev pub unloads_one : Machine → RemoveStep → Stage Machine
 unloads_one machine step = do
   said ← says (unloaded_line (step_name step))
-  gives (machine_after machine (unloaded machine (step_name step)))
+  gives (without_named machine (step_name step))
 
 -- The modules of the steps are taken out, one after the other, and then what is left is printed, the oldest first.
 abbrev pub unloads_all : Machine → List RemoveStep → Stage ⊤

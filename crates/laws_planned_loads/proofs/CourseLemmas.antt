@@ -136,7 +136,7 @@ planned : (o : Option Obstacle) (made steps : List PlanStep) → plan_unless o m
 planned None made steps is = (refl, cc)
 planned (Some obstacle) made steps is = cc
 
-was-planned : (known : Known) (request : Request) (steps : List PlanStep) → plan_outcome known known.loaded request ≡ value steps → (obstacle_of (sources_with known known.loaded request) request ≡ None) × (plan_steps (sources_with known known.loaded request) request ≡ steps)
+pub was-planned : (known : Known) (request : Request) (steps : List PlanStep) → plan_outcome known known.loaded request ≡ value steps → (obstacle_of (sources_with known known.loaded request) request ≡ None) × (plan_steps (sources_with known known.loaded request) request ≡ steps)
 unfolding plan_outcome
 was-planned known request steps is =
     planned (obstacle_of (sources_with known known.loaded request) request) (plan_steps (sources_with known known.loaded request) request) steps is
@@ -145,7 +145,7 @@ installed : (o : Option (List ℕ)) (made inserts : List Insertion) → unless_i
 installed None made inserts is = (refl, cc)
 installed (Some name) made inserts is = cc
 
-were-given : (steps : List PlanStep) (inserts : List Insertion) → inserts_outcome steps ≡ value inserts → (first (map command_owner steps) ≡ None) × (flat_map inserted steps ≡ inserts)
+pub were-given : (steps : List PlanStep) (inserts : List Insertion) → inserts_outcome steps ≡ value inserts → (first (map command_owner steps) ≡ None) × (flat_map inserted steps ≡ inserts)
 unfolding inserts_outcome
 were-given steps inserts is = installed (first (map command_owner steps)) (flat_map inserted steps) inserts is
 

@@ -67,11 +67,11 @@ below-last folder front text = sym (append_assoc (without_end_slashes folder) (4
 pub last-ko : (front : List ℕ) → last_of (front ++ codes ".ko") ≡ 111
 last-ko front = ap first_of_list (reverse-append front (codes ".ko"))
 
-last-img : (front : List ℕ) → last_of (front ++ codes ".img") ≡ 103
+pub last-img : (front : List ℕ) → last_of (front ++ codes ".img") ≡ 103
 last-img front = ap first_of_list (reverse-append front (codes ".img"))
 
 -- so no image is put there
-apart : (folder path images name : List ℕ) → is_module_path path ≡ true → is_compressed path ≡ false → path_below folder path ≡ path_below images (name ++ codes ".img") → ⊥
+pub apart : (folder path images name : List ℕ) → is_module_path path ≡ true → is_compressed path ≡ false → path_below folder path ≡ path_below images (name ++ codes ".img") → ⊥
 apart folder path images name kind plain same =
     let front = take (length path - 3) path in
     let one : last_of (path_below folder path) ≡ 111 =
@@ -123,7 +123,7 @@ file-read : (path bytes : List ℕ) (found : Option (List ℕ)) → found ≡ So
 file-read path bytes found is small =
     ap (read_outcome (end (NoFile path)) path) is ∙ ap (λ b. cond b (end (TooLarge path)) (value bytes)) (le-ltb file_limit (length bytes) small)
 
-one-module : (path bytes : List ℕ) (a b : fact_fault path bytes ≡ None) → module_at path bytes a ≡ module_at path bytes b
+pub one-module : (path bytes : List ℕ) (a b : fact_fault path bytes ≡ None) → module_at path bytes a ≡ module_at path bytes b
 unfolding module_at
 one-module path bytes a b = module_at-same path bytes (module_at path bytes b) a refl refl
 

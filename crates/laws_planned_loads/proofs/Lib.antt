@@ -2,7 +2,7 @@ pub mod RunLemmas
 pub mod FileLemmas
 mod RefusedLemmas
 pub mod LoadLemmas
-mod ListedLemmas
+pub mod ListedLemmas
 pub mod KnownLemmas
 mod ClosedLemmas
 pub mod CourseLemmas

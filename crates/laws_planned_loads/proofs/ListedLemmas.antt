@@ -18,6 +18,7 @@ use Rattle.km_course.specs.declared.end.End.TheVariants.{Refused}
 use Rattle.km_course.specs.declared.refusal.Refusal.TheVariants.{ListedRefused}
 use Rattle.stages_files.specs.IndexFile.{first_text}
 use Rattle.stages_files.specs.KernelModules.{path_listed}
+use Rattle.stages_loads.specs.declared.load.Cause.{Cause}
 use Rattle.stages_loads.specs.declared.load.Cause.TheVariants.{Listed}
 use Rattle.stages_loads.specs.Listed.{listed_outcome, loads_listed_one}
 use Rattle.stages_loads.specs.Loads.{load_outcome}
@@ -33,12 +34,12 @@ use Rattle.laws_planned_loads.proofs.RunLemmas.{goes-on, joined, run-ends, run-g
 
 -- ---- one listed module
 
-stepped : (name : List ℕ) (r : Result Machine LoadFault) (next : Machine) → load_outcome Listed name r ≡ value next → r ≡ Ok next
+pub stepped : (cause : Cause) (name : List ℕ) (r : Result Machine LoadFault) (next : Machine) → load_outcome cause name r ≡ value next → r ≡ Ok next
 unfolding load_outcome
-stepped name (Ok other) next is = cc
-stepped name (Err fault) next is = cc
+stepped cause name (Ok other) next is = cc
+stepped cause name (Err fault) next is = cc
 
-path-given : (name : List ℕ) (o : Option (List ℕ)) (path : List ℕ) → listed_outcome name o ≡ value path → o ≡ Some path
+pub path-given : (name : List ℕ) (o : Option (List ℕ)) (path : List ℕ) → listed_outcome name o ≡ value path → o ≡ Some path
 path-given name None path is = cc
 path-given name (Some other) path is = cc
 
@@ -74,7 +75,7 @@ one-goes-in files folder index machine name next is =
       m = m;
       found = found;
       file = file.file;
-      took = stepped m.facts.name (step machine m) next g.rest;
+      took = stepped Listed m.facts.name (step machine m) next g.rest;
       acts = h.acts ∙ g.acts ∙ ap (λ done. done ++ []) file.acts;
     }
 

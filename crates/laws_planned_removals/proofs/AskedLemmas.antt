@@ -1,7 +1,7 @@
 -- A removal that asks for all that was loaded last, and nothing else: none of it is in use, and unless only it uses an older
 -- module, it is all that is removed.
 use Rattle.std.proofs.Common.{◌≡◌, ◌≤◌, ◌<◌, ◌+◌, ◌∙◌, ◌⊎◌, inl, inr, ℕ, zero, suc, Bool, true, false, cond, List, [], ◌∷◌, ◌++◌, Option, Some, None, length, map, reverse, refl, sym, ap, subst, arith, append_assoc, append-nil}
-use Rattle.std.specs.Prelude.{◌&&◌, ◌||◌, not, nat_eq, find, is_none, option_map, slice_get, Result, Ok, Err}
+use Rattle.std.specs.Prelude.{◌&&◌, ◌||◌, not, nat_eq, is_none, option_map, slice_get, Result, Ok, Err}
 use Rattle.std.specs.List.{AllByRecursion, IsDistinct, list_any, range_with_len}
 use Rattle.std.specs.Option.{option_map_or}
 use Rattle.std.specs.Str.{bytes_eq}
@@ -17,24 +17,25 @@ use Rattle.model_loader.specs.declared.entry.Entry.{Entry}
 use Rattle.model_loader.specs.declared.fault.LoadFault.{LoadFault}
 use Rattle.model_loader.specs.Machine.{Machine}
 use Rattle.model_loader.specs.Sound.{entry_names}
-use Rattle.model_loader.specs.Step.{entry_at, module_base, refusal, step, with_entry}
+use Rattle.model_loader.specs.Step.{entry_at, module_base, step, with_entry}
 use Rattle.model_loader.specs.Use.{binds, name_at, places}
-use Rattle.model_loader.proofs.PlaceLemmas.{at-or-above, item, none≢some}
+use Rattle.model_loader.proofs.PlaceLemmas.{at-or-above, item, none≢some, below-or-above}
 use Rattle.model_unload.specs.Unload.{AreFallingFrom}
 use Rattle.remove_plan.specs.Removal.{AreFalling, AreRemoved, Places, among, in_use, is_asked, is_used_only, removed_by, used_member, user_outside}
 use Rattle.remove_plan.proofs.RemovalLemmas.{asked-inside, both-true, removed-are-least, removed-are-one, younger}
 use Rattle.laws_closed_plans.specs.Binding.{names_of}
 use Rattle.laws_closed_plans.specs.Loads.{load_all, unless_refused}
 use Rattle.laws_removal.specs.Loads.{added}
-use Rattle.laws_removal.proofs.LoadLemmas.{are-added}
+use Rattle.laws_removal.proofs.LoadLemmas.{are-added, entry-name}
 use Rattle.laws_removal.proofs.PassLemmas.{user-inside}
 use Rattle.laws_planned_removals.specs.Courses.{removed_names}
 use Rattle.laws_planned_removals.specs.Join.{AreAskedFor}
+use Rattle.laws_closed_plans.proofs.LoadLemmas.{step-next}
+use Rattle.model_loader.proofs.ListedLemmas.{name_of}
+use Rattle.laws_removal.proofs.UnloadedLemmas.{some-passes}
+use Rattle.model_unload.proofs.NameLemmas.{none-found}
 
 -- ---- what loads enter
-
-abbrev name_of : Entry → List ℕ
-name_of e = e.loaded.name
 
 -- The entries that loads of modules add.
 record AreEntered (machine after : Machine) (ms : List Module) : Type 0 where
@@ -42,18 +43,6 @@ record AreEntered (machine after : Machine) (ms : List Module) : Type 0 where
   newer : after.entries ≡ machine.entries ++ entries
   named : map name_of entries ≡ names_of ms
   counted : length entries ≡ length ms
-
-step-next : (machine : Machine) (m : Module) (next : Machine) → step machine m ≡ Ok next → next ≡ with_entry machine (entry_at machine m (module_base machine m))
-unfolding step
-step-next machine m next is = go (refusal machine m) is
-  where
-    go : (r : Option LoadFault) → option_map_or Err r (Ok (with_entry machine (entry_at machine m (module_base machine m)))) ≡ Ok next → next ≡ with_entry machine (entry_at machine m (module_base machine m))
-    go None is = cc
-    go (Some fault) is = absurd cc
-
-entry-name : (machine : Machine) (m : Module) (base : ℕ) → (entry_at machine m base).loaded.name ≡ m.facts.name
-unfolding entry_at
-entry-name machine m base = refl
 
 are-entered : (machine after : Machine) (ms : List Module) → load_all machine ms ≡ Ok after → AreEntered machine after ms
 are-entered machine after [] is =
@@ -65,7 +54,7 @@ are-entered machine after (m ∷ ms) is = go (step machine m) refl is (λ mid. a
     go (Err fault) at done later = absurd (let e : ◌≡◌ {A = Result Machine LoadFault} (Err fault) (Ok after) = done in cc)
     go (Ok mid) at done later =
         let e = entry_at machine m (module_base machine m) in
-        let next : mid ≡ with_entry machine e = step-next machine m mid at in
+        let next : mid ≡ with_entry machine e = (step-next machine m mid at).is in
         let rest = later mid done in
         record {
           entries = e ∷ rest.entries;
@@ -133,21 +122,9 @@ are-falling : (n : ℕ) (ks : List ℕ) → AreFallingFrom n ks → AreFalling k
 are-falling n [] fall = tt
 are-falling n (k ∷ ks) fall = (falling-below k ks fall.1, are-falling k ks fall.1)
 
-none-found : (p : ℕ → Bool) (ks : List ℕ) → ((u : ℕ) → p u ≡ false) → find p ks ≡ None
-none-found p [] none = refl
-none-found p (k ∷ ks) none = ap (λ b. cond b (Some k) (find p ks)) (none k) ∙ none-found p ks none
-
 none-first : {X : Type 0} (f : ℕ → Option X) (ks : List ℕ) → ((k : ℕ) → f k ≡ None) → first (map f ks) ≡ None
 none-first f [] none = refl
 none-first f (k ∷ ks) none = rw (none k) (none-first f ks none)
-
-some-passes : (p : ℕ → Bool) (ks : List ℕ) → list_any p ks ≡ true → (k : ℕ) × (p k ≡ true)
-some-passes p [] is = absurd (false≢true is)
-some-passes p (k ∷ ks) is =
-    elim (or_cases (p k) (list_any p ks) is) [ inl here ↦ (k, here) | inr later ↦ some-passes p ks later ]
-
-where-is : (k n : ℕ) → (k < n) ⊎ (n ≤ k)
-where-is k n = grind arith
 
 same-truth : (a b : Bool) → (a ≡ true → b ≡ true) → (b ≡ true → a ≡ true) → a ≡ b
 same-truth true b there back = sym (there refl)
@@ -183,7 +160,7 @@ module _ (machine after : Machine) (ms : List Module) (loaded : load_all machine
 
   asked-low : (k : ℕ) → set k ≡ true → n ≤ k
   asked-low k member =
-      elim (where-is k n) [ inl less ↦ absurd (false≢true (sym (asked-old k less) ∙ member)) | inr le ↦ le ]
+      elim (below-or-above k n) [ inl less ↦ absurd (false≢true (sym (asked-old k less) ∙ member)) | inr le ↦ le ]
 
   -- who uses one of them is one of them
   user-asked : (u j : ℕ) → set j ≡ true → binds after u j ≡ true → set u ≡ true
@@ -235,7 +212,7 @@ module _ (machine after : Machine) (ms : List Module) (loaded : load_all machine
   module _ (alone : (j : ℕ) → j < n → is_used_only after set j ≡ false) where
     used-added : (k : ℕ) → is_used_only after (among ks) k ≡ true → among ks k ≡ true
     used-added k is =
-        elim (where-is k n) [
+        elim (below-or-above k n) [
           | inl less ↦ absurd (false≢true (sym (alone k less) ∙ (λ i. is_used_only after (λ u. sym (same-set u) i) k) ∙ is))
           | inr le ↦
               let user = some-passes (λ u. among ks u && binds after u k) (places after) (both-true (list_any (λ u. among ks u && binds after u k) (places after)) (is_none (user_outside after (among ks) k)) is).0 in

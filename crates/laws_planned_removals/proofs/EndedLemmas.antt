@@ -1,10 +1,10 @@
 -- Loads whose course ends well came to their last machine.
-use Rattle.std.proofs.Common.{◌≡◌, ◌∙◌, ◌-◌, ℕ, Bool, true, false, List, [], ◌∷◌, ◌++◌, length, take, refl, sym, ap, subst, arith, append_assoc}
-use Rattle.std.specs.Prelude.{codes, Option, Some, None, Result, Ok, Err}
+use Rattle.std.proofs.Common.{◌≡◌, ◌∙◌, ◌-◌, ℕ, Bool, true, false, List, [], ◌∷◌, ◌++◌, refl, sym, ap, subst, arith, append_assoc}
+use Rattle.std.specs.Prelude.{codes, Option, Some, None, Ok}
 use Rattle.std.specs.FinMap.{get, insert}
 use Rattle.std.specs.List.{AllByRecursion, list_all}
 use Rattle.std.proofs.lemmas.List.{reverse-append}
-use Rattle.km_names.specs.Path.{is_compressed, path_below, without_end_slashes}
+use Rattle.km_names.specs.Path.{path_below, without_end_slashes}
 use Rattle.km_outside.specs.Contents.{Contents}
 use Rattle.kmod_words.specs.declared.modprobe.ModprobeWords.{ModprobeWords}
 use Rattle.km_course.specs.Course.{Act, Outcome, Stage, after, continued, ◌>>=◌, act_with, given, gives, when◌then◌else◌}
@@ -17,7 +17,6 @@ use Rattle.model_loader.specs.declared.region.Region.{Region}
 use Rattle.plan_builder.specs.declared.step.PlanStep.{PlanStep}
 use Rattle.stages_known.specs.declared.known.Known.{Known}
 use Rattle.model_loader.specs.declared.entry.Entry.{Entry}
-use Rattle.model_loader.specs.declared.fault.LoadFault.{LoadFault}
 use Rattle.model_loader.specs.Machine.{Machine}
 use Rattle.model_loader.specs.Step.{step}
 use Rattle.stages_files.specs.KernelModules.{modules_folder}
@@ -33,29 +32,19 @@ use Rattle.laws_closed_plans.specs.Loads.{load_all, unless_refused}
 use Rattle.laws_planned_loads.specs.Acts.{is_reading, said}
 use Rattle.laws_planned_loads.specs.Courses.{CameToLoads, HasMachine, ended}
 use Rattle.laws_planned_loads.specs.Files.{AreFileModules, IsFileModule}
-use Rattle.laws_planned_loads.proofs.FileLemmas.{ends-ko, first_of_list, last-ko, last_of, module-read, other-file}
+use Rattle.laws_planned_loads.proofs.FileLemmas.{first_of_list, last_of, module-read, other-file, apart, last-img}
 use Rattle.laws_planned_loads.proofs.KnownLemmas.{given-came}
 use Rattle.laws_planned_loads.proofs.RunLemmas.{goes-on}
 use Rattle.laws_planned_loads.proofs.WholeLemmas.{courses-load}
 use Rattle.laws_planned_removals.specs.Join.{FolderStays, LoadsComeToLast, LoadsLeaveFolder}
 use Rattle.laws_planned_removals.proofs.JoinLemmas.{files-stay, steps-kinds}
 use Rattle.laws_planned_removals.proofs.ListedLemmas.{only-module}
-use Rattle.laws_planned_removals.proofs.MeetLemmas.{well-planned, were-given}
+use Rattle.laws_planned_removals.proofs.MeetLemmas.{well-planned}
+use Rattle.laws_planned_loads.proofs.ListedLemmas.{stepped}
+use Rattle.laws_planned_loads.proofs.CourseLemmas.{were-given}
+use Rattle.command_remove.proofs.TakenLemmas.{same-value}
 
 -- ---- no image is put at the path of a module
-
-last-img : (front : List ℕ) → last_of (front ++ codes ".img") ≡ 103
-last-img front = ap first_of_list (reverse-append front (codes ".img"))
-
-apart : (folder path images name : List ℕ) → is_module_path path ≡ true → is_compressed path ≡ false → path_below folder path ≡ path_below images (name ++ codes ".img") → ⊥
-apart folder path images name kind plain same =
-    let front = take (length path - 3) path in
-    let one : last_of (path_below folder path) ≡ 111 =
-    ap (λ p. last_of (path_below folder p)) (ends-ko path kind plain) ∙ ap last_of (sym (append_assoc (without_end_slashes folder) (47 ∷ front) (codes ".ko"))) ∙ last-ko (without_end_slashes folder ++ 47 ∷ front) in
-    let other : last_of (path_below images (name ++ codes ".img")) ≡ 103 =
-    ap last_of (sym (append_assoc (without_end_slashes images) (47 ∷ name) (codes ".img"))) ∙ last-img (without_end_slashes images ++ 47 ∷ name) in
-    let numbers : 111 ≡ 103 = sym one ∙ ap last_of same ∙ other in
-    absurd (omega (arith, numbers))
 
 last-bin : (front : List ℕ) → last_of (front ++ codes ".bin") ≡ 110
 last-bin front = ap first_of_list (reverse-append front (codes ".bin"))
@@ -178,14 +167,6 @@ spares-said path (byte ∷ bytes) = tt
 
 -- ---- loads that end well
 
-stepped : (name : List ℕ) (r : Result Machine LoadFault) (next : Machine) → load_outcome Planned name r ≡ value next → r ≡ Ok next
-unfolding load_outcome
-stepped name (Ok other) next is = cc
-stepped name (Err fault) next is = cc
-
-one-value : {X : Type 0} (x y : X) → ◌≡◌ {A = Outcome X} (value x) (value y) → x ≡ y
-one-value x y is = cc
-
 -- One module that went in.
 record OneWent (files : Contents) (folder : List ℕ) (machine : Machine) (one : Insertion) (next : Machine) : Type 0 where
   m : Module
@@ -200,11 +181,11 @@ one-went files folder images machine one next kind is =
     let g = goes-on (loads Planned machine m) (one_loaded images one.options machine m) _ next h.rest in
     let mid : Machine = g.mid in
     let s = goes-on (shows_load images m one.options (entered machine m)) (one_shown mid) _ next g.rest in
-    let same : mid ≡ next = one-value mid next (given-came (value mid) next _ s.rest) in
+    let same : mid ≡ next = same-value mid next (given-came (value mid) next _ s.rest) in
     record {
       m = m;
       file = read.file;
-      took = stepped m.facts.name (step machine m) mid (given-came (load_outcome Planned m.facts.name (step machine m)) mid _ g.first) ∙ ap Ok same;
+      took = stepped Planned m.facts.name (step machine m) mid (given-came (load_outcome Planned m.facts.name (step machine m)) mid _ g.first) ∙ ap Ok same;
     }
 
 record AllWent (files : Contents) (folder : List ℕ) (machine : Machine) (inserts : List Insertion) (last : Machine) : Type 0 where
@@ -215,7 +196,7 @@ record AllWent (files : Contents) (folder : List ℕ) (machine : Machine) (inser
 all-went : (folder : List ℕ) (images : Images) (inserts : List Insertion) → AllByRecursion (λ path. is_module_path path ≡ true) (paths_of inserts) → (machine : Machine) (files : Contents) (last : Machine) → ((loads_all folder images machine inserts).run files).outcome ≡ value last → AllWent files folder machine inserts last
 unfolding given
 all-went folder images [] kinds machine files last is =
-    record { modules = []; files_are = tt; loaded = ap Ok (one-value machine last is) }
+    record { modules = []; files_are = tt; loaded = ap Ok (same-value machine last is) }
 all-went folder images (one ∷ inserts) kinds machine files last is =
     let g = goes-on (loads_one folder images machine one) (loads_others folder images inserts) files last is in
     let next : Machine = g.mid in
@@ -246,7 +227,7 @@ loads-come-to-last held asked kernel region known listed steps inserts has came 
     let last = ended-well ((loads_all folder images listed inserts).run held).outcome (sym course.outcome ∙ is) in
     let planned = well-planned known (request_of asked) steps came.planned in
     let kinds : AllByRecursion (λ path. is_module_path path ≡ true) (paths_of inserts) =
-    subst (λ is. AllByRecursion (λ path. is_module_path path ≡ true) (paths_of is)) (were-given steps inserts came.runs_none) (steps-kinds known.indexes planned.0 steps planned.1) in
+    subst (λ is. AllByRecursion (λ path. is_module_path path ≡ true) (paths_of is)) ((were-given steps inserts came.runs_none).1) (steps-kinds known.indexes planned.0 steps planned.1) in
     let all = all-went folder images inserts kinds listed held last.0 last.1 in (
       all.modules,
       last.0,

@@ -38,13 +38,12 @@ use Rattle.model_loader.specs.Machine.{Machine}
 use Rattle.stages_loads.specs.Listed.{loads_listed, loads_listed_at}
 use Rattle.stages_loads.specs.Loads.{paths_of}
 use Rattle.stages_loads.specs.Modules.{module_at}
-use Rattle.stages_loads.proofs.ModuleSteps.{module_at-same}
 use Rattle.command_modprobe.specs.Loaded.{inserted}
 use Rattle.laws_closed_plans.specs.Binding.{names_of}
 use Rattle.laws_indexed_folder.specs.Steps.{inserted_names}
 use Rattle.laws_planned_loads.specs.Files.{AreFileModules, IsFileModule}
 use Rattle.laws_planned_loads.proofs.CourseLemmas.{facts-at, have-values}
-use Rattle.laws_planned_loads.proofs.FileLemmas.{line-module, plain-path}
+use Rattle.laws_planned_loads.proofs.FileLemmas.{line-module, plain-path, one-module}
 use Rattle.command_remove.specs.Listed.{takes_listed, well_formed_path}
 use Rattle.laws_planned_removals.specs.Listed.{AreWellFormedPaths}
 
@@ -180,10 +179,6 @@ formed-one indexes (name ∷ names) (path ∷ paths) (other ∷ others) are same
     ap (λ p. p ∷ paths) here ∙ ap (λ ps. other ∷ ps) (formed-one indexes names paths others are.1 same.1)
 
 -- ---- modules of files
-
-one-module : (path bytes : List ℕ) (a b : fact_fault path bytes ≡ None) → module_at path bytes a ≡ module_at path bytes b
-unfolding module_at
-one-module path bytes a b = module_at-same path bytes (module_at path bytes b) a refl refl
 
 same-module : (path bytes other : List ℕ) → bytes ≡ other → (a : fact_fault path bytes ≡ None) (b : fact_fault path other ≡ None) → module_at path bytes a ≡ module_at path other b
 same-module path bytes other same a =

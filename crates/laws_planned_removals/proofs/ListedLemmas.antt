@@ -1,13 +1,12 @@
 -- The listed modules that a removal takes, by the machines of their loads.
 use Rattle.std.proofs.Common.{◌≡◌, ◌∙◌, ℕ, Bool, true, false, List, [], ◌∷◌, ◌++◌, cond, ap, subst}
-use Rattle.std.specs.Prelude.{Option, Some, None, Result, Ok, Err, option_and_then, reverse}
+use Rattle.std.specs.Prelude.{Option, Some, None, Ok, option_and_then, reverse}
 use Rattle.km_names.specs.Path.{is_compressed, path_below}
 use Rattle.km_outside.specs.Contents.{Contents}
 use Rattle.index_read.specs.Contents.{contents}
 use Rattle.module_facts.specs.declared.module.Module.{Module}
 use Rattle.mod_tree.specs.DependencyLine.{line_path}
 use Rattle.mod_tree.specs.Tree.{is_module_path}
-use Rattle.model_loader.specs.declared.fault.LoadFault.{LoadFault}
 use Rattle.model_loader.specs.Machine.{Machine}
 use Rattle.model_loader.specs.Step.{step}
 use Rattle.name_lookup.specs.declared.indexes.Indexes.{Indexes}
@@ -21,7 +20,6 @@ use Rattle.stages_files.specs.IndexFile.{first_text}
 use Rattle.stages_files.specs.KernelModules.{path_listed}
 use Rattle.stages_loads.specs.declared.load.Cause.TheVariants.{Listed}
 use Rattle.stages_loads.specs.Listed.{listed_outcome, loads_listed_at}
-use Rattle.stages_loads.specs.Loads.{load_outcome}
 use Rattle.stages_loads.specs.Modules.{reads_module}
 use Rattle.stages_loads.proofs.ListedSteps.{listed_found, listed_read}
 use Rattle.stages_loads.proofs.ModuleSteps.{checked}
@@ -31,6 +29,7 @@ use Rattle.laws_planned_loads.proofs.FileLemmas.{line-module, module-read}
 use Rattle.laws_planned_loads.proofs.RunLemmas.{OnlyReads, goes-on, reads-each, reads-file, reads-given, reads-then, reads-when}
 use Rattle.command_remove.specs.Listed.{takes_listed, takes_listed_one, well_formed_path}
 use Rattle.laws_planned_removals.specs.Listed.{AreTaken, ListedAreTaken}
+use Rattle.laws_planned_loads.proofs.ListedLemmas.{path-given, stepped}
 
 -- ---- they only read
 
@@ -51,15 +50,6 @@ only-taken folder indexes machine names =
     reads-each (takes_listed_one folder indexes) (λ before name. only-at folder before name (well_formed_path indexes name)) machine (reverse names)
 
 -- ---- the modules
-
-stepped : (name : List ℕ) (r : Result Machine LoadFault) (next : Machine) → load_outcome Listed name r ≡ value next → r ≡ Ok next
-unfolding load_outcome
-stepped name (Ok other) next is = cc
-stepped name (Err fault) next is = cc
-
-path-given : (name : List ℕ) (o : Option (List ℕ)) (path : List ℕ) → listed_outcome name o ≡ value path → o ≡ Some path
-path-given name None path is = cc
-path-given name (Some other) path is = cc
 
 line-of : (o : Option (List ℕ)) (path : List ℕ) → option_and_then line_path o ≡ Some path → (text : List ℕ) × (line_path text ≡ Some path)
 line-of None path is = cc
@@ -93,7 +83,7 @@ one-taken files folder indexes machine name next is =
       m = m;
       found = found;
       file = file.file;
-      took = stepped m.facts.name (step machine m) next g.rest;
+      took = stepped Listed m.facts.name (step machine m) next g.rest;
       acts = h.acts ∙ g.acts ∙ ap (λ done. done ++ []) file.acts;
     }
 

@@ -1,5 +1,5 @@
 -- A removal that follows a load finds the load's last machine, and takes back what was loaded.
-use Rattle.std.proofs.Common.{◌≡◌, ◌∙◌, ℕ, List, ◌++◌, map, reverse, flat_map, refl, sym, ap, subst}
+use Rattle.std.proofs.Common.{◌≡◌, ◌∙◌, ℕ, List, ◌++◌, reverse, flat_map, sym, ap, subst}
 use Rattle.std.specs.Prelude.{codes, Option, Some, None, Result, Ok, All}
 use Rattle.std.specs.FinMap.{get}
 use Rattle.std.proofs.lemmas.List.{reverse-append, reverse-reverse}
@@ -19,22 +19,18 @@ use Rattle.model_loader.specs.declared.fault.LoadFault.{LoadFault}
 use Rattle.model_loader.specs.declared.region.Region.{Region}
 use Rattle.model_loader.specs.Machine.{Machine, new_machine}
 use Rattle.model_unload.specs.Unload.{unload_all}
-use Rattle.plan_builder.specs.declared.obstacle.Obstacle.{Obstacle}
 use Rattle.plan_builder.specs.declared.request.Request.{Request}
 use Rattle.plan_builder.specs.declared.step.PlanStep.{PlanStep}
 use Rattle.plan_builder.specs.Closed.{IsAtOwnPath}
 use Rattle.dependency_lines.specs.Modules.{bad_name}
-use Rattle.plan_builder.specs.Obstacles.{obstacle_of}
-use Rattle.plan_builder.specs.Steps.{plan_steps}
 use Rattle.plan_builder.proofs.ClosedLemmas.{plans-are-closed}
 use Rattle.plan_builder.proofs.PlanTests.{sound-lines}
 use Rattle.remove_plan.specs.Removal.{left_after}
 use Rattle.stages_files.specs.KernelModules.{modules_folder}
 use Rattle.stages_known.specs.declared.known.Known.{Known}
-use Rattle.stages_loads.specs.declared.load.Insertion.{Insertion}
 use Rattle.stages_loads.specs.Loads.{paths_of}
-use Rattle.command_modprobe.specs.Loaded.{command_owner, inserted, inserts_outcome, unless_install}
-use Rattle.command_modprobe.specs.Planned.{plan_outcome, plan_unless, sources_with}
+use Rattle.command_modprobe.specs.Loaded.{inserted}
+use Rattle.command_modprobe.specs.Planned.{plan_outcome, sources_with}
 use Rattle.laws_closed_plans.specs.Binding.{IsLoaded, names_of}
 use Rattle.laws_closed_plans.specs.Loads.{load_all, unless_refused}
 use Rattle.laws_closed_plans.proofs.BindingLemmas.{loads-bind}
@@ -50,25 +46,9 @@ use Rattle.laws_planned_removals.specs.Listed.{AreWellFormedPaths}
 use Rattle.laws_planned_removals.proofs.JoinLemmas.{files-append, files-one, files-stay, formed-append, formed-moved, formed-one, listed-alike, steps-formed, steps-named}
 use Rattle.laws_planned_removals.proofs.AskedLemmas.{newer-free, newer-removed}
 use Rattle.laws_planned_removals.proofs.ListedLemmas.{listed-are-taken}
+use Rattle.laws_planned_loads.proofs.CourseLemmas.{was-planned, were-given}
 
 -- ---- the plan of a load
-
-planned : (o : Option Obstacle) (made steps : List PlanStep) → plan_unless o made ≡ value steps → (o ≡ None) × (made ≡ steps)
-planned None made steps is = (refl, cc)
-planned (Some obstacle) made steps is = cc
-
-was-planned : (known : Known) (request : Request) (steps : List PlanStep) → plan_outcome known known.loaded request ≡ value steps → (obstacle_of (sources_with known known.loaded request) request ≡ None) × (plan_steps (sources_with known known.loaded request) request ≡ steps)
-unfolding plan_outcome
-was-planned known request steps is =
-    planned (obstacle_of (sources_with known known.loaded request) request) (plan_steps (sources_with known known.loaded request) request) steps is
-
-given-all : (o : Option (List ℕ)) (made inserts : List Insertion) → unless_install o made ≡ value inserts → made ≡ inserts
-given-all None made inserts is = cc
-given-all (Some name) made inserts is = cc
-
-pub were-given : (steps : List PlanStep) (inserts : List Insertion) → inserts_outcome steps ≡ value inserts → flat_map inserted steps ≡ inserts
-unfolding inserts_outcome
-were-given steps inserts is = given-all (first (map command_owner steps)) (flat_map inserted steps) inserts is
 
 -- no value of its modules.dep.bin is bad, and each step is at the first path of a dependency line
 pub well-planned : (known : Known) (request : Request) (steps : List PlanStep) → plan_outcome known known.loaded request ≡ value steps → (bad_name (contents known.indexes.dep.nodes) ≡ None) × All (IsAtOwnPath (contents known.indexes.dep.nodes)) steps
@@ -108,7 +88,7 @@ module _ (held later : Contents) (asked : ModprobeWords) (kernel : Kernel) (regi
       let index = same-index held later folder l.known known knows knows' follows.stays.lines in
       let holds = index-holds held folder l.known knows in
       let plan = well-planned l.known load.request l.steps load.came.planned in
-      let inserts : flat_map inserted l.steps ≡ load.inserts = were-given l.steps load.inserts load.came.runs_none in
+      let inserts : flat_map inserted l.steps ≡ load.inserts = (were-given l.steps load.inserts load.came.runs_none).1 in
       let plan_files : AreFileModules held folder (paths_of (flat_map inserted l.steps)) l.plan =
       subst (λ is. AreFileModules held folder (paths_of is) l.plan) (sym inserts) load.files in
       let named : names_of l.plan ≡ inserted_names l.steps = steps-named held folder (contents l.known.indexes.dep.nodes) l.steps l.plan plan.1 plan_files in

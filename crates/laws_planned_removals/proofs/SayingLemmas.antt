@@ -1,20 +1,19 @@
 -- Acts that say lines, and runs of them.
 use Rattle.std.proofs.Common.{◌≡◌, ◌∙◌, ℕ, List, [], ◌∷◌, ◌++◌, refl, sym, ap, subst, map, append_assoc, append-nil}
-use Rattle.std.specs.Prelude.{flat_map, codes, None, Result, Ok}
+use Rattle.std.specs.Prelude.{flat_map, codes, None, Ok}
 use Rattle.km_outside.specs.Contents.{Contents}
 use Rattle.km_course.specs.Course.{Act, act_with, after, each_from, says}
 use Rattle.km_course.specs.Course.Act.{read, list, say, warn, put}
 use Rattle.km_course.specs.Course.Outcome.{value}
 use Rattle.model_loader.specs.Machine.{Machine}
-use Rattle.model_unload.specs.declared.UnloadFault.{UnloadFault}
 use Rattle.model_unload.specs.Unload.{unload_all, unloaded, unless_refused}
 use Rattle.remove_plan.specs.declared.step.RemoveStep.{RemoveStep}
 use Rattle.remove_plan.specs.declared.step.RemoveStep.TheVariants.{Rmmod, Command}
 use Rattle.laws_planned_loads.specs.Acts.{said}
 use Rattle.laws_planned_loads.proofs.RunLemmas.{joined, run-given, run-then, run_of}
 use Rattle.command_remove.specs.Lines.{line_of_two, step_lines, unloaded_line}
-use Rattle.command_remove.specs.Remove.{first_owner, machine_after, step_name, unloads_one}
-use Rattle.command_remove.proofs.RemoveSteps.{can-go, one_unloaded, same-machine}
+use Rattle.command_remove.specs.Remove.{first_owner, step_name, unloads_one, without_named}
+use Rattle.command_remove.proofs.RemoveSteps.{can-go, one_unloaded, removed-is, same-machine}
 use Rattle.laws_planned_removals.specs.Courses.{AreSaying}
 
 pub saying-append : (a b : List Act) (x y : List ℕ) → AreSaying a x → AreSaying b y → AreSaying (a ++ b) (x ++ y)
@@ -60,8 +59,8 @@ unloads-run (step ∷ steps) machine left files is =
     let acts : List Act = say (unloaded_line (step_name step)) ∷ [] in
     let one : (unloads_one machine step).run files ≡ run_of acts (value next) =
     run-then (says (unloaded_line (step_name step))) (one_unloaded machine step) files acts tt (run-says (unloaded_line (step_name step)) files)
-    ∙ ap (joined acts) (run-given (value (machine_after machine (unloaded machine (step_name step)))) files)
-    ∙ ap (λ (r : Result Machine UnloadFault). run_of acts (value (machine_after machine r))) can.1 in
+    ∙ ap (joined acts) (run-given (value (without_named machine (step_name step))) files)
+    ∙ ap (λ (m : Machine). run_of acts (value m)) (sym (removed-is machine (step_name step) next can.1)) in
     let rest : unload_all next (map step_name steps) ≡ Ok left =
     ap (unless_refused (λ other. unload_all other (map step_name steps))) (sym can.1) ∙ is in
     run-then (unloads_one machine step) (λ other. each_from unloads_one other steps) files acts next one

@@ -7,8 +7,8 @@ use Rattle.km_course.specs.Course.{gives, says}
 use Rattle.km_course.proofs.Steps.{exits, gave, next, wants}
 use Rattle.km_course.proofs.Following.{along}
 use Rattle.command_remove.specs.Lines.{line_of_two, unloaded_line}
-use Rattle.command_remove.specs.Remove.{machine_after, step_name}
-use Rattle.command_remove.proofs.RemoveSteps.{one_unloaded}
+use Rattle.command_remove.specs.Remove.{step_name, without_named}
+use Rattle.command_remove.proofs.RemoveSteps.{one_unloaded, removed-is}
 use Rattle.command_remove.proofs.unloads.unload_one.Goals as goal
 
 pub returns-in_err-push_two-in-Ok-clause-follows : goal.returns-in_err-push_two-in-Ok-clause-follows
@@ -31,5 +31,5 @@ returns-clause-follows g c = λ files err.
     let took : unloaded machine name ≡ Ok c.unload.new.machine = ap (unloaded machine) (sym c.step_name-name.ensures) ∙ c.in-Ok.ensures.done in
     next (one_unloaded machine c.args.step.now)
     (along says _ (unloaded_line name) line (c.in_ok-say-in-Ok.ensures files err))
-    (along (λ (m : Machine). gives m) c.unload.new.machine (machine_after machine (unloaded machine name)) (sym (ap (machine_after machine) took))
+    (along (λ (m : Machine). gives m) c.unload.new.machine (without_named machine name) (removed-is machine name c.unload.new.machine took)
     (gave (λ (x : Machine). x) _ c.unload.new.machine))
