@@ -65,7 +65,7 @@ fn load_into<F: Writes, O: Out>(
             let known = read_known(alloc, config, &folder, loaded, files)?;
             let machine = read_machine(alloc, system_map, symvers, region, files)?;
             load_request(
-                alloc, &folder, &images, &request, known, machine, files, out,
+                alloc, &folder, &images, &request, &known, machine, files, out,
             )
         }
         None => Err(Stop::from(End::NotUnderstood)),
@@ -78,15 +78,15 @@ fn load_request<F: Writes, O: Out>(
     folder: &PathText,
     images: &Images,
     request: &Request,
-    known: Known,
+    known: &Known,
     machine: Machine,
     files: &mut F,
     out: &mut O,
 ) -> Result<(), Stop>
-    ensures { (err : OutSeen) → Follows (λ x. x) (loads_request folder.now images.now request.now known machine)
+    ensures { (err : OutSeen) → Follows (λ x. x) (loads_request folder.now images.now request.now known.now machine)
         (world (F.seen files.old) (O.seen out.old) err) (world (F.seen files.new) (O.seen out.new) err) result }
 {
-    let steps = plan_in(alloc, Mode::Load, &known, request)?;
+    let steps = plan_in(alloc, Mode::Load, known, request)?;
     let inserts = inserts_of(alloc, &steps)?;
     load_steps(
         alloc, folder, images, known, machine, &steps, &inserts, files, out,
@@ -98,14 +98,14 @@ fn load_steps<F: Writes, O: Out>(
     alloc: Global,
     folder: &PathText,
     images: &Images,
-    known: Known,
+    known: &Known,
     machine: Machine,
     steps: &PlanSteps,
     inserts: &Insertions,
     files: &mut F,
     out: &mut O,
 ) -> Result<(), Stop>
-    ensures { (err : OutSeen) → Follows (λ x. x) (loads_steps folder.now images.now known machine steps.now inserts.now)
+    ensures { (err : OutSeen) → Follows (λ x. x) (loads_steps folder.now images.now known.now machine steps.now inserts.now)
         (world (F.seen files.old) (O.seen out.old) err) (world (F.seen files.new) (O.seen out.new) err) result }
 {
     let listed = load_listed(

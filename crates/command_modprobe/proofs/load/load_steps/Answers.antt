@@ -12,7 +12,7 @@ use Rattle.command_modprobe.proofs.load.load_steps.Goals as goal
 pub returns-in_err-listed : goal.returns-in_err-listed
 returns-in_err-listed g c = λ err.
     let p = err_from_is_err_and c.from_residual.result c.from_residual.ensures.1 in
-    let known = c.args.known in
+    let known = c.args.known.now in
     exits _ _ (after_listed c.args.folder.now c.args.images.now c.args.steps.now c.args.inserts.now) p.1 p.2
     (along (loads_listed c.args.folder.now known.indexes.dep c.args.machine) _ known.loaded c.as_slice.ensures
     (c.in_err-listed.ensures (g.O.Out.seen c.args.out.now) err))
@@ -20,7 +20,7 @@ returns-in_err-listed g c = λ err.
 pub returns-in_err-text : goal.returns-in_err-text
 returns-in_err-text g c = λ err.
     let p = err_from_is_err_and c.from_residual-in_err-text.result c.from_residual-in_err-text.ensures.1 in
-    let known = c.args.known in
+    let known = c.args.known.now in
     next (after_listed c.args.folder.now c.args.images.now c.args.steps.now c.args.inserts.now)
     (along (loads_listed c.args.folder.now known.indexes.dep c.args.machine) _ known.loaded c.as_slice.ensures
     (c.in_ok-listed.ensures (g.O.Out.seen c.args.out.now) err))
@@ -29,7 +29,7 @@ returns-in_err-text g c = λ err.
 pub returns-in_err-say_any : goal.returns-in_err-say_any
 returns-in_err-say_any g c = λ err.
     let p = err_from_is_err_and c.from_residual-in_err-say_any.result c.from_residual-in_err-say_any.ensures.1 in
-    let known = c.args.known in
+    let known = c.args.known.now in
     let listed = c.in_ok-listed.listed in
     next (after_listed c.args.folder.now c.args.images.now c.args.steps.now c.args.inserts.now)
     (along (loads_listed c.args.folder.now known.indexes.dep c.args.machine) _ known.loaded c.as_slice.ensures
@@ -41,7 +41,7 @@ returns-in_err-say_any g c = λ err.
 pub returns-in_err-load_all : goal.returns-in_err-load_all
 returns-in_err-load_all g c = λ err.
     let p = err_from_is_err_and c.from_residual-in_err-load_all.result c.from_residual-in_err-load_all.ensures.1 in
-    let known = c.args.known in
+    let known = c.args.known.now in
     let listed = c.in_ok-listed.listed in
     next (after_listed c.args.folder.now c.args.images.now c.args.steps.now c.args.inserts.now)
     (along (loads_listed c.args.folder.now known.indexes.dep c.args.machine) _ known.loaded c.as_slice.ensures
@@ -55,7 +55,7 @@ returns-in_err-load_all g c = λ err.
 
 pub returns : goal.returns
 returns g c = λ err.
-    let known = c.args.known in
+    let known = c.args.known.now in
     let listed = c.in_ok-listed.listed in
     next (after_listed c.args.folder.now c.args.images.now c.args.steps.now c.args.inserts.now)
     (along (loads_listed c.args.folder.now known.indexes.dep c.args.machine) _ known.loaded c.as_slice.ensures
