@@ -3,184 +3,217 @@ use km_course::{
     End, Refusal, Stop, conclude, list_conf_needed, list_conf_optional, list_tree_needed, put,
     read_needed, read_needed_into, read_optional, say, say_any, warn,
 };
-use km_names::{Blob, Name, Names, PathText, Paths};
+use km_names::{Blob, Name, Names, PathText};
 use km_outside::{FileBuffer, MemFiles, MemOut};
-use std::alloc::{AllocError, Global};
+use std::alloc::Global;
 use std::process::Abort;
-use std::test::Fail;
 
-fn path(alloc: Global, text: &[u8]) -> Result<PathText, AllocError> {
-    PathText::from_slice(alloc, text)
+fn path(rt: &impl Abort, alloc: Global, text: &[u8]) -> PathText {
+    PathText::from_slice(alloc, text).expect(rt, "a path")
 }
 
-fn name(alloc: Global, text: &[u8]) -> Result<Name, AllocError> {
-    Name::from_slice(alloc, text)
+fn blob(rt: &impl Abort, alloc: Global, text: &[u8]) -> Blob {
+    Blob::from_slice(alloc, text).expect(rt, "bytes")
 }
 
-/// Returns two files, put by calls.
-fn made(alloc: Global) -> Result<MemFiles, Stop> {
-    let mut files = MemFiles::new(alloc);
-    put_file(alloc, &mut files, b"/e/a.conf", b"text")?;
-    put_file(alloc, &mut files, b"/e/d/b.conf", b"")?;
-    Ok(files)
-}
-
-fn put_file(alloc: Global, files: &mut MemFiles, path: &[u8], bytes: &[u8]) -> Result<(), Stop> {
-    put(alloc, files, PathText::from_slice(alloc, path)?, bytes)
+fn same(rt: &impl Abort, got: &[u8], want: &[u8]) {
+    assert_eq!(rt; got, want);
 }
 
 // Each call is in a function of its own that promises nothing: a test compares what the call
-// answered, and its contract needn't be carried along.
+// answered, and its contract needn't be carried along. A stop ends the test there, so that no test
+// has to drop it.
 
-fn read(alloc: Global, files: &mut MemFiles, path: &[u8]) -> Result<Blob, Stop> {
-    read_needed(alloc, files, &PathText::from_slice(alloc, path)?)
+fn put_file(rt: &impl Abort, alloc: Global, files: &mut MemFiles, at: &[u8], bytes: &[u8]) {
+    put(alloc, files, path(rt, alloc, at), bytes).expect(rt, "put");
 }
 
-fn read_into(alloc: Global, files: &mut MemFiles, path: &[u8]) -> Result<Blob, Stop> {
+fn read(rt: &impl Abort, alloc: Global, files: &mut MemFiles, at: &[u8]) -> Blob {
+    read_needed(alloc, files, &path(rt, alloc, at)).expect(rt, "read")
+}
+
+fn read_into(rt: &impl Abort, alloc: Global, files: &mut MemFiles, at: &[u8]) -> Blob {
     let mut buffer = FileBuffer::new(alloc);
-    let path = PathText::from_slice(alloc, path)?;
-    read_needed_into(alloc, files, &path, &mut buffer)?;
-    Ok(buffer.into_blob())
+    read_needed_into(alloc, files, &path(rt, alloc, at), &mut buffer).expect(rt, "read into");
+    buffer.into_blob()
 }
 
-fn read_any(alloc: Global, files: &mut MemFiles, path: &[u8]) -> Result<Blob, Stop> {
-    read_optional(alloc, files, &PathText::from_slice(alloc, path)?)
+fn read_any(rt: &impl Abort, alloc: Global, files: &mut MemFiles, at: &[u8]) -> Blob {
+    read_optional(alloc, files, &path(rt, alloc, at)).expect(rt, "read, or none")
 }
 
-fn list(alloc: Global, files: &mut MemFiles, dir: &[u8]) -> Result<Names, Stop> {
-    list_conf_needed(alloc, files, &PathText::from_slice(alloc, dir)?)
+fn list(rt: &impl Abort, alloc: Global, files: &mut MemFiles, dir: &[u8]) -> usize {
+    list_conf_needed(alloc, files, &path(rt, alloc, dir))
+        .expect(rt, "listed")
+        .len()
 }
 
-fn list_any(alloc: Global, files: &mut MemFiles, dir: &[u8]) -> Result<Names, Stop> {
-    list_conf_optional(alloc, files, &PathText::from_slice(alloc, dir)?)
+fn list_any(rt: &impl Abort, alloc: Global, files: &mut MemFiles, dir: &[u8]) -> usize {
+    list_conf_optional(alloc, files, &path(rt, alloc, dir))
+        .expect(rt, "listed, or none")
+        .len()
 }
 
-fn list_below(alloc: Global, files: &mut MemFiles, dir: &[u8]) -> Result<Paths, Stop> {
-    list_tree_needed(alloc, files, &PathText::from_slice(alloc, dir)?)
+fn list_below(rt: &impl Abort, alloc: Global, files: &mut MemFiles, dir: &[u8]) -> usize {
+    list_tree_needed(alloc, files, &path(rt, alloc, dir))
+        .expect(rt, "listed below")
+        .len()
 }
 
-fn write(out: &mut MemOut, bytes: &[u8]) -> Result<(), Stop> {
-    say(out, bytes)
+fn write(rt: &impl Abort, out: &mut MemOut, bytes: &[u8]) {
+    say(out, bytes).expect(rt, "said");
 }
 
-fn write_any(out: &mut MemOut, bytes: &[u8]) -> Result<(), Stop> {
-    say_any(out, bytes)
+fn write_any(rt: &impl Abort, out: &mut MemOut, bytes: &[u8]) {
+    say_any(out, bytes).expect(rt, "said, if any");
 }
 
-fn write_warning(err: &mut MemOut, bytes: &[u8]) -> Result<(), Stop> {
-    warn(err, bytes)
+fn write_warning(rt: &impl Abort, err: &mut MemOut, bytes: &[u8]) {
+    warn(err, bytes).expect(rt, "warned");
+}
+
+fn output(rt: &impl Abort, alloc: Global, room: usize) -> MemOut {
+    MemOut::with_room(alloc, room).expect(rt, "an output")
+}
+
+/// Returns two files, put by calls.
+fn made(rt: &impl Abort, alloc: Global) -> MemFiles {
+    let mut files = MemFiles::new(alloc);
+    put_file(rt, alloc, &mut files, b"/e/a.conf", b"text");
+    put_file(rt, alloc, &mut files, b"/e/d/b.conf", b"");
+    files
+}
+
+fn a_file_is_read(rt: &impl Abort, alloc: Global) {
+    let mut files = made(rt, alloc);
+    same(
+        rt,
+        read(rt, alloc, &mut files, b"/e/a.conf").as_bytes(),
+        b"text",
+    );
+    same(
+        rt,
+        read_into(rt, alloc, &mut files, b"/e/a.conf").as_bytes(),
+        b"text",
+    );
+    same(
+        rt,
+        read_any(rt, alloc, &mut files, b"/e/a.conf").as_bytes(),
+        b"text",
+    );
+}
+
+fn what_is_not_there_is_empty(rt: &impl Abort, alloc: Global) {
+    let mut files = made(rt, alloc);
+    same(
+        rt,
+        read_any(rt, alloc, &mut files, b"/none").as_bytes(),
+        b"",
+    );
+    assert_eq!(rt; list_any(rt, alloc, &mut files, b"/none"), 0);
+}
+
+fn a_folder_is_listed(rt: &impl Abort, alloc: Global) {
+    let mut files = made(rt, alloc);
+    assert_eq!(rt; list(rt, alloc, &mut files, b"/e"), 1);
+    assert_eq!(rt; list_below(rt, alloc, &mut files, b"/e"), 2);
+}
+
+fn bytes_are_written(rt: &impl Abort, alloc: Global) {
+    let mut out = output(rt, alloc, 4);
+    write(rt, &mut out, b"ab");
+    write_any(rt, &mut out, b"");
+    write_any(rt, &mut out, b"c");
+    write_warning(rt, &mut out, b"d");
+    same(rt, out.bytes(), b"abcd");
 }
 
 #[test]
-fn a_file_is_read(rt: HostRuntime) -> Result<(), Fail> {
-    let alloc = rt.alloc();
-    let mut files = made(alloc)?;
-    let needed = read(alloc, &mut files, b"/e/a.conf")?;
-    assert_eq!(rt; needed.as_bytes(), b"text".as_slice());
-    let buffered = read_into(alloc, &mut files, b"/e/a.conf")?;
-    assert_eq!(rt; buffered.as_bytes(), b"text".as_slice());
-    let optional = read_any(alloc, &mut files, b"/e/a.conf")?;
-    assert_eq!(rt; optional.as_bytes(), b"text".as_slice());
-    Ok(())
+fn acts_are_carried_out(rt: HostRuntime) {
+    a_file_is_read(&rt, rt.alloc());
+    what_is_not_there_is_empty(&rt, rt.alloc());
+    a_folder_is_listed(&rt, rt.alloc());
+    bytes_are_written(&rt, rt.alloc());
 }
 
-#[test]
-fn what_is_not_there_is_empty(rt: HostRuntime) -> Result<(), Fail> {
-    let alloc = rt.alloc();
-    let mut files = made(alloc)?;
-    assert!(rt; read_any(alloc, &mut files, b"/none")?.is_empty());
-    assert!(rt; list_any(alloc, &mut files, b"/none")?.is_empty());
-    Ok(())
-}
-
-#[test]
-fn a_folder_is_listed(rt: HostRuntime) -> Result<(), Fail> {
-    let alloc = rt.alloc();
-    let mut files = made(alloc)?;
-    assert_eq!(rt; list(alloc, &mut files, b"/e")?.len(), 1);
-    assert_eq!(rt; list_below(alloc, &mut files, b"/e")?.len(), 2);
-    Ok(())
-}
-
-#[test]
-fn bytes_are_written(rt: HostRuntime) -> Result<(), Fail> {
-    let mut out = MemOut::with_room(rt.alloc(), 4)?;
-    write(&mut out, b"ab")?;
-    write_any(&mut out, b"")?;
-    write_any(&mut out, b"c")?;
-    write_warning(&mut out, b"d")?;
-    assert_eq!(rt; out.bytes(), b"abcd".as_slice());
-    Ok(())
+/// Writes the line of a stop, and returns the status.
+fn concluded(alloc: Global, stop: Stop, err: &mut MemOut) -> u8 {
+    conclude(alloc, Err(stop), err)
 }
 
 /// Compares the status and the line of a stop with the expected ones.
-fn expect(rt: &impl Abort, alloc: Global, stop: Stop, want: (u8, &str)) -> Result<(), AllocError> {
-    let mut err = MemOut::with_room(alloc, 100)?;
-    let status = conclude(alloc, Err(stop), &mut err);
-    assert_eq!(rt; status, want.0);
-    assert_eq!(rt; err.bytes(), want.1.as_bytes());
-    Ok(())
+fn expect(rt: &impl Abort, alloc: Global, stop: Stop, status: u8, line: &str) {
+    let mut err = output(rt, alloc, 100);
+    assert_eq!(rt; concluded(alloc, stop, &mut err), status);
+    same(rt, err.bytes(), line.as_bytes());
 }
 
-#[test]
-fn a_cycle_names_its_first_module_again(rt: HostRuntime) -> Result<(), Fail> {
-    let alloc = rt.alloc();
+/// Returns the cycle of two modules.
+fn cycle(rt: &impl Abort, alloc: Global) -> Stop {
     let mut names = Names::new(alloc);
-    names.push(name(alloc, b"a")?)?;
-    names.push(name(alloc, b"b")?)?;
-    let stop = Stop::from(Refusal::Cycle { names });
-    expect(&rt, alloc, stop, (1, "kmod: cycle a -> b -> a\n"))?;
-    Ok(())
+    for text in [b"a".as_slice(), b"b"] {
+        let name = Name::from_slice(alloc, text).expect(rt, "a name");
+        names.push(name).expect(rt, "names");
+    }
+    Stop::from(Refusal::Cycle { names })
 }
 
-#[test]
-fn an_obstacle_has_its_text(rt: HostRuntime) -> Result<(), Fail> {
-    let alloc = rt.alloc();
-    let text = Blob::from_slice(alloc, b"version kernel/w.ko maybe kernel/p.ko")?;
-    let stop = Stop::from(Refusal::Obstacle { text });
+fn obstacle(rt: &impl Abort, alloc: Global, text: &[u8]) -> Stop {
+    let text = blob(rt, alloc, text);
+    Stop::from(Refusal::Obstacle { text })
+}
+
+fn bad_line(rt: &impl Abort, alloc: Global, file: &[u8], number: u32) -> Stop {
+    let file = path(rt, alloc, file);
+    Stop::from(Refusal::BadLine { file, number })
+}
+
+/// Returns the end by the line of a command inside.
+fn inner(rt: &impl Abort, alloc: Global, line: &[u8]) -> Stop {
+    let line = blob(rt, alloc, line);
+    Stop::from(End::Inner { line })
+}
+
+fn file_fault(rt: &impl Abort, alloc: Global, at: &[u8]) -> Stop {
+    let path = path(rt, alloc, at);
+    Stop::FileFault { path }
+}
+
+/// A cycle names its first module again, an obstacle has its text, and a bad line its number. An
+/// inner line is handed on.
+fn refusals_have_lines(rt: &impl Abort, alloc: Global) {
+    let stop = cycle(rt, alloc);
+    expect(rt, alloc, stop, 1, "kmod: cycle a -> b -> a\n");
+    let stop = obstacle(rt, alloc, b"version kernel/w.ko maybe kernel/p.ko");
     expect(
-        &rt,
+        rt,
         alloc,
         stop,
-        (1, "kmod: version kernel/w.ko maybe kernel/p.ko\n"),
-    )?;
-    Ok(())
-}
-
-#[test]
-fn a_bad_line_has_its_number(rt: HostRuntime) -> Result<(), Fail> {
-    let alloc = rt.alloc();
-    let file = path(alloc, b"/etc/modprobe.d/a.conf")?;
-    let stop = Stop::from(Refusal::BadLine { file, number: 10 });
+        1,
+        "kmod: version kernel/w.ko maybe kernel/p.ko\n",
+    );
+    let stop = bad_line(rt, alloc, b"/etc/modprobe.d/a.conf", 10);
     expect(
-        &rt,
+        rt,
         alloc,
         stop,
-        (1, "kmod: /etc/modprobe.d/a.conf: bad line 10\n"),
-    )?;
-    Ok(())
+        1,
+        "kmod: /etc/modprobe.d/a.conf: bad line 10\n",
+    );
+    let stop = inner(rt, alloc, b"kmod: cycle a -> a\n");
+    expect(rt, alloc, stop, 1, "kmod: cycle a -> a\n");
+}
+
+/// A failed call names its path.
+fn failures_have_lines(rt: &impl Abort, alloc: Global) {
+    let stop = file_fault(rt, alloc, b"/m/a.ko");
+    expect(rt, alloc, stop, 3, "kmod: file fault /m/a.ko\n");
+    expect(rt, alloc, Stop::WarningFault, 3, "");
+    expect(rt, alloc, Stop::Memory, 4, "kmod: out of memory\n");
 }
 
 #[test]
-fn an_inner_line_is_handed_on(rt: HostRuntime) -> Result<(), Fail> {
-    let alloc = rt.alloc();
-    let line = Blob::from_slice(alloc, b"kmod: cycle a -> a\n")?;
-    let stop = Stop::from(End::Inner { line });
-    expect(&rt, alloc, stop, (1, "kmod: cycle a -> a\n"))?;
-    Ok(())
-}
-
-#[test]
-fn a_failed_call_names_its_path(rt: HostRuntime) -> Result<(), Fail> {
-    let alloc = rt.alloc();
-    let path = path(alloc, b"/m/a.ko")?;
-    expect(
-        &rt,
-        alloc,
-        Stop::FileFault { path },
-        (3, "kmod: file fault /m/a.ko\n"),
-    )?;
-    expect(&rt, alloc, Stop::WarningFault, (3, ""))?;
-    expect(&rt, alloc, Stop::Memory, (4, "kmod: out of memory\n"))?;
-    Ok(())
+fn stops_have_lines(rt: HostRuntime) {
+    refusals_have_lines(&rt, rt.alloc());
+    failures_have_lines(&rt, rt.alloc());
 }

@@ -5,7 +5,7 @@ use km_outside::{DiskFiles, FileAnswer, Reads, Stream};
 use std::alloc::{Allocator, Global};
 use std::fs::{Metadata, OpenFile, OpenOptions};
 use std::io::{ErrorKind, Read, Seek, SeekFrom, Write};
-use std::test::Fail;
+use std::process::Abort;
 use std::{io, rt};
 
 /// A stream that moves at most two bytes a call, by a list of what its next calls do.
@@ -180,39 +180,45 @@ static STEPS: [(&[Step], bool, usize); 5] = [
     ),
 ];
 
-#[test]
-fn a_write_takes_several_turns_or_fails(rt: HostRuntime) -> Result<(), Fail> {
-    for (calls, whole, length) in STEPS {
-        let mut writer = Stutter {
-            bytes: Vec::new(rt.alloc()),
-            calls,
-            made: 0,
-        };
-        let mut out = Stream::new(&mut writer);
-        assert_eq!(rt; write(&mut out, b"bytes").is_ok(), whole);
-        assert_eq!(rt; writer.bytes.as_slice(), &b"bytes"[..length]);
-    }
-    Ok(())
+/// Writes five bytes by these steps.
+fn expect_written(
+    rt: &impl Abort,
+    alloc: Global,
+    calls: &'static [Step],
+    whole: bool,
+    length: usize,
+) {
+    let mut writer = Stutter {
+        bytes: Vec::new(alloc),
+        calls,
+        made: 0,
+    };
+    let mut out = Stream::new(&mut writer);
+    assert_eq!(rt; write(&mut out, b"bytes").is_ok(), whole);
+    assert_eq!(rt; Some(writer.bytes.as_slice()), b"bytes".get(..length));
 }
 
-/// The steps of a reader, and how many bytes it gives, or none if it fails.
-static READS: [(&[Step], Option<usize>); 4] = [
-    (&[Step::Ends, Step::Moves], Some(0)),
-    (
-        &[Step::Moves, Step::Moves, Step::Ends, Step::Moves],
-        Some(4),
-    ),
+fn a_write_takes_several_turns_or_fails(rt: &impl Abort, alloc: Global) {
+    for (calls, whole, length) in &STEPS {
+        expect_written(rt, alloc, calls, *whole, *length);
+    }
+}
+
+/// The steps of a reader, and how many bytes it gives, or that it fails.
+static READS: [(&[Step], Result<usize, FileAnswer>); 4] = [
+    (&[Step::Ends, Step::Moves], Ok(0)),
+    (&[Step::Moves, Step::Moves, Step::Ends, Step::Moves], Ok(4)),
     (
         &[
             Step::Moves,
             Step::Fails(ErrorKind::Interrupted),
             Step::Moves,
         ],
-        Some(4),
+        Ok(4),
     ),
     (
         &[Step::Moves, Step::Fails(ErrorKind::TimedOut), Step::Moves],
-        None,
+        Err(FileAnswer::Failed),
     ),
 ];
 
@@ -223,11 +229,15 @@ fn read_length(alloc: Global, calls: &'static [Step]) -> Result<usize, FileAnswe
     Ok(files.read(alloc, &path)?.len())
 }
 
-#[test]
-fn a_read_goes_on_to_the_end_or_fails(rt: HostRuntime) -> Result<(), Fail> {
-    for (calls, want) in READS {
-        let length = read_length(rt.alloc(), calls);
-        assert_eq!(rt; length, want.ok_or(FileAnswer::Failed));
+fn a_read_goes_on_to_the_end_or_fails(rt: &impl Abort, alloc: Global) {
+    for (calls, want) in &READS {
+        let length = read_length(alloc, calls);
+        assert_eq!(rt; length, *want);
     }
-    Ok(())
+}
+
+#[test]
+fn streams_move_some_bytes_a_call(rt: HostRuntime) {
+    a_write_takes_several_turns_or_fails(&rt, rt.alloc());
+    a_read_goes_on_to_the_end_or_fails(&rt, rt.alloc());
 }
