@@ -1,11 +1,12 @@
 // Trees that are changed: indexed again, and with a module that is damaged.
 use crate::expect::{DONE, IndexRow, REFUSED, expect_over, objects_of};
 use crate::indexes::Index;
+use crate::same::value;
 use crate::sheets::{GIVES_FC, GIVES_LONG, LONG_VERSION_17, NEEDS_LONG};
+use km_names::Blob;
 use km_outside::CallKind;
 use std::alloc::Global;
 use std::process::Abort;
-use std::test::Fail;
 use test_objects::{NO_MORE, object_with};
 use test_rows::{Failing, TWO, put_modules};
 
@@ -30,12 +31,13 @@ const SECOND: IndexRow<'static> = IndexRow {
 };
 
 /// Indexes a tree twice, the second time with one module more.
-fn expect_second(rt: &impl Abort, alloc: Global) -> Result<(), Fail> {
-    let mut objects = objects_of(alloc, &FIRST)?;
-    expect_over(rt, alloc, &mut objects, &FIRST)?;
-    put_modules(alloc, &mut objects, &[("kernel/c.ko", &GIVES_FC, &NO_MORE)])?;
-    objects.note(alloc)?;
-    expect_over(rt, alloc, &mut objects, &SECOND)
+fn expect_second(rt: &impl Abort, alloc: Global) {
+    let mut objects = objects_of(rt, alloc, &FIRST);
+    expect_over(rt, alloc, &mut objects, &FIRST);
+    let put = put_modules(alloc, &mut objects, &[("kernel/c.ko", &GIVES_FC, &NO_MORE)]);
+    value(rt, put, "no module more");
+    value(rt, objects.note(alloc), "no listing");
+    expect_over(rt, alloc, &mut objects, &SECOND);
 }
 
 /// The names of versions in the extended form have no end.
@@ -64,21 +66,34 @@ fn end_of_last_name(bytes: &[u8]) -> Option<usize> {
     end
 }
 
-/// Indexes a tree in which a module has a name of a version without its NUL.
-fn expect_bad_versions(rt: &impl Abort, alloc: Global) -> Result<(), Fail> {
-    let object = object_with(alloc, &NEEDS_LONG, &LONG_VERSION_17)?;
-    let mut bytes = Vec::from_slice(alloc, object.as_bytes())?;
-    let end = end_of_last_name(bytes.as_slice()).ok_or("no name")?;
-    let nul = bytes.get_mut(end).ok_or("no byte")?;
+/// Returns an object that needs a long name.
+fn object_of_long(rt: &impl Abort, alloc: Global) -> Blob {
+    object_with(alloc, &NEEDS_LONG, &LONG_VERSION_17).expect(rt, "an object")
+}
+
+/// Returns an object in which the name of a version has no NUL.
+fn cut_object(rt: &impl Abort, alloc: Global) -> Vec<u8> {
+    let object = object_of_long(rt, alloc);
+    let mut bytes = Vec::from_slice(alloc, object.as_bytes()).expect(rt, "a copy");
+    let end = end_of_last_name(bytes.as_slice()).expect(rt, "no name");
+    let nul = bytes.get_mut(end).expect(rt, "no byte");
     assert_eq!(rt; *nul, 0);
     *nul = b'x';
-    let mut objects = objects_of(alloc, &CUT)?;
-    objects.put(alloc, "/r/lib/modules/6.1.0/kernel/b.ko", bytes.as_slice())?;
-    expect_over(rt, alloc, &mut objects, &CUT)
+    bytes
+}
+
+/// Indexes a tree in which a module has a name of a version without its NUL.
+fn expect_bad_versions(rt: &impl Abort, alloc: Global) {
+    let bytes = cut_object(rt, alloc);
+    let mut objects = objects_of(rt, alloc, &CUT);
+    objects
+        .put(alloc, "/r/lib/modules/6.1.0/kernel/b.ko", bytes.as_slice())
+        .expect(rt, "a file");
+    expect_over(rt, alloc, &mut objects, &CUT);
 }
 
 #[test]
-fn changed_trees_are_indexed_or_refused(rt: HostRuntime) -> Result<(), Fail> {
-    expect_second(&rt, rt.alloc())?;
-    expect_bad_versions(&rt, rt.alloc())
+fn changed_trees_are_indexed_or_refused(rt: HostRuntime) {
+    expect_second(&rt, rt.alloc());
+    expect_bad_versions(&rt, rt.alloc());
 }

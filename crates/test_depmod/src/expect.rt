@@ -1,8 +1,8 @@
 // What a depmod results in: what it answers and writes, and every file.
 use crate::indexes::{Index, files_of};
-use std::alloc::{AllocError, Global};
+use crate::same::{same_files, same_seen, value};
+use std::alloc::Global;
 use std::process::Abort;
-use std::test::Fail;
 use test_rows::{Failing, FileRow, INDEX, ModuleRow, Objects, SYMVERS, objects_with};
 
 /// The folder of a kernel's modules.
@@ -73,24 +73,54 @@ pub(crate) const REFUSED: IndexRow<'static> = IndexRow {
     ..DONE
 };
 
+fn path_in(rt: &impl Abort, alloc: Global, folder: &str, name: &str) -> String {
+    format!(in alloc; "{folder}/{name}").expect(rt, "a path")
+}
+
 /// Returns the paths of the files of an index in a folder.
-fn paths_in(alloc: Global, folder: &str) -> Result<Vec<String>, AllocError> {
+fn paths_in(rt: &impl Abort, alloc: Global, folder: &str) -> Vec<String> {
     let mut paths = Vec::new(alloc);
-    for name in NAMES {
-        paths.push(format!(in alloc; "{folder}/{name}")?)?;
+    for name in &NAMES {
+        let path = path_in(rt, alloc, folder, name);
+        paths.push(path).expect(rt, "a path more");
     }
-    Ok(paths)
+    paths
+}
+
+/// Puts an old index.
+fn put_old(rt: &impl Abort, alloc: Global, objects: &mut Objects) {
+    let paths = paths_in(rt, alloc, FOLDER);
+    for path in paths.iter() {
+        objects
+            .put(alloc, path.as_str(), b"old")
+            .expect(rt, "a file");
+    }
 }
 
 /// Returns the objects of a row.
-pub(crate) fn objects_of(alloc: Global, row: &IndexRow<'_>) -> Result<Objects, Fail> {
-    let mut objects = objects_with(alloc, row.modules, row.files, row.failing)?;
+pub(crate) fn objects_of(rt: &impl Abort, alloc: Global, row: &IndexRow<'_>) -> Objects {
+    let objects = objects_with(alloc, row.modules, row.files, row.failing);
+    let mut objects = value(rt, objects, "no objects");
     if row.is_old {
-        for path in paths_in(alloc, FOLDER)?.iter() {
-            objects.put(alloc, path.as_str(), b"old")?;
-        }
+        put_old(rt, alloc, &mut objects);
     }
-    Ok(objects)
+    objects
+}
+
+/// Returns the first files of an index, which a row replaces.
+fn replaced_files<'a>(
+    rt: &impl Abort,
+    alloc: Global,
+    paths: &'a [String],
+    row: &IndexRow<'_>,
+) -> Vec<FileRow<'a>> {
+    let mut after = Vec::new(alloc);
+    for (path, bytes) in paths.iter().zip(files_of(row.index)).take(row.replaced) {
+        let path = path.as_str();
+        let file = FileRow { path, bytes };
+        after.push(file).expect(rt, "a file more");
+    }
+    after
 }
 
 /// Compares all files with those before, except the first files of an index, which were replaced.
@@ -99,18 +129,10 @@ pub(crate) fn expect_replaced(
     alloc: Global,
     objects: &mut Objects,
     row: &IndexRow<'_>,
-) -> Result<(), Fail> {
-    let paths = paths_in(alloc, row.folder)?;
-    let mut after = Vec::new(alloc);
-    for (path, bytes) in paths.iter().zip(files_of(row.index)).take(row.replaced) {
-        after.push(FileRow {
-            path: path.as_str(),
-            bytes,
-        })?;
-    }
-    let stray = objects.stray(alloc, after.as_slice())?;
-    assert_eq!(rt; stray.as_bytes(), b"".as_slice(), "{}", row.name);
-    Ok(())
+) {
+    let paths = paths_in(rt, alloc, row.folder);
+    let after = replaced_files(rt, alloc, paths.as_slice(), row);
+    same_files(rt, alloc, objects, after.as_slice(), row.name);
 }
 
 /// Runs the words of a row over objects, and compares the outcome.
@@ -119,15 +141,15 @@ pub(crate) fn expect_over(
     alloc: Global,
     objects: &mut Objects,
     row: &IndexRow<'_>,
-) -> Result<(), Fail> {
-    objects.run(alloc, row.words)?;
+) {
+    objects.run(alloc, row.words).expect(rt, "words");
     let want = (row.status, row.out.as_bytes(), row.err.as_bytes());
-    assert_eq!(rt; objects.seen(), want, "{}", row.name);
-    expect_replaced(rt, alloc, objects, row)
+    same_seen(rt, objects, want, row.name);
+    expect_replaced(rt, alloc, objects, row);
 }
 
 /// Runs a depmod over a tree, and compares the outcome.
-pub(crate) fn expect_index(rt: &impl Abort, alloc: Global, row: &IndexRow<'_>) -> Result<(), Fail> {
-    let mut objects = objects_of(alloc, row)?;
-    expect_over(rt, alloc, &mut objects, row)
+pub(crate) fn expect_index(rt: &impl Abort, alloc: Global, row: &IndexRow<'_>) {
+    let mut objects = objects_of(rt, alloc, row);
+    expect_over(rt, alloc, &mut objects, row);
 }

@@ -1,10 +1,10 @@
 // Trees that are indexed with `--extra`.
 use crate::extra_trees::{NO_KEYS, NO_NODES, ONE_NODE, TTY, TTY_INDEX, TWO_NODES};
+use crate::same::{same_files, same_seen, value};
 use km_names::{PathText, join};
 use km_outside::CallKind;
 use std::alloc::Global;
 use std::process::Abort;
-use std::test::Fail;
 use test_objects::{NEEDS_NOSUCH, NO_MORE};
 use test_rows::{Failing, FileRow, INDEX, ModuleRow, Objects, SYMVERS, objects_with};
 
@@ -166,69 +166,107 @@ static ROWS: [ExtraRow<'static>; 10] = [
     },
 ];
 
+/// Returns the path of a file in the folder.
+fn path_in(rt: &impl Abort, alloc: Global, name: &str) -> PathText {
+    let folder = PathText::from_slice(alloc, FOLDER).expect(rt, "a folder");
+    join(alloc, &folder, name.as_bytes()).expect(rt, "a path")
+}
+
 /// Returns the bytes of a file in the folder.
-fn file_in(alloc: Global, objects: &Objects, name: &str) -> Result<Vec<u8>, Fail> {
-    let folder = PathText::from_slice(alloc, FOLDER)?;
-    let path = join(alloc, &folder, name.as_bytes())?;
-    let mut bytes = Vec::new(alloc);
-    bytes.extend_from_slice(objects.files.get(&path).unwrap_or(b"no file"))?;
-    Ok(bytes)
+fn file_in(rt: &impl Abort, alloc: Global, objects: &Objects, name: &str) -> Vec<u8> {
+    let path = path_in(rt, alloc, name);
+    let bytes = objects.files.get(&path).unwrap_or(b"no file");
+    Vec::from_slice(alloc, bytes).expect(rt, "a copy")
+}
+
+fn text_of_path(rt: &impl Abort, alloc: Global, name: &str) -> String {
+    format!(in alloc; "/r/lib/modules/6.1.0/{name}").expect(rt, "a path")
 }
 
 /// Returns the paths of the files of depmod.
-fn paths_of(alloc: Global) -> Result<Vec<String>, Fail> {
+fn paths_of(rt: &impl Abort, alloc: Global) -> Vec<String> {
     let mut paths = Vec::new(alloc);
     for name in &NAMES {
-        paths.push(format!(in alloc; "/r/lib/modules/6.1.0/{name}")?)?;
+        let path = text_of_path(rt, alloc, name);
+        paths.push(path).expect(rt, "a path more");
     }
-    Ok(paths)
+    paths
+}
+
+/// Returns the objects of a row.
+fn objects_of(rt: &impl Abort, alloc: Global, row: &ExtraRow<'_>, failing: Failing) -> Objects {
+    let objects = objects_with(alloc, row.modules, row.files, failing);
+    value(rt, objects, "no objects")
+}
+
+/// Returns the nine files of a depmod without the option.
+fn plain_files(rt: &impl Abort, alloc: Global, row: &ExtraRow<'_>) -> Vec<Vec<u8>> {
+    let mut plain = objects_of(rt, alloc, row, Failing::Nothing);
+    plain.run(alloc, INDEX).expect(rt, "words");
+    let mut files = Vec::new(alloc);
+    for name in NAMES.iter().take(9) {
+        let file = file_in(rt, alloc, &plain, name);
+        files.push(file).expect(rt, "a file more");
+    }
+    files
 }
 
 /// Returns what the files are to have: the nine of a depmod without the option, and the two of a
 /// row.
-fn wanted_files(alloc: Global, row: &ExtraRow<'_>) -> Result<Vec<Vec<u8>>, Fail> {
-    let mut plain = objects_with(alloc, row.modules, row.files, Failing::Nothing)?;
-    plain.run(alloc, INDEX)?;
-    let mut files = Vec::new(alloc);
-    for name in NAMES.iter().take(9) {
-        files.push(file_in(alloc, &plain, name)?)?;
+fn wanted_files(rt: &impl Abort, alloc: Global, row: &ExtraRow<'_>) -> Vec<Vec<u8>> {
+    let mut files = plain_files(rt, alloc, row);
+    for bytes in &row.extra {
+        let file = Vec::from_slice(alloc, bytes).expect(rt, "a copy");
+        files.push(file).expect(rt, "a file more");
     }
-    for bytes in row.extra {
-        let mut file = Vec::new(alloc);
-        file.extend_from_slice(bytes)?;
-        files.push(file)?;
+    files
+}
+
+/// Puts an old index.
+fn put_old(rt: &impl Abort, alloc: Global, objects: &mut Objects, paths: &[String]) {
+    for path in paths {
+        objects
+            .put(alloc, path.as_str(), b"old")
+            .expect(rt, "a file");
     }
-    Ok(files)
+}
+
+/// Returns so many of the files, with their paths.
+fn first_files<'a>(
+    rt: &impl Abort,
+    alloc: Global,
+    paths: &'a [String],
+    files: &'a [Vec<u8>],
+    count: usize,
+) -> Vec<FileRow<'a>> {
+    let mut after = Vec::new(alloc);
+    for (path, bytes) in paths.iter().zip(files.iter()).take(count) {
+        let file = FileRow {
+            path: path.as_str(),
+            bytes: bytes.as_slice(),
+        };
+        after.push(file).expect(rt, "a file more");
+    }
+    after
 }
 
 /// Runs a depmod over a tree with an old index, and compares the outcome.
-fn expect_row(rt: &impl Abort, alloc: Global, row: &ExtraRow<'_>) -> Result<(), Fail> {
-    let paths = paths_of(alloc)?;
-    let files = wanted_files(alloc, row)?;
-    let mut objects = objects_with(alloc, row.modules, row.files, row.failing)?;
-    for path in paths.iter() {
-        objects.put(alloc, path.as_str(), b"old")?;
-    }
-    objects.run(alloc, row.words)?;
+fn expect_row(rt: &impl Abort, alloc: Global, row: &ExtraRow<'_>) {
+    let paths = paths_of(rt, alloc);
+    let files = wanted_files(rt, alloc, row);
+    let mut objects = objects_of(rt, alloc, row, row.failing);
+    put_old(rt, alloc, &mut objects, paths.as_slice());
+    objects.run(alloc, row.words).expect(rt, "words");
     let want = (row.status, row.out.as_bytes(), row.err.as_bytes());
-    assert_eq!(rt; objects.seen(), want, "{}", row.name);
-    let mut after = Vec::new(alloc);
-    for (path, bytes) in paths.iter().zip(files.iter()).take(row.replaced) {
-        after.push(FileRow {
-            path: path.as_str(),
-            bytes: bytes.as_slice(),
-        })?;
-    }
-    let stray = objects.stray(alloc, after.as_slice())?;
-    assert_eq!(rt; stray.as_bytes(), b"".as_slice(), "{}", row.name);
-    Ok(())
+    same_seen(rt, &objects, want, row.name);
+    let after = first_files(rt, alloc, paths.as_slice(), files.as_slice(), row.replaced);
+    same_files(rt, alloc, &mut objects, after.as_slice(), row.name);
 }
 
 #[test]
-fn trees_are_indexed_with_two_more_files(rt: HostRuntime) -> Result<(), Fail> {
+fn trees_are_indexed_with_two_more_files(rt: HostRuntime) {
     let alloc = rt.alloc();
     for row in &ROWS {
-        expect_row(&rt, alloc, row)?;
+        expect_row(&rt, alloc, row);
     }
-    Ok(())
 }

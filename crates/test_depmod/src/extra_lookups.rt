@@ -1,11 +1,10 @@
 // What the two commands answer over the files that a depmod left, and over bad ones.
 use crate::extra_trees::{ONE_NODE, TTY, TWO_BUILT_IN, TWO_NODES};
+use crate::lookup_rows::expect_over;
+use crate::same::{same_files, same_seen, value};
 use std::alloc::Global;
 use std::process::Abort;
-use std::test::Fail;
-use test_rows::{
-    Failing, FileRow, ModuleRow, Objects, Row, SYMVERS, USAGE, objects_with, run_over, wanted,
-};
+use test_rows::{Failing, FileRow, ModuleRow, Objects, Row, SYMVERS, USAGE, objects_with, wanted};
 
 /// The words that index with the two other files.
 const EXTRA: &str = "depmod --extra -b /r -E /r/Module.symvers 6.1.0";
@@ -115,15 +114,14 @@ fn indexed(
     alloc: Global,
     modules: &[ModuleRow<'static>],
     built_in: FileRow<'static>,
-) -> Result<Objects, Fail> {
+) -> Objects {
     let files = [SYMVERS, built_in];
-    let mut objects = objects_with(alloc, modules, &files, Failing::Nothing)?;
-    objects.run(alloc, EXTRA)?;
-    let (status, out, err) = objects.seen();
-    assert_eq!(rt; status, 0);
-    assert!(rt; out.is_empty() && err.is_empty());
-    objects.note(alloc)?;
-    Ok(objects)
+    let objects = objects_with(alloc, modules, &files, Failing::Nothing);
+    let mut objects = value(rt, objects, "no objects");
+    objects.run(alloc, EXTRA).expect(rt, "words");
+    same_seen(rt, &objects, (0, b"", b""), EXTRA);
+    value(rt, objects.note(alloc), "no listing");
+    objects
 }
 
 /// Indexes a tree, runs the words of a row, and compares the outcome. The words change no file.
@@ -133,67 +131,40 @@ fn expect_found(
     modules: &[ModuleRow<'static>],
     built_in: FileRow<'static>,
     row: Row,
-) -> Result<(), Fail> {
+) {
     let (words, ..) = row;
-    let mut objects = indexed(rt, alloc, modules, built_in)?;
-    objects.run(alloc, words)?;
-    assert_eq!(rt; objects.seen(), wanted(row), "{words}");
-    let stray = objects.stray(alloc, &[])?;
-    assert_eq!(rt; stray.as_bytes(), b"".as_slice(), "{words}");
-    Ok(())
-}
-
-/// Runs words over a file at a path while something fails, and compares the outcome.
-fn expect_over(
-    rt: &impl Abort,
-    alloc: Global,
-    file: FileRow<'_>,
-    failing: Failing,
-    words: &str,
-    want: (u8, &str, &str),
-) -> Result<(), Fail> {
-    let (status, out, err) = want;
-    let mut objects = run_over(alloc, &[file], failing, words)?;
-    let want = (status, out.as_bytes(), err.as_bytes());
-    assert_eq!(rt; objects.seen(), want, "{words}");
-    let stray = objects.stray(alloc, &[])?;
-    assert_eq!(rt; stray.as_bytes(), b"".as_slice(), "{words}");
-    Ok(())
+    let mut objects = indexed(rt, alloc, modules, built_in);
+    objects.run(alloc, words).expect(rt, "words");
+    same_seen(rt, &objects, wanted(row), words);
+    same_files(rt, alloc, &mut objects, &[], words);
 }
 
 #[test]
-fn names_and_nodes_are_found(rt: HostRuntime) -> Result<(), Fail> {
+fn names_and_nodes_are_found(rt: HostRuntime) {
     let alloc = rt.alloc();
     for row in &ONE {
-        expect_found(&rt, alloc, ONE_NODE, TTY, *row)?;
+        expect_found(&rt, alloc, ONE_NODE, TTY, *row);
     }
     for row in &TWO {
-        expect_found(&rt, alloc, TWO_NODES, TWO_BUILT_IN, *row)?;
+        expect_found(&rt, alloc, TWO_NODES, TWO_BUILT_IN, *row);
     }
-    Ok(())
 }
 
 /// Looks up a name in an index that is refused.
-fn expect_bad_index(
-    rt: &impl Abort,
-    alloc: Global,
-    bytes: &'static [u8],
-    err: &str,
-) -> Result<(), Fail> {
+fn expect_bad_index(rt: &impl Abort, alloc: Global, bytes: &'static [u8], err: &str) {
     let file = FileRow {
         path: "/r/lib/modules/6.1.0/modules.builtin.alias.bin",
         bytes,
     };
-    let words = "builtin-alias -d /r -S 6.1.0 tty-x";
-    expect_over(rt, alloc, file, Failing::Nothing, words, (1, "", err))
+    let row = ("builtin-alias -d /r -S 6.1.0 tty-x", 1, "", err);
+    expect_over(rt, alloc, &[file], Failing::Nothing, row);
 }
 
 #[test]
-fn bad_indexes_are_refused(rt: HostRuntime) -> Result<(), Fail> {
+fn bad_indexes_are_refused(rt: HostRuntime) {
     for (bytes, err) in &BAD_INDEXES {
-        expect_bad_index(&rt, rt.alloc(), bytes, err)?;
+        expect_bad_index(&rt, rt.alloc(), bytes, err);
     }
-    Ok(())
 }
 
 /// Prints the nodes of a modules.devname while something fails, and compares the outcome.
@@ -203,44 +174,45 @@ fn expect_nodes(
     bytes: &'static [u8],
     failing: Failing,
     want: (u8, &str, &str),
-) -> Result<(), Fail> {
+) {
     let file = FileRow {
         path: "/r/lib/modules/6.1.0/modules.devname",
         bytes,
     };
-    let words = "static-nodes -d /r -S 6.1.0 -f devname";
-    expect_over(rt, alloc, file, failing, words, want)
+    let (status, out, err) = want;
+    let row = ("static-nodes -d /r -S 6.1.0 -f devname", status, out, err);
+    expect_over(rt, alloc, &[file], failing, row);
+}
+
+/// Returns the line on err of a modules.devname whose line of this number is bad.
+fn bad_line(rt: &impl Abort, alloc: Global, number: u8) -> String {
+    format!(in alloc; "kmod: /r/lib/modules/6.1.0/modules.devname: bad line {number}\n").expect(
+        rt, "a line",
+    )
 }
 
 /// Prints the nodes of a modules.devname whose line of this number is the first bad one.
-fn expect_bad_line(
-    rt: &impl Abort,
-    alloc: Global,
-    bytes: &'static [u8],
-    out: &str,
-    number: u8,
-) -> Result<(), Fail> {
-    let err = format!(in alloc; "kmod: /r/lib/modules/6.1.0/modules.devname: bad line {number}\n")?;
+fn expect_bad_line(rt: &impl Abort, alloc: Global, bytes: &'static [u8], out: &str, number: u8) {
+    let err = bad_line(rt, alloc, number);
     let want = (1, out, err.as_str());
-    expect_nodes(rt, alloc, bytes, Failing::Nothing, want)
+    expect_nodes(rt, alloc, bytes, Failing::Nothing, want);
 }
 
 #[test]
-fn texts_of_nodes_are_read(rt: HostRuntime) -> Result<(), Fail> {
+fn texts_of_nodes_are_read(rt: HostRuntime) {
     let alloc = rt.alloc();
     for (bytes, out, number) in &NODE_TEXTS {
         if *number == 0 {
-            expect_nodes(&rt, alloc, bytes, Failing::Nothing, (0, out, ""))?;
+            expect_nodes(&rt, alloc, bytes, Failing::Nothing, (0, out, ""));
         } else {
-            expect_bad_line(&rt, alloc, bytes, out, *number)?;
+            expect_bad_line(&rt, alloc, bytes, out, *number);
         }
     }
-    Ok(())
 }
 
 #[test]
-fn writes_that_fail_are_reported(rt: HostRuntime) -> Result<(), Fail> {
+fn writes_that_fail_are_reported(rt: HostRuntime) {
     let want = (3, "", "kmod: output fault\n");
     let bytes = b"fuse fuse c10:229\n".as_slice();
-    expect_nodes(&rt, rt.alloc(), bytes, Failing::Write(0), want)
+    expect_nodes(&rt, rt.alloc(), bytes, Failing::Write(0), want);
 }

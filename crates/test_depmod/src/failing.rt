@@ -5,7 +5,6 @@ use crate::indexes::Index;
 use km_outside::CallKind;
 use std::alloc::Global;
 use std::process::Abort;
-use std::test::Fail;
 use test_rows::{Failing, FileRow, TWO};
 
 /// The calls on files in their order: their kinds and paths.
@@ -57,38 +56,47 @@ fn replaced_before(place: usize) -> usize {
         .count()
 }
 
-/// Makes a call fail, and returns whether there is a call of that number. The line on err names its
-/// path, and the files that were replaced before are new.
-fn expect_call(rt: &impl Abort, alloc: Global, kind: CallKind, number: u8) -> Result<bool, Fail> {
-    let Some(place) = place_of(kind, number) else {
-        let failing = Failing::Call(kind, number);
-        expect_index(rt, alloc, &IndexRow { failing, ..TREE })?;
-        return Ok(false);
-    };
-    let path = match CALLS.get(place) {
-        Some((_, path)) => *path,
-        None => return Err("no such call".into()),
-    };
-    let err = format!(in alloc; "kmod: file fault {path}\n")?;
-    let row = IndexRow {
+/// Returns the row of a call that fails, with the line on err.
+fn row_of<'a>(kind: CallKind, number: u8, place: usize, err: &'a str) -> IndexRow<'a> {
+    IndexRow {
         failing: Failing::Call(kind, number),
         status: 3,
-        err: err.as_str(),
+        err,
         replaced: replaced_before(place),
         ..TREE
+    }
+}
+
+/// Returns the line on err of the call at a place.
+fn fault_at(rt: &impl Abort, alloc: Global, place: usize) -> String {
+    let path = match CALLS.get(place) {
+        Some((_, path)) => *path,
+        None => panic!(rt; "no such call"),
     };
-    expect_index(rt, alloc, &row)?;
-    Ok(true)
+    format!(in alloc; "kmod: file fault {path}\n").expect(rt, "a line")
+}
+
+/// Makes a call fail, and returns whether there is a call of that number. The line on err names its
+/// path, and the files that were replaced before are new.
+fn expect_call(rt: &impl Abort, alloc: Global, kind: CallKind, number: u8) -> bool {
+    let Some(place) = place_of(kind, number) else {
+        let failing = Failing::Call(kind, number);
+        expect_index(rt, alloc, &IndexRow { failing, ..TREE });
+        return false;
+    };
+    let err = fault_at(rt, alloc, place);
+    expect_index(rt, alloc, &row_of(kind, number, place, err.as_str()));
+    true
 }
 
 /// Makes each call of a kind fail in turn, until a run has none of that number and is done.
-fn expect_kind(rt: &impl Abort, alloc: Global, kind: CallKind) -> Result<(), Fail> {
+fn expect_kind(rt: &impl Abort, alloc: Global, kind: CallKind) {
     for number in 0..30 {
-        if !expect_call(rt, alloc, kind, number)? {
-            return Ok(());
+        if !expect_call(rt, alloc, kind, number) {
+            return;
         }
     }
-    Err("each run met a fault".into())
+    panic!(rt; "each run met a fault")
 }
 
 /// The tree, and the outcome if nothing fails.
@@ -110,7 +118,7 @@ static WRITTEN: [&str; 5] = [
 
 /// Makes each write to the output fail in turn with `-n`, until a run has none of that number: no
 /// file is replaced.
-fn expect_writes(rt: &impl Abort, alloc: Global) -> Result<(), Fail> {
+fn expect_writes(rt: &impl Abort, alloc: Global) {
     for (number, out) in (0u8..).zip(WRITTEN) {
         let is_last = number == 4;
         let row = IndexRow {
@@ -123,9 +131,8 @@ fn expect_writes(rt: &impl Abort, alloc: Global) -> Result<(), Fail> {
             replaced: 0,
             ..TREE
         };
-        expect_index(rt, alloc, &row)?;
+        expect_index(rt, alloc, &row);
     }
-    Ok(())
 }
 
 /// The table of a kernel that doesn't export `printk`.
@@ -158,15 +165,14 @@ static WARNED: [IndexRow<'static>; 2] = [
 ];
 
 #[test]
-fn each_call_can_fail(rt: HostRuntime) -> Result<(), Fail> {
+fn each_call_can_fail(rt: HostRuntime) {
     let alloc = rt.alloc();
-    expect_kind(&rt, alloc, CallKind::ListConf)?;
-    expect_kind(&rt, alloc, CallKind::ListTree)?;
-    expect_kind(&rt, alloc, CallKind::Read)?;
-    expect_kind(&rt, alloc, CallKind::Replace)?;
-    expect_writes(&rt, alloc)?;
+    expect_kind(&rt, alloc, CallKind::ListConf);
+    expect_kind(&rt, alloc, CallKind::ListTree);
+    expect_kind(&rt, alloc, CallKind::Read);
+    expect_kind(&rt, alloc, CallKind::Replace);
+    expect_writes(&rt, alloc);
     for row in &WARNED {
-        expect_index(&rt, alloc, row)?;
+        expect_index(&rt, alloc, row);
     }
-    Ok(())
 }

@@ -8,7 +8,6 @@ use crate::sheets::{
 use km_outside::CallKind;
 use std::alloc::Global;
 use std::process::Abort;
-use std::test::Fail;
 use test_objects::{
     FREE, GIVES, GIVES_ALONE, GIVES_VERSION_1, GPL_ONLY, IMPORTS, IN_SPACE, MAY_NEED,
     MAY_NEED_VERSION_2, NEEDS, NEEDS_NOSUCH, NO_MORE, NOTHING,
@@ -402,18 +401,17 @@ static FILE_SYSTEM_ROW: IndexRow<'static> = IndexRow {
 };
 
 /// Runs each row.
-fn expect_rows(rt: &impl Abort, alloc: Global, rows: &[IndexRow<'_>]) -> Result<(), Fail> {
+fn expect_rows(rt: &impl Abort, alloc: Global, rows: &[IndexRow<'_>]) {
     for row in rows {
-        expect_index(rt, alloc, row)?;
+        expect_index(rt, alloc, row);
     }
-    Ok(())
 }
 
 #[test]
-fn trees_are_indexed_or_refused(rt: HostRuntime) -> Result<(), Fail> {
+fn trees_are_indexed_or_refused(rt: HostRuntime) {
     let alloc = rt.alloc();
-    expect_rows(&rt, alloc, &PLAIN)?;
-    expect_rows(&rt, alloc, &FURTHER)?;
-    expect_rows(&rt, alloc, &REFUSALS)?;
-    expect_index(&rt, alloc, &FILE_SYSTEM_ROW)
+    expect_rows(&rt, alloc, &PLAIN);
+    expect_rows(&rt, alloc, &FURTHER);
+    expect_rows(&rt, alloc, &REFUSALS);
+    expect_index(&rt, alloc, &FILE_SYSTEM_ROW);
 }

@@ -29,4 +29,6 @@ mod modinfo_names;
 #[cfg(test)]
 mod modprobe_names;
 #[cfg(test)]
+mod same;
+#[cfg(test)]
 mod sheets;

@@ -1,7 +1,7 @@
 // What a row over files results in.
+use crate::same::{same_files, same_seen, value};
 use std::alloc::Global;
 use std::process::Abort;
-use std::test::Fail;
 use test_rows::{Failing, FileRow, RowOf, run_over, wanted};
 
 /// Runs the words of a row over files while something fails, and compares the outcome. No file is
@@ -12,11 +12,10 @@ pub(crate) fn expect_over(
     files: &[FileRow<'_>],
     failing: Failing,
     row: RowOf<'_>,
-) -> Result<(), Fail> {
+) {
     let (words, ..) = row;
-    let mut objects = run_over(alloc, files, failing, words)?;
-    assert_eq!(rt; objects.seen(), wanted(row), "{words}");
-    let stray = objects.stray(alloc, &[])?;
-    assert_eq!(rt; stray.as_bytes(), b"".as_slice(), "{words}");
-    Ok(())
+    let run = run_over(alloc, files, failing, words);
+    let mut objects = value(rt, run, "no run");
+    same_seen(rt, &objects, wanted(row), words);
+    same_files(rt, alloc, &mut objects, &[], words);
 }

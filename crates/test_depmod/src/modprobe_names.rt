@@ -3,7 +3,6 @@ use crate::lookup_rows::expect_over;
 use crate::modinfo_names::{CUT_VALUE, FORWARD_CHILD, REACHED_TWICE};
 use std::alloc::Global;
 use std::process::Abort;
-use std::test::Fail;
 use test_rows::{Failing, FileRow, Row};
 
 /// A modules.dep.bin of `a`, and of `b`, which needs `a`.
@@ -260,30 +259,28 @@ static BAD_INDEXES: [(&[u8], &str); 3] = [
 ];
 
 /// Runs the words of each row over its files.
-fn expect_rows(rt: &impl Abort, alloc: Global, rows: &[FilesRow]) -> Result<(), Fail> {
+fn expect_rows(rt: &impl Abort, alloc: Global, rows: &[FilesRow]) {
     for (files, row) in rows {
-        expect_over(rt, alloc, files, Failing::Nothing, *row)?;
+        expect_over(rt, alloc, files, Failing::Nothing, *row);
     }
-    Ok(())
 }
 
 /// Runs the words over folders with each of the bad indexes.
-fn expect_bad_indexes(rt: &impl Abort, alloc: Global) -> Result<(), Fail> {
+fn expect_bad_indexes(rt: &impl Abort, alloc: Global) {
     for (index, err) in &BAD_INDEXES {
         let file = FileRow {
             path: DEP.path,
             bytes: index,
         };
         let row = ("modprobe -d /r -S 6.1.0 -R a", 1, "", *err);
-        expect_over(rt, alloc, &[file], Failing::Nothing, row)?;
+        expect_over(rt, alloc, &[file], Failing::Nothing, row);
     }
-    Ok(())
 }
 
 #[test]
-fn names_stand_for_modules(rt: HostRuntime) -> Result<(), Fail> {
-    expect_rows(&rt, rt.alloc(), &NAMES)?;
-    expect_rows(&rt, rt.alloc(), &CONFIGURED)?;
-    expect_rows(&rt, rt.alloc(), &IN_ORDER)?;
-    expect_bad_indexes(&rt, rt.alloc())
+fn names_stand_for_modules(rt: HostRuntime) {
+    expect_rows(&rt, rt.alloc(), &NAMES);
+    expect_rows(&rt, rt.alloc(), &CONFIGURED);
+    expect_rows(&rt, rt.alloc(), &IN_ORDER);
+    expect_bad_indexes(&rt, rt.alloc());
 }
