@@ -1,33 +1,39 @@
 // What rows over a tree that depmod indexed result in.
+use crate::same::{same_files, same_seen, value};
 use std::alloc::Global;
 use std::process::Abort;
-use std::test::Fail;
-use test_rows::{IndexedRow, run_indexed, wanted};
+use test_rows::{IndexedRow, Objects, RowOf, run_indexed, wanted};
 
-/// Runs each row over a tree that depmod indexed, and compares the outcome, with every file.
-pub(crate) fn expect_indexed(
-    rt: &impl Abort,
-    alloc: Global,
-    tree: &IndexedRow<'_>,
-) -> Result<(), Fail> {
+fn indexed(rt: &impl Abort, alloc: Global, tree: &IndexedRow<'_>, words: &str) -> Objects {
+    value(rt, run_indexed(alloc, tree, words), "no indexed tree")
+}
+
+/// Runs a row over a tree that depmod indexed, and compares the outcome, with every file.
+fn expect_row(rt: &impl Abort, alloc: Global, tree: &IndexedRow<'_>, row: RowOf<'_>, name: &str) {
+    let (words, ..) = row;
+    let mut objects = indexed(rt, alloc, tree, words);
+    same_seen(rt, &objects, wanted(row), name);
+    same_files(rt, alloc, &mut objects, tree.after, name);
+}
+
+/// Runs each row of a tree. The tree's name tells a row that differs.
+pub(crate) fn expect_indexed(rt: &impl Abort, alloc: Global, tree: &IndexedRow<'_>) {
+    for row in tree.rows {
+        expect_row(rt, alloc, tree, *row, tree.name);
+    }
+}
+
+/// Runs each row of a tree. Its words tell a row that differs.
+pub(crate) fn expect_words(rt: &impl Abort, alloc: Global, tree: &IndexedRow<'_>) {
     for row in tree.rows {
         let (words, ..) = *row;
-        let mut objects = run_indexed(alloc, tree, words)?;
-        assert_eq!(rt; objects.seen(), wanted(*row), "{}", tree.name);
-        let stray = objects.stray(alloc, tree.after)?;
-        assert_eq!(rt; stray.as_bytes(), b"".as_slice(), "{}", tree.name);
+        expect_row(rt, alloc, tree, *row, words);
     }
-    Ok(())
 }
 
 /// Runs the rows of each tree.
-pub(crate) fn expect_trees(
-    rt: &impl Abort,
-    alloc: Global,
-    trees: &[IndexedRow<'_>],
-) -> Result<(), Fail> {
+pub(crate) fn expect_trees(rt: &impl Abort, alloc: Global, trees: &[IndexedRow<'_>]) {
     for tree in trees {
-        expect_indexed(rt, alloc, tree)?;
+        expect_indexed(rt, alloc, tree);
     }
-    Ok(())
 }

@@ -4,7 +4,6 @@ use crate::expect::expect_indexed;
 use km_outside::CallKind;
 use std::alloc::Global;
 use std::process::Abort;
-use std::test::Fail;
 use test_rows::{Failing, FileRow, INDEXED, IndexedRow, SYMVERS, SYSTEM_MAP, TWO, image};
 
 /// A load of `b` whose images are put.
@@ -83,6 +82,12 @@ static CALLS: [CallRow; 17] = [
     (CallKind::Replace, "/r/img/b.img", A_LOADED, 1),
 ];
 
+/// What the image of `a` has besides zeros.
+static A_WORDS: [(usize, &[u8]); 1] = [(4096, b"\x00\x00\x00\x81\xff\xff\xff\xff")];
+
+/// What the image of `b` has besides zeros.
+static B_WORDS: [(usize, &[u8]); 1] = [(0, b"\x00\x00\x00\xc0\xff\xff\xff\xff")];
+
 /// Runs the load while something fails, and compares what it answers and writes, and the first
 /// images.
 fn expect_load(
@@ -91,9 +96,9 @@ fn expect_load(
     failing: Failing,
     (out, err): (&str, &str),
     images: usize,
-) -> Result<(), Fail> {
-    let a = image(alloc, 8192, &[(4096, b"\x00\x00\x00\x81\xff\xff\xff\xff")])?;
-    let b = image(alloc, 4096, &[(0, b"\x00\x00\x00\xc0\xff\xff\xff\xff")])?;
+) {
+    let a = image(alloc, 8192, &A_WORDS).expect(rt, "an image");
+    let b = image(alloc, 4096, &B_WORDS).expect(rt, "an image");
     let after = [
         FileRow {
             path: "/r/img/a.img",
@@ -114,7 +119,7 @@ fn expect_load(
         after: &after[..images.min(2)],
         ..INDEXED
     };
-    expect_indexed(rt, alloc, &tree)
+    expect_indexed(rt, alloc, &tree);
 }
 
 /// Returns the call of a kind with a number.
@@ -123,33 +128,33 @@ fn call_of(kind: CallKind, number: u8) -> Option<CallRow> {
     calls.nth(usize::from(number)).copied()
 }
 
+/// Returns the line on err of a call that fails at a path.
+fn fault_at(rt: &impl Abort, alloc: Global, path: &str) -> String {
+    format!(in alloc; "kmod: file fault {path}\n").expect(rt, "a line")
+}
+
 /// Makes a call fail, counted from the first of that kind after depmod's, and returns whether there
 /// is one.
-fn expect_call(
-    rt: &impl Abort,
-    alloc: Global,
-    kind: CallKind,
-    (first, number): (u8, u8),
-) -> Result<bool, Fail> {
+fn expect_call(rt: &impl Abort, alloc: Global, kind: CallKind, (first, number): (u8, u8)) -> bool {
     let failing = Failing::Call(kind, first.saturating_add(number));
     let Some((_, path, out, images)) = call_of(kind, number) else {
-        expect_load(rt, alloc, failing, (BOTH_LOADED, ""), 2)?;
-        return Ok(false);
+        expect_load(rt, alloc, failing, (BOTH_LOADED, ""), 2);
+        return false;
     };
-    let err = format!(in alloc; "kmod: file fault {path}\n")?;
-    expect_load(rt, alloc, failing, (out, err.as_str()), images)?;
-    Ok(true)
+    let err = fault_at(rt, alloc, path);
+    expect_load(rt, alloc, failing, (out, err.as_str()), images);
+    true
 }
 
 /// Makes each call of a kind fail in turn, until a run has none of that number and is done. Some
 /// were depmod's.
-fn expect_kind(rt: &impl Abort, alloc: Global, kind: CallKind, first: u8) -> Result<(), Fail> {
+fn expect_kind(rt: &impl Abort, alloc: Global, kind: CallKind, first: u8) {
     for number in 0..30 {
-        if !expect_call(rt, alloc, kind, (first, number))? {
-            return Ok(());
+        if !expect_call(rt, alloc, kind, (first, number)) {
+            return;
         }
     }
-    Err("each run met a fault".into())
+    panic!(rt; "each run met a fault")
 }
 
 /// What was written before each write to the output, the line on err, and how many images were put.
@@ -162,14 +167,13 @@ static WRITES: [(&str, &str, usize); 4] = [
 ];
 
 #[test]
-fn each_call_can_fail(rt: HostRuntime) -> Result<(), Fail> {
+fn each_call_can_fail(rt: HostRuntime) {
     let alloc = rt.alloc();
-    expect_kind(&rt, alloc, CallKind::ListConf, 5)?;
-    expect_kind(&rt, alloc, CallKind::ListTree, 2)?;
-    expect_kind(&rt, alloc, CallKind::Read, 5)?;
-    expect_kind(&rt, alloc, CallKind::Replace, 9)?;
+    expect_kind(&rt, alloc, CallKind::ListConf, 5);
+    expect_kind(&rt, alloc, CallKind::ListTree, 2);
+    expect_kind(&rt, alloc, CallKind::Read, 5);
+    expect_kind(&rt, alloc, CallKind::Replace, 9);
     for (number, (out, err, images)) in (0u8..).zip(WRITES) {
-        expect_load(&rt, alloc, Failing::Write(number), (out, err), images)?;
+        expect_load(&rt, alloc, Failing::Write(number), (out, err), images);
     }
-    Ok(())
 }

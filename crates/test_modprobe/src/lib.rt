@@ -23,6 +23,8 @@ mod plans;
 #[cfg(test)]
 mod removals;
 #[cfg(test)]
+mod same;
+#[cfg(test)]
 mod sheets;
 #[cfg(test)]
 mod trials;

@@ -2,7 +2,6 @@
 use crate::expect::{expect_indexed, expect_trees};
 use std::alloc::Global;
 use std::process::Abort;
-use std::test::Fail;
 use test_objects::{GIVES_ALONE, GPL_ONLY, MAY_NEED, NO_MORE};
 use test_rows::{
     FILE_SYSTEM, FILE_SYSTEM_KERNEL, FileRow, INDEXED, IndexedRow, RowOf, SYMVERS, SYSTEM_MAP, TWO,
@@ -145,6 +144,9 @@ const FILE_SYSTEM_LOAD: RowOf<'static> = (
     "",
 );
 
+/// The word of `jbd2`: the address of one of the kernel's.
+const JBD2_WORD: &[u8] = b"\x40\x00\x00\x81\xff\xff\xff\xff";
+
 /// The words of `ext4`: the addresses of what two helpers export, and the way to one of the
 /// kernel's.
 const EXT4_WORDS: &[u8] =
@@ -152,9 +154,9 @@ const EXT4_WORDS: &[u8] =
 
 /// Loads a file system with two helpers, over a kernel of 40 names, and compares both images byte
 /// for byte.
-fn expect_file_system(rt: &impl Abort, alloc: Global) -> Result<(), Fail> {
-    let jbd2 = image(alloc, 8192, &[(4096, b"\x40\x00\x00\x81\xff\xff\xff\xff")])?;
-    let ext4 = image(alloc, 4096, &[(0, EXT4_WORDS)])?;
+fn expect_file_system(rt: &impl Abort, alloc: Global) {
+    let jbd2 = image(alloc, 8192, &[(4096, JBD2_WORD)]).expect(rt, "an image");
+    let ext4 = image(alloc, 4096, &[(0, EXT4_WORDS)]).expect(rt, "an image");
     let tree = IndexedRow {
         name: "a file system is loaded",
         modules: FILE_SYSTEM,
@@ -172,11 +174,11 @@ fn expect_file_system(rt: &impl Abort, alloc: Global) -> Result<(), Fail> {
         ],
         ..INDEXED
     };
-    expect_indexed(rt, alloc, &tree)
+    expect_indexed(rt, alloc, &tree);
 }
 
 #[test]
-fn modules_are_loaded_or_refused(rt: HostRuntime) -> Result<(), Fail> {
-    expect_trees(&rt, rt.alloc(), &TREES)?;
-    expect_file_system(&rt, rt.alloc())
+fn modules_are_loaded_or_refused(rt: HostRuntime) {
+    expect_trees(&rt, rt.alloc(), &TREES);
+    expect_file_system(&rt, rt.alloc());
 }

@@ -1,12 +1,10 @@
 // Loads whose parameters are written.
+use crate::expect::expect_words;
 use km_names::{Blob, List, Name};
 use km_outside::CallKind;
 use std::alloc::{AllocError, Global};
 use std::process::Abort;
-use std::test::Fail;
-use test_rows::{
-    Failing, FileRow, IndexedRow, RowOf, SYMVERS, SYSTEM_MAP, USAGE, image, run_indexed, wanted,
-};
+use test_rows::{Failing, FileRow, IndexedRow, RowOf, SYMVERS, SYSTEM_MAP, USAGE, image};
 use tree_gen::{SheetParam, SheetParams, param_object};
 
 /// Loads of a module of two parameters: the last word counts, words that name no parameter and
@@ -150,8 +148,8 @@ static FINISHED: [(usize, &[u8]); 7] = [
     (4104, b"\x01"),
 ];
 
-/// Returns an object with two parameters.
-fn two_parameters(alloc: Global) -> Result<Blob, AllocError> {
+/// Returns two parameters.
+fn params_of(alloc: Global) -> Result<SheetParams, AllocError> {
     let rows: [(&[u8], &[u8]); 2] = [(b"depth", b"int"), (b"raw", b"bool")];
     let mut params: SheetParams = List::new(alloc);
     for (name, kind) in rows.as_slice() {
@@ -160,7 +158,13 @@ fn two_parameters(alloc: Global) -> Result<Blob, AllocError> {
             kind: Name::from_slice(alloc, kind)?,
         })?;
     }
-    param_object(alloc, &params)
+    Ok(params)
+}
+
+/// Returns an object with two parameters.
+fn two_parameters(rt: &impl Abort, alloc: Global) -> Blob {
+    let params = params_of(alloc).expect(rt, "parameters");
+    param_object(alloc, &params).expect(rt, "an object")
 }
 
 /// Returns the two files of modules, and the others.
@@ -184,48 +188,41 @@ fn expect(
     failing: Failing,
     rows: &[RowOf<'static>],
     after: &[FileRow<'_>],
-) -> Result<(), Fail> {
-    let object = two_parameters(alloc)?;
+) {
+    let object = two_parameters(rt, alloc);
     let files = files_of(object.as_bytes());
-    for row in rows {
-        let (words, ..) = *row;
-        let tree = IndexedRow {
-            name: "parameters",
-            modules: &[],
-            files: files.as_slice(),
-            failing,
-            rows: &[],
-            after: &[],
-        };
-        let mut objects = run_indexed(alloc, &tree, words)?;
-        assert_eq!(rt; objects.seen(), wanted(*row), "{words}");
-        let stray = objects.stray(alloc, after)?;
-        assert_eq!(rt; stray.as_bytes(), b"".as_slice(), "{words}");
-    }
-    Ok(())
+    let tree = IndexedRow {
+        name: "parameters",
+        modules: &[],
+        files: files.as_slice(),
+        failing,
+        rows,
+        after,
+    };
+    expect_words(rt, alloc, &tree);
 }
 
 #[test]
-fn parameters_are_written(rt: HostRuntime) -> Result<(), Fail> {
-    expect(&rt, rt.alloc(), Failing::Nothing, &LOADS, &[])
+fn parameters_are_written(rt: HostRuntime) {
+    expect(&rt, rt.alloc(), Failing::Nothing, &LOADS, &[]);
 }
 
 #[test]
-fn a_refusal_ends_the_loads(rt: HostRuntime) -> Result<(), Fail> {
-    expect(&rt, rt.alloc(), Failing::Nothing, &LOADS_OF_TWO, &[])
+fn a_refusal_ends_the_loads(rt: HostRuntime) {
+    expect(&rt, rt.alloc(), Failing::Nothing, &LOADS_OF_TWO, &[]);
 }
 
 #[test]
-fn only_loads_have_parameters(rt: HostRuntime) -> Result<(), Fail> {
-    expect(&rt, rt.alloc(), Failing::Nothing, &NO_LOADS, &[])
+fn only_loads_have_parameters(rt: HostRuntime) {
+    expect(&rt, rt.alloc(), Failing::Nothing, &NO_LOADS, &[]);
 }
 
 /// Checks that both images are put, whole; and that the first stays if the second can't be put.
 #[test]
-fn both_images_are_put(rt: HostRuntime) -> Result<(), Fail> {
+fn both_images_are_put(rt: HostRuntime) {
     let alloc = rt.alloc();
-    let own = image(alloc, 8192, &OWN)?;
-    let finished = image(alloc, 8192, &FINISHED)?;
+    let own = image(alloc, 8192, &OWN).expect(&rt, "an image");
+    let finished = image(alloc, 8192, &FINISHED).expect(&rt, "an image");
     let own = FileRow {
         path: "/r/img/p.img",
         bytes: own.as_slice(),
@@ -234,7 +231,7 @@ fn both_images_are_put(rt: HostRuntime) -> Result<(), Fail> {
         path: "/r/img/p.params.img",
         bytes: finished.as_slice(),
     };
-    expect(&rt, alloc, Failing::Nothing, &PUT, &[own, finished])?;
+    expect(&rt, alloc, Failing::Nothing, &PUT, &[own, finished]);
     let second = Failing::Call(CallKind::Replace, REPLACED + 1);
-    expect(&rt, alloc, second, &PUT_ONCE, &[own])
+    expect(&rt, alloc, second, &PUT_ONCE, &[own]);
 }

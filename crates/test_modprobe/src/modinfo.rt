@@ -1,9 +1,9 @@
 // Modules that are shown by their paths.
-use km_names::PathText;
-use km_outside::CallKind;
+use crate::same::{same_files, same_seen, value};
+use km_names::{Blob, PathText};
+use km_outside::{CallKind, MemFiles};
 use std::alloc::Global;
 use std::process::Abort;
-use std::test::Fail;
 use test_objects::{LICENSE_OBJECT, SheetRow, object_of};
 use test_rows::{Failing, FileRow, Objects, Row, RowOf, USAGE, run_over, wanted};
 
@@ -143,44 +143,45 @@ static NOT_UNDERSTOOD: [&str; 24] = [
     "modinfo --help",
 ];
 
+fn put(rt: &impl Abort, alloc: Global, objects: &mut Objects, path: &str, bytes: &[u8]) {
+    objects.put(alloc, path, bytes).expect(rt, "a file");
+}
+
+fn object(rt: &impl Abort, alloc: Global, sheet: &SheetRow) -> Blob {
+    object_of(alloc, sheet).expect(rt, "an object")
+}
+
 /// Puts the modules at paths.
-fn put_modules(alloc: Global, objects: &mut Objects) -> Result<(), Fail> {
-    objects.put(alloc, "/m/a.ko", &LICENSE_OBJECT)?;
-    objects.put(alloc, "/m/cut.ko", &LICENSE_OBJECT[..287])?;
-    objects.put(alloc, "/m/p.ko", object_of(alloc, &PARAMETERS)?.as_bytes())?;
-    objects.put(alloc, "/m/lone.ko", object_of(alloc, &LONE_KEY)?.as_bytes())?;
-    Ok(())
+fn put_modules(rt: &impl Abort, alloc: Global, objects: &mut Objects) {
+    put(rt, alloc, objects, "/m/a.ko", &LICENSE_OBJECT);
+    put(rt, alloc, objects, "/m/cut.ko", &LICENSE_OBJECT[..287]);
+    let parameters = object(rt, alloc, &PARAMETERS);
+    put(rt, alloc, objects, "/m/p.ko", parameters.as_bytes());
+    let lone_key = object(rt, alloc, &LONE_KEY);
+    put(rt, alloc, objects, "/m/lone.ko", lone_key.as_bytes());
 }
 
 /// Runs a row over the modules. No file is changed.
-fn expect_shown(rt: &impl Abort, alloc: Global, row: Row) -> Result<(), Fail> {
+fn expect_shown(rt: &impl Abort, alloc: Global, row: Row) {
     let (words, ..) = row;
-    let mut objects = Objects::new(alloc)?;
-    put_modules(alloc, &mut objects)?;
-    objects.run(alloc, words)?;
-    assert_eq!(rt; objects.seen(), wanted(row), "{words}");
-    let stray = objects.stray(alloc, &[])?;
-    assert_eq!(rt; stray.as_bytes(), b"".as_slice(), "{words}");
-    Ok(())
+    let mut objects = Objects::new(alloc).expect(rt, "objects");
+    put_modules(rt, alloc, &mut objects);
+    objects.run(alloc, words).expect(rt, "words");
+    same_seen(rt, &objects, wanted(row), words);
+    same_files(rt, alloc, &mut objects, &[], words);
 }
 
 /// Runs a row over one module while something fails. No file is changed.
-fn expect_one(
-    rt: &impl Abort,
-    alloc: Global,
-    failing: Failing,
-    row: RowOf<'_>,
-) -> Result<(), Fail> {
+fn expect_one(rt: &impl Abort, alloc: Global, failing: Failing, row: RowOf<'_>) {
     let module = FileRow {
         path: "/m/a.ko",
         bytes: &LICENSE_OBJECT,
     };
     let (words, ..) = row;
-    let mut objects = run_over(alloc, &[module], failing, words)?;
-    assert_eq!(rt; objects.seen(), wanted(row), "{words}");
-    let stray = objects.stray(alloc, &[])?;
-    assert_eq!(rt; stray.as_bytes(), b"".as_slice(), "{words}");
-    Ok(())
+    let run = run_over(alloc, &[module], failing, words);
+    let mut objects = value(rt, run, "no run");
+    same_seen(rt, &objects, wanted(row), words);
+    same_files(rt, alloc, &mut objects, &[], words);
 }
 
 /// What fails while modules are shown, and the row then. The first module is printed before the
@@ -224,29 +225,33 @@ static FAILING: [(Failing, Row); 5] = [
 ];
 
 #[test]
-fn modules_are_shown_by_their_paths(rt: HostRuntime) -> Result<(), Fail> {
+fn modules_are_shown_by_their_paths(rt: HostRuntime) {
     let alloc = rt.alloc();
     for row in &BY_PATH {
-        expect_shown(&rt, alloc, *row)?;
+        expect_shown(&rt, alloc, *row);
     }
     for words in &NOT_UNDERSTOOD {
-        expect_one(&rt, alloc, Failing::Nothing, (words, 2, "", USAGE))?;
+        expect_one(&rt, alloc, Failing::Nothing, (words, 2, "", USAGE));
     }
     for (failing, row) in &FAILING {
-        expect_one(&rt, alloc, *failing, *row)?;
+        expect_one(&rt, alloc, *failing, *row);
     }
-    Ok(())
+}
+
+/// Puts a file of so many zeros.
+fn put_zeros(rt: &impl Abort, alloc: Global, files: &mut MemFiles, path: &[u8], length: usize) {
+    let bytes = vec![in alloc; 0u8; length].expect(rt, "zeros");
+    let path = PathText::from_slice(alloc, path).expect(rt, "a path");
+    files.put(&path, bytes.as_slice()).expect(rt, "a file");
 }
 
 #[test]
-fn a_file_past_the_limit_is_too_large(rt: HostRuntime) -> Result<(), Fail> {
+fn a_file_past_the_limit_is_too_large(rt: HostRuntime) {
     let alloc = rt.alloc();
-    let mut objects = Objects::new(alloc)?;
-    let bytes = vec![in alloc; 0u8; 67_108_865]?;
-    let path = PathText::from_slice(alloc, b"/m/a.ko")?;
-    objects.files.put(&path, bytes.as_slice())?;
-    objects.run(alloc, "modinfo -F license /m/a.ko")?;
+    let words = "modinfo -F license /m/a.ko";
+    let mut objects = Objects::new(alloc).expect(&rt, "objects");
+    put_zeros(&rt, alloc, &mut objects.files, b"/m/a.ko", 67_108_865);
+    objects.run(alloc, words).expect(&rt, "words");
     let line = b"kmod: /m/a.ko: too large\n".as_slice();
-    assert_eq!(rt; objects.seen(), (1, b"".as_slice(), line));
-    Ok(())
+    same_seen(&rt, &objects, (1, b"", line), words);
 }

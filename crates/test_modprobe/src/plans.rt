@@ -1,7 +1,6 @@
 // Plans, and what is in the way of one.
 use crate::expect::expect_trees;
 use crate::sheets::ASKS_FOR_MORE;
-use std::test::Fail;
 use test_objects::{
     FREE, GIVES_ALONE, GIVES_VERSION_1, GPL_ONLY, IMPORTS, IN_SPACE, MAY_NEED_VERSION_2, NEEDS,
     NEEDS_NOSUCH, NO_MORE, NOTHING,
@@ -288,6 +287,6 @@ static TREES: [IndexedRow<'static>; 11] = [
 ];
 
 #[test]
-fn modules_are_planned_or_not(rt: HostRuntime) -> Result<(), Fail> {
-    expect_trees(&rt, rt.alloc(), &TREES)
+fn modules_are_planned_or_not(rt: HostRuntime) {
+    expect_trees(&rt, rt.alloc(), &TREES);
 }

@@ -1,11 +1,7 @@
 // Removals from the modelled machine.
-use std::alloc::Global;
-use std::process::Abort;
-use std::test::Fail;
+use crate::expect::expect_words;
 use test_objects::{GIVES, NEEDS, NO_MORE, NOTHING};
-use test_rows::{
-    FileRow, INDEXED, IndexedRow, ModuleRow, RowOf, SYMVERS, SYSTEM_MAP, run_indexed, wanted,
-};
+use test_rows::{FileRow, INDEXED, IndexedRow, ModuleRow, RowOf, SYMVERS, SYSTEM_MAP};
 
 /// Three modules. `b` needs `a`, and `c` has nothing to do with them.
 const THREE: &[ModuleRow<'static>] = &[
@@ -174,19 +170,7 @@ static TREE: IndexedRow<'static> = IndexedRow {
     ..INDEXED
 };
 
-/// Runs each row over the tree that depmod indexed, and compares the outcome, with every file.
-fn expect_indexed(rt: &impl Abort, alloc: Global, tree: &IndexedRow<'_>) -> Result<(), Fail> {
-    for row in tree.rows {
-        let (words, ..) = *row;
-        let mut objects = run_indexed(alloc, tree, words)?;
-        assert_eq!(rt; objects.seen(), wanted(*row), "{words}");
-        let stray = objects.stray(alloc, tree.after)?;
-        assert_eq!(rt; stray.as_bytes(), b"".as_slice(), "{words}");
-    }
-    Ok(())
-}
-
 #[test]
-fn modules_are_removed_or_refused(rt: HostRuntime) -> Result<(), Fail> {
-    expect_indexed(&rt, rt.alloc(), &TREE)
+fn modules_are_removed_or_refused(rt: HostRuntime) {
+    expect_words(&rt, rt.alloc(), &TREE);
 }

@@ -1,9 +1,9 @@
 // Whole runs of trials. A separate program worked out the digests of images from the made trees. An
 // image has 8192 bytes, which are 0 except for the address of `printk` at byte 4096 and, after the
 // first, the address of `s0000` at byte 4104.
+use crate::same::{same_files, same_seen, value};
 use std::alloc::Global;
 use std::process::Abort;
-use std::test::Fail;
 use test_rows::{Failing, Row, USAGE, run_over, wanted};
 
 /// Trees of one, two and three modules.
@@ -45,29 +45,27 @@ const MANY: Row = (
 );
 
 /// Runs a row over no file, and checks that no file is left.
-fn expect_row(rt: &impl Abort, alloc: Global, row: Row) -> Result<(), Fail> {
+fn expect_row(rt: &impl Abort, alloc: Global, row: Row) {
     let (words, ..) = row;
-    let mut objects = run_over(alloc, &[], Failing::Nothing, words)?;
-    assert_eq!(rt; objects.seen(), wanted(row), "{words}");
-    let stray = objects.stray(alloc, &[])?;
-    assert_eq!(rt; stray.as_bytes(), b"".as_slice(), "{words}");
-    Ok(())
+    let run = run_over(alloc, &[], Failing::Nothing, words);
+    let mut objects = value(rt, run, "no run");
+    same_seen(rt, &objects, wanted(row), words);
+    same_files(rt, alloc, &mut objects, &[], words);
 }
 
 #[test]
-fn made_trees_are_indexed_and_loaded(rt: HostRuntime) -> Result<(), Fail> {
-    for row in TRIALS {
-        expect_row(&rt, rt.alloc(), row)?;
+fn made_trees_are_indexed_and_loaded(rt: HostRuntime) {
+    for row in &TRIALS {
+        expect_row(&rt, rt.alloc(), *row);
     }
-    for row in NOT_UNDERSTOOD {
-        expect_row(&rt, rt.alloc(), row)?;
+    for row in &NOT_UNDERSTOOD {
+        expect_row(&rt, rt.alloc(), *row);
     }
-    Ok(())
 }
 
 /// Checks that two runs give the same.
 #[test]
-fn a_tree_of_many_modules(rt: HostRuntime) -> Result<(), Fail> {
-    expect_row(&rt, rt.alloc(), MANY)?;
-    expect_row(&rt, rt.alloc(), MANY)
+fn a_tree_of_many_modules(rt: HostRuntime) {
+    expect_row(&rt, rt.alloc(), MANY);
+    expect_row(&rt, rt.alloc(), MANY);
 }
