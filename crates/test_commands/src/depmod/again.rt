@@ -1,0 +1,98 @@
+// Trees that are changed: indexed again, and with a module that is damaged.
+use crate::depmod::expect::{DONE, IndexRow, REFUSED, expect_over, objects_of};
+use crate::depmod::indexes::Index;
+use crate::depmod::sheets::{GIVES_FC, GIVES_LONG, LONG_VERSION_17, NEEDS_LONG};
+use crate::rows::{Failing, TWO, put_modules, value};
+use km_names::Blob;
+use km_outside::CallKind;
+use std::alloc::Global;
+use std::process::Abort;
+use test_objects::{NO_MORE, object_with};
+
+/// Two modules that are indexed for the first time. The third replacement after that fails.
+const FIRST: IndexRow<'static> = IndexRow {
+    name: "the first index",
+    modules: TWO,
+    is_old: false,
+    failing: Failing::Call(CallKind::Replace, 11),
+    index: Index::TwoModules,
+    ..DONE
+};
+
+/// The same with `c`: two files are new, and seven are as the first index left them.
+const SECOND: IndexRow<'static> = IndexRow {
+    name: "the second index",
+    status: 3,
+    err: "kmod: file fault /r/lib/modules/6.1.0/modules.alias\n",
+    index: Index::WithC,
+    replaced: 2,
+    ..DONE
+};
+
+/// Indexes a tree twice, the second time with one module more.
+fn expect_second(rt: &impl Abort, alloc: Global) {
+    let mut objects = objects_of(rt, alloc, &FIRST);
+    expect_over(rt, alloc, &mut objects, &FIRST);
+    let put = put_modules(alloc, &mut objects, &[("kernel/c.ko", &GIVES_FC, &NO_MORE)]);
+    value(rt, put, "no module more");
+    value(rt, objects.note(alloc), "no listing");
+    expect_over(rt, alloc, &mut objects, &SECOND);
+}
+
+/// The names of versions in the extended form have no end.
+const CUT: IndexRow<'static> = IndexRow {
+    name: "names of versions without an end",
+    modules: &[("kernel/a.ko", &GIVES_LONG, &NO_MORE)],
+    err: "kmod: kernel/b.ko: bad versions\n",
+    ..REFUSED
+};
+
+/// Returns where the last run of 60 or more bytes `x` ends, in a file that has other bytes after
+/// it.
+fn end_of_last_name(bytes: &[u8]) -> Option<usize> {
+    let mut end = None;
+    let mut length: usize = 0;
+    for (at, byte) in bytes.iter().enumerate() {
+        if *byte == b'x' {
+            length = length.saturating_add(1);
+        } else {
+            if length >= 60 {
+                end = Some(at);
+            }
+            length = 0;
+        }
+    }
+    end
+}
+
+/// Returns an object that needs a long name.
+fn object_of_long(rt: &impl Abort, alloc: Global) -> Blob {
+    object_with(alloc, &NEEDS_LONG, &LONG_VERSION_17).expect(rt, "an object")
+}
+
+/// Returns an object in which the name of a version has no NUL.
+fn cut_object(rt: &impl Abort, alloc: Global) -> Vec<u8> {
+    let object = object_of_long(rt, alloc);
+    let mut bytes = Vec::from_slice(alloc, object.as_bytes()).expect(rt, "a copy");
+    let end = end_of_last_name(bytes.as_slice()).expect(rt, "no name");
+    let nul = bytes.get_mut(end).expect(rt, "no byte");
+    assert_eq!(rt; *nul, 0);
+    *nul = b'x';
+    bytes
+}
+
+/// Indexes a tree in which a module has a name of a version without its NUL.
+fn expect_bad_versions(rt: &impl Abort, alloc: Global) {
+    let bytes = cut_object(rt, alloc);
+    let mut objects = objects_of(rt, alloc, &CUT);
+    objects
+        .put(alloc, "/r/lib/modules/6.1.0/kernel/b.ko", bytes.as_slice())
+        .expect(rt, "a file");
+    expect_over(rt, alloc, &mut objects, &CUT);
+}
+
+#[test]
+fn changed_trees_are_indexed_or_refused(rt: HostRuntime) {
+    expect_second(&rt, rt.alloc());
+    expect_bad_versions(&rt, rt.alloc());
+}

@@ -1,0 +1,70 @@
+// Whole runs of trials. A separate program worked out the digests of images from the made trees. An
+// image has 8192 bytes, which are 0 except for the address of `printk` at byte 4096 and, after the
+// first, the address of `s0000` at byte 4104.
+use crate::rows::{Failing, Row, USAGE, run_over, same_files, same_seen, value, wanted};
+use std::alloc::Global;
+use std::process::Abort;
+
+/// Trees of one, two and three modules.
+static TRIALS: [Row; 3] = [
+    (
+        "trial 1 1",
+        0,
+        "modules 1\ndependencies 0\nplanned 1\nloaded 1\nimages c6c95917cef2d89bf138a45b46ef4155f44b4dba3fdef5bd3e0dd145c1741227\n",
+        "",
+    ),
+    (
+        "trial 1 2",
+        0,
+        "modules 2\ndependencies 1\nplanned 2\nloaded 2\nimages 6e01d8a1a0adb080eac0b219e0d389f1fd57a7baed14adfbaa0d581bd54b07a0\n",
+        "",
+    ),
+    (
+        "trial 1 3",
+        0,
+        "modules 3\ndependencies 2\nplanned 3\nloaded 3\nimages fe1d27353d8fe48d7d22f38f5a781d684f526252c8b571272bde9301d03a620a\n",
+        "",
+    ),
+];
+
+/// Words that aren't understood.
+static NOT_UNDERSTOOD: [Row; 4] = [
+    ("trial 1 0", 2, "", USAGE),
+    ("trial 1 2001", 2, "", USAGE),
+    ("trial 18446744073709551616 1", 2, "", USAGE),
+    ("trial 1", 2, "", USAGE),
+];
+
+/// A tree of 2,000 modules. A separate program worked out its digest and its dependencies.
+const MANY: Row = (
+    "trial 7 2000",
+    0,
+    "modules 2000\ndependencies 135792\nplanned 2000\nloaded 2000\nimages 522c29431e76887306aa87c75dfa4d8e4fbdce7e5c514bea39cc3705b92aedb8\n",
+    "",
+);
+
+/// Runs a row over no file, and checks that no file is left.
+fn expect_row(rt: &impl Abort, alloc: Global, row: Row) {
+    let (words, ..) = row;
+    let run = run_over(alloc, &[], Failing::Nothing, words);
+    let mut objects = value(rt, run, "no run");
+    same_seen(rt, &objects, wanted(row), words);
+    same_files(rt, alloc, &mut objects, &[], words);
+}
+
+#[test]
+fn made_trees_are_indexed_and_loaded(rt: HostRuntime) {
+    for row in &TRIALS {
+        expect_row(&rt, rt.alloc(), *row);
+    }
+    for row in &NOT_UNDERSTOOD {
+        expect_row(&rt, rt.alloc(), *row);
+    }
+}
+
+/// Checks that two runs give the same.
+#[test]
+fn a_tree_of_many_modules(rt: HostRuntime) {
+    expect_row(&rt, rt.alloc(), MANY);
+    expect_row(&rt, rt.alloc(), MANY);
+}
