@@ -3,6 +3,7 @@ use elf_format::{
     R_X86_64_32, R_X86_64_32S, R_X86_64_64, R_X86_64_NONE, R_X86_64_PC32, R_X86_64_PC64,
     R_X86_64_PLT32, width,
 };
+use std::process::Abort;
 use x86_relocate::{TooWide, Written, value};
 
 /// A relocation type, the symbol, the addend, the place, and the word.
@@ -67,14 +68,20 @@ static ROWS: [Row; 13] = [
     (R_X86_64_NONE, 5, 5, 5, Ok(Written::Nothing)),
 ];
 
+/// Checks the word of a row.
+fn expect_word(rt: &impl Abort, row: &Row) {
+    let (kind, s, a, p, want) = row;
+    assert!(rt; width(*kind).is_some());
+    assert_eq!(rt;
+        value(*kind, *s, *a, *p),
+        *want,
+        "type {kind} of {s:x} {a} {p:x}"
+    );
+}
+
 #[test]
 fn words_are_the_tables(rt: HostRuntime) {
-    for (kind, s, a, p, want) in ROWS {
-        assert!(rt; width(kind).is_some());
-        assert_eq!(rt;
-            value(kind, s, a, p),
-            want,
-            "type {kind} of {s:x} {a} {p:x}"
-        );
+    for row in &ROWS {
+        expect_word(&rt, row);
     }
 }

@@ -3,7 +3,6 @@
 use km_names::Name;
 use std::alloc::{AllocError, Global};
 use std::process::Abort;
-use std::test::Fail;
 use test_objects::{
     EMPTY_MORE, EMPTY_SHEET, ExportRow, MoreRow, NeedRow, PlaceRow, SheetRow, SpaceRow, VersionRow,
     more, sheet,
@@ -325,37 +324,53 @@ static FURTHER: [(&[u8], bool); 4] = [
 
 // Each call is in a function of its own that promises nothing.
 
+/// Returns the sheet of a row.
+fn sheet_of(rt: &impl Abort, alloc: Global, row: &SheetRow) -> Sheet {
+    sheet(alloc, row).expect(rt, "a sheet")
+}
+
 /// Returns the object of a sheet, if it is one.
-fn object_of(alloc: Global, row: &SheetRow) -> Result<Option<Vec<u8>>, AllocError> {
-    let sheet = sheet(alloc, row)?;
-    if !is_sheet(alloc, &sheet, &SheetMore::none(alloc))? {
-        return Ok(None);
+fn object_of(rt: &impl Abort, alloc: Global, row: &SheetRow) -> Option<Vec<u8>> {
+    let Ok(sheet) = sheet(alloc, row) else {
+        panic!(rt; "no memory");
+    };
+    let Ok(is_one) = is_sheet(alloc, &sheet, &SheetMore::none(alloc)) else {
+        panic!(rt; "no memory");
+    };
+    if !is_one {
+        return None;
     }
-    Ok(Some(object(alloc, &sheet)?.into_vec()))
+    Some(object(alloc, &sheet).expect(rt, "an object").into_vec())
 }
 
 /// Returns the object of a sheet with more, if these are one.
 fn object_with(
+    rt: &impl Abort,
     alloc: Global,
     row: &SheetRow,
     besides: &MoreRow,
-) -> Result<Option<Vec<u8>>, AllocError> {
-    let sheet = sheet(alloc, row)?;
-    let more = more(alloc, besides)?;
-    if !is_sheet(alloc, &sheet, &more)? {
-        return Ok(None);
+) -> Option<Vec<u8>> {
+    let sheet = sheet_of(rt, alloc, row);
+    let more = more(alloc, besides).expect(rt, "what is more");
+    let Ok(is_one) = is_sheet(alloc, &sheet, &more) else {
+        panic!(rt; "no memory");
+    };
+    if !is_one {
+        return None;
     }
-    Ok(Some(object_more(alloc, &sheet, &more)?.into_vec()))
+    let object = object_more(alloc, &sheet, &more).expect(rt, "an object");
+    Some(object.into_vec())
 }
 
 /// Returns whether the sheet of one of each is one with a further export.
-fn is_sheet_with(alloc: Global, name: &[u8]) -> Result<bool, AllocError> {
-    let mut sheet: Sheet = sheet(alloc, &EACH_SHEET)?;
-    sheet.exports.push(SheetExport {
-        name: Name::from_slice(alloc, name)?,
-        crc: None,
-    })?;
-    is_sheet(alloc, &sheet, &SheetMore::none(alloc))
+fn is_sheet_with(rt: &impl Abort, alloc: Global, name: &[u8]) -> bool {
+    let mut sheet = sheet_of(rt, alloc, &EACH_SHEET);
+    let name = Name::from_slice(alloc, name).expect(rt, "a name");
+    sheet
+        .exports
+        .push(SheetExport { name, crc: None })
+        .expect(rt, "an export more");
+    is_sheet(alloc, &sheet, &SheetMore::none(alloc)).expect(rt, "an answer")
 }
 
 /// Returns so many bytes, with these runs and zeros between.
@@ -376,37 +391,36 @@ fn expect_bytes(
     object: Option<Vec<u8>>,
     length: usize,
     runs: &[(usize, &[u8])],
-) -> Result<(), Fail> {
-    let object = object.ok_or("no sheet")?;
-    let want = unpacked(alloc, length, runs)?;
+) {
+    let object = object.expect(rt, "a sheet");
+    let want = unpacked(alloc, length, runs).expect(rt, "bytes");
     assert_eq!(rt; object.as_slice(), want.as_slice());
-    Ok(())
 }
 
 #[test]
-fn objects_have_the_bytes_of_the_structures(rt: HostRuntime) -> Result<(), Fail> {
+fn objects_have_the_bytes_of_the_structures(rt: HostRuntime) {
     let alloc = rt.alloc();
-    expect_bytes(&rt, alloc, object_of(alloc, &TEXT_SHEET)?, 760, &TEXT_ALONE)?;
-    expect_bytes(
-        &rt,
-        alloc,
-        object_of(alloc, &EACH_SHEET)?,
-        992,
-        &ONE_OF_EACH,
-    )?;
-    let three = object_with(alloc, &THREE_SHEET, &THREE_MORE)?;
-    expect_bytes(&rt, alloc, three, 1520, &MORE)
+    let text = object_of(&rt, alloc, &TEXT_SHEET);
+    expect_bytes(&rt, alloc, text, 760, &TEXT_ALONE);
+    let each = object_of(&rt, alloc, &EACH_SHEET);
+    expect_bytes(&rt, alloc, each, 992, &ONE_OF_EACH);
+    let three = object_with(&rt, alloc, &THREE_SHEET, &THREE_MORE);
+    expect_bytes(&rt, alloc, three, 1520, &MORE);
+}
+
+/// Checks that a sheet with more is none.
+fn expect_no_sheet(rt: &impl Abort, alloc: Global, row: &SheetRow, more: &MoreRow) {
+    assert!(rt; object_with(rt, alloc, row, more).is_none());
 }
 
 #[test]
-fn sheets_that_are_none(rt: HostRuntime) -> Result<(), Fail> {
+fn sheets_that_are_none(rt: HostRuntime) {
     let alloc = rt.alloc();
-    for (name, fits) in FURTHER {
-        assert_eq!(rt; is_sheet_with(alloc, name)?, fits);
+    for (name, fits) in &FURTHER {
+        assert!(rt; is_sheet_with(&rt, alloc, name) == *fits, "{name:?}");
     }
-    assert!(rt; object_with(alloc, &NEEDLESS_SHEET, &EMPTY_MORE)?.is_none());
+    expect_no_sheet(&rt, alloc, &NEEDLESS_SHEET, &EMPTY_MORE);
     for more in &NO_MORE_OF_THREE {
-        assert!(rt; object_with(alloc, &THREE_SHEET, more)?.is_none());
+        expect_no_sheet(&rt, alloc, &THREE_SHEET, more);
     }
-    Ok(())
 }

@@ -2,9 +2,8 @@
 // and the generator of the draws.
 use km_names::PathText;
 use km_outside::MemFiles;
-use std::alloc::{AllocError, Global};
+use std::alloc::Global;
 use std::process::Abort;
-use std::test::Fail;
 use tree_gen::generate;
 
 /// Files by their paths, with how many bytes they have, and the hash of these.
@@ -60,38 +59,36 @@ fn hash(bytes: &[u8]) -> u64 {
 }
 
 /// Returns the length and the hash of the file at a path, if there is one.
-fn seen(alloc: Global, files: &MemFiles, path: &str) -> Result<Option<(usize, u64)>, AllocError> {
-    let path = PathText::from_slice(alloc, path.as_bytes())?;
-    Ok(files.get(&path).map(|bytes| (bytes.len(), hash(bytes))))
+fn seen(rt: &impl Abort, alloc: Global, files: &MemFiles, path: &str) -> Option<(usize, u64)> {
+    let path = PathText::from_slice(alloc, path.as_bytes()).expect(rt, "a path");
+    match files.get(&path) {
+        Some(bytes) => Some((bytes.len(), hash(bytes))),
+        None => None,
+    }
 }
 
 /// The file past the last of the tree of two modules.
 const PAST: &str = "/t/lib/modules/trial/kernel/m0002.ko";
 
-/// Checks that the made tree has these files.
-fn expect_files(
-    rt: &impl Abort,
-    alloc: Global,
-    (seed, count): (u64, u32),
-    rows: &Rows,
-) -> Result<MemFiles, AllocError> {
+/// Makes a tree.
+fn tree(rt: &impl Abort, alloc: Global, seed: u64, count: u32) -> MemFiles {
     assert!(rt; 0 < count && count <= 2000);
-    let files = generate(alloc, seed, count)?;
+    generate(alloc, seed, count).expect(rt, "a tree")
+}
+
+/// Checks that a tree has these files.
+fn expect_files(rt: &impl Abort, alloc: Global, files: &MemFiles, rows: &Rows) {
     for (path, length, hash) in rows {
-        assert_eq!(rt;
-            seen(alloc, &files, path)?,
-            Some((*length, *hash)),
-            "{path}"
-        );
+        let got = seen(rt, alloc, files, path);
+        assert_eq!(rt; got, Some((*length, *hash)), "{path}");
     }
-    Ok(files)
 }
 
 #[test]
-fn trees_of_two_and_of_twenty_modules(rt: HostRuntime) -> Result<(), Fail> {
+fn trees_of_two_and_of_twenty_modules(rt: HostRuntime) {
     let alloc = rt.alloc();
-    let two = expect_files(&rt, alloc, (1, 2), &TWO)?;
-    assert!(rt; seen(alloc, &two, PAST)?.is_none());
-    expect_files(&rt, alloc, (7, 20), &TWENTY)?;
-    Ok(())
+    let two = tree(&rt, alloc, 1, 2);
+    expect_files(&rt, alloc, &two, &TWO);
+    assert!(rt; seen(&rt, alloc, &two, PAST).is_none());
+    expect_files(&rt, alloc, &tree(&rt, alloc, 7, 20), &TWENTY);
 }

@@ -6,12 +6,12 @@ use index_read::Index;
 use km_names::{Blob, ConfFiles, Name};
 use modprobe_conf::{Rules, parse};
 use name_lookup::{Found, Indexes, resolve};
-use std::alloc::Global;
-use std::test::Fail;
+use std::alloc::{AllocError, Global};
+use std::process::Abort;
 use test_objects::{RowFault, conf_file};
 
-/// Returns an index file of one key with one value, or of none.
-fn index_of(alloc: Global, entry: Option<(&[u8], &[u8])>) -> Result<Index, Fail> {
+/// Returns the bytes of an index file of one key with one value, or of none.
+fn file_of(alloc: Global, entry: Option<(&[u8], &[u8])>) -> Result<Blob, AllocError> {
     let mut file = Blob::from_slice(alloc, &[0xb0, 0x07, 0xf4, 0x57, 0, 2, 0, 1])?;
     match entry {
         // A root with a prefix and one value: of priority 1.
@@ -24,7 +24,13 @@ fn index_of(alloc: Global, entry: Option<(&[u8], &[u8])>) -> Result<Index, Fail>
         }
         None => file.extend(&[0, 0, 0, 12])?,
     }
-    Ok(Index::adopt(alloc, file)?)
+    Ok(file)
+}
+
+/// Returns that index.
+fn index_of(rt: &impl Abort, alloc: Global, entry: Option<(&[u8], &[u8])>) -> Index {
+    let file = file_of(alloc, entry).expect(rt, "a file");
+    Index::adopt(alloc, file).expect(rt, "an index")
 }
 
 fn one_file(alloc: Global, text: &[u8]) -> Result<ConfFiles, RowFault>
@@ -35,17 +41,13 @@ fn one_file(alloc: Global, text: &[u8]) -> Result<ConfFiles, RowFault>
     Ok(files)
 }
 
-fn rules_of(alloc: Global, text: &[u8]) -> Result<Rules, Fail> {
-    let files = one_file(alloc, text)?;
-    Ok(
-        parse(alloc, &files)
-            .ok()
-            .ok_or("a line that wasn't understood")?,
-    )
+fn rules_of(rt: &impl Abort, alloc: Global, text: &[u8]) -> Rules {
+    let files = one_file(alloc, text).expect(rt, "a file");
+    parse(alloc, &files).expect(rt, "rules")
 }
 
 /// Returns what is found: the list's number, and the names, each after a space.
-fn written(alloc: Global, found: &Found) -> Result<Blob, Fail> {
+fn written(alloc: Global, found: &Found) -> Result<Blob, AllocError> {
     let mut text = Blob::new(alloc);
     text.push(b'0' + found.list % 10)?;
     for name in found.names.as_slice() {
@@ -55,24 +57,22 @@ fn written(alloc: Global, found: &Found) -> Result<Blob, Fail> {
     Ok(text)
 }
 
+/// Which index files have a name: `dep`, `symbols`, `alias` and `builtin`.
+type Having = (bool, bool, bool, bool);
+
 /// Returns what the index files have under a name that each may have.
-fn indexes_of(
-    alloc: Global,
-    dep: bool,
-    symbols: bool,
-    alias: bool,
-    builtin: bool,
-) -> Result<Indexes, Fail> {
+fn indexes_of(rt: &impl Abort, alloc: Global, (dep, symbols, alias, builtin): Having) -> Indexes {
     let name = b"symbol:f".as_slice();
-    Ok(Indexes {
-        dep: index_of(alloc, dep.then_some((name, b"kernel/f.ko:".as_slice())))?,
+    Indexes {
+        dep: index_of(rt, alloc, dep.then_some((name, b"kernel/f.ko:".as_slice()))),
         alias: index_of(
+            rt,
             alloc,
             alias.then_some((b"symbol:[a-f]*".as_slice(), b"own".as_slice())),
-        )?,
-        symbols: index_of(alloc, symbols.then_some((name, b"gives_f".as_slice())))?,
-        builtin: index_of(alloc, builtin.then_some((name, b"".as_slice())))?,
-    })
+        ),
+        symbols: index_of(rt, alloc, symbols.then_some((name, b"gives_f".as_slice()))),
+        builtin: index_of(rt, alloc, builtin.then_some((name, b"".as_slice()))),
+    }
 }
 
 /// Rules of each kind for the name `symbol:f`.
@@ -87,13 +87,7 @@ const BLACKLIST: &[u8] = b"blacklist own\nblacklist symbol:f";
 
 /// A name, rules, whether each index has it, whether the blacklist counts for all lists, and what
 /// is found.
-type FoundRow = (
-    &'static [u8],
-    &'static [u8],
-    (bool, bool, bool, bool),
-    bool,
-    &'static [u8],
-);
+type FoundRow = (&'static [u8], &'static [u8], Having, bool, &'static [u8]);
 
 /// A name that all six lists have, with one list after the other taken away: the first that isn't
 /// empty decides. Blacklisted names are dropped from modules' own aliases, and with the option from
@@ -172,23 +166,32 @@ static FOUND: [FoundRow; 11] = [
     ),
 ];
 
-/// Returns how a name is found.
-fn found(alloc: Global, row: FoundRow) -> Result<Blob, Fail> {
-    let (name, text, (dep, symbols, alias, builtin), use_blacklist, _) = row;
-    let name = Name::from_slice(alloc, name)?;
-    let rules = rules_of(alloc, text)?;
-    let indexes = indexes_of(alloc, dep, symbols, alias, builtin)?;
-    written(
-        alloc,
-        &resolve(alloc, &name, use_blacklist, &rules, &indexes)?,
-    )
+/// Looks up a name by rules and indexes.
+fn looked_up(
+    rt: &impl Abort,
+    alloc: Global,
+    name: &[u8],
+    use_blacklist: bool,
+    rules: &Rules,
+    indexes: &Indexes,
+) -> Found {
+    let name = Name::from_slice(alloc, name).expect(rt, "a name");
+    resolve(alloc, &name, use_blacklist, rules, indexes).expect(rt, "an answer")
+}
+
+/// Compares how the name of a row is found.
+fn expect_found(rt: &impl Abort, alloc: Global, row: &FoundRow) {
+    let (name, text, having, use_blacklist, want) = row;
+    let rules = rules_of(rt, alloc, text);
+    let indexes = indexes_of(rt, alloc, *having);
+    let found = looked_up(rt, alloc, name, *use_blacklist, &rules, &indexes);
+    let text = written(alloc, &found).expect(rt, "a text");
+    assert_eq!(rt; text.as_bytes(), *want);
 }
 
 #[test]
-fn names_stand_for_what_is_found(rt: HostRuntime) -> Result<(), Fail> {
-    for row in FOUND {
-        let (.., want) = row;
-        assert_eq!(rt; found(rt.alloc(), row)?.as_bytes(), want);
+fn names_stand_for_what_is_found(rt: HostRuntime) {
+    for row in &FOUND {
+        expect_found(&rt, rt.alloc(), row);
     }
-    Ok(())
 }

@@ -3,27 +3,41 @@ ghost use Rattle.std.specs.Prelude.{◌≡◌, ◌<◌};
 
 use index_read::{Index, Pairs, Steps, Values};
 use km_names::Blob;
-use std::alloc::Global;
+use std::alloc::{AllocError, Global};
 use std::marker::Brand;
 use std::process::Abort;
 use std::sync::ledger::{Blank, Ledger};
-use std::test::Fail;
 use test_objects::bytes_of;
 
+/// Returns the bytes of these digits.
+fn bytes(rt: &impl Abort, alloc: Global, digits: &str) -> Blob {
+    bytes_of(alloc, digits).expect(rt, "digits")
+}
+
+/// Puts bytes at the end of a file.
+fn put(rt: &impl Abort, file: &mut Blob, bytes: &[u8]) {
+    file.extend(bytes).expect(rt, "bytes");
+}
+
 /// Returns a file of these digits, so many absent children, and more digits.
-fn file_of(alloc: Global, start: &str, absent: usize, end: &str) -> Result<Blob, Fail> {
-    let mut bytes = bytes_of(alloc, start)?;
+fn file_of(rt: &impl Abort, alloc: Global, start: &str, absent: usize, end: &str) -> Blob {
+    let mut file = bytes(rt, alloc, start);
     for _ in 0..absent {
-        bytes.extend(&[0; 4])?;
+        put(rt, &mut file, &[0; 4]);
     }
-    bytes.extend(bytes_of(alloc, end)?.as_bytes())?;
-    Ok(bytes)
+    put(rt, &mut file, bytes(rt, alloc, end).as_bytes());
+    file
+}
+
+fn adopted(rt: &impl Abort, alloc: Global, file: Blob) -> Index {
+    Index::adopt(alloc, file).expect(rt, "an index")
 }
 
 /// Returns the keys "ask", "ate", "on", "once" and "one", with the priorities 0 to 4 and the text
 /// "x".
-fn five_keys(alloc: Global) -> Result<Index, Fail> {
+fn five_keys(rt: &impl Abort, alloc: Global) -> Index {
     let file = file_of(
+        rt,
         alloc,
         "b007f457 00020001 2000005e \
          6b00 00000001 00000000 7800 \
@@ -35,13 +49,14 @@ fn five_keys(alloc: Global) -> Result<Index, Fail> {
          61 6f 20000024",
         13,
         "e0000044",
-    )?;
-    Ok(Index::adopt(alloc, file)?)
+    );
+    adopted(rt, alloc, file)
 }
 
 /// Returns the pattern "a*" with "r" at 1 and "s" at 3, and "a?" with "q" at 1.
-fn two_patterns(alloc: Global) -> Result<Index, Fail> {
+fn two_patterns(rt: &impl Abort, alloc: Global) -> Index {
     let file = file_of(
+        rt,
         alloc,
         "b007f457 00020001 a0000026 \
          00000002 00000001 7200 00000003 7300 \
@@ -49,37 +64,41 @@ fn two_patterns(alloc: Global) -> Result<Index, Fail> {
          6100 2a 3f 4000000c",
         20,
         "4000001c",
-    )?;
-    Ok(Index::adopt(alloc, file)?)
+    );
+    adopted(rt, alloc, file)
 }
 
 /// Returns one key of so many bytes "a", each a node of its own, with an empty text at 0.
-fn deep(alloc: Global, nodes: u32) -> Result<Index, Fail> {
+fn deep(rt: &impl Abort, alloc: Global, nodes: u32) -> Index {
     let mut below = Blob::new(alloc);
     let mut child: u32 = 0x4000_000c;
     for at in 0..nodes {
-        below.extend(b"aa")?;
-        below.extend(&child.to_be_bytes())?;
+        put(rt, &mut below, b"aa");
+        put(rt, &mut below, &child.to_be_bytes());
         child = 0x2000_0015 + 6 * (at % 10_000_000);
     }
-    let mut file = bytes_of(alloc, "b007f457 00020001")?;
-    file.extend(&child.to_be_bytes())?;
-    file.extend(bytes_of(alloc, "00000001 00000000 00")?.as_bytes())?;
-    file.extend(below.as_bytes())?;
-    Ok(Index::adopt(alloc, file)?)
+    let mut file = bytes(rt, alloc, "b007f457 00020001");
+    put(rt, &mut file, &child.to_be_bytes());
+    put(
+        rt,
+        &mut file,
+        bytes(rt, alloc, "00000001 00000000 00").as_bytes(),
+    );
+    put(rt, &mut file, below.as_bytes());
+    adopted(rt, alloc, file)
 }
 
 /// Returns so many bytes "a".
-fn letters(alloc: Global, count: usize) -> Result<Blob, Fail> {
+fn letters(rt: &impl Abort, alloc: Global, count: usize) -> Blob {
     let mut text = Blob::new(alloc);
     for _ in 0..count {
-        text.push(b'a')?;
+        text.push(b'a').expect(rt, "a byte");
     }
-    Ok(text)
+    text
 }
 
 /// Returns each value as its priority and text.
-fn written(alloc: Global, found: &Values) -> Result<Blob, Fail> {
+fn written(alloc: Global, found: &Values) -> Result<Blob, AllocError> {
     let mut text = Blob::new(alloc);
     for value in found.as_slice() {
         text.push(b'0' + (value.priority % 10) as u8)?;
@@ -90,7 +109,7 @@ fn written(alloc: Global, found: &Values) -> Result<Blob, Fail> {
 }
 
 /// Returns each pair as its key, priority and text.
-fn written_pairs(alloc: Global, found: &Pairs) -> Result<Blob, Fail> {
+fn written_pairs(alloc: Global, found: &Pairs) -> Result<Blob, AllocError> {
     let mut text = Blob::new(alloc);
     for pair in found.as_slice() {
         text.extend(pair.key.as_bytes())?;
@@ -105,41 +124,42 @@ fn written_pairs(alloc: Global, found: &Pairs) -> Result<Blob, Fail> {
 
 /// Returns the values of a key.
 fn find<L: Ledger>(
+    rt: &impl Abort,
     alloc: Global,
     index: &Index,
     key: &[u8],
     steps: &mut Steps<L>,
-) -> Result<Blob, Fail> {
-    written(alloc, &index.find(alloc, key, steps)?)
+) -> Blob {
+    let found = index.find(alloc, key, steps).expect(rt, "values");
+    written(alloc, &found).expect(rt, "a text")
 }
 
 /// Returns the priority and the text of the first value of a key.
-fn find_one<L: Ledger>(
-    alloc: Global,
-    index: &Index,
+fn find_one<'a, L: Ledger>(
+    index: &'a Index,
     key: &[u8],
     steps: &mut Steps<L>,
-) -> Result<Option<(u32, Blob)>, Fail> {
-    let Some(place) = index.find_one(key, steps) else {
-        return Ok(None);
-    };
-    let text = Blob::from_slice(alloc, index.text(&place))?;
-    Ok(Some((place.priority(), text)))
+) -> Option<(u32, &'a [u8])> {
+    let place = index.find_one(key, steps)?;
+    Some((place.priority(), index.text(&place)))
 }
 
 /// Returns the values of the keys that a text matches.
 fn wild<L: Ledger>(
+    rt: &impl Abort,
     alloc: Global,
     index: &Index,
     text: &[u8],
     steps: &mut Steps<L>,
-) -> Result<Blob, Fail> {
-    written(alloc, &index.wild(alloc, text, steps)?)
+) -> Blob {
+    let found = index.wild(alloc, text, steps).expect(rt, "values");
+    written(alloc, &found).expect(rt, "a text")
 }
 
 /// Returns all pairs.
-fn all<L: Ledger>(alloc: Global, index: &Index, steps: &mut Steps<L>) -> Result<Blob, Fail> {
-    written_pairs(alloc, &index.all(alloc, steps)?)
+fn all<L: Ledger>(rt: &impl Abort, alloc: Global, index: &Index, steps: &mut Steps<L>) -> Blob {
+    let found = index.all(alloc, steps).expect(rt, "pairs");
+    written_pairs(alloc, &found).expect(rt, "a text")
 }
 
 /// Keys, and their values among five.
@@ -161,68 +181,80 @@ static TEXTS: [(&str, &str); 5] = [
     ("", ""),
 ];
 
+fn same(rt: &impl Abort, got: &[u8], want: &[u8]) {
+    assert_eq!(rt; got, want);
+}
+
+fn same_for(rt: &impl Abort, name: &str, got: &[u8], want: &[u8]) {
+    assert_eq!(rt; got, want, "{name}");
+}
+
+fn same_first(rt: &impl Abort, got: Option<(u32, &[u8])>, want: Option<(u32, &[u8])>) {
+    assert_eq!(rt; got, want);
+}
+
+/// Looks up a key of five in both ways.
+fn look_up_key<L: Ledger>(
+    rt: &impl Abort,
+    alloc: Global,
+    index: &Index,
+    (key, want): (&str, &str),
+    steps: &mut Steps<L>,
+) {
+    let got = find(rt, alloc, index, key.as_bytes(), steps);
+    same_for(rt, key, got.as_bytes(), want.as_bytes());
+    let first = find_one(index, key.as_bytes(), steps);
+    assert!(rt; first.is_none() == want.is_empty(), "{key}");
+}
+
 /// Looks up keys of five, one by one and all.
-fn look_up<L: Ledger>(rt: &impl Abort, alloc: Global, steps: &mut Steps<L>) -> Result<(), Fail> {
-    let index = five_keys(alloc)?;
-    for (key, want) in KEYS {
-        let got = find(alloc, &index, key.as_bytes(), steps)?;
-        assert_eq!(rt; got.as_bytes(), want.as_bytes(), "{key}");
-        let first = find_one(alloc, &index, key.as_bytes(), steps)?;
-        assert_eq!(rt; first.is_none(), want.is_empty(), "{key}");
+fn look_up<L: Ledger>(rt: &impl Abort, alloc: Global, steps: &mut Steps<L>) {
+    let index = five_keys(rt, alloc);
+    for row in &KEYS {
+        look_up_key(rt, alloc, &index, *row, steps);
     }
-    let (priority, text) = find_one(alloc, &index, b"once", steps)?.ok_or("no value")?;
-    assert_eq!(rt; priority, 3);
-    assert_eq!(rt; text.as_bytes(), b"x".as_slice());
-    let all = all(alloc, &index, steps)?;
-    let want = b"ask0x ate1x on2x once3x one4x ".as_slice();
-    assert_eq!(rt; all.as_bytes(), want);
-    Ok(())
+    same_first(rt, find_one(&index, b"once", steps), Some((3, b"x")));
+    let pairs = all(rt, alloc, &index, steps);
+    same(rt, pairs.as_bytes(), b"ask0x ate1x on2x once3x one4x ");
 }
 
 /// Looks up the patterns that match a text.
-fn match_patterns<L: Ledger>(
-    rt: &impl Abort,
-    alloc: Global,
-    steps: &mut Steps<L>,
-) -> Result<(), Fail> {
-    let index = two_patterns(alloc)?;
-    for (text, want) in TEXTS {
-        let got = wild(alloc, &index, text.as_bytes(), steps)?;
-        assert_eq!(rt; got.as_bytes(), want.as_bytes(), "{text}");
+fn match_patterns<L: Ledger>(rt: &impl Abort, alloc: Global, steps: &mut Steps<L>) {
+    let index = two_patterns(rt, alloc);
+    for (text, want) in &TEXTS {
+        let got = wild(rt, alloc, &index, text.as_bytes(), steps);
+        same_for(rt, text, got.as_bytes(), want.as_bytes());
     }
-    Ok(())
 }
 
 /// Looks up the one key of a deep index, and the text before it.
-fn look_deep<L: Ledger>(rt: &impl Abort, alloc: Global, steps: &mut Steps<L>) -> Result<(), Fail> {
-    let index = deep(alloc, 1_000_000)?;
-    let key = letters(alloc, 1_000_000)?;
-    let less = letters(alloc, 999_999)?;
-    let first = find_one(alloc, &index, key.as_bytes(), steps)?;
-    let (priority, _) = first.ok_or("no value")?;
-    assert_eq!(rt; priority, 0);
-    assert!(rt; find_one(alloc, &index, less.as_bytes(), steps)?.is_none());
-    let matched = wild(alloc, &index, key.as_bytes(), steps)?;
-    assert_eq!(rt; matched.as_bytes(), b"0 ".as_slice());
-    assert!(rt; wild(alloc, &index, less.as_bytes(), steps)?.is_empty());
-    let all = all(alloc, &index, steps)?;
-    assert_eq!(rt; all.len(), 1_000_002);
-    Ok(())
+fn look_deep<L: Ledger>(rt: &impl Abort, alloc: Global, steps: &mut Steps<L>) {
+    let index = deep(rt, alloc, 1_000_000);
+    let key = letters(rt, alloc, 1_000_000);
+    let less = letters(rt, alloc, 999_999);
+    same_first(rt, find_one(&index, key.as_bytes(), steps), Some((0, b"")));
+    same_first(rt, find_one(&index, less.as_bytes(), steps), None);
+    let matched = wild(rt, alloc, &index, key.as_bytes(), steps);
+    same(rt, matched.as_bytes(), b"0 ");
+    let none = wild(rt, alloc, &index, less.as_bytes(), steps);
+    same(rt, none.as_bytes(), b"");
+    let pairs = all(rt, alloc, &index, steps);
+    assert!(rt; pairs.len() == 1_000_002);
 }
 
 /// Looks up keys, patterns and a deep key, with one ledger of steps.
-fn look<L: Ledger>(rt: &impl Abort, alloc: Global, blank: Blank) -> Result<(), Fail>
+fn look<L: Ledger>(rt: &impl Abort, alloc: Global, blank: Blank)
     requires name { blank.name ≡ L.name }
     requires parts { blank.parts ≡ L.parts }
     requires some { 0 < blank.parts }
 {
     let mut steps = Steps::<L>::new(blank);
-    look_up(rt, alloc, &mut steps)?;
-    match_patterns(rt, alloc, &mut steps)?;
-    look_deep(rt, alloc, &mut steps)
+    look_up(rt, alloc, &mut steps);
+    match_patterns(rt, alloc, &mut steps);
+    look_deep(rt, alloc, &mut steps);
 }
 
 #[test]
-fn keys_and_patterns_are_looked_up(rt: HostRuntime) -> Result<(), Fail> {
-    look::<Brand>(&rt, rt.alloc(), Blank::new(1))
+fn keys_and_patterns_are_looked_up(rt: HostRuntime) {
+    look::<Brand>(&rt, rt.alloc(), Blank::new(1));
 }

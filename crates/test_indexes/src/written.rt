@@ -4,20 +4,23 @@ use index_write::{KeyMap, encode};
 use km_names::Blob;
 use std::alloc::Global;
 use std::process::Abort;
-use std::test::Fail;
 use test_objects::{bytes_of, is_key, is_text};
 
+/// Adds a value to a map.
+fn add(rt: &impl Abort, map: &mut KeyMap, (key, priority, text): (&str, u32, &str)) {
+    assert!(rt; is_key(key.as_bytes()));
+    assert!(rt; is_text(text.as_bytes()));
+    map.add(key.as_bytes(), priority, text.as_bytes())
+        .expect(rt, "added");
+}
+
 /// Returns the file of a map of these keys, priorities and texts, added in this order.
-fn file_of(rt: &impl Abort, alloc: Global, values: &[(&str, u32, &str)]) -> Result<Blob, Fail> {
+fn file_of(rt: &impl Abort, alloc: Global, values: &[(&str, u32, &str)]) -> Blob {
     let mut map = KeyMap::new(alloc);
-    for (key, priority, text) in values {
-        let is_key = is_key(key.as_bytes());
-        assert!(rt; is_key);
-        let is_text = is_text(text.as_bytes());
-        assert!(rt; is_text);
-        map.add(key.as_bytes(), *priority, text.as_bytes())?;
+    for value in values {
+        add(rt, &mut map, *value);
     }
-    Ok(encode(alloc, &map)?)
+    encode(alloc, &map).expect(rt, "a file")
 }
 
 /// A name, values with their keys and priorities, and the file: its start, so many absent children
@@ -98,23 +101,35 @@ static FILES: [FileRow; 7] = [
     ),
 ];
 
+/// Puts the bytes of digits at the end of a file.
+fn put(rt: &impl Abort, alloc: Global, file: &mut Blob, digits: &str) {
+    let bytes = bytes_of(alloc, digits).expect(rt, "digits");
+    file.extend(bytes.as_bytes()).expect(rt, "bytes");
+}
+
 /// Returns the bytes of a file.
-fn wanted(alloc: Global, start: &str, absent: usize, end: &str) -> Result<Blob, Fail> {
-    let mut want = bytes_of(alloc, "b007f457 00020001")?;
-    want.extend(bytes_of(alloc, start)?.as_bytes())?;
+fn wanted(rt: &impl Abort, alloc: Global, start: &str, absent: usize, end: &str) -> Blob {
+    let mut want = Blob::new(alloc);
+    put(rt, alloc, &mut want, "b007f457 00020001");
+    put(rt, alloc, &mut want, start);
     for _ in 0..absent {
-        want.extend(&[0; 4])?;
+        put(rt, alloc, &mut want, "00000000");
     }
-    want.extend(bytes_of(alloc, end)?.as_bytes())?;
-    Ok(want)
+    put(rt, alloc, &mut want, end);
+    want
+}
+
+/// Compares the file of a row.
+fn expect_file(rt: &impl Abort, alloc: Global, row: &FileRow) {
+    let (name, values, start, absent, end) = row;
+    let file = file_of(rt, alloc, values);
+    let want = wanted(rt, alloc, start, *absent, end);
+    assert_eq!(rt; file.as_bytes(), want.as_bytes(), "{name}");
 }
 
 #[test]
-fn maps_have_their_files(rt: HostRuntime) -> Result<(), Fail> {
-    for (name, values, start, absent, end) in FILES {
-        let file = file_of(&rt, rt.alloc(), values)?;
-        let want = wanted(rt.alloc(), start, absent, end)?;
-        assert_eq!(rt; file.as_bytes(), want.as_bytes(), "{name}");
+fn maps_have_their_files(rt: HostRuntime) {
+    for row in &FILES {
+        expect_file(&rt, rt.alloc(), row);
     }
-    Ok(())
 }

@@ -1,14 +1,13 @@
 //! What objects of sheets are read as.
 
 use crate::facts_row::{
-    ExportFact, FactsRow, NO_FACTS, NeedFact, expect_facts, expect_needs, module_at,
+    ExportFact, FactsRow, NO_FACTS, NeedFact, expect_facts, expect_needs, module_of,
 };
 use std::alloc::Global;
 use std::process::Abort;
-use std::test::Fail;
 use test_objects::{
-    EMPTY_SHEET, ExportRow, MoreRow, NEEDS, NeedRow, PlaceRow, SheetRow, SpaceRow, VersionRow,
-    object_of,
+    EMPTY_SHEET, ExportRow, MoreRow, NEEDS, NO_MORE, NeedRow, PlaceRow, SheetRow, SpaceRow,
+    VersionRow,
 };
 
 /// Exports with and without versions, a strong and a weak need, a version of a name that isn't
@@ -134,15 +133,13 @@ static NEEDED: [NeedFact; 1] = [NeedFact {
 }];
 
 /// Checks that a need is found in the facts, and the word that it fills in the object.
-fn expect_place(rt: &impl Abort, alloc: Global) -> Result<(), Fail> {
-    let bytes = object_of(alloc, &NEEDS)?;
-    let module = module_at(rt, alloc, b"kernel/b.ko", bytes)?;
+fn expect_place(rt: &impl Abort, alloc: Global) {
+    let module = module_of(rt, alloc, b"kernel/b.ko", &NEEDS, &NO_MORE);
     assert!(rt; module.facts.exports.is_empty());
     expect_needs(rt, &module.facts.needs, &NEEDED);
     assert_eq!(rt; module.object.place_count(), 1);
     let place = module.object.place(0);
-    assert_eq!(rt; (place.target, place.offset, place.kind), (2, 0, 1));
-    Ok(())
+    assert!(rt; place.target == 2 && place.offset == 0 && place.kind == 1);
 }
 
 /// A name that is too long for an entry of `__versions`.
@@ -346,13 +343,13 @@ static LICENSES: [(&[&[u8]], bool); 12] = [
 ];
 
 /// Returns whether a module with these texts is free.
-fn is_free(rt: &impl Abort, alloc: Global, texts: &'static [&'static [u8]]) -> Result<bool, Fail> {
+fn is_free(rt: &impl Abort, alloc: Global, texts: &'static [&'static [u8]]) -> bool {
     let sheet = SheetRow {
         texts,
         ..EMPTY_SHEET
     };
-    let bytes = object_of(alloc, &sheet)?;
-    Ok(module_at(rt, alloc, b"kernel/b.ko", bytes)?.facts.free)
+    let module = module_of(rt, alloc, b"kernel/b.ko", &sheet, &NO_MORE);
+    module.facts.free
 }
 
 /// A module that imports two namespaces.
@@ -367,16 +364,15 @@ static IMPORTED: [FactsRow; 1] = [FactsRow {
 }];
 
 #[test]
-fn facts_are_those_of_the_sheets(rt: HostRuntime) -> Result<(), Fail> {
+fn facts_are_those_of_the_sheets(rt: HostRuntime) {
     let alloc = rt.alloc();
-    expect_facts(&rt, alloc, &SHEETS)?;
-    expect_facts(&rt, alloc, &EXTENDED)?;
-    expect_facts(&rt, alloc, &LONG_EXPORTED)?;
-    expect_facts(&rt, alloc, &EXPORTED)?;
-    expect_facts(&rt, alloc, &IMPORTED)?;
-    expect_place(&rt, alloc)?;
+    expect_facts(&rt, alloc, &SHEETS);
+    expect_facts(&rt, alloc, &EXTENDED);
+    expect_facts(&rt, alloc, &LONG_EXPORTED);
+    expect_facts(&rt, alloc, &EXPORTED);
+    expect_facts(&rt, alloc, &IMPORTED);
+    expect_place(&rt, alloc);
     for (texts, want) in &LICENSES {
-        assert_eq!(rt; is_free(&rt, alloc, texts)?, *want);
+        assert!(rt; is_free(&rt, alloc, texts) == *want, "{texts:?}");
     }
-    Ok(())
 }

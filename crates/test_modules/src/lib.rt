@@ -18,4 +18,6 @@ mod loading;
 #[cfg(test)]
 mod placement;
 #[cfg(test)]
+mod same;
+#[cfg(test)]
 mod sheets;

@@ -1,12 +1,12 @@
 // A load that is written out, and what it is to answer.
 use crate::facts_row::module_at;
+use crate::same::{same, same_number};
 use km_names::{Blob, le_u64_at};
 use model_loader::{LoadFault, LoadedAt, Machine, Region};
 use module_facts::Module;
 use provider_rel::Kernel;
-use std::alloc::{AllocError, Global};
+use std::alloc::Global;
 use std::process::Abort;
-use std::test::Fail;
 use test_objects::{MoreRow, NO_MORE, NOTHING, SheetRow, object_with};
 
 /// The usual base of the region of modules.
@@ -46,17 +46,19 @@ pub(crate) const PLAIN: LoadRow = LoadRow {
 };
 
 /// Returns a kernel that exports `printk`.
-fn kernel(alloc: Global) -> Result<Kernel, Fail> {
+fn kernel(rt: &impl Abort, alloc: Global) -> Kernel {
     let symvers = b"0x11111111\tprintk\tvmlinux\tEXPORT_SYMBOL\n".as_slice();
-    let mut kernel = Kernel::from_symvers(alloc, symvers)?;
-    kernel.add_addresses(b"ffffffff81000000 T printk\n".as_slice())?;
-    Ok(kernel)
+    let mut kernel = Kernel::from_symvers(alloc, symvers).expect(rt, "a kernel");
+    kernel
+        .add_addresses(b"ffffffff81000000 T printk\n".as_slice())
+        .expect(rt, "an address");
+    kernel
 }
 
 /// Returns a machine of that kernel with so many bytes for modules.
-fn machine(rt: &impl Abort, alloc: Global, size: u64) -> Result<Machine, Fail> {
+fn machine(rt: &impl Abort, alloc: Global, size: u64) -> Machine {
     let region = Region::new(BASE, size).expect(rt, "a region");
-    Ok(Machine::new(alloc, kernel(alloc)?, region)?)
+    Machine::new(alloc, kernel(rt, alloc), region).expect(rt, "a machine")
 }
 
 /// Returns the bytes with some of them changed.
@@ -70,17 +72,17 @@ fn changed(rt: &impl Abort, bytes: Blob, changes: &[(usize, u8)]) -> Blob {
 }
 
 /// Returns the module of a row.
-fn module_of(rt: &impl Abort, alloc: Global, row: &LoadRow) -> Result<Module, Fail> {
-    let object = object_with(alloc, row.sheet, row.more)?;
+fn module_of(rt: &impl Abort, alloc: Global, row: &LoadRow) -> Module {
+    let object = object_with(alloc, row.sheet, row.more).expect(rt, "an object");
     let bytes = changed(rt, object, row.changes);
-    Ok(module_at(rt, alloc, row.path, bytes)?)
+    module_at(rt, alloc, row.path, bytes).expect(rt, "a module")
 }
 
 /// Checks that the image has these words.
 fn expect_words(rt: &impl Abort, image: &[u8], words: &[(usize, u64)]) {
     for (at, word) in words {
         assert!(rt; *at <= 65536 && *at + 8 <= image.len());
-        assert_eq!(rt; le_u64_at(image, *at), *word);
+        same_number(rt, le_u64_at(image, *at), *word);
     }
 }
 
@@ -93,23 +95,18 @@ fn expect_loaded(
     (base, size): (u64, u64),
     words: &[(usize, u64)],
 ) {
-    assert_eq!(rt; (at.base, at.size), (base, size));
+    same_number(rt, at.base, base);
+    same_number(rt, at.size, size);
     assert!(rt; before < machine.module_count());
     let name = machine.module_at(before).name.as_bytes();
     let image = machine.image(name).expect(rt, "an image");
-    assert_eq!(rt; image.len() as u64, size);
+    same_number(rt, image.len() as u64, size);
     expect_words(rt, image, words);
 }
 
 /// Checks that the load was refused with this text.
-fn expect_refused(
-    rt: &impl Abort,
-    alloc: Global,
-    fault: LoadFault,
-    text: &[u8],
-) -> Result<(), AllocError> {
-    assert_eq!(rt; fault.text(alloc)?.as_bytes(), text);
-    Ok(())
+fn expect_refused(rt: &impl Abort, alloc: Global, fault: &LoadFault, text: &[u8]) {
+    same(rt, fault.text(alloc).expect(rt, "a text").as_bytes(), text);
 }
 
 /// Checks that the answer of a load is the row's, and that the machine has one module more or is as
@@ -119,47 +116,39 @@ fn expect_answer(
     alloc: Global,
     machine: &Machine,
     before: usize,
-    loaded: Result<LoadedAt, LoadFault>,
+    loaded: &Result<LoadedAt, LoadFault>,
     answer: &Answer,
-) -> Result<(), AllocError> {
+) {
     match (loaded, answer) {
         (Ok(at), Answer::Loaded { base, size, words }) => {
-            expect_loaded(rt, machine, before, at, (*base, *size), words);
+            expect_loaded(rt, machine, before, *at, (*base, *size), words);
         }
         (Err(fault), Answer::Refused(text)) => {
-            expect_refused(rt, alloc, fault, text)?;
-            assert_eq!(rt; machine.module_count(), before);
+            expect_refused(rt, alloc, fault, text);
+            assert!(rt; machine.module_count() == before);
         }
         _ => panic!(rt; "another answer"),
     }
-    Ok(())
+}
+
+/// Loads a module. It promises nothing.
+fn load(machine: &mut Machine, module: &Module) -> Result<LoadedAt, LoadFault> {
+    machine.load(module)
 }
 
 /// Loads the module of a row.
-fn expect_load(
-    rt: &impl Abort,
-    alloc: Global,
-    machine: &mut Machine,
-    row: &LoadRow,
-) -> Result<(), Fail> {
-    let module = module_of(rt, alloc, row)?;
+fn expect_load(rt: &impl Abort, alloc: Global, machine: &mut Machine, row: &LoadRow) {
+    let module = module_of(rt, alloc, row);
     let before = machine.module_count();
-    let loaded = machine.load(&module);
-    expect_answer(rt, alloc, machine, before, loaded, &row.answer)?;
-    Ok(())
+    let loaded = load(machine, &module);
+    expect_answer(rt, alloc, machine, before, &loaded, &row.answer);
 }
 
 /// Loads the modules of the rows in turn into a machine with so many bytes for modules. Each load
 /// answers as its row says.
-pub(crate) fn expect_loads(
-    rt: &impl Abort,
-    alloc: Global,
-    size: u64,
-    rows: &[LoadRow],
-) -> Result<(), Fail> {
-    let mut machine = machine(rt, alloc, size)?;
+pub(crate) fn expect_loads(rt: &impl Abort, alloc: Global, size: u64, rows: &[LoadRow]) {
+    let mut machine = machine(rt, alloc, size);
     for row in rows {
-        expect_load(rt, alloc, &mut machine, row)?;
+        expect_load(rt, alloc, &mut machine, row);
     }
-    Ok(())
 }

@@ -3,7 +3,6 @@ use crate::load_row::{Answer, BASE, LoadRow, PLAIN, expect_loads};
 use crate::sheets::{
     GIVES_AGAIN, GIVES_PRINTK, NEEDS_BY_DISTANCE, NEEDS_IN_32_BITS, NEEDS_VERSION_2_AND_MORE,
 };
-use std::test::Fail;
 use test_objects::{
     FREE, GIVES, GIVES_ALONE, GIVES_VERSION_1, GPL_ONLY, IMPORTS, IN_SPACE, MAY_NEED,
     MAY_NEED_VERSION_2, NEEDS,
@@ -302,9 +301,8 @@ static LOADS: [(u64, &[LoadRow]); 10] = [
 ];
 
 #[test]
-fn modules_load_or_are_refused(rt: HostRuntime) -> Result<(), Fail> {
+fn modules_load_or_are_refused(rt: HostRuntime) {
     for (size, rows) in &LOADS {
-        expect_loads(&rt, rt.alloc(), *size, rows)?;
+        expect_loads(&rt, rt.alloc(), *size, rows);
     }
-    Ok(())
 }

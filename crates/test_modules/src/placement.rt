@@ -1,7 +1,6 @@
 // Where sections are placed, and what symbols are worth.
 use crate::load_row::{Answer, BASE, LoadRow, PLAIN, expect_loads};
 use crate::sheets::{HAS_VERSIONS, NEEDS_OFFSET_TABLE, NEEDS_TWICE, USES_ITS_OWN};
-use std::test::Fail;
 use test_objects::{GIVES_ALONE, NEEDS};
 
 /// Modules whose sections are placed, with so many bytes for modules.
@@ -176,9 +175,8 @@ static PLACED: [(u64, &[LoadRow]); 9] = [
 ];
 
 #[test]
-fn sections_are_placed(rt: HostRuntime) -> Result<(), Fail> {
+fn sections_are_placed(rt: HostRuntime) {
     for (size, rows) in &PLACED {
-        expect_loads(&rt, rt.alloc(), *size, rows)?;
+        expect_loads(&rt, rt.alloc(), *size, rows);
     }
-    Ok(())
 }

@@ -1,7 +1,8 @@
 // Whether versions agree, and who may use an export.
+use crate::same::same_answer;
 use km_names::{Name, Names};
-use std::alloc::{AllocError, Global};
-use std::test::Fail;
+use std::alloc::Global;
+use std::process::Abort;
 use symbol_binding::{agree, may_use, sees};
 
 /// Versions of 64 and of 32 bits, and whether they agree.
@@ -30,27 +31,33 @@ static SPACES: [(&[u8], bool, bool); 3] = [
 ];
 
 /// Returns two namespaces that are imported.
-fn imports_of(alloc: Global) -> Result<Names, AllocError> {
+fn imports_of(rt: &impl Abort, alloc: Global) -> Names {
     let mut imports = Names::new(alloc);
-    imports.push(Name::from_slice(alloc, b"OTHER")?)?;
-    imports.push(Name::from_slice(alloc, b"NS")?)?;
-    Ok(imports)
+    for text in [b"OTHER".as_slice(), b"NS"] {
+        let name = Name::from_slice(alloc, text).expect(rt, "a name");
+        imports.push(name).expect(rt, "names");
+    }
+    imports
+}
+
+/// Checks who may use the exports of the namespaces of a table.
+fn expect_spaces(rt: &impl Abort, alloc: Global) {
+    let none = Names::new(alloc);
+    let two = imports_of(rt, alloc);
+    for (space, of_two, of_none) in &SPACES {
+        same_answer(rt, may_use(&two, space), *of_two);
+        same_answer(rt, may_use(&none, space), *of_none);
+    }
 }
 
 #[test]
-fn exports_for_some_modules(rt: HostRuntime) -> Result<(), Fail> {
-    for (a, b, agreed) in VERSIONS {
-        assert_eq!(rt; agree(a, b), agreed);
-        assert_eq!(rt; agree(b, a), agreed);
+fn exports_for_some_modules(rt: HostRuntime) {
+    for (a, b, agreed) in &VERSIONS {
+        same_answer(&rt, agree(*a, *b), *agreed);
+        same_answer(&rt, agree(*b, *a), *agreed);
     }
-    for (free, gpl, seen) in SEEN {
-        assert_eq!(rt; sees(free, gpl), seen);
+    for (free, gpl, seen) in &SEEN {
+        same_answer(&rt, sees(*free, *gpl), *seen);
     }
-    let none = Names::new(rt.alloc());
-    let two = imports_of(rt.alloc())?;
-    for (space, of_two, of_none) in SPACES {
-        assert_eq!(rt; may_use(&two, space), of_two);
-        assert_eq!(rt; may_use(&none, space), of_none);
-    }
-    Ok(())
+    expect_spaces(&rt, rt.alloc());
 }

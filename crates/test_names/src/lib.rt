@@ -16,6 +16,8 @@ mod names;
 #[cfg(test)]
 mod rules;
 #[cfg(test)]
+mod same;
+#[cfg(test)]
 mod tables;
 #[cfg(test)]
 mod trees;

@@ -1,11 +1,11 @@
 // Names of modules, paths, aliases, lines, words, strings and numbers.
+use crate::same::{same, same_answer, same_length, same_number, same_option};
 use km_names::{
-    Lines, PathText, conf_lines, hexadecimal, is_compressed, is_graphic, join, module_name,
+    Lines, PathText, Texts, conf_lines, hexadecimal, is_compressed, is_graphic, join, module_name,
     normal_alias, split_word, string_at, words,
 };
-use std::alloc::{AllocError, Global};
+use std::alloc::Global;
 use std::process::Abort;
-use std::test::Fail;
 
 /// Paths, the names of their modules, and whether they are paths of compressed modules.
 static PATHS: [(&[u8], &[u8], bool); 11] = [
@@ -42,40 +42,44 @@ static ALIASES: [(&[u8], Option<&[u8]>); 6] = [
 
 // Each call is in a function of its own that promises nothing.
 
-fn name_of(alloc: Global, path: &[u8]) -> Result<(Vec<u8>, bool), AllocError> {
-    let path = PathText::from_slice(alloc, path)?;
-    let name = module_name(alloc, &path)?;
-    Ok((name.into_vec(), is_compressed(&path)))
+fn path_of(rt: &impl Abort, alloc: Global, text: &[u8]) -> PathText {
+    PathText::from_slice(alloc, text).expect(rt, "a path")
 }
 
-fn joined(alloc: Global, folder: &[u8], rest: &[u8]) -> Result<Vec<u8>, AllocError> {
-    let folder = PathText::from_slice(alloc, folder)?;
-    Ok(join(alloc, &folder, rest)?.into_vec())
+fn name_of(rt: &impl Abort, alloc: Global, path: &PathText) -> Vec<u8> {
+    module_name(alloc, path).expect(rt, "a name").into_vec()
 }
 
-fn normal_form(alloc: Global, text: &[u8]) -> Result<Option<Vec<u8>>, AllocError> {
-    match normal_alias(alloc, text)? {
-        Some(normal) => Ok(Some(normal.into_vec())),
-        None => Ok(None),
+fn joined(rt: &impl Abort, alloc: Global, folder: &[u8], rest: &[u8]) -> Vec<u8> {
+    let folder = path_of(rt, alloc, folder);
+    join(alloc, &folder, rest).expect(rt, "joined").into_vec()
+}
+
+fn normal_form(rt: &impl Abort, alloc: Global, text: &[u8]) -> Option<Vec<u8>> {
+    match normal_alias(alloc, text).expect(rt, "an answer") {
+        Some(normal) => Some(normal.into_vec()),
+        None => None,
     }
+}
+
+fn expect_path(rt: &impl Abort, alloc: Global, path: &[u8], name: &[u8], compressed: bool) {
+    let path = path_of(rt, alloc, path);
+    same(rt, name_of(rt, alloc, &path).as_slice(), name);
+    same_answer(rt, is_compressed(&path), compressed);
 }
 
 #[test]
-fn paths_and_aliases(rt: HostRuntime) -> Result<(), Fail> {
-    for (path, name, compressed) in PATHS {
-        let got = name_of(rt.alloc(), path)?;
-        assert_eq!(rt; got.0.as_slice(), name);
-        assert_eq!(rt; got.1, compressed);
+fn paths_and_aliases(rt: HostRuntime) {
+    let alloc = rt.alloc();
+    for (path, name, compressed) in &PATHS {
+        expect_path(&rt, alloc, path, name, *compressed);
     }
-    for (folder, rest, path) in JOINED {
-        assert_eq!(rt; joined(rt.alloc(), folder, rest)?.as_slice(), path);
+    for (folder, rest, path) in &JOINED {
+        same(&rt, joined(&rt, alloc, folder, rest).as_slice(), path);
     }
-    for (text, want) in ALIASES {
-        let got = normal_form(rt.alloc(), text)?;
-        assert_eq!(rt; got.is_some(), want.is_some());
-        assert_eq!(rt; got.as_deref(), want);
+    for (text, want) in &ALIASES {
+        same_option(&rt, normal_form(&rt, alloc, text).as_deref(), *want);
     }
-    Ok(())
 }
 
 /// A file in which a backslash joins lines. Only the lines of the file are asked for one; a comment
@@ -94,34 +98,41 @@ static LINES: [(u32, &[u8]); 4] = [
 /// A line, and its words after the first.
 static WORDS: [&[u8]; 3] = [b"a", b"pre:", b"b"];
 
-fn lines_of(rt: &impl Abort, alloc: Global, text: &[u8]) -> Result<Lines, AllocError> {
+fn lines_of(rt: &impl Abort, alloc: Global, text: &[u8]) -> Lines {
     assert!(rt; text.len() <= 67_108_864);
-    conf_lines(alloc, text)
+    conf_lines(alloc, text).expect(rt, "lines")
+}
+
+fn words_of(rt: &impl Abort, alloc: Global, text: &[u8]) -> Texts {
+    words(alloc, text).expect(rt, "words")
 }
 
 /// Checks that the words of a line begin after the first.
-fn expect_words(rt: &impl Abort, alloc: Global) -> Result<(), AllocError> {
+fn expect_words(rt: &impl Abort, alloc: Global) {
     let (word, rest) = split_word(b"softdep \ta  pre: b ");
-    assert_eq!(rt; word, b"softdep".as_slice());
-    assert_eq!(rt; rest, b"a  pre: b".as_slice());
-    let list = words(alloc, rest)?;
-    assert_eq!(rt; list.len(), WORDS.len());
-    for (word, want) in list.as_slice().iter().zip(WORDS) {
-        assert_eq!(rt; word.as_bytes(), want);
+    same(rt, word, b"softdep");
+    same(rt, rest, b"a  pre: b");
+    let list = words_of(rt, alloc, rest);
+    same_length(rt, list.len(), WORDS.len());
+    for (word, want) in list.as_slice().iter().zip(&WORDS) {
+        same(rt, word.as_bytes(), want);
     }
-    Ok(())
+}
+
+/// Checks the lines of the configuration.
+fn expect_lines(rt: &impl Abort, alloc: Global) {
+    let lines = lines_of(rt, alloc, CONFIGURATION);
+    same_length(rt, lines.len(), LINES.len());
+    for (line, (number, text)) in lines.as_slice().iter().zip(&LINES) {
+        same_number(rt, line.number as u64, *number as u64);
+        same(rt, line.text.as_bytes(), text);
+    }
 }
 
 #[test]
-fn lines_and_words(rt: HostRuntime) -> Result<(), Fail> {
-    let lines = lines_of(&rt, rt.alloc(), CONFIGURATION)?;
-    assert_eq!(rt; lines.len(), LINES.len());
-    for (line, (number, text)) in lines.as_slice().iter().zip(LINES) {
-        assert_eq!(rt; line.number, number);
-        assert_eq!(rt; line.text.as_bytes(), text);
-    }
-    expect_words(&rt, rt.alloc())?;
-    Ok(())
+fn lines_and_words(rt: HostRuntime) {
+    expect_lines(&rt, rt.alloc());
+    expect_words(&rt, rt.alloc());
 }
 
 /// Places in a table of strings, and the strings there.
@@ -149,11 +160,11 @@ static NUMBERS: [(&[u8], bool, Option<u64>); 8] = [
 
 #[test]
 fn strings_and_numbers(rt: HostRuntime) {
-    for (at, string) in STRINGS {
-        assert_eq!(rt; string_at(b"\0.text\0.data\0cut", at), string);
+    for (at, string) in &STRINGS {
+        same_option(&rt, string_at(b"\0.text\0.data\0cut", *at), *string);
     }
-    for (text, graphic, number) in NUMBERS {
-        assert_eq!(rt; is_graphic(text), graphic);
-        assert_eq!(rt; hexadecimal(text), number);
+    for (text, graphic, number) in &NUMBERS {
+        same_answer(&rt, is_graphic(text), *graphic);
+        assert_eq!(rt; hexadecimal(text), *number);
     }
 }

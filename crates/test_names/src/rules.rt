@@ -2,11 +2,11 @@
 ghost use Rattle.std.specs.Prelude.{◌≤◌, length, All, IfOk};
 ghost use Rattle.km_names.specs.Limit.{file_limit};
 
-use km_names::{ConfFault, ConfFiles, Names, PathText};
+use crate::same::{same, same_number};
+use km_names::{ConfFault, ConfFiles, Names};
 use modprobe_conf::{Rule, Rules, parse};
 use std::alloc::{AllocError, Global};
 use std::process::Abort;
-use std::test::Fail;
 use test_objects::{RowFault, conf_file};
 
 // Returns the two files `0` and `1`.
@@ -81,33 +81,41 @@ static RULES: &[u8] =
 static RULES_READ: &[u8] =
     b"alias snd_hda|pci_x[a-b]*\nblacklist u_2|\noptions b_1|depth=3  raw-x=1\ninstall a|/bin/true\nremove a|/bin/false -x\nsoftdep m| gone a_v[_] zed/ late\n";
 
-// Returns the rules of two files as lines, or the file and the number of the first bad line.
-fn read(
+// Reads the rules of two files.
+fn rules_of(
     rt: &impl Abort,
     alloc: Global,
     first: &[u8],
     second: &[u8],
-) -> Result<Result<Vec<u8>, (PathText, u32)>, RowFault> {
-    let files = files_of(alloc, first, second)?;
-    match parse(alloc, &files) {
-        Ok(rules) => Ok(Ok(text_of(alloc, &rules)?)),
-        Err(ConfFault::BadLine { file, line }) => Ok(Err((file, line))),
-        Err(ConfFault::Memory) => panic!(rt; "no memory"),
+) -> Result<Rules, ConfFault> {
+    let files = files_of(alloc, first, second).expect(rt, "files");
+    parse(alloc, &files)
+}
+
+// Compares the file and the number of the first bad line of two files.
+fn expect_bad_line(
+    rt: &impl Abort,
+    alloc: Global,
+    (first, second): (&[u8], &[u8]),
+    name: u8,
+    number: u32,
+) {
+    match rules_of(rt, alloc, first, second) {
+        Err(ConfFault::BadLine { file, line }) => {
+            same(rt, file.as_bytes(), &[name]);
+            same_number(rt, line as u64, number as u64);
+        }
+        _ => panic!(rt; "no bad line"),
     }
 }
 
 #[test]
-fn rules_of_lines(rt: HostRuntime) -> Result<(), Fail> {
-    for (first, second, name, number) in BAD_LINES {
-        let Err((file, line)) = read(&rt, rt.alloc(), first, second)? else {
-            panic!(rt; "a bad line that was understood");
-        };
-        assert_eq!(rt; file.as_bytes(), [name].as_slice());
-        assert_eq!(rt; line, number);
+fn rules_of_lines(rt: HostRuntime) {
+    let alloc = rt.alloc();
+    for (first, second, name, number) in &BAD_LINES {
+        expect_bad_line(&rt, alloc, (first, second), *name, *number);
     }
-    let Ok(rules) = read(&rt, rt.alloc(), RULES, b"")? else {
-        panic!(rt; "a line that wasn't understood");
-    };
-    assert_eq!(rt; rules.as_slice(), RULES_READ);
-    Ok(())
+    let rules = rules_of(&rt, alloc, RULES, b"").expect(&rt, "rules");
+    let text = text_of(alloc, &rules).expect(&rt, "a text");
+    same(&rt, text.as_slice(), RULES_READ);
 }

@@ -2,19 +2,20 @@
 ghost use Rattle.std.specs.Prelude.{◌≤◌, length, All, IfOk};
 ghost use Rattle.km_names.specs.Limit.{file_limit};
 
-use km_names::{ConfFault, ConfFiles, PathText, Paths};
+use crate::same::{same, same_number, same_option};
+use km_names::{Bytes, ConfFault, ConfFiles, List, PathText, Paths};
 use mod_tree::{Search, TreeFault, choose, line_path, parse_search};
 use std::alloc::{AllocError, Global};
 use std::process::Abort;
-use std::test::Fail;
 use test_objects::{RowFault, conf_file};
 
-fn paths_of(alloc: Global, texts: &[&[u8]]) -> Result<Paths, AllocError> {
+fn paths_of(rt: &impl Abort, alloc: Global, texts: &[&[u8]]) -> Paths {
     let mut paths = Paths::new(alloc);
     for text in texts {
-        paths.push(PathText::from_slice(alloc, text)?)?;
+        let path = PathText::from_slice(alloc, text).expect(rt, "a path");
+        paths.push(path).expect(rt, "paths");
     }
-    Ok(paths)
+    paths
 }
 
 fn file_of(alloc: Global, text: &[u8]) -> Result<ConfFiles, RowFault>
@@ -25,41 +26,27 @@ fn file_of(alloc: Global, text: &[u8]) -> Result<ConfFiles, RowFault>
     Ok(files)
 }
 
-// Returns the search list of a file, or the file and the number of its first bad line.
-fn search_of(
-    rt: &impl Abort,
-    alloc: Global,
-    text: &[u8],
-) -> Result<Result<Search, (PathText, u32)>, RowFault> {
-    let files = file_of(alloc, text)?;
-    match parse_search(alloc, &files) {
-        Ok(search) => Ok(Ok(search)),
-        Err(ConfFault::BadLine { file, line }) => Ok(Err((file, line))),
-        Err(ConfFault::Memory) => panic!(rt; "no memory"),
-    }
+// Reads the search list of a file.
+fn search_of(rt: &impl Abort, alloc: Global, text: &[u8]) -> Result<Search, ConfFault> {
+    let files = file_of(alloc, text).expect(rt, "a file");
+    parse_search(alloc, &files)
 }
 
 // Returns each item on a line of its own: of the tree that is chosen, or the bad path.
-fn chosen(
-    rt: &impl Abort,
-    alloc: Global,
-    paths: &Paths,
-    order: &[u8],
-    search: &Search,
-) -> Result<Vec<u8>, AllocError> {
+fn chosen(rt: &impl Abort, alloc: Global, paths: &Paths, order: &[u8], search: &Search) -> Vec<u8> {
     match choose(alloc, paths, order, search) {
-        Ok(tree) => lines_of(alloc, &tree),
-        Err(TreeFault::BadPath { path }) => Ok(path.into_vec()),
+        Ok(tree) => lines_of(alloc, &tree).expect(rt, "lines"),
+        Err(TreeFault::BadPath { path }) => path.into_vec(),
         Err(TreeFault::TooManyModules { .. }) => panic!(rt; "few paths"),
         Err(TreeFault::Memory) => panic!(rt; "no memory"),
     }
 }
 
-// Returns each path on a line of its own.
-fn lines_of(alloc: Global, paths: &Paths) -> Result<Vec<u8>, AllocError> {
+// Returns each item on a line of its own.
+fn lines_of<K>(alloc: Global, items: &List<Bytes<K>>) -> Result<Vec<u8>, AllocError> {
     let mut text = Vec::new(alloc);
-    for path in paths.as_slice() {
-        text.extend_from_slice(path.as_bytes())?;
+    for item in items.as_slice() {
+        text.extend_from_slice(item.as_bytes())?;
         text.push(b'\n')?;
     }
     Ok(text)
@@ -107,25 +94,33 @@ static BAD_PATHS: [[&[u8]; 3]; 2] = [
     [b"z/\x7f.ko", b"kernel/a:.ko.gz", b"kernel/a.ko"],
 ];
 
+// Compares what is chosen of a listing by a text of depmod.d and a modules.order.
+fn expect_chosen(
+    rt: &impl Abort,
+    alloc: Global,
+    listed: &[&[u8]],
+    text: &[u8],
+    order: &[u8],
+    want: &[u8],
+) {
+    let paths = paths_of(rt, alloc, listed);
+    let search = search_of(rt, alloc, text).expect(rt, "a search list");
+    same(
+        rt,
+        chosen(rt, alloc, &paths, order, &search).as_slice(),
+        want,
+    );
+}
+
 #[test]
-fn trees_of_listings(rt: HostRuntime) -> Result<(), Fail> {
-    let paths = paths_of(rt.alloc(), &LISTED)?;
-    for (search, order, want) in TREES {
-        let search = search_of(&rt, rt.alloc(), search)?
-            .ok()
-            .ok_or("a line that wasn't understood")?;
-        let got = chosen(&rt, rt.alloc(), &paths, order, &search)?;
-        assert_eq!(rt; got.as_slice(), want);
+fn trees_of_listings(rt: HostRuntime) {
+    let alloc = rt.alloc();
+    for (search, order, want) in &TREES {
+        expect_chosen(&rt, alloc, &LISTED, search, order, want);
     }
-    let search = search_of(&rt, rt.alloc(), b"")?
-        .ok()
-        .ok_or("a line that wasn't understood")?;
-    for listed in BAD_PATHS {
-        let paths = paths_of(rt.alloc(), &listed)?;
-        let got = chosen(&rt, rt.alloc(), &paths, b"", &search)?;
-        assert_eq!(rt; got.as_slice(), b"kernel/a:.ko.gz".as_slice());
+    for listed in &BAD_PATHS {
+        expect_chosen(&rt, alloc, listed, b"", b"", b"kernel/a:.ko.gz");
     }
-    Ok(())
 }
 
 /// Texts of depmod.d, and their search lists, each word on a line.
@@ -144,32 +139,32 @@ static BAD_SEARCHES: [&[u8]; 3] = [
     b"\nalias a b",
 ];
 
-// Returns the words of a search list, each on a line of its own.
-fn words_of(alloc: Global, search: &Search) -> Result<Vec<u8>, AllocError> {
-    let mut text = Vec::new(alloc);
-    for word in search.as_slice() {
-        text.extend_from_slice(word.as_bytes())?;
-        text.push(b'\n')?;
+// Compares a search list.
+fn expect_search(rt: &impl Abort, alloc: Global, text: &[u8], want: &[u8]) {
+    let search = search_of(rt, alloc, text).expect(rt, "a search list");
+    let lines = lines_of(alloc, &search).expect(rt, "lines");
+    same(rt, lines.as_slice(), want);
+}
+
+// Checks that the second line is the first bad one.
+fn expect_bad_search(rt: &impl Abort, alloc: Global, text: &[u8]) {
+    match search_of(rt, alloc, text) {
+        Err(ConfFault::BadLine { file, line }) => {
+            same(rt, file.as_bytes(), b"/etc/depmod.d/a.conf");
+            same_number(rt, line as u64, 2);
+        }
+        _ => panic!(rt; "no bad line"),
     }
-    Ok(text)
 }
 
 #[test]
-fn search_lists(rt: HostRuntime) -> Result<(), Fail> {
-    for (text, want) in SEARCHES {
-        let Ok(search) = search_of(&rt, rt.alloc(), text)? else {
-            panic!(rt; "a line that wasn't understood");
-        };
-        assert_eq!(rt; words_of(rt.alloc(), &search)?.as_slice(), want);
+fn search_lists(rt: HostRuntime) {
+    for (text, want) in &SEARCHES {
+        expect_search(&rt, rt.alloc(), text, want);
     }
-    for text in BAD_SEARCHES {
-        let Err((file, line)) = search_of(&rt, rt.alloc(), text)? else {
-            panic!(rt; "a bad line that was understood");
-        };
-        assert_eq!(rt; file.as_bytes(), b"/etc/depmod.d/a.conf".as_slice());
-        assert_eq!(rt; line, 2);
+    for text in &BAD_SEARCHES {
+        expect_bad_search(&rt, rt.alloc(), text);
     }
-    Ok(())
 }
 
 /// Dependency lines with what is before their `:`, and texts that are no such lines.
@@ -196,7 +191,7 @@ static DEPENDENCY_LINES: [(&[u8], Option<&[u8]>); 15] = [
 
 #[test]
 fn dependency_lines(rt: HostRuntime) {
-    for (line, want) in DEPENDENCY_LINES {
-        assert_eq!(rt; line_path(line), want);
+    for (line, want) in &DEPENDENCY_LINES {
+        same_option(&rt, line_path(line), *want);
     }
 }

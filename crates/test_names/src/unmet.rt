@@ -1,8 +1,8 @@
 // The lines of modules.unmet.
+use crate::same::{same, same_length, same_number};
 use km_names::{ConfFault, PathText};
-use std::alloc::{AllocError, Global};
+use std::alloc::Global;
 use std::process::Abort;
-use std::test::Fail;
 use symbol_binding::Unbound;
 use unmet_file::Unmet;
 
@@ -26,20 +26,25 @@ static TEXTS: [(&[u8], u32); 12] = [
     (b"double a b c\nnamespace a b c\nDouble a b c\nx", 3),
 ];
 
-// Returns the lines of a text, or the number of its first bad line.
-fn read(rt: &impl Abort, alloc: Global, text: &[u8]) -> Result<Result<Unmet, u32>, AllocError> {
-    let file = PathText::from_slice(alloc, b"/m/modules.unmet")?;
+// Reads the lines of a text.
+fn read(rt: &impl Abort, alloc: Global, text: &[u8]) -> Result<Unmet, ConfFault> {
+    let file = PathText::from_slice(alloc, b"/m/modules.unmet").expect(rt, "a path");
     assert!(rt; text.len() <= 67_108_864);
-    match Unmet::read(alloc, &file, text) {
-        Ok(unmet) => Ok(Ok(unmet)),
-        Err(ConfFault::BadLine { line, .. }) => Ok(Err(line)),
+    Unmet::read(alloc, &file, text)
+}
+
+// Returns the number of the first bad line of a text, or 0 where all are good.
+fn bad_line(rt: &impl Abort, alloc: Global, text: &[u8]) -> u32 {
+    match read(rt, alloc, text) {
+        Ok(_) => 0,
+        Err(ConfFault::BadLine { line, .. }) => line,
         Err(ConfFault::Memory) => panic!(rt; "no memory"),
     }
 }
 
 // Checks that the last of five lines is of two exports.
 fn expect_each_form(rt: &impl Abort, unmet: &Unmet) {
-    assert_eq!(rt; unmet.len(), 5);
+    same_length(rt, unmet.len(), 5);
     let Some(
         Unbound::Double {
             symbol,
@@ -50,20 +55,16 @@ fn expect_each_form(rt: &impl Abort, unmet: &Unmet) {
     else {
         panic!(rt; "another line");
     };
-    assert_eq!(rt; symbol.as_bytes(), b"x".as_slice());
-    assert_eq!(rt; first.as_bytes(), b"kernel/a.ko".as_slice());
-    assert_eq!(rt; second.as_bytes(), b"kernel/c.ko".as_slice());
+    same(rt, symbol.as_bytes(), b"x");
+    same(rt, first.as_bytes(), b"kernel/a.ko");
+    same(rt, second.as_bytes(), b"kernel/c.ko");
 }
 
 #[test]
-fn lines_of_each_form(rt: HostRuntime) -> Result<(), Fail> {
-    let Ok(unmet) = read(&rt, rt.alloc(), EACH_FORM)? else {
-        panic!(rt; "each line is one");
-    };
-    expect_each_form(&rt, &unmet);
-    for (text, want) in TEXTS {
-        let bad = read(&rt, rt.alloc(), text)?.err().unwrap_or(0);
-        assert_eq!(rt; bad, want);
+fn lines_of_each_form(rt: HostRuntime) {
+    let alloc = rt.alloc();
+    expect_each_form(&rt, &read(&rt, alloc, EACH_FORM).expect(&rt, "lines"));
+    for (text, want) in &TEXTS {
+        same_number(&rt, bad_line(&rt, alloc, text) as u64, *want as u64);
     }
-    Ok(())
 }

@@ -8,7 +8,6 @@ use provider_rel::Kernel;
 use sha2::{Digest, Sha256};
 use std::alloc::{AllocError, Global};
 use std::process::Abort;
-use std::test::Fail;
 use tree_gen::{SheetParam, SheetParams, param_object};
 
 /// The usual base of the region of modules.
@@ -49,14 +48,15 @@ fn params_of(alloc: Global, rows: &[Row]) -> Result<SheetParams, AllocError> {
 // Each call is in a function of its own that promises nothing: a test compares what the call
 // answered, and its contract needn't be carried along.
 
-fn object_of(alloc: Global, rows: &[Row]) -> Result<Blob, AllocError> {
-    param_object(alloc, &params_of(alloc, rows)?)
+fn object_of(rt: &impl Abort, alloc: Global, rows: &[Row]) -> Blob {
+    let params = params_of(alloc, rows).expect(rt, "parameters");
+    param_object(alloc, &params).expect(rt, "an object")
 }
 
-fn module_of(rt: &impl Abort, alloc: Global, bytes: Blob) -> Result<Module, Fail> {
+fn module_of(rt: &impl Abort, alloc: Global, bytes: Blob) -> Module {
     assert!(rt; bytes.len() <= FILE_LIMIT);
-    let path = PathText::from_slice(alloc, b"kernel/p.ko")?;
-    Ok(read_module(alloc, &path, bytes)?)
+    let path = PathText::from_slice(alloc, b"kernel/p.ko").expect(rt, "a path");
+    read_module(alloc, &path, bytes).expect(rt, "a module")
 }
 
 fn apply(
@@ -71,45 +71,69 @@ fn apply(
     apply_params(alloc, module, BASE, image, options)
 }
 
-/// Returns the machine's own image of a module.
-fn image_of(rt: &impl Abort, alloc: Global, module: &Module) -> Result<Blob, Fail> {
+/// Returns a machine without a module.
+fn machine(rt: &impl Abort, alloc: Global) -> Machine {
     let region = Region::new(BASE, 0x10_0000).expect(rt, "a region");
-    let kernel = Kernel::from_map(alloc, b"ffffffff81000000 T printk\n".as_slice())?;
-    let mut machine = Machine::new(alloc, kernel, region)?;
-    machine.load(module)?;
+    let map = b"ffffffff81000000 T printk\n".as_slice();
+    let kernel = Kernel::from_map(alloc, map).expect(rt, "a kernel");
+    Machine::new(alloc, kernel, region).expect(rt, "a machine")
+}
+
+/// Returns the machine's own image of a module.
+fn image_of(rt: &impl Abort, alloc: Global, module: &Module) -> Blob {
+    let mut machine = machine(rt, alloc);
+    machine.load(module).expect(rt, "a place");
     let image = machine.image(b"p").expect(rt, "an image");
-    Ok(Blob::from_slice(alloc, image)?)
+    Blob::from_slice(alloc, image).expect(rt, "a copy")
+}
+
+fn same(rt: &impl Abort, got: &[u8], want: &[u8]) {
+    assert_eq!(rt; got, want);
 }
 
 /// Returns the digest of an image, in hexadecimal digits.
-fn digest_of(alloc: Global, image: &[u8]) -> Result<String, AllocError> {
-    hex::encode(alloc, Sha256::digest(image).as_slice())
+fn digest_of(rt: &impl Abort, alloc: Global, image: &[u8]) -> String {
+    hex::encode(alloc, Sha256::digest(image).as_slice()).expect(rt, "digits")
+}
+
+/// Checks that these bytes are where the values begin.
+fn expect_values(rt: &impl Abort, image: &[u8], bytes: &[u8]) {
+    assert!(rt; bytes.len() <= 64 && VALUES + bytes.len() <= image.len());
+    same(rt, &image[VALUES..VALUES + bytes.len()], bytes);
+}
+
+/// Checks the digest of an image.
+fn expect_digest(rt: &impl Abort, alloc: Global, image: &[u8], digest: &str) {
+    same(
+        rt,
+        digest_of(rt, alloc, image).as_bytes(),
+        digest.as_bytes(),
+    );
+}
+
+/// Checks the text of a fault.
+fn expect_text(rt: &impl Abort, alloc: Global, fault: &ParamFault, text: &[u8]) {
+    same(rt, fault.text(alloc).expect(rt, "a text").as_bytes(), text);
 }
 
 /// Checks that the answer is the expected one.
 fn expect_answer(
     rt: &impl Abort,
     alloc: Global,
-    applied: Result<Params, ParamFault>,
-    wanted: Answer,
-) -> Result<(), Fail> {
+    applied: &Result<Params, ParamFault>,
+    wanted: &Answer,
+) {
     match (applied, wanted) {
         (Ok(params), Answer::Written(count, bytes)) => {
-            assert_eq!(rt; params.count, count);
-            let image = params.image.as_bytes();
-            assert!(rt; bytes.len() <= 64 && VALUES + bytes.len() <= image.len());
-            assert_eq!(rt; &image[VALUES..VALUES + bytes.len()], bytes);
+            assert!(rt; params.count == *count);
+            expect_values(rt, params.image.as_bytes(), bytes);
         }
         (Ok(params), Answer::Digest(digest)) => {
-            let shown = digest_of(alloc, params.image.as_bytes())?;
-            assert_eq!(rt; shown.as_str(), digest);
+            expect_digest(rt, alloc, params.image.as_bytes(), digest);
         }
-        (Err(fault), Answer::Refused(text)) => {
-            assert_eq!(rt; fault.text(alloc)?.as_bytes(), text);
-        }
+        (Err(fault), Answer::Refused(text)) => expect_text(rt, alloc, fault, text),
         _ => panic!(rt; "another answer"),
     }
-    Ok(())
 }
 
 /// Returns the bytes with some of them changed.
@@ -130,24 +154,12 @@ pub(crate) fn expect_changed(
     rows: &[Row],
     changes: &[Change],
     answers: &[(&'static [u8], Answer)],
-) -> Result<(), Fail> {
-    let object = changed(rt, object_of(alloc, rows)?, changes);
-    let module = module_of(rt, alloc, object)?;
-    let image = image_of(rt, alloc, &module)?;
+) {
+    let object = changed(rt, object_of(rt, alloc, rows), changes);
+    let module = module_of(rt, alloc, object);
+    let image = image_of(rt, alloc, &module);
     for (options, wanted) in answers {
         let applied = apply(rt, alloc, &module, image.as_bytes(), options);
-        expect_answer(rt, alloc, applied, *wanted)?;
+        expect_answer(rt, alloc, &applied, wanted);
     }
-    Ok(())
-}
-
-/// Checks that each of the options has its answer, in the image that a machine has of the module of
-/// these parameters.
-pub(crate) fn expect_answers(
-    rt: &impl Abort,
-    alloc: Global,
-    rows: &[Row],
-    answers: &[(&'static [u8], Answer)],
-) -> Result<(), Fail> {
-    expect_changed(rt, alloc, rows, &[], answers)
 }

@@ -1,7 +1,6 @@
 // Tables and places that are refused, in objects of which bytes are changed.
 use crate::param_row::{Answer, Change, Row, expect_changed};
 use Answer::{Refused, Written};
-use std::test::Fail;
 
 /// Two parameters, of 4 bytes and of one.
 ///
@@ -83,9 +82,8 @@ static CHANGED: [ChangedRow; 8] = [
 
 /// Checks the faults of a table, and of places.
 #[test]
-fn tables_and_places_are_tested(rt: HostRuntime) -> Result<(), Fail> {
-    for (changes, answers) in CHANGED.as_slice() {
-        expect_changed(&rt, rt.alloc(), &TWO, changes, answers)?;
+fn tables_and_places_are_tested(rt: HostRuntime) {
+    for (changes, answers) in &CHANGED {
+        expect_changed(&rt, rt.alloc(), &TWO, changes, answers);
     }
-    Ok(())
 }

@@ -8,10 +8,9 @@ use km_names::{Blob, ConfFiles, Name, Names, PathText};
 use loaded_list::Loaded;
 use modprobe_conf::{Rules, parse};
 use name_lookup::Indexes;
-use plan_builder::{PlanStep, PlanSteps, Request, plan, well_formed};
-use std::alloc::Global;
+use plan_builder::{Obstacle, PlanStep, PlanSteps, Request, plan, well_formed};
+use std::alloc::{AllocError, Global};
 use std::process::Abort;
-use std::test::Fail;
 use test_objects::{RowFault, conf_file, is_key, is_text};
 use unmet_file::Unmet;
 
@@ -68,29 +67,34 @@ const DOUBLE: PlanRow = PlanRow {
     ..EMPTY
 };
 
+/// Adds a value to a map.
+fn add(rt: &impl Abort, map: &mut KeyMap, key: &str, place: u32, text: &str) {
+    assert!(rt; is_key(key.as_bytes()));
+    assert!(rt; is_text(text.as_bytes()));
+    map.add(key.as_bytes(), place, text.as_bytes())
+        .expect(rt, "added");
+}
+
 /// Returns the index file of some pairs.
-fn index_of(rt: &impl Abort, alloc: Global, pairs: Pairs) -> Result<Index, Fail> {
+fn index_of(rt: &impl Abort, alloc: Global, pairs: Pairs) -> Index {
     let mut map = KeyMap::new(alloc);
-    let mut place = 0;
+    let mut place: u32 = 0;
     for (key, text) in pairs {
-        let is_key = is_key(key.as_bytes());
-        assert!(rt; is_key);
-        let is_text = is_text(text.as_bytes());
-        assert!(rt; is_text);
-        map.add(key.as_bytes(), place, text.as_bytes())?;
+        add(rt, &mut map, key, place, text);
         place = place.wrapping_add(1);
     }
-    Ok(Index::adopt(alloc, encode(alloc, &map)?)?)
+    let file = encode(alloc, &map).expect(rt, "a file");
+    Index::adopt(alloc, file).expect(rt, "an index")
 }
 
 /// Returns the index files of a row.
-fn indexes_of(rt: &impl Abort, alloc: Global, row: &PlanRow) -> Result<Indexes, Fail> {
-    Ok(Indexes {
-        dep: index_of(rt, alloc, row.dep)?,
-        alias: index_of(rt, alloc, &[])?,
-        symbols: index_of(rt, alloc, &[])?,
-        builtin: index_of(rt, alloc, row.builtin)?,
-    })
+fn indexes_of(rt: &impl Abort, alloc: Global, row: &PlanRow) -> Indexes {
+    Indexes {
+        dep: index_of(rt, alloc, row.dep),
+        alias: index_of(rt, alloc, &[]),
+        symbols: index_of(rt, alloc, &[]),
+        builtin: index_of(rt, alloc, row.builtin),
+    }
 }
 
 /// Returns a file of the configuration.
@@ -103,44 +107,48 @@ fn one_file(alloc: Global, text: &str) -> Result<ConfFiles, RowFault>
 }
 
 /// Returns the rules of a text.
-fn rules_of(alloc: Global, text: &str) -> Result<Rules, Fail> {
-    let files = one_file(alloc, text)?;
-    let rules = parse(alloc, &files)
-        .ok()
-        .ok_or("a line that wasn't understood")?;
-    Ok(rules)
+fn rules_of(rt: &impl Abort, alloc: Global, text: &str) -> Rules {
+    let files = one_file(alloc, text).expect(rt, "a file");
+    parse(alloc, &files).expect(rt, "rules")
 }
 
 /// Returns the lines of a modules.unmet.
-fn unmet_of(rt: &impl Abort, alloc: Global, text: &str) -> Result<Unmet, Fail> {
-    let path = PathText::from_slice(alloc, b"modules.unmet")?;
-    let text = text.as_bytes();
+fn unmet_of(rt: &impl Abort, alloc: Global, text: &str) -> Unmet {
+    let path = PathText::from_slice(alloc, b"modules.unmet").expect(rt, "a path");
     assert!(rt;
-        text.len() <= 67_108_864,
+        text.as_bytes().len() <= 67_108_864,
         "a file of more bytes than are taken"
     );
-    let unmet = Unmet::read(alloc, &path, text)
-        .ok()
-        .ok_or("a line that wasn't understood")?;
-    Ok(unmet)
+    Unmet::read(alloc, &path, text.as_bytes()).expect(rt, "lines")
+}
+
+/// Returns the names of loaded modules.
+fn loaded_of(rt: &impl Abort, alloc: Global, text: &str) -> Loaded {
+    Loaded::read(alloc, text.as_bytes()).expect(rt, "loaded modules")
+}
+
+/// Returns the names that are requested.
+fn names_of(rt: &impl Abort, alloc: Global, texts: &[&str]) -> Names {
+    let mut names = Names::new(alloc);
+    for text in texts {
+        let name = Name::from_slice(alloc, text.as_bytes()).expect(rt, "a name");
+        names.push(name).expect(rt, "names");
+    }
+    names
 }
 
 /// Returns what a row requests.
-fn request_of(alloc: Global, row: &PlanRow) -> Result<Request, Fail> {
-    let mut names = Names::new(alloc);
-    for name in row.names {
-        names.push(Name::from_slice(alloc, name.as_bytes())?)?;
-    }
-    Ok(Request {
-        names,
-        options: Blob::from_slice(alloc, row.options.as_bytes())?,
+fn request_of(rt: &impl Abort, alloc: Global, row: &PlanRow) -> Request {
+    Request {
+        names: names_of(rt, alloc, row.names),
+        options: Blob::from_slice(alloc, row.options.as_bytes()).expect(rt, "options"),
         use_blacklist: false,
         ignore_install: row.ignore_install,
-    })
+    }
 }
 
 /// Puts parameters after a space, if there are any.
-fn push_options(text: &mut Blob, options: &Blob) -> Result<(), Fail> {
+fn push_options(text: &mut Blob, options: &Blob) -> Result<(), AllocError> {
     if !options.is_empty() {
         text.push(b' ')?;
         text.extend(options.as_bytes())?;
@@ -149,7 +157,7 @@ fn push_options(text: &mut Blob, options: &Blob) -> Result<(), Fail> {
 }
 
 /// Puts a step as a line.
-fn push_step(text: &mut Blob, step: &PlanStep) -> Result<(), Fail> {
+fn push_step(text: &mut Blob, step: &PlanStep) -> Result<(), AllocError> {
     match step {
         PlanStep::Insert { path, options, .. } => {
             text.extend(b"insmod ")?;
@@ -170,7 +178,7 @@ fn push_step(text: &mut Blob, step: &PlanStep) -> Result<(), Fail> {
 }
 
 /// Returns steps as lines.
-fn lines_of(alloc: Global, steps: &PlanSteps) -> Result<Blob, Fail> {
+fn lines_of(alloc: Global, steps: &PlanSteps) -> Result<Blob, AllocError> {
     let mut text = Blob::new(alloc);
     for step in steps.as_slice() {
         push_step(&mut text, step)?;
@@ -178,26 +186,30 @@ fn lines_of(alloc: Global, steps: &PlanSteps) -> Result<Blob, Fail> {
     Ok(text)
 }
 
-/// Returns the steps of the plan of a row, or its obstacle.
-fn answer_of(rt: &impl Abort, alloc: Global, row: &PlanRow) -> Result<Blob, Fail> {
-    let request = request_of(alloc, row)?;
-    let rules = rules_of(alloc, row.rules)?;
-    let indexes = indexes_of(rt, alloc, row)?;
-    let unmet = unmet_of(rt, alloc, row.unmet)?;
-    let loaded = Loaded::read(alloc, row.loaded.as_bytes())?;
-    match plan(alloc, &request, &rules, &indexes, &unmet, &loaded) {
-        Ok(steps) => lines_of(alloc, &steps),
-        Err(obstacle) => Ok(obstacle.text(alloc)?),
+/// Makes the plan of a row.
+fn planned(rt: &impl Abort, alloc: Global, row: &PlanRow) -> Result<PlanSteps, Obstacle> {
+    let request = request_of(rt, alloc, row);
+    let rules = rules_of(rt, alloc, row.rules);
+    let indexes = indexes_of(rt, alloc, row);
+    let unmet = unmet_of(rt, alloc, row.unmet);
+    let loaded = loaded_of(rt, alloc, row.loaded);
+    plan(alloc, &request, &rules, &indexes, &unmet, &loaded)
+}
+
+/// Returns the steps of a plan, or the text of the obstacle.
+fn answer_of(rt: &impl Abort, alloc: Global, planned: &Result<PlanSteps, Obstacle>) -> Blob {
+    match planned {
+        Ok(steps) => lines_of(alloc, steps).expect(rt, "lines"),
+        Err(obstacle) => obstacle.text(alloc).expect(rt, "a text"),
     }
 }
 
 /// Checks that the rows answer as they are to.
-fn expect_rows(rt: &impl Abort, alloc: Global, rows: &[PlanRow]) -> Result<(), Fail> {
+fn expect_rows(rt: &impl Abort, alloc: Global, rows: &[PlanRow]) {
     for row in rows {
-        let answer = answer_of(rt, alloc, row)?;
+        let answer = answer_of(rt, alloc, &planned(rt, alloc, row));
         assert_eq!(rt; answer.as_bytes(), row.want.as_bytes());
     }
-    Ok(())
 }
 
 /// Plans of modules, in order.
@@ -290,19 +302,18 @@ static OBSTACLES: [PlanRow; 5] = [
 ];
 
 /// Returns whether the value of a name is a dependency line, in the folder of two modules.
-fn is_well_formed(rt: &impl Abort, alloc: Global, name: &str) -> Result<bool, Fail> {
-    let indexes = indexes_of(rt, alloc, &PAIR)?;
-    let name = Name::from_slice(alloc, name.as_bytes())?;
-    Ok(well_formed(alloc, &name, &indexes)?)
+fn is_well_formed(rt: &impl Abort, alloc: Global, name: &str) -> bool {
+    let indexes = indexes_of(rt, alloc, &PAIR);
+    let name = Name::from_slice(alloc, name.as_bytes()).expect(rt, "a name");
+    well_formed(alloc, &name, &indexes).expect(rt, "an answer")
 }
 
 #[test]
-fn plans_and_obstacles(rt: HostRuntime) -> Result<(), Fail> {
+fn plans_and_obstacles(rt: HostRuntime) {
     let alloc = rt.alloc();
-    expect_rows(&rt, alloc, &STEPS)?;
-    expect_rows(&rt, alloc, &COMMANDS)?;
-    expect_rows(&rt, alloc, &OBSTACLES)?;
-    assert!(rt; is_well_formed(&rt, alloc, "b")?);
-    assert!(rt; !is_well_formed(&rt, alloc, "c")?);
-    Ok(())
+    expect_rows(&rt, alloc, &STEPS);
+    expect_rows(&rt, alloc, &COMMANDS);
+    expect_rows(&rt, alloc, &OBSTACLES);
+    assert!(rt; is_well_formed(&rt, alloc, "b"));
+    assert!(rt; !is_well_formed(&rt, alloc, "c"));
 }

@@ -7,7 +7,6 @@ use elf_object::{Object, ObjectFault, ObjectView, RelaPlace, SectionFault, Secti
 use km_names::Blob;
 use std::alloc::{AllocError, Global};
 use std::process::Abort;
-use std::test::Fail;
 use test_objects::LICENSE_OBJECT;
 
 /// A file with code, two relocations of it, and the symbols `f`, defined, and `g`, weak and
@@ -84,51 +83,96 @@ fn sections_of(
     Sections::read(alloc, changed(alloc, start, changes)?)
 }
 
+/// Returns why these aren't sections.
+fn fault_of_sections(
+    alloc: Global,
+    length: usize,
+    changes: &[(usize, u8)],
+) -> Option<SectionFault> {
+    sections_of(alloc, length, changes).err()
+}
+
 /// Returns `CODE`, with these changes, as an object.
 fn object_of(alloc: Global, changes: &[(usize, u8)]) -> Result<Object, ObjectFault> {
     Object::read(alloc, changed(alloc, &CODE, changes)?)
 }
 
+/// Returns why that isn't an object.
+fn fault_of_object(alloc: Global, changes: &[(usize, u8)]) -> Option<ObjectFault> {
+    object_of(alloc, changes).err()
+}
+
 /// Returns `CODE` as it is viewed.
-fn view_of(alloc: Global) -> Result<ObjectView<'static>, ObjectFault> {
-    ObjectView::read(alloc, &CODE)
+fn view_of(rt: &impl Abort, alloc: Global) -> ObjectView<'static> {
+    ObjectView::read(alloc, &CODE).expect(rt, "a view")
+}
+
+/// Returns an object as it is viewed.
+fn view_of_object<'a>(rt: &impl Abort, alloc: Global, object: &'a Object) -> ObjectView<'a> {
+    object.view(alloc).expect(rt, "a view")
+}
+
+fn same(rt: &impl Abort, got: &[u8], want: &[u8]) {
+    assert_eq!(rt; got, want);
+}
+
+fn same_numbers(rt: &impl Abort, got: [u64; 4], want: [u64; 4]) {
+    assert_eq!(rt; got, want);
+}
+
+fn same_place(rt: &impl Abort, got: Option<u32>, want: Option<u32>) {
+    assert_eq!(rt; got, want);
+}
+
+fn same_fault(rt: &impl Abort, got: Option<SectionFault>, want: Option<SectionFault>) {
+    assert_eq!(rt; got, want, "{want:?}");
+}
+
+fn same_object_fault(rt: &impl Abort, got: Option<ObjectFault>, want: Option<ObjectFault>) {
+    assert_eq!(rt; got, want, "{want:?}");
 }
 
 /// Checks the sections of `LICENSE_OBJECT`.
 fn expect_sections(rt: &impl Abort, sections: &Sections) {
     assert_eq!(rt; sections.section_count(), 3);
-    assert_eq!(rt; sections.section_named(b".modinfo"), Some(1));
-    assert_eq!(rt; sections.section_named(b".text"), None);
+    same_place(rt, sections.section_named(b".modinfo"), Some(1));
+    same_place(rt, sections.section_named(b".text"), None);
     let texts = sections.section(1);
-    assert_eq!(rt; texts.name.as_bytes(), b".modinfo".as_slice());
-    assert_eq!(rt;
-        (texts.kind, texts.flags, texts.offset, texts.size),
-        (1, 2, 64, 12)
-    );
-    assert_eq!(rt;
-        (texts.link, texts.info, texts.align, texts.kept),
-        (0, 0, 1, false)
-    );
-    assert_eq!(rt; sections.section_bytes(1), b"license=GPL\0".as_slice());
-    assert_eq!(rt; sections.section_bytes(0), b"".as_slice());
+    same(rt, texts.name.as_bytes(), b".modinfo");
+    let numbers = [texts.kind as u64, texts.flags, texts.offset, texts.size];
+    same_numbers(rt, numbers, [1, 2, 64, 12]);
+    let numbers = [
+        texts.link as u64,
+        texts.info as u64,
+        texts.align,
+        texts.kept as u64,
+    ];
+    same_numbers(rt, numbers, [0, 0, 1, 0]);
+    same(rt, sections.section_bytes(1), b"license=GPL\0");
+    same(rt, sections.section_bytes(0), b"");
+}
+
+/// Returns the fault of the first bytes of `LICENSE_OBJECT`.
+fn fault_of_start(length: usize) -> SectionFault {
+    match length {
+        0..4 => SectionFault::NotElf,
+        4..64 => SectionFault::Truncated {
+            offset: 0,
+            need: 64,
+        },
+        _ => SectionFault::Truncated {
+            offset: 96,
+            need: 192,
+        },
+    }
 }
 
 /// Checks that each shorter file is refused.
-fn expect_prefixes_refused(rt: &impl Abort, alloc: Global) {
-    for n in 0..288 {
-        let fault = match n {
-            0..4 => SectionFault::NotElf,
-            4..64 => SectionFault::Truncated {
-                offset: 0,
-                need: 64,
-            },
-            _ => SectionFault::Truncated {
-                offset: 96,
-                need: 192,
-            },
-        };
-        let answer = sections_of(alloc, n, &[]);
-        assert_eq!(rt; answer.err(), Some(fault), "the first {n} bytes");
+fn expect_starts_refused(rt: &impl Abort, alloc: Global) {
+    for length in 0..288 {
+        let got = fault_of_sections(alloc, length, &[]);
+        let want = Some(fault_of_start(length));
+        assert!(rt; got == want, "the first {length} bytes");
     }
 }
 
@@ -176,15 +220,13 @@ static SECTION_FAULTS: [(Changes, SectionFault); 12] = [
 ];
 
 #[test]
-fn sections_are_read_or_refused(rt: HostRuntime) -> Result<(), Fail> {
+fn sections_are_read_or_refused(rt: HostRuntime) {
     let alloc = rt.alloc();
-    expect_sections(&rt, &sections_of(alloc, 288, &[])?);
-    expect_prefixes_refused(&rt, alloc);
-    for (changes, fault) in SECTION_FAULTS {
-        let answer = sections_of(alloc, 288, changes);
-        assert_eq!(rt; answer.err(), Some(fault), "{fault:?}");
+    expect_sections(&rt, &sections_of(alloc, 288, &[]).expect(&rt, "sections"));
+    expect_starts_refused(&rt, alloc);
+    for (changes, fault) in &SECTION_FAULTS {
+        same_fault(&rt, fault_of_sections(alloc, 288, changes), Some(*fault));
     }
-    Ok(())
 }
 
 /// Names of a section, and whether it is kept. Names for the loading aren't.
@@ -198,12 +240,19 @@ static NAMES: [(&[u8], bool); 6] = [
 ];
 
 /// Returns the sections of `CODE` with another name of the first.
-fn renamed(alloc: Global, name: &[u8]) -> Result<Sections, SectionFault> {
-    let mut bytes = Vec::from_slice(alloc, &CODE)?;
+fn renamed(rt: &impl Abort, alloc: Global, name: &[u8]) -> Sections {
+    let mut bytes = Vec::from_slice(alloc, &CODE).expect(rt, "bytes");
     for (byte, new) in bytes.iter_mut().skip(209).zip(name) {
         *byte = *new;
     }
-    Sections::read(alloc, Blob::from_vec(bytes))
+    Sections::read(alloc, Blob::from_vec(bytes)).expect(rt, "sections")
+}
+
+/// Checks whether a section of this name is kept.
+fn expect_kept(rt: &impl Abort, alloc: Global, name: &[u8], kept: bool) {
+    let sections = renamed(rt, alloc, name);
+    assert_eq!(rt; sections.section_count(), 6);
+    assert!(rt; sections.section(1).kept == kept, "{name:?}");
 }
 
 /// The symbols of `CODE`: their names, bindings, sections and values.
@@ -231,52 +280,69 @@ static PLACES: [RelaPlace; 2] = [
     },
 ];
 
-/// Checks the parts of `CODE`.
-fn expect_object(rt: &impl Abort, object: &Object) {
+/// Checks the sections of `CODE`.
+fn expect_parts(rt: &impl Abort, object: &Object) {
     assert_eq!(rt; object.section_count(), 6);
-    assert_eq!(rt; object.section_named(b".rela.text"), Some(2));
+    same_place(rt, object.section_named(b".rela.text"), Some(2));
     assert!(rt; object.section(1).kept && !object.section(2).kept);
-    assert_eq!(rt; object.section_bytes(4), b"\0f\0g\0\0\0\0".as_slice());
+    same(rt, object.section_bytes(4), b"\0f\0g\0\0\0\0");
+}
+
+/// Checks the symbols of `CODE`.
+fn expect_symbols(rt: &impl Abort, object: &Object) {
     assert_eq!(rt; object.symbol_count(), 3);
     for i in 0..3 {
         let (name, binding, section, value) = SYMBOLS[i as usize];
         let symbol = object.symbol(i);
-        assert_eq!(rt; symbol.name.as_bytes(), name);
-        assert_eq!(rt;
-            (symbol.binding, symbol.section, symbol.value),
-            (binding, section, value)
-        );
+        same(rt, symbol.name.as_bytes(), name);
+        let numbers = [
+            symbol.binding as u64,
+            symbol.section as u64,
+            symbol.value,
+            0,
+        ];
+        same_numbers(rt, numbers, [binding as u64, section as u64, value, 0]);
     }
+}
+
+/// Checks the places of `CODE`.
+fn expect_places(rt: &impl Abort, object: &Object) {
     assert_eq!(rt; object.place_count(), 2);
-    assert_eq!(rt; *object.place(0), PLACES[0]);
-    assert_eq!(rt; *object.place(1), PLACES[1]);
+    for i in 0..2 {
+        assert_eq!(rt; *object.place(i), PLACES[i as usize]);
+    }
 }
 
 /// Checks that a view shows the sections and the symbols of `CODE`.
 fn expect_shown(rt: &impl Abort, view: &ObjectView) {
     assert_eq!(rt; view.section_count(), 6);
-    assert_eq!(rt; view.section_named(b".rela.text"), Some(2));
+    same_place(rt, view.section_named(b".rela.text"), Some(2));
     assert!(rt; view.section(1).kept && !view.section(2).kept);
-    assert_eq!(rt; view.section_bytes(4), b"\0f\0g\0\0\0\0".as_slice());
+    same(rt, view.section_bytes(4), b"\0f\0g\0\0\0\0");
     assert_eq!(rt; view.symbol_count(), 3);
     let symbol = view.symbol(1);
-    assert_eq!(rt; symbol.name, b"f".as_slice());
-    assert_eq!(rt; (symbol.binding, symbol.section, symbol.value), (1, 1, 4));
+    same(rt, symbol.name, b"f");
+    let numbers = [
+        symbol.binding as u64,
+        symbol.section as u64,
+        symbol.value,
+        0,
+    ];
+    same_numbers(rt, numbers, [1, 1, 4, 0]);
 }
 
 #[test]
-fn objects_are_read_and_viewed(rt: HostRuntime) -> Result<(), Fail> {
+fn objects_are_read_and_viewed(rt: HostRuntime) {
     let alloc = rt.alloc();
-    for (name, kept) in NAMES {
-        let sections = renamed(alloc, name)?;
-        assert_eq!(rt; sections.section_count(), 6);
-        assert_eq!(rt; sections.section(1).kept, kept, "{name:?}");
+    for (name, kept) in &NAMES {
+        expect_kept(&rt, alloc, name, *kept);
     }
-    let object = object_of(alloc, &[])?;
-    expect_object(&rt, &object);
-    expect_shown(&rt, &view_of(alloc)?);
-    expect_shown(&rt, &object.view(alloc)?);
-    Ok(())
+    let object = object_of(alloc, &[]).expect(&rt, "an object");
+    expect_parts(&rt, &object);
+    expect_symbols(&rt, &object);
+    expect_places(&rt, &object);
+    expect_shown(&rt, &view_of(&rt, alloc));
+    expect_shown(&rt, &view_of_object(&rt, alloc, &object));
 }
 
 /// Changes of `CODE`, and the fault that each is refused with, if any.
@@ -439,19 +505,25 @@ static TEXTS: [(ObjectFault, &[u8]); 17] = [
     (ObjectFault::Memory, b"out of memory"),
 ];
 
+/// Returns the text of a fault.
+fn text_of(rt: &impl Abort, alloc: Global, fault: &ObjectFault) -> Blob {
+    fault.text(alloc).expect(rt, "a text")
+}
+
+/// Checks the text of the fault of sections that no fault of an object has.
+fn expect_no_memory(rt: &impl Abort, alloc: Global) {
+    let text = SectionFault::Memory.text(alloc).expect(rt, "a text");
+    same(rt, text.as_bytes(), b"out of memory");
+}
+
 #[test]
-fn faults_are_named_and_have_texts(rt: HostRuntime) -> Result<(), Fail> {
+fn faults_are_named_and_have_texts(rt: HostRuntime) {
     let alloc = rt.alloc();
-    for (changes, fault) in OBJECT_FAULTS {
-        let answer = object_of(alloc, changes);
-        assert_eq!(rt; answer.err(), fault, "{fault:?}");
+    for (changes, fault) in &OBJECT_FAULTS {
+        same_object_fault(&rt, fault_of_object(alloc, changes), *fault);
     }
-    for (fault, text) in TEXTS {
-        assert_eq!(rt; fault.text(alloc)?.as_bytes(), text);
+    for (fault, text) in &TEXTS {
+        same(&rt, text_of(&rt, alloc, fault).as_bytes(), text);
     }
-    assert_eq!(rt;
-        SectionFault::Memory.text(alloc)?.as_bytes(),
-        b"out of memory".as_slice()
-    );
-    Ok(())
+    expect_no_memory(&rt, alloc);
 }

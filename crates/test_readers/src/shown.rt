@@ -2,8 +2,8 @@
 use km_names::{Blob, Name, PathText};
 use modinfo_fields::fields;
 use modinfo_tool::{ShowOptions, show};
-use std::alloc::{AllocError, Global};
-use std::test::Fail;
+use std::alloc::Global;
+use std::process::Abort;
 
 /// The fields of a module with two parameters, one of them without a text.
 const TWO_PARAMETERS: &[u8] =
@@ -84,26 +84,26 @@ static SHOWN: [(&[u8], &[u8], Option<&[u8]>, bool, &[u8]); 12] = [
 ];
 
 fn shown(
+    rt: &impl Abort,
     alloc: Global,
     path: &[u8],
     section: &[u8],
     key: Option<&[u8]>,
     zero: bool,
-) -> Result<Blob, AllocError> {
+) -> Blob {
     let field = match key {
-        Some(key) => Some(Name::from_slice(alloc, key)?),
+        Some(key) => Some(Name::from_slice(alloc, key).expect(rt, "a key")),
         None => None,
     };
-    let path = PathText::from_slice(alloc, path)?;
-    let fields = fields(alloc, section)?;
-    show(alloc, &path, &fields, &ShowOptions { field, zero })
+    let path = PathText::from_slice(alloc, path).expect(rt, "a path");
+    let fields = fields(alloc, section).expect(rt, "fields");
+    show(alloc, &path, &fields, &ShowOptions { field, zero }).expect(rt, "shown")
 }
 
 #[test]
-fn texts_are_shown_byte_for_byte(rt: HostRuntime) -> Result<(), Fail> {
-    for (path, section, key, zero, want) in SHOWN {
-        let text = shown(rt.alloc(), path, section, key, zero)?;
-        assert_eq!(rt; text.as_bytes(), want);
+fn texts_are_shown_byte_for_byte(rt: HostRuntime) {
+    for (path, section, key, zero, want) in &SHOWN {
+        let text = shown(&rt, rt.alloc(), path, section, *key, *zero);
+        assert_eq!(rt; text.as_bytes(), *want);
     }
-    Ok(())
 }

@@ -7,25 +7,22 @@ use km_names::{Blob, Name, Names, PathText, Texts};
 use module_facts::{Export, Exports, Facts, Need, Needs};
 use provider_rel::{Kernel, Relation, TreeFacts};
 use std::alloc::{AllocError, Global};
-use std::test::Fail;
+use std::process::Abort;
 
 /// An index without keys.
 const NO_KEYS: &[u8] = b"\xb0\x07\xf4\x57\x00\x02\x00\x01\x00\x00\x00\x0c";
 
 /// Returns the files of a tree over a kernel that exports nothing.
-fn files(alloc: Global, tree: &TreeFacts, builtin: &[u8]) -> Result<OutputFiles, Fail>
+fn files(rt: &impl Abort, alloc: Global, tree: &TreeFacts, builtin: &[u8]) -> OutputFiles
     requires { IsTree tree.now }
 {
     let Ok(kernel) = Kernel::from_symvers(alloc, b"") else {
-        return Err(Fail::from("no kernel"));
+        panic!(rt; "no kernel");
     };
     let Ok(relation) = Relation::make(alloc, tree, &kernel) else {
-        return Err(Fail::from("no relation"));
+        panic!(rt; "no relation");
     };
-    match outputs(alloc, &relation, tree, builtin) {
-        Ok(files) => Ok(files),
-        Err(_) => Err(Fail::from("no files")),
-    }
+    outputs(alloc, &relation, tree, builtin).expect(rt, "files")
 }
 
 /// Returns the list of some texts.
@@ -81,76 +78,87 @@ fn tree_of_one(alloc: Global, facts: Facts) -> Result<TreeFacts, AllocError>
     Ok(tree)
 }
 
-#[test]
-fn the_files_of_no_module(rt: HostRuntime) -> Result<(), Fail> {
-    let tree = TreeFacts::new(rt.alloc());
-    let files = files(rt.alloc(), &tree, b"")?;
-    for (file, bytes) in [
-        (OutputFile::Dep, b"".as_slice()),
-        (OutputFile::DepBin, NO_KEYS),
-        (
-            OutputFile::Alias,
-            b"# Aliases extracted from modules themselves.\n",
-        ),
-        (OutputFile::AliasBin, NO_KEYS),
-        (
-            OutputFile::Softdep,
-            b"# Soft dependencies extracted from modules themselves.\n",
-        ),
-        (
-            OutputFile::Symbols,
-            b"# Aliases for symbols, used by symbol_request().\n",
-        ),
-        (OutputFile::SymbolsBin, NO_KEYS),
-        (OutputFile::BuiltinBin, NO_KEYS),
-        (OutputFile::Unmet, b""),
-    ] {
-        assert_eq!(rt; files.content(file), bytes, "{file:?}");
+/// The files of no module.
+static OF_NO_MODULE: [(OutputFile, &[u8]); 9] = [
+    (OutputFile::Dep, b""),
+    (OutputFile::DepBin, NO_KEYS),
+    (
+        OutputFile::Alias,
+        b"# Aliases extracted from modules themselves.\n",
+    ),
+    (OutputFile::AliasBin, NO_KEYS),
+    (
+        OutputFile::Softdep,
+        b"# Soft dependencies extracted from modules themselves.\n",
+    ),
+    (
+        OutputFile::Symbols,
+        b"# Aliases for symbols, used by symbol_request().\n",
+    ),
+    (OutputFile::SymbolsBin, NO_KEYS),
+    (OutputFile::BuiltinBin, NO_KEYS),
+    (OutputFile::Unmet, b""),
+];
+
+/// The files of one module, and of two built-in modules.
+static OF_ONE_MODULE: [(OutputFile, &[u8]); 9] = [
+    (OutputFile::Dep, b"kernel/a.ko:\n"),
+    (
+        OutputFile::DepBin,
+        b"\xb0\x07\xf4\x57\x00\x02\x00\x01\x20\x00\x00\x21\x00\x00\x00\x01\x00\x00\x00\x00kernel/a.ko:\x00aa\x40\x00\x00\x0c",
+    ),
+    (
+        OutputFile::Alias,
+        b"# Aliases extracted from modules themselves.\nalias pci-x:v0000[!a-f]d* a\n",
+    ),
+    (
+        OutputFile::AliasBin,
+        b"\xb0\x07\xf4\x57\x00\x02\x00\x01\x20\x00\x00\x29ci_x:v0000[!a-f]d*\x00\x00\x00\x00\x01\x00\x00\x00\x00a\x00pp\xc0\x00\x00\x0c",
+    ),
+    (
+        OutputFile::Softdep,
+        b"# Soft dependencies extracted from modules themselves.\nsoftdep a pre: b-c\n",
+    ),
+    (
+        OutputFile::Symbols,
+        b"# Aliases for symbols, used by symbol_request().\nalias symbol:fa a\n",
+    ),
+    (
+        OutputFile::SymbolsBin,
+        b"\xb0\x07\xf4\x57\x00\x02\x00\x01\x20\x00\x00\x1fymbol:fa\x00\x00\x00\x00\x01\x00\x00\x00\x00a\x00ss\xc0\x00\x00\x0c",
+    ),
+    (
+        OutputFile::BuiltinBin,
+        b"\xb0\x07\xf4\x57\x00\x02\x00\x01\x20\x00\x00\x18_c\x00\x00\x00\x00\x01\x00\x00\x00\x00\x00bb\xc0\x00\x00\x0c",
+    ),
+    (OutputFile::Unmet, b"missing kernel/a.ko nosuch\n"),
+];
+
+/// Compares the files of a table.
+fn expect_files(rt: &impl Abort, files: &OutputFiles, rows: &[(OutputFile, &[u8])]) {
+    for (file, bytes) in rows {
+        assert_eq!(rt; files.content(*file), *bytes, "{file:?}");
     }
-    Ok(())
+}
+
+fn expect_no_module(rt: &impl Abort, alloc: Global) {
+    let tree = TreeFacts::new(alloc);
+    expect_files(rt, &files(rt, alloc, &tree, b""), &OF_NO_MODULE);
+}
+
+fn expect_one_module(rt: &impl Abort, alloc: Global) {
+    let Ok(facts) = facts(alloc) else {
+        panic!(rt; "no memory");
+    };
+    let Ok(tree) = tree_of_one(alloc, facts) else {
+        panic!(rt; "no memory");
+    };
+    let builtin = b"kernel/lib/b-c.ko\n\nkernel/b_c.ko\nkernel/a a.ko";
+    expect_files(rt, &files(rt, alloc, &tree, builtin), &OF_ONE_MODULE);
 }
 
 #[test]
-fn the_files_of_one_module(rt: HostRuntime) -> Result<(), Fail> {
-    let tree = tree_of_one(rt.alloc(), facts(rt.alloc())?)?;
-    let files = files(
-        rt.alloc(),
-        &tree,
-        b"kernel/lib/b-c.ko\n\nkernel/b_c.ko\nkernel/a a.ko",
-    )?;
-    for (file, bytes) in [
-        (OutputFile::Dep, b"kernel/a.ko:\n".as_slice()),
-        (
-            OutputFile::DepBin,
-            b"\xb0\x07\xf4\x57\x00\x02\x00\x01\x20\x00\x00\x21\x00\x00\x00\x01\x00\x00\x00\x00kernel/a.ko:\x00aa\x40\x00\x00\x0c",
-        ),
-        (
-            OutputFile::Alias,
-            b"# Aliases extracted from modules themselves.\nalias pci-x:v0000[!a-f]d* a\n",
-        ),
-        (
-            OutputFile::AliasBin,
-            b"\xb0\x07\xf4\x57\x00\x02\x00\x01\x20\x00\x00\x29ci_x:v0000[!a-f]d*\x00\x00\x00\x00\x01\x00\x00\x00\x00a\x00pp\xc0\x00\x00\x0c",
-        ),
-        (
-            OutputFile::Softdep,
-            b"# Soft dependencies extracted from modules themselves.\nsoftdep a pre: b-c\n",
-        ),
-        (
-            OutputFile::Symbols,
-            b"# Aliases for symbols, used by symbol_request().\nalias symbol:fa a\n",
-        ),
-        (
-            OutputFile::SymbolsBin,
-            b"\xb0\x07\xf4\x57\x00\x02\x00\x01\x20\x00\x00\x1fymbol:fa\x00\x00\x00\x00\x01\x00\x00\x00\x00a\x00ss\xc0\x00\x00\x0c",
-        ),
-        (
-            OutputFile::BuiltinBin,
-            b"\xb0\x07\xf4\x57\x00\x02\x00\x01\x20\x00\x00\x18_c\x00\x00\x00\x00\x01\x00\x00\x00\x00\x00bb\xc0\x00\x00\x0c",
-        ),
-        (OutputFile::Unmet, b"missing kernel/a.ko nosuch\n"),
-    ] {
-        assert_eq!(rt; files.content(file), bytes, "{file:?}");
-    }
-    Ok(())
+fn the_files_of_small_trees(rt: HostRuntime) {
+    expect_no_module(&rt, rt.alloc());
+    expect_one_module(&rt, rt.alloc());
 }

@@ -3,10 +3,11 @@ ghost use Rattle.provider_rel.specs.Tree.{IsTree, IsTreeModule};
 
 use km_names::{FILE_LIMIT, Name, Names, PathText, Texts};
 use module_facts::{Exports, Facts, Need, Needs};
-use provider_rel::{Kernel, KernelFault, Provider, Relation, TreeFacts, Unbound, agree};
+use provider_rel::{
+    Kernel, KernelExport, KernelFault, Provider, Relation, TreeFacts, Unbound, agree,
+};
 use std::alloc::{AllocError, Global};
 use std::process::Abort;
-use std::test::Fail;
 
 // Each call is in a function of its own that promises nothing.
 
@@ -35,62 +36,70 @@ static SYMVERS: &[u8] =
 /// A System.map with two addresses of one name.
 static MAP: &[u8] = b"ffffffff81000000 T printk\nffffffff82000000 r __ksymtab_printk\n1 t printk";
 
-/// Checks the exports of a Module.symvers, and then an address.
-fn expect_symvers(rt: &impl Abort, alloc: Global) -> Result<(), Fail> {
-    let Ok(mut kernel) = kernel_of_symvers(alloc, SYMVERS) else {
-        panic!(rt; "refused");
-    };
+fn same(rt: &impl Abort, got: &[u8], want: &[u8]) {
+    assert_eq!(rt; got, want);
+}
+
+fn same_crc(rt: &impl Abort, got: Option<u64>, want: Option<u64>) {
+    assert_eq!(rt; got, want);
+}
+
+/// Returns an export of a kernel.
+fn export<'a>(rt: &impl Abort, kernel: &'a Kernel, place: usize) -> &'a KernelExport {
+    kernel.exports.get(place).expect(rt, "an export")
+}
+
+/// Checks the exports of a Module.symvers.
+fn expect_exports(rt: &impl Abort, kernel: &Kernel) {
     assert!(rt; kernel.known);
-    assert_eq!(rt; kernel.exports.len(), 2);
-    let first = kernel.exports.get(0).ok_or("no first export")?;
-    assert_eq!(rt; first.name.as_bytes(), b"printk".as_slice());
-    assert_eq!(rt; first.crc, Some(0x1111_1111));
+    assert!(rt; kernel.exports.len() == 2);
+    let first = export(rt, kernel, 0);
+    same(rt, first.name.as_bytes(), b"printk");
+    same_crc(rt, first.crc, Some(0x1111_1111));
     assert!(rt; !first.gpl);
-    let second = kernel.exports.get(1).ok_or("no second export")?;
-    assert_eq!(rt; second.crc, Some(0xab));
+    let second = export(rt, kernel, 1);
+    same_crc(rt, second.crc, Some(0xab));
     assert!(rt; second.gpl);
-    assert_eq!(rt; second.space.as_bytes(), b"NS".as_slice());
-    assert_eq!(rt; second.address, None);
+    same(rt, second.space.as_bytes(), b"NS");
+    same_crc(rt, second.address, None);
+}
+
+/// Checks the exports of a Module.symvers, and then an address.
+fn expect_symvers(rt: &impl Abort, alloc: Global) {
+    let mut kernel = kernel_of_symvers(alloc, SYMVERS).expect(rt, "a kernel");
+    expect_exports(rt, &kernel);
     assert!(rt; is_added(&mut kernel, b"10 t fb\n20 T fb\n"));
-    let second = kernel.exports.get(1).ok_or("no second export")?;
-    assert_eq!(rt; second.address, Some(0x20));
-    Ok(())
+    same_crc(rt, export(rt, &kernel, 1).address, Some(0x20));
 }
 
 /// Checks the export of a System.map.
-fn expect_map(rt: &impl Abort, alloc: Global) -> Result<(), Fail> {
-    let Ok(kernel) = kernel_of_map(alloc, MAP) else {
-        panic!(rt; "refused");
-    };
+fn expect_map(rt: &impl Abort, alloc: Global) {
+    let kernel = kernel_of_map(alloc, MAP).expect(rt, "a kernel");
     assert!(rt; kernel.known);
-    assert_eq!(rt; kernel.exports.len(), 1);
-    let export = kernel.exports.get(0).ok_or("no export")?;
-    assert_eq!(rt; export.name.as_bytes(), b"printk".as_slice());
-    assert_eq!(rt; export.address, Some(0xffff_ffff_8100_0000));
-    assert_eq!(rt; export.crc, None);
-    Ok(())
+    assert!(rt; kernel.exports.len() == 1);
+    let export = export(rt, &kernel, 0);
+    same(rt, export.name.as_bytes(), b"printk");
+    same_crc(rt, export.address, Some(0xffff_ffff_8100_0000));
+    same_crc(rt, export.crc, None);
 }
 
-/// Checks the first line that is refused.
-fn expect_refused(rt: &impl Abort, alloc: Global) {
-    match kernel_of_map(alloc, b"1 T a\n\n2  T b\n3 T") {
-        Err(KernelFault::BadKernelLine { line }) => assert_eq!(rt; line, 3),
-        _ => panic!(rt; "not refused"),
-    }
-    match kernel_of_symvers(alloc, b"1\ta\tvmlinux\n") {
-        Err(KernelFault::BadKernelLine { line }) => assert_eq!(rt; line, 1),
+/// Checks the number of the first bad line.
+fn expect_bad_line(rt: &impl Abort, answer: Result<Kernel, KernelFault>, number: u32) {
+    match answer {
+        Err(KernelFault::BadKernelLine { line }) => assert!(rt; line == number),
         _ => panic!(rt; "not refused"),
     }
 }
 
 #[test]
-fn tables_of_kernels(rt: HostRuntime) -> Result<(), Fail> {
+fn tables_of_kernels(rt: HostRuntime) {
+    let alloc = rt.alloc();
     assert!(rt; agree(Some(0x1234_5678), None));
     assert!(rt; !agree(Some(0x1_1234_5678), Some(0x1234_5678)));
-    expect_symvers(&rt, rt.alloc())?;
-    expect_map(&rt, rt.alloc())?;
-    expect_refused(&rt, rt.alloc());
-    Ok(())
+    expect_symvers(&rt, alloc);
+    expect_map(&rt, alloc);
+    expect_bad_line(&rt, kernel_of_map(alloc, b"1 T a\n\n2  T b\n3 T"), 3);
+    expect_bad_line(&rt, kernel_of_symvers(alloc, b"1\ta\tvmlinux\n"), 1);
 }
 
 // Returns the facts of a module that exports nothing and needs `nosuch`.
@@ -126,45 +135,49 @@ fn tree_of_one(alloc: Global, facts: Facts) -> Result<TreeFacts, AllocError>
     Ok(tree)
 }
 
-// Returns the relation of a tree, over an unknown kernel, or one that exports `printk`.
-fn related(alloc: Global, tree: &TreeFacts, is_known: bool) -> Result<Relation, Fail>
+// Returns the relation of a tree over a kernel.
+fn related(rt: &impl Abort, alloc: Global, tree: &TreeFacts, kernel: &Kernel) -> Relation
     requires { IsTree tree.now }
 {
-    let kernel = if is_known {
-        kernel_of_symvers(alloc, b"0x1\tprintk\tvmlinux\n")
-            .ok()
-            .ok_or("no kernel")?
-    } else {
-        Kernel::unknown(alloc)
-    };
-    Ok(
-        Relation::make(alloc, tree, &kernel)
-            .ok()
-            .ok_or("no relation")?,
-    )
+    Relation::make(alloc, tree, kernel).expect(rt, "a relation")
 }
 
 // Checks that a need that nobody provides has a line.
 fn expect_missing(rt: &impl Abort, relation: &Relation) {
-    assert_eq!(rt; relation.provider(b"printk"), Provider::Kernel);
-    assert_eq!(rt; relation.provider(b"nosuch"), Provider::Nobody);
-    assert_eq!(rt; relation.obstacles().len(), 1);
+    assert!(rt; relation.provider(b"printk") == Provider::Kernel);
+    assert!(rt; relation.provider(b"nosuch") == Provider::Nobody);
+    assert!(rt; relation.obstacles().len() == 1);
     match relation.obstacles().get(0) {
         Some(Unbound::Missing { path, symbol }) => {
-            assert_eq!(rt; path.as_bytes(), b"kernel/n.ko".as_slice());
-            assert_eq!(rt; symbol.as_bytes(), b"nosuch".as_slice());
+            same(rt, path.as_bytes(), b"kernel/n.ko");
+            same(rt, symbol.as_bytes(), b"nosuch");
         }
         _ => panic!(rt; "another line"),
     }
 }
 
+// Checks no module over a kernel that isn't known.
+fn expect_unknown(rt: &impl Abort, alloc: Global) {
+    let tree = TreeFacts::new(alloc);
+    let none = related(rt, alloc, &tree, &Kernel::unknown(alloc));
+    assert!(rt; none.provider(b"printk") == Provider::Kernel);
+    assert!(rt; none.obstacles().len() == 0);
+}
+
+// Checks one module over a kernel that exports `printk`.
+fn expect_known(rt: &impl Abort, alloc: Global) {
+    let Ok(facts) = needing(alloc) else {
+        panic!(rt; "no memory");
+    };
+    let Ok(tree) = tree_of_one(alloc, facts) else {
+        panic!(rt; "no memory");
+    };
+    let kernel = kernel_of_symvers(alloc, b"0x1\tprintk\tvmlinux\n").expect(rt, "a kernel");
+    expect_missing(rt, &related(rt, alloc, &tree, &kernel));
+}
+
 #[test]
-fn needs_and_their_providers(rt: HostRuntime) -> Result<(), Fail> {
-    let alloc = rt.alloc();
-    let none = related(alloc, &TreeFacts::new(alloc), false)?;
-    assert_eq!(rt; none.provider(b"printk"), Provider::Kernel);
-    assert_eq!(rt; none.obstacles().len(), 0);
-    let tree = tree_of_one(alloc, needing(alloc)?)?;
-    expect_missing(&rt, &related(alloc, &tree, true)?);
-    Ok(())
+fn needs_and_their_providers(rt: HostRuntime) {
+    expect_unknown(&rt, rt.alloc());
+    expect_known(&rt, rt.alloc());
 }

@@ -3,7 +3,7 @@ ghost use Rattle.relation_order.specs.Search.{Inside};
 
 use relation_order::{Closures, OrderOrCycle, all_members, order_or_cycle, reachable};
 use std::alloc::{AllocError, Global};
-use std::test::Fail;
+use std::process::Abort;
 
 // Returns as many lists. Each pair adds its second to the list of its first, if both are items.
 fn lists(
@@ -61,52 +61,86 @@ static ROWS: [(usize, &[(usize, usize)], bool, &[usize]); 6] = [
     ),
 ];
 
-#[test]
-fn orders_and_cycles(rt: HostRuntime) -> Result<(), Fail> {
-    let alloc = rt.alloc();
-    for (count, pairs, ordered, want) in ROWS {
-        let lists = lists(alloc, count, pairs)?;
-        let members = all_members(alloc, count)?;
-        match order_or_cycle(alloc, &lists, &members)? {
-            OrderOrCycle::Order(order) => {
-                assert!(rt; ordered);
-                assert_eq!(rt; order.as_slice(), want);
-            }
-            OrderOrCycle::Cycle(cycle) => {
-                assert!(rt; !ordered);
-                assert_eq!(rt; cycle.as_slice(), want);
-            }
+fn same(rt: &impl Abort, got: &[usize], want: &[usize]) {
+    assert_eq!(rt; got, want);
+}
+
+// Returns the order or the cycle of the lists of a row.
+fn found(rt: &impl Abort, alloc: Global, count: usize, pairs: &[(usize, usize)]) -> OrderOrCycle {
+    let Ok(lists) = lists(alloc, count, pairs) else {
+        panic!(rt; "no memory");
+    };
+    let Ok(members) = all_members(alloc, count) else {
+        panic!(rt; "no memory");
+    };
+    match order_or_cycle(alloc, &lists, &members) {
+        Ok(found) => found,
+        Err(_) => panic!(rt; "no memory"),
+    }
+}
+
+// Compares an order or a cycle.
+fn expect_found(rt: &impl Abort, found: &OrderOrCycle, ordered: bool, want: &[usize]) {
+    match found {
+        OrderOrCycle::Order(order) => {
+            assert!(rt; ordered);
+            same(rt, order.as_slice(), want);
+        }
+        OrderOrCycle::Cycle(cycle) => {
+            assert!(rt; !ordered);
+            same(rt, cycle.as_slice(), want);
         }
     }
-    Ok(())
 }
 
 #[test]
-fn members_alone_count(rt: HostRuntime) -> Result<(), Fail> {
-    let alloc = rt.alloc();
-    let lists = lists(alloc, 6, ROWS[1].1)?;
+fn orders_and_cycles(rt: HostRuntime) {
+    for (count, pairs, ordered, want) in &ROWS {
+        let found = found(&rt, rt.alloc(), *count, pairs);
+        expect_found(&rt, &found, *ordered, want);
+    }
+}
+
+fn expect_reachable(rt: &impl Abort, alloc: Global) {
+    let Ok(lists) = lists(alloc, 6, ROWS[1].1) else {
+        panic!(rt; "no memory");
+    };
     let members = [true, false, true, true, true, false];
-    let found = reachable(alloc, &lists, &members, 4)?;
-    assert_eq!(rt; found.as_slice(), [0, 2, 3].as_slice());
-    Ok(())
+    let Ok(found) = reachable(alloc, &lists, &members, 4) else {
+        panic!(rt; "no memory");
+    };
+    same(rt, found.as_slice(), &[0, 2, 3]);
 }
 
 // What each item of the second row reaches, in the order in which each follows those that it goes
 // to.
 static CLOSURES: [&[usize]; 6] = [&[2, 1, 3], &[2], &[], &[2], &[2, 1, 3, 0], &[]];
 
-#[test]
-fn closures_in_order(rt: HostRuntime) -> Result<(), Fail> {
-    let alloc = rt.alloc();
-    let lists = lists(alloc, 6, ROWS[1].1)?;
-    let members = all_members(alloc, 6)?;
-    let OrderOrCycle::Order(order) = order_or_cycle(alloc, &lists, &members)? else {
+fn expect_closures(rt: &impl Abort, alloc: Global) {
+    let Ok(lists) = lists(alloc, 6, ROWS[1].1) else {
+        panic!(rt; "no memory");
+    };
+    let Ok(members) = all_members(alloc, 6) else {
+        panic!(rt; "no memory");
+    };
+    let Ok(found) = order_or_cycle(alloc, &lists, &members) else {
+        panic!(rt; "no memory");
+    };
+    let OrderOrCycle::Order(order) = found else {
         panic!(rt; "a cycle");
     };
-    let closures = Closures::new(alloc, &lists, order)?;
-    assert_eq!(rt; closures.count(), 9);
+    let Ok(closures) = Closures::new(alloc, &lists, order) else {
+        panic!(rt; "no memory");
+    };
+    assert!(rt; closures.count() == 9);
     for x in 0..6 {
-        assert_eq!(rt; closures.closure(alloc, x)?.as_slice(), CLOSURES[x]);
+        let closure = closures.closure(alloc, x).expect(rt, "a closure");
+        same(rt, closure.as_slice(), CLOSURES[x]);
     }
-    Ok(())
+}
+
+#[test]
+fn members_and_closures(rt: HostRuntime) {
+    expect_reachable(&rt, rt.alloc());
+    expect_closures(&rt, rt.alloc());
 }

@@ -2,7 +2,7 @@ ghost use Rattle.std.specs.Prelude.{◌-◌, ◌==◌, ◌∷◌, [], if◌then�
 
 use plan_order::{Needed, Needs, PlanOrCycle, find_planned, plan_or_cycle};
 use std::alloc::{AllocError, Global};
-use std::test::Fail;
+use std::process::Abort;
 
 // Modules in a ring. Before each comes the one of the number below, before 0 the last. After each
 // comes the one that is as far from the last as it is from 0.
@@ -42,24 +42,46 @@ static ROWS: [(&[bool], usize, &[usize], Option<usize>); 4] = [
     (&[true], 0, &[0], None),
 ];
 
-#[test]
-fn plans_and_cycles(rt: HostRuntime) -> Result<(), Fail> {
-    let alloc = rt.alloc();
-    for (free, request, want, end) in ROWS {
-        let ring = Ring { count: free.len() };
-        assert!(rt; request < free.len());
-        let requests = vec![in alloc; vec![in alloc; request]?]?;
-        let planned = find_planned(alloc, &ring, free, &requests)?;
-        match plan_or_cycle(alloc, &planned, free, &requests)? {
-            PlanOrCycle::Plan(plan) => {
-                assert_eq!(rt; plan.order.as_slice(), want);
-                assert_eq!(rt; plan.ends.first().copied(), end);
-            }
-            PlanOrCycle::Cycle(cycle) => {
-                assert_eq!(rt; cycle.as_slice(), want);
-                assert!(rt; end.is_none());
-            }
+// Returns the plan or the cycle of one requested module of a ring.
+fn found(rt: &impl Abort, alloc: Global, free: &[bool], request: usize) -> PlanOrCycle {
+    let ring = Ring { count: free.len() };
+    assert!(rt; request < free.len());
+    let Ok(group) = vec![in alloc; request] else {
+        panic!(rt; "no memory");
+    };
+    let Ok(requests) = vec![in alloc; group] else {
+        panic!(rt; "no memory");
+    };
+    let Ok(planned) = find_planned(alloc, &ring, free, &requests) else {
+        panic!(rt; "no memory");
+    };
+    match plan_or_cycle(alloc, &planned, free, &requests) {
+        Ok(found) => found,
+        Err(_) => panic!(rt; "no memory"),
+    }
+}
+
+fn same(rt: &impl Abort, got: &[usize], want: &[usize]) {
+    assert_eq!(rt; got, want);
+}
+
+// Compares a plan with its first end, or a cycle.
+fn expect_found(rt: &impl Abort, found: &PlanOrCycle, want: &[usize], end: Option<usize>) {
+    match found {
+        PlanOrCycle::Plan(plan) => {
+            same(rt, plan.order.as_slice(), want);
+            assert!(rt; plan.ends.first().copied() == end);
+        }
+        PlanOrCycle::Cycle(cycle) => {
+            same(rt, cycle.as_slice(), want);
+            assert!(rt; end.is_none());
         }
     }
-    Ok(())
+}
+
+#[test]
+fn plans_and_cycles(rt: HostRuntime) {
+    for (free, request, want, end) in &ROWS {
+        expect_found(&rt, &found(&rt, rt.alloc(), free, *request), want, *end);
+    }
 }

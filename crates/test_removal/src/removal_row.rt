@@ -5,12 +5,11 @@ ghost use Rattle.km_names.specs.Limit.{file_limit};
 use crate::loaded::{ModuleRow, machine_of};
 use km_names::{Blob, ConfFiles, Name, Names};
 use model_loader::Machine;
-use model_unload::unload;
+use model_unload::{UnloadFault, unload};
 use modprobe_conf::{Rules, parse};
 use remove_plan::{RemoveFault, RemovePlan, RemoveStep, plan_removal};
 use std::alloc::{AllocError, Global};
 use std::process::Abort;
-use std::test::Fail;
 use test_objects::{RowFault, conf_file};
 
 /// Modules that are loaded, the names of the modules that are to be removed, and what is expected.
@@ -44,21 +43,19 @@ fn one_file(alloc: Global, text: &str) -> Result<ConfFiles, RowFault>
 }
 
 /// Returns the rules of a text.
-fn rules_of(alloc: Global, text: &str) -> Result<Rules, Fail> {
-    let files = one_file(alloc, text)?;
-    let rules = parse(alloc, &files)
-        .ok()
-        .ok_or("a line that wasn't understood")?;
-    Ok(rules)
+fn rules_of(rt: &impl Abort, alloc: Global, text: &str) -> Rules {
+    let files = one_file(alloc, text).expect(rt, "a file");
+    parse(alloc, &files).expect(rt, "rules that are understood")
 }
 
 /// Returns a list of names.
-fn names_of(alloc: Global, names: &[&'static str]) -> Result<Names, AllocError> {
+fn names_of(rt: &impl Abort, alloc: Global, names: &[&'static str]) -> Names {
     let mut list = Names::new(alloc);
     for name in names {
-        list.push(Name::from_slice(alloc, name.as_bytes())?)?;
+        let name = Name::from_slice(alloc, name.as_bytes()).expect(rt, "a name");
+        list.push(name).expect(rt, "names");
     }
-    Ok(list)
+    list
 }
 
 /// Adds a line of a word and a text.
@@ -82,12 +79,20 @@ fn push_steps(text: &mut Blob, plan: &RemovePlan) -> Result<(), AllocError> {
     Ok(())
 }
 
+/// Takes a module out. It promises nothing, so that no contract is carried along.
+pub(crate) fn take_out(machine: &mut Machine, name: &[u8]) -> Result<(), UnloadFault> {
+    unload(machine, name)
+}
+
 /// Takes the modules of the steps out of the machine. Returns whether that is all of the plan,
 /// which then runs no command.
 fn carry_out(rt: &impl Abort, machine: &mut Machine, plan: &RemovePlan) -> bool {
     for step in plan.as_slice() {
         match step {
-            RemoveStep::Rmmod { name } => assert_eq!(rt; unload(machine, name.as_bytes()), Ok(())),
+            RemoveStep::Rmmod { name } => take_out(machine, name.as_bytes()).expect(
+                rt,
+                "a removal",
+            ),
             RemoveStep::Command { .. } => return false,
         }
     }
@@ -103,18 +108,13 @@ fn push_left(text: &mut Blob, machine: &Machine) -> Result<(), AllocError> {
 }
 
 /// Returns the lines of a plan, and of what is left after it.
-fn lines_of(
-    rt: &impl Abort,
-    alloc: Global,
-    machine: &mut Machine,
-    plan: &RemovePlan,
-) -> Result<Blob, AllocError> {
+fn lines_of(rt: &impl Abort, alloc: Global, machine: &mut Machine, plan: &RemovePlan) -> Blob {
     let mut text = Blob::new(alloc);
-    push_steps(&mut text, plan)?;
+    push_steps(&mut text, plan).expect(rt, "steps");
     if carry_out(rt, machine, plan) {
-        push_left(&mut text, machine)?;
+        push_left(&mut text, machine).expect(rt, "what is left");
     }
-    Ok(text)
+    text
 }
 
 /// Returns the line of a fault.
@@ -130,23 +130,43 @@ fn fault_line(alloc: Global, fault: &RemoveFault) -> Result<Blob, AllocError> {
     Ok(text)
 }
 
-/// Returns what the removal of a row answers.
-fn answer_of(rt: &impl Abort, alloc: Global, row: &RemovalRow) -> Result<Blob, Fail> {
-    let mut machine = machine_of(rt, alloc, row.modules)?;
-    let rules = rules_of(alloc, row.rules)?;
-    let names = names_of(alloc, row.names)?;
-    let text = match plan_removal(alloc, &names, row.ignore_remove, &rules, &machine) {
-        Ok(plan) => lines_of(rt, alloc, &mut machine, &plan)?,
-        Err(fault) => fault_line(alloc, &fault)?,
-    };
-    Ok(text)
+/// Plans a removal. It promises nothing.
+fn planned(
+    alloc: Global,
+    names: &Names,
+    ignore_remove: bool,
+    rules: &Rules,
+    machine: &Machine,
+) -> Result<RemovePlan, RemoveFault> {
+    plan_removal(alloc, names, ignore_remove, rules, machine)
+}
+
+/// Returns what a removal answers.
+fn answer_of(
+    rt: &impl Abort,
+    alloc: Global,
+    machine: &mut Machine,
+    planned: &Result<RemovePlan, RemoveFault>,
+) -> Blob {
+    match planned {
+        Ok(plan) => lines_of(rt, alloc, machine, plan),
+        Err(fault) => fault_line(alloc, fault).expect(rt, "a line"),
+    }
+}
+
+/// Expects a removal to answer as its row says.
+fn expect_row(rt: &impl Abort, alloc: Global, row: &RemovalRow) {
+    let mut machine = machine_of(rt, alloc, row.modules);
+    let rules = rules_of(rt, alloc, row.rules);
+    let names = names_of(rt, alloc, row.names);
+    let planned = planned(alloc, &names, row.ignore_remove, &rules, &machine);
+    let answer = answer_of(rt, alloc, &mut machine, &planned);
+    assert_eq!(rt; answer.as_bytes(), row.want.as_bytes());
 }
 
 /// Expects each removal to answer as its row says.
-pub(crate) fn expect_rows(rt: &impl Abort, alloc: Global, rows: &[RemovalRow]) -> Result<(), Fail> {
+pub(crate) fn expect_rows(rt: &impl Abort, alloc: Global, rows: &[RemovalRow]) {
     for row in rows {
-        let answer = answer_of(rt, alloc, row)?;
-        assert_eq!(rt; answer.as_bytes(), row.want.as_bytes());
+        expect_row(rt, alloc, row);
     }
-    Ok(())
 }

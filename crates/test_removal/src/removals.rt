@@ -1,13 +1,11 @@
 //! Removals from machines of a few modules.
 
-use crate::loaded::{BASE, ModuleRow, machine_of, module_of};
-use crate::removal_row::{EMPTY, RemovalRow, expect_rows};
-use model_loader::{LoadFault, LoadedAt, Machine};
-use model_unload::{UnloadFault, unload};
-use module_facts::Module;
+use crate::loaded::{BASE, ModuleRow, load, machine_of, module_of};
+use crate::removal_row::{EMPTY, RemovalRow, expect_rows, take_out};
+use model_loader::Machine;
+use model_unload::UnloadFault;
 use std::alloc::Global;
 use std::process::Abort;
-use std::test::Fail;
 use test_objects::{EMPTY_SHEET, ExportRow, GIVES, MAY_NEED, NEEDS, NOTHING, NeedRow, SheetRow};
 
 /// A module that exports `fb` and needs `fa`.
@@ -174,51 +172,37 @@ static COMMANDS: [RemovalRow; 4] = [
 ];
 
 #[test]
-fn unused_modules_go_too(rt: HostRuntime) -> Result<(), Fail> {
-    expect_rows(&rt, rt.alloc(), &REMOVALS)
+fn removals_answer_as_their_rows(rt: HostRuntime) {
+    expect_rows(&rt, rt.alloc(), &REMOVALS);
+    expect_rows(&rt, rt.alloc(), &COMMANDS);
 }
 
-#[test]
-fn commands_are_chosen(rt: HostRuntime) -> Result<(), Fail> {
-    expect_rows(&rt, rt.alloc(), &COMMANDS)
-}
-
-// Each call is made by a function that promises nothing.
-
-/// Takes a module out by its name.
-fn take_out(machine: &mut Machine, name: &[u8]) -> Result<(), UnloadFault> {
-    unload(machine, name)
-}
-
-/// Loads a module.
-fn load(machine: &mut Machine, module: &Module) -> Result<LoadedAt, LoadFault> {
-    machine.load(module)
+fn same_answer(rt: &impl Abort, got: Result<(), UnloadFault>, want: Result<(), UnloadFault>) {
+    assert_eq!(rt; got, want);
 }
 
 /// Takes out `b` and then `a`, which it used.
 fn take_out_both(rt: &impl Abort, machine: &mut Machine) {
-    assert_eq!(rt; take_out(machine, b"x"), Err(UnloadFault::NotLoaded));
+    same_answer(rt, take_out(machine, b"x"), Err(UnloadFault::NotLoaded));
     let used = UnloadFault::InUse { user: 2 };
-    assert_eq!(rt; take_out(machine, b"a"), Err(used));
-    assert_eq!(rt; take_out(machine, b"b"), Ok(()));
-    assert_eq!(rt; take_out(machine, b"a"), Ok(()));
-    assert_eq!(rt; machine.module_count(), 1);
+    same_answer(rt, take_out(machine, b"a"), Err(used));
+    same_answer(rt, take_out(machine, b"b"), Ok(()));
+    same_answer(rt, take_out(machine, b"a"), Ok(()));
+    assert!(rt; machine.module_count() == 1);
 }
 
 /// Loads `a`, and returns where it lies.
-fn load_a(rt: &impl Abort, alloc: Global, machine: &mut Machine) -> Result<(u64, u64), Fail> {
-    let module = module_of(rt, alloc, "kernel/a.ko", &GIVES)?;
-    let at = load(machine, &module)?;
-    Ok((at.base, at.size))
+fn load_a(rt: &impl Abort, alloc: Global, machine: &mut Machine) -> (u64, u64) {
+    let at = load(rt, machine, &module_of(rt, alloc, "kernel/a.ko", &GIVES));
+    (at.base, at.size)
 }
 
 /// Expects a machine without what was taken out to take it in again, at the same place.
 #[test]
-fn modules_are_taken_out(rt: HostRuntime) -> Result<(), Fail> {
+fn modules_are_taken_out(rt: HostRuntime) {
     let alloc = rt.alloc();
-    let mut machine = machine_of(&rt, alloc, THREE)?;
+    let mut machine = machine_of(&rt, alloc, THREE);
     take_out_both(&rt, &mut machine);
-    let again = load_a(&rt, alloc, &mut machine)?;
-    assert_eq!(&rt; again, (BASE + 0x1000, 0x2000));
-    Ok(())
+    let (base, size) = load_a(&rt, alloc, &mut machine);
+    assert!(rt; base == BASE + 0x1000 && size == 0x2000);
 }

@@ -5,7 +5,6 @@ use kmod_words::{
 use std::alloc::{AllocError, Global};
 use std::fmt::Debug;
 use std::process::Abort;
-use std::test::Fail;
 
 /// Words after `depmod`, and what they ask for.
 static DEPMOD: [(&str, &str); 6] = [
@@ -338,66 +337,102 @@ enum Command {
     StaticNodes,
 }
 
-/// Returns what words ask for as it is shown, if they are understood. It promises nothing, so that
-/// no contract is carried along.
-fn asked(alloc: Global, command: Command, line: &str) -> Result<Option<String>, AllocError> {
-    let words = words_of(alloc, line)?;
-    let words = words.as_slice();
+// What the words after each command ask for is returned as it is shown, if they are understood.
+// Each call is in a function of its own that promises nothing.
+
+fn asked_of_depmod(rt: &impl Abort, alloc: Global, words: &[Word]) -> Option<String> {
+    shown(
+        rt,
+        alloc,
+        &read_depmod(alloc, words).expect(rt, "an answer"),
+    )
+}
+
+fn asked_of_modprobe(rt: &impl Abort, alloc: Global, words: &[Word]) -> Option<String> {
+    shown(
+        rt,
+        alloc,
+        &read_modprobe(alloc, words).expect(rt, "an answer"),
+    )
+}
+
+fn asked_of_modinfo(rt: &impl Abort, alloc: Global, words: &[Word]) -> Option<String> {
+    shown(
+        rt,
+        alloc,
+        &read_modinfo(alloc, words).expect(rt, "an answer"),
+    )
+}
+
+fn asked_of_trial(rt: &impl Abort, alloc: Global, words: &[Word]) -> Option<String> {
+    shown(rt, alloc, &read_trial(alloc, words).expect(rt, "an answer"))
+}
+
+fn asked_of_builtin_alias(rt: &impl Abort, alloc: Global, words: &[Word]) -> Option<String> {
+    shown(
+        rt,
+        alloc,
+        &read_builtin_alias(alloc, words).expect(rt, "an answer"),
+    )
+}
+
+fn asked_of_static_nodes(rt: &impl Abort, alloc: Global, words: &[Word]) -> Option<String> {
+    shown(
+        rt,
+        alloc,
+        &read_static_nodes(alloc, words).expect(rt, "an answer"),
+    )
+}
+
+/// Returns what the words of a line ask for as it is shown, if they are understood.
+fn asked(rt: &impl Abort, alloc: Global, command: Command, line: &str) -> Option<String> {
+    let words = words_of(alloc, line).expect(rt, "words");
     match command {
-        Command::Depmod => shown(alloc, &read_depmod(alloc, words)?),
-        Command::Modprobe => shown(alloc, &read_modprobe(alloc, words)?),
-        Command::Modinfo => shown(alloc, &read_modinfo(alloc, words)?),
-        Command::Trial => shown(alloc, &read_trial(alloc, words)?),
-        Command::BuiltinAlias => shown(alloc, &read_builtin_alias(alloc, words)?),
-        Command::StaticNodes => shown(alloc, &read_static_nodes(alloc, words)?),
+        Command::Depmod => asked_of_depmod(rt, alloc, words.as_slice()),
+        Command::Modprobe => asked_of_modprobe(rt, alloc, words.as_slice()),
+        Command::Modinfo => asked_of_modinfo(rt, alloc, words.as_slice()),
+        Command::Trial => asked_of_trial(rt, alloc, words.as_slice()),
+        Command::BuiltinAlias => asked_of_builtin_alias(rt, alloc, words.as_slice()),
+        Command::StaticNodes => asked_of_static_nodes(rt, alloc, words.as_slice()),
     }
 }
 
 /// Returns a request as it is shown.
-fn shown<T: Debug>(alloc: Global, asked: &Option<T>) -> Result<Option<String>, AllocError> {
+fn shown<T: Debug>(rt: &impl Abort, alloc: Global, asked: &Option<T>) -> Option<String> {
     match asked {
-        Some(asked) => Ok(Some(format!(in alloc; "{asked:?}")?)),
-        None => Ok(None),
+        Some(asked) => Some(format!(in alloc; "{asked:?}").expect(rt, "a text")),
+        None => None,
     }
 }
 
-/// Checks words after a command, and what they ask for; and words that aren't understood.
-fn expect_words(
-    rt: &impl Abort,
-    alloc: Global,
-    command: Command,
-    understood: &[(&str, &str)],
-    refused: &[&str],
-) -> Result<(), Fail> {
-    for (line, want) in understood {
-        let got = asked(alloc, command, line)?.ok_or("not understood")?;
+/// Checks words after a command, and what they ask for.
+fn expect_words(rt: &impl Abort, alloc: Global, command: Command, rows: &[(&str, &str)]) {
+    for (line, want) in rows {
+        let got = asked(rt, alloc, command, line).expect(rt, line);
         assert_eq!(rt; got.as_str(), *want, "{line}");
     }
-    for line in refused {
-        assert!(rt; asked(alloc, command, line)?.is_none(), "{line}");
+}
+
+/// Checks words after a command that aren't understood.
+fn expect_refused(rt: &impl Abort, alloc: Global, command: Command, rows: &[&str]) {
+    for line in rows {
+        assert!(rt; asked(rt, alloc, command, line).is_none(), "{line}");
     }
-    Ok(())
 }
 
 #[test]
-fn words_of_each_command(rt: HostRuntime) -> Result<(), Fail> {
+fn words_of_each_command(rt: HostRuntime) {
     let alloc = rt.alloc();
-    expect_words(&rt, alloc, Command::Depmod, &DEPMOD, &NO_DEPMOD)?;
-    expect_words(&rt, alloc, Command::Modprobe, &MODPROBE, &NO_MODPROBE)?;
-    expect_words(&rt, alloc, Command::Modinfo, &MODINFO, &NO_MODINFO)?;
-    expect_words(&rt, alloc, Command::Trial, &TRIAL, &NO_TRIAL)?;
-    expect_words(
-        &rt,
-        alloc,
-        Command::BuiltinAlias,
-        &BUILTIN_ALIAS,
-        &NO_BUILTIN_ALIAS,
-    )?;
-    expect_words(
-        &rt,
-        alloc,
-        Command::StaticNodes,
-        &STATIC_NODES,
-        &NO_STATIC_NODES,
-    )
+    expect_words(&rt, alloc, Command::Depmod, &DEPMOD);
+    expect_refused(&rt, alloc, Command::Depmod, &NO_DEPMOD);
+    expect_words(&rt, alloc, Command::Modprobe, &MODPROBE);
+    expect_refused(&rt, alloc, Command::Modprobe, &NO_MODPROBE);
+    expect_words(&rt, alloc, Command::Modinfo, &MODINFO);
+    expect_refused(&rt, alloc, Command::Modinfo, &NO_MODINFO);
+    expect_words(&rt, alloc, Command::Trial, &TRIAL);
+    expect_refused(&rt, alloc, Command::Trial, &NO_TRIAL);
+    expect_words(&rt, alloc, Command::BuiltinAlias, &BUILTIN_ALIAS);
+    expect_refused(&rt, alloc, Command::BuiltinAlias, &NO_BUILTIN_ALIAS);
+    expect_words(&rt, alloc, Command::StaticNodes, &STATIC_NODES);
+    expect_refused(&rt, alloc, Command::StaticNodes, &NO_STATIC_NODES);
 }
