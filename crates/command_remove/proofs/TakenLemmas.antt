@@ -1,4 +1,5 @@
--- The machine of the listed modules is that of their loads, and no step of a removal from it is refused.
+-- The machine of the listed modules is that of their loads, and no step of a removal from it is
+-- refused.
 use Rattle.std.proofs.Common.{◌≡◌, ◌∙◌, ℕ, Bool, List, [], ◌∷◌, Option, Some, None, refl, sym, ap, ap₂, subst, inl, inr, map}
 use Rattle.std.specs.Prelude.{Result, Ok, Err}
 use Rattle.km_course.specs.Course.{Outcome, Stage, ◌>>=◌, each_from, given, possible_after}

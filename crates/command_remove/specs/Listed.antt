@@ -1,4 +1,5 @@
--- The modules that are listed as loaded, as a removal takes them. modprobe(8), modules.dep(5), proc(5).
+-- The modules that are listed as loaded, as a removal takes them. modprobe(8), modules.dep(5),
+-- proc(5).
 use Rattle.std.specs.Prelude.{ℕ, List, reverse, Option, None, if◌then◌else◌}
 use Rattle.index_read.specs.Contents.{contents}
 use Rattle.name_lookup.specs.declared.indexes.Indexes.{Indexes}
@@ -8,8 +9,8 @@ use Rattle.km_course.specs.Course.{Stage, each_from}
 use Rattle.stages_files.specs.KernelModules.{path_listed}
 use Rattle.stages_loads.specs.Listed.{loads_listed_at}
 
--- The path of the module of a name: the first of its dependency line, where its value is well formed. No plan is made that
--- would refuse another value.
+-- The path of the module of a name: the first of its dependency line, if its value is well formed.
+-- No plan is made that would refuse another value.
 abbrev pub well_formed_path : Indexes → List ℕ → Option (List ℕ)
 well_formed_path indexes name =
     if is_well_formed (contents indexes.dep.nodes) name then path_listed indexes.dep name else None

@@ -1,4 +1,5 @@
--- The course of `modprobe -r`: modules are taken out of the modelled machine. modprobe(8), modprobe.d(5), -r.
+-- The course of `modprobe -r`: modules are taken out of the modelled machine. modprobe(8),
+-- modprobe.d(5), -r.
 use Rattle.std.specs.Prelude.{◌≡◌, ℕ, Bool, true, false, List, map, Option, Some, None, Ok, ⊤, if◌then◌else◌}
 use Rattle.std.specs.List.{IsDistinct}
 use Rattle.std.specs.Option.{option_map_or}
@@ -31,13 +32,14 @@ use Rattle.command_remove.specs.Lines.{left_lines, step_lines, unloaded_line}
 
 -- ---- the steps
 
--- What a removal with these steps results in, where one of what is asked for is in use by another, by their places, or none is.
+-- What a removal with these steps results in, where one of what is asked for is in use by another,
+-- by their places, or none is.
 abbrev pub steps_unless : Machine → Option (ℕ × ℕ) → List RemoveStep → Outcome (List RemoveStep)
 steps_unless machine None steps = value steps
 steps_unless machine (Some used) steps = end (Refused (InUse (name_at machine used.0) (name_at machine used.1)))
 
--- What the names of modules result in: the steps that take them out, or the refusal of the oldest that is in use, with its
--- oldest user.
+-- What the names of modules result in: the steps that take them out, or the refusal of the oldest
+-- that is in use, with its oldest user.
 unfoldable pub steps_outcome : Machine → List Rule → Bool → List (List ℕ) → Outcome (List RemoveStep)
 steps_outcome machine rules ignored names =
     steps_unless machine (in_use machine (is_asked machine names)) (removal_steps machine rules ignored names)
@@ -55,12 +57,13 @@ command_owner (Command name command) = Some name
 abbrev pub first_owner : List RemoveStep → Option (List ℕ)
 first_owner steps = first (map command_owner steps)
 
--- what steps result in, where a command is run for a module of this name, or for none
+-- what steps result in, if a command is run for a module of this name, or for none
 abbrev pub unless_owner : Option (List ℕ) → Outcome ⊤
 unless_owner None = value tt
 unless_owner (Some name) = end (Refused (RemoveChosen name))
 
--- Whether steps are carried out: with `-n` they are only printed, and else the first that runs a command is refused.
+-- Whether steps are carried out: with `-n` they are only printed, and else the first that runs a
+-- command is refused.
 unfoldable pub chosen_outcome : Bool → List RemoveStep → Outcome ⊤
 chosen_outcome dry_run steps = if dry_run then value tt else unless_owner (first_owner steps)
 
@@ -76,7 +79,8 @@ unloads_one machine step = do
   said ← says (unloaded_line (step_name step))
   gives (without_named machine (step_name step))
 
--- The modules of the steps are taken out, one after the other, and then what is left is printed, the oldest first.
+-- The modules of the steps are taken out, one after the other, and then what is left is printed,
+-- the oldest first.
 abbrev pub unloads_all : Machine → List RemoveStep → Stage ⊤
 unloads_all machine steps = do
   left ← each_from unloads_one machine steps
@@ -112,7 +116,8 @@ carries_out dry_run machine steps = do
   said ← says_any (step_lines steps)
   unloads_unless dry_run machine steps
 
--- The names are looked up, and the modules that they stand for are removed from the machine of the listed modules.
+-- The names are looked up, and the modules that they stand for are removed from the machine of the
+-- listed modules.
 abbrev pub removes_names : Removal → Known → Machine → Stage ⊤
 removes_names removal known listed = do
   names ← given (names_outcome known removal.use_blacklist removal.names)

@@ -1,5 +1,5 @@
--- A removal that asks for all that was loaded last, and nothing else: none of it is in use, and unless only it uses an older
--- module, it is all that is removed.
+-- A removal that asks for all that was loaded last, and nothing else: none of it is in use, and
+-- unless only it uses an older module, it is all that is removed.
 use Rattle.std.proofs.Common.{◌≡◌, ◌≤◌, ◌<◌, ◌+◌, ◌∙◌, ◌⊎◌, inl, inr, ℕ, zero, suc, Bool, true, false, cond, List, [], ◌∷◌, ◌++◌, Option, Some, None, length, map, reverse, refl, sym, ap, subst, arith, append_assoc, append-nil}
 use Rattle.std.specs.Prelude.{◌&&◌, ◌||◌, not, nat_eq, is_none, option_map, slice_get, Result, Ok, Err}
 use Rattle.std.specs.List.{AllByRecursion, IsDistinct, list_any, range_with_len}

@@ -34,7 +34,7 @@ pub record CameToRemoval (held : Contents) (asked : ModprobeWords) (kernel : Ker
   pub listed : ((takes_listed (modules_folder asked.dirname asked.version) known.indexes (new_machine kernel region) known.loaded).run held).outcome ≡ value machine
   pub found : names_outcome known asked.use_blacklist asked.words ≡ value names
 
--- Acts say these lines, and do nothing else.
+-- Acts print these lines, and do nothing else.
 abbrev pub AreSaying : List Act → List ℕ → Type 0
 AreSaying [] lines = lines ≡ []
 AreSaying (read path ∷ acts) lines = ⊥
@@ -79,12 +79,12 @@ pub record IsRemovalCourse (dry_run : Bool) (asked : ModprobeWords) (known : Kno
   -- in a dry run the steps are printed
   pub printed : in_use machine (is_asked machine names) ≡ None → dry_run ≡ true
       → SaysLines (step_lines (steps_asked asked known machine names)) (value tt) run
-  -- else all of it is done
+  -- otherwise all of it is done
   pub done : in_use machine (is_asked machine names) ≡ None → dry_run ≡ false
       → first_owner (steps_asked asked known machine names) ≡ None
       → SaysLines (taken_out_lines machine names) (value tt) run
 
--- A course that came past its lookups is so, over any files.
+-- A course that got past its lookups is such a course, over any files.
 abbrev pub CoursesRemove : Type 0
 CoursesRemove =
     (held : Contents) (dry_run : Bool) (asked : ModprobeWords) (kernel : Kernel) (region : Region) (known : Known) (machine : Machine) (names : List (List ℕ))

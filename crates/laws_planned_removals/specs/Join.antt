@@ -31,8 +31,9 @@ use Rattle.laws_planned_loads.specs.Courses.{CameToLoads, HasMachine}
 use Rattle.laws_planned_loads.specs.Files.{AreFileModules}
 use Rattle.laws_planned_removals.specs.Courses.{CameToRemoval, removed_names}
 
--- A load that went to its end: what it knew; the machine after its own listed modules; the steps of
--- its plan; the modules that they load; and the machine after these.
+-- A load that was done. It has what the load knew, and the steps and modules of its plan. It also
+-- has two machines: the one after the load's own listed modules, and the one after those of the
+-- plan.
 pub record Loaded : Type 0 where
   pub known : Known
   pub listed : Machine
@@ -40,8 +41,8 @@ pub record Loaded : Type 0 where
   pub plan : List Module
   pub last : Machine
 
--- It went so over these files. Each module of the plan is all of a valid file, the one at the path
--- of its step. All of them went in, one after the other.
+-- It was done in this way over these files. Each module of the plan is all of a valid file, the one
+-- at the path of its step. All of them went in, one after the other.
 pub record CameToLast (held : Contents) (folder : List ℕ) (kernel : Kernel) (region : Region) (l : Loaded) : Type 0 where
   pub config : Option (List ℕ)
   pub listing : Option (List ℕ)
@@ -67,7 +68,7 @@ pub record FolderStays (held later : Contents) (folder : List ℕ) : Type 0 wher
   pub modules : (path : List ℕ) → is_module_path path ≡ true → is_compressed path ≡ false
       → get later (path_below folder path) ≡ get held (path_below folder path)
 
--- A load leaves the folder so, with all images that it puts.
+-- A load leaves the folder in this way, with all images that it puts.
 abbrev pub LoadsLeaveFolder : Type 0
 LoadsLeaveFolder =
     (held : Contents) (asked : ModprobeWords) (kernel : Kernel) (region : Region) (known : Known) (listed : Machine) (steps : List PlanStep) (inserts : List Insertion)

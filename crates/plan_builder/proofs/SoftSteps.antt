@@ -1,4 +1,5 @@
--- Tables of soft dependencies, a name more at a time, and what they give for the modules that names stand for.
+-- Tables of soft dependencies, a name more at a time, and what they give for the modules that names
+-- stand for.
 use Rattle.std.proofs.Common.{◌≡◌, ◌≢◌, ℕ, zero, suc, ◌<◌, Bool, true, false, cond, Bor, List, [], ◌∷◌, ◌++◌, length, filter, set, replicate, Option, Some, None, Vec, refl, sym, ap, ◌∙◌, inl, inr, append-nil}
 use Rattle.std.specs.Prelude.{◌||◌, ◌&&◌, ◌⊎◌, ◌==◌, not, nat_eq, slice_index_or}
 use Rattle.std.specs.List.{flat_map}

@@ -1,4 +1,5 @@
--- The modules of a plan's steps are those of its order, and each step that loads a module has its own path.
+-- The modules of a plan's steps are those of its order, and each step that loads a module has its
+-- own path.
 use Rattle.std.proofs.Common.{◌≡◌, ℕ, ◌<◌, Bool, true, false, cond, List, [], ◌∷◌, ◌++◌, length, map, drop, Option, Some, None, refl, sym, ap, ◌∙◌, append_assoc}
 use Rattle.std.specs.Prelude.{◌&&◌, All, is_some}
 use Rattle.std.proofs.lemmas.Bool.{or_left, or_right, eq-eqb}

@@ -52,7 +52,7 @@ pub enum Obstacle {
         first: PathText,
         second: PathText,
     },
-    /// Memory ran out.
+    /// Out of memory.
     Memory,
 }
 

@@ -1,5 +1,5 @@
--- What follows once a module's path or file is known. Only the contracts of private functions cite this
--- file. modprobe(8).
+-- What follows once a module's path or file is known. Only the contracts of private functions cite
+-- this file. modprobe(8).
 use Rattle.std.specs.Prelude.{ℕ, List}
 use Rattle.module_facts.specs.declared.module.Module.{Module}
 use Rattle.model_loader.specs.Machine.{Machine}

@@ -13,7 +13,7 @@ pub enum RowFault {
     /// It has more bytes than a file may have.
     #[error("too large")]
     TooLarge,
-    /// Memory ran out.
+    /// Out of memory.
     #[error("out of memory")]
     Memory,
 }
