@@ -11,3 +11,5 @@ mod depmod;
 mod modprobe;
 #[cfg(test)]
 mod rows;
+#[cfg(test)]
+mod surface;

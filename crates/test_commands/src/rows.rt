@@ -6,7 +6,7 @@ mod runs;
 mod same;
 
 pub(crate) use file_system::{FILE_SYSTEM, FILE_SYSTEM_KERNEL};
-pub(crate) use objects::Objects;
+pub(crate) use objects::{Objects, words_of};
 pub(crate) use row::{
     Failing, FileRow, INDEX, INDEXED, IndexedRow, ModuleRow, Row, RowOf, SYMVERS, SYSTEM_MAP, TWO,
     USAGE, wanted,

@@ -131,7 +131,7 @@ fn rooted(alloc: Global, folder: &PathText, paths: &Paths) -> Result<Paths, Fail
 }
 
 /// Returns the words of a text, with one space between each and the next. An empty text has none.
-fn words_of(alloc: Global, text: &str) -> Result<List<Word>, AllocError> {
+pub(crate) fn words_of(alloc: Global, text: &str) -> Result<List<Word>, AllocError> {
     let mut words = List::new(alloc);
     if text.is_empty() {
         return Ok(words);
