@@ -1,16 +1,17 @@
 -- Places of names among those seen.
-use Rattle.std.proofs.Common.{◌≡◌, ℕ, suc, ◌+◌, Bool, true, false, not, ◌||◌, cond, List, [], ◌∷◌, ◌++◌, length, map, filter, Some, None, refl, sym, ap, ◌∙◌, subst, append_assoc, append-nil, arith, fold}
-use Rattle.std.specs.Prelude.{nat_lt}
+use Rattle.std.proofs.Common.{◌≡◌, ℕ, ◌+◌, Bool, true, false, not, ◌||◌, cond, List, [], ◌∷◌, ◌++◌, map, filter, Some, None, refl, sym, ap, ◌∙◌, subst, append_assoc, append-nil, fold}
+use Rattle.std.specs.Prelude.{MatchOption, ⊤}
 use Rattle.std.specs.Cmp.Lexicographic.{bytes_decides}
 use Rattle.std.specs.List.{position_or_len, filter_map, cons_option}
 use Rattle.std.specs.Str.{bytes_eq}
-use Rattle.std.proofs.lemmas.Bool.Decides.{nat_tests}
-use Rattle.std.proofs.lemmas.Cmp.{nat_list_eq_equiv}
-use Rattle.std.proofs.lemmas.List.{map-append}
 use Rattle.name_table.specs.FirstSeen.{first_seen, is_among, with_name}
-use Rattle.name_table.specs.NameTable.{Table, IsTableOf, place_of, states}
-use Rattle.name_table.proofs.SeenSteps.{seen_with_name, among_with_name}
+use Rattle.name_table.specs.Keys.{name_of}
+use Rattle.name_table.specs.declared.key.OwnedNameKey.{OwnedNameKey}
+use Rattle.name_table.proofs.SeenSteps.{seen_with_name, among_with_name, with_name-put}
+use Rattle.indexmap.specs.IndexSet.{insert_key}
+use Rattle.km_names.specs.Path.{underscored}
 use Rattle.builtin_index.specs.declared.piece.BuiltinField.{BuiltinField}
+use Rattle.builtin_index.specs.declared.seen.LookedUp.{LookedUp}
 use Rattle.builtin_index.specs.declared.seen.Seen.{Seen}
 use Rattle.builtin_index.specs.Fields.{fields_of}
 use Rattle.builtin_index.specs.Aliases.{place_among, modules_of, is_alias, alias_value}
@@ -54,94 +55,52 @@ or-true false = refl
 pub put-in : (names : List (List ℕ)) (name : List ℕ) → is_among (with_name names name) name ≡ true
 put-in names name = among_with_name names name name ∙ ap (λ b. is_among names name || b) ((bytes_decides name name).1 refl) ∙ or-true (is_among names name)
 
--- ---- what a table of names gives
+-- ---- a text that is looked up
 
-table-place : (names : List (List ℕ)) (name : List ℕ) → position_or_len (states name) (map (λ n. Some n) names) ≡ place_among names name
-table-place [] name = refl
-table-place (n ∷ names) name = λ i. cond (not (nat_list_eq_equiv.symm n name i)) (1 + table-place names name i) 0
-
-below-more : (a b : ℕ) → nat_lt a b ≡ nat_lt (1 + a) (suc b)
-below-more a b = grind (arith, nat_tests)
-
-below-first : (b : ℕ) → true ≡ nat_lt 0 (suc b)
-below-first b = grind (arith, nat_tests)
-
-among-place : (names : List (List ℕ)) (name : List ℕ) → is_among names name ≡ nat_lt (place_among names name) (length names)
-among-place [] name = refl
-among-place (n ∷ names) name =
-    elim (bytes_eq name n) as (λ b. (b || is_among names name) ≡ nat_lt (cond (not b) (1 + place_among names name) 0) (suc (length names))) [
-      | true ↦ below-first (length names)
-      | false ↦ among-place names name ∙ below-more (place_among names name) (length names)
+-- its place is the same once it is put in
+place-behind : (names : List (List ℕ)) (name : List ℕ) → place_among (names ++ name ∷ []) name ≡ place_among names name
+place-behind [] name = ap (λ b. cond (not b) 1 0) ((bytes_decides name name).1 refl)
+place-behind (n ∷ names) name =
+    elim (bytes_eq name n) as (λ b. cond (not b) (1 + place_among (names ++ name ∷ []) name) 0 ≡ cond (not b) (1 + place_among names name) 0) [
+      | true ↦ refl
+      | false ↦ ap (λ at. 1 + at) (place-behind names name)
     ]
 
-map-length : (names : List (List ℕ)) → length (map (λ n. Some n) names) ≡ length names
-map-length [] = refl
-map-length (n ∷ names) = ap suc (map-length names)
+place-put : (names : List (List ℕ)) (name : List ℕ) → place_among (with_name names name) name ≡ place_among names name
+place-put names name =
+    elim (is_among names name) as (λ b. place_among (cond b names (names ++ name ∷ [])) name ≡ place_among names name) [
+      | true ↦ refl
+      | false ↦ place-behind names name
+    ]
 
--- the table counts the names
-pub same-count : (seen : Seen) (names : List (List ℕ)) → IsSeen seen names → seen.table.count ≡ seen.count
-same-count seen names is = is.table.count ∙ map-length names ∙ sym is.count
+key-place : (keys : List OwnedNameKey) (name : List ℕ) → position_or_len (λ k. bytes_eq name (name_of k)) keys ≡ place_among (map name_of keys) name
+key-place [] name = refl
+key-place (k ∷ keys) name = ap (λ at. cond (not (bytes_eq name (name_of k))) (1 + at) 0) (key-place keys name)
 
-table-gives : (t : Table) (names : List (List ℕ)) (name : List ℕ) → IsTableOf t (map (λ n. Some n) names) → place_of t name ≡ cond (is_among names name) (Some (place_among names name)) None
-table-gives t names name is =
-    is.places name
-    ∙ (λ i. cond (nat_lt (table-place names name i) (map-length names i)) (Some (table-place names name i)) None)
-    ∙ ap (λ b. cond b (Some (place_among names name)) None) (sym (among-place names name))
+-- the text is the one that was last looked up
+pub last-known : (seen : Seen) (names : List (List ℕ)) (last : LookedUp) (text : List ℕ) → seen.last ≡ Some last → last.text.now ≡ text → IsSeen seen names → (with_name names (underscored text) ≡ names) × (last.place ≡ place_among names (underscored text))
+last-known seen names last text kept same is =
+    let known = subst (λ o. MatchOption o ⊤ (λ l. (is_among names (underscored l.text.now) ≡ true) × (l.place ≡ place_among names (underscored l.text.now)))) kept is.last in (
+      ap (λ b. cond b names (names ++ underscored text ∷ [])) (ap (λ t. is_among names (underscored t)) (sym same) ∙ known.0),
+      known.1 ∙ ap (λ t. place_among names (underscored t)) same,
+    )
 
--- a name that is there
-pub known-name : (seen : Seen) (names : List (List ℕ)) (name : List ℕ) (place : ℕ) → IsSeen seen names → place_of seen.table name ≡ Some place → (with_name names name ≡ names) × (place ≡ place_among names name)
-known-name seen names name place is found = go (is_among names name) refl (sym (table-gives seen.table names name is.table) ∙ found)
-  where
-    go : (b : Bool) → is_among names name ≡ b → cond b (Some (place_among names name)) None ≡ Some place → (with_name names name ≡ names) × (place ≡ place_among names name)
-    go true e h = (ap (λ b. cond b names (names ++ name ∷ [])) e, cc)
-    go false e h = absurd (cc)
+-- another text, whose key is put in
+pub put-place : (seen : Seen) (names : List (List ℕ)) (key : OwnedNameKey) (name : List ℕ) (at : ℕ) → IsSeen seen names → name_of key ≡ name → at ≡ position_or_len (λ k. bytes_eq (name_of key) (name_of k)) seen.names.keys → at ≡ place_among (with_name names name) name
+put-place seen names key name at is same index =
+    index
+    ∙ key-place seen.names.keys (name_of key)
+    ∙ ap (λ ns. place_among ns (name_of key)) is.names
+    ∙ ap (place_among names) same
+    ∙ sym (place-put names name)
 
--- a new one
-pub new-name : (seen : Seen) (names : List (List ℕ)) (name : List ℕ) → IsSeen seen names → place_of seen.table name ≡ None → with_name names name ≡ names ++ name ∷ []
-new-name seen names name is none = go (is_among names name) refl (sym (table-gives seen.table names name is.table) ∙ none)
-  where
-    go : (b : Bool) → is_among names name ≡ b → cond b (Some (place_among names name)) None ≡ None → with_name names name ≡ names ++ name ∷ []
-    go true e h = absurd (cc)
-    go false e h = ap (λ b. cond b names (names ++ name ∷ [])) e
-
-not-there : (seen : Seen) (names : List (List ℕ)) (name : List ℕ) → IsSeen seen names → place_of seen.table name ≡ None → is_among names name ≡ false
-not-there seen names name is none = go (is_among names name) refl (sym (table-gives seen.table names name is.table) ∙ none)
-  where
-    go : (b : Bool) → is_among names name ≡ b → cond b (Some (place_among names name)) None ≡ None → is_among names name ≡ false
-    go true e h = absurd (cc)
-    go false e h = e
-
-last-place : (names : List (List ℕ)) (name : List ℕ) → is_among names name ≡ false → place_among (names ++ name ∷ []) name ≡ length names
-last-place [] name h = ap (λ b. cond (not b) 1 0) ((bytes_decides name name).1 refl)
-last-place (n ∷ names) name h =
-    elim (bytes_eq name n) as (λ b. (b || is_among names name) ≡ false → cond (not b) (1 + place_among (names ++ name ∷ []) name) 0 ≡ suc (length names)) [
-      | true ↦ λ k. absurd (cc)
-      | false ↦ λ k. one-more (place_among (names ++ name ∷ []) name) (length names) (last-place names name k)
-    ] h
-  where
-    one-more : (a b : ℕ) → a ≡ b → 1 + a ≡ suc b
-    one-more a b e = omega arith
-
-pub new-place : (seen : Seen) (names : List (List ℕ)) (name : List ℕ) → IsSeen seen names → place_of seen.table name ≡ None → seen.count ≡ place_among (with_name names name) name
-new-place seen names name is none =
-    is.count
-    ∙ sym (last-place names name (not-there seen names name is none))
-    ∙ ap (λ ns. place_among ns name) (sym (new-name seen names name is none))
-
-pub new-table : (before after : Seen) (names : List (List ℕ)) (name : List ℕ) → IsSeen before names → place_of before.table name ≡ None → IsTableOf after.table (map (λ n. Some n) names ++ Some name ∷ []) → after.count ≡ before.count + 1 → IsSeen after (with_name names name)
-new-table before after names name is none table count =
-    let more = new-name before names name is none in
+pub put-seen : (before after : Seen) (names : List (List ℕ)) (key : OwnedNameKey) (last : LookedUp) → IsSeen before names → name_of key ≡ underscored last.text.now → after.names.keys ≡ insert_key (λ x y. bytes_eq (name_of x) (name_of y)) before.names.keys key → after.last ≡ Some last → last.place ≡ place_among (with_name names (underscored last.text.now)) (underscored last.text.now) → IsSeen after (with_name names (underscored last.text.now))
+put-seen before after names key last is same put kept place =
+    let name = underscored last.text.now in
     record {
-      table = subst (λ items. IsTableOf after.table items) (sym (map-append (λ n. Some n) names (name ∷ [])) ∙ ap (map (λ n. Some n)) (sym more)) table;
-      count = count ∙ ap (λ n. n + 1) is.count ∙ longer names name ∙ ap length (sym more);
+      names = with_name-put name_of before.names.keys after.names.keys key put ∙ ap (λ ns. with_name ns (name_of key)) is.names ∙ ap (with_name names) same;
+      last = subst (λ o. MatchOption o ⊤ (λ l. (is_among (with_name names name) (underscored l.text.now) ≡ true) × (l.place ≡ place_among (with_name names name) (underscored l.text.now)))) (sym kept) (put-in names name, place);
     }
-  where
-    longer : (ns : List (List ℕ)) (n : List ℕ) → length ns + 1 ≡ length (ns ++ n ∷ [])
-    longer [] n = refl
-    longer (x ∷ xs) n = one-more (length xs) _ (longer xs n)
-      where
-        one-more : (a b : ℕ) → a + 1 ≡ b → suc a + 1 ≡ suc b
-        one-more a b e = omega arith
 
 -- ---- the aliases of a file, piece by piece
 

@@ -1,11 +1,12 @@
 -- The parts of a piece, and the aliases of a file, as the code keeps them.
 -- It belongs to the code: no public meaning rests on it.
-use Rattle.std.specs.Prelude.{◌≡◌, ℕ, true, List, map, length, Option, Some, None, option_map, if◌then◌else◌}
+use Rattle.std.specs.Prelude.{◌≡◌, ℕ, true, List, map, Option, Some, None, MatchOption, option_map, if◌then◌else◌, ⊤}
 use Rattle.km_names.specs.Ascii.{is_graphic}
 use Rattle.km_names.specs.AliasForm.{normal_alias}
 use Rattle.km_names.specs.Path.{underscored}
 use Rattle.index_format.specs.Listing.{KeyValue}
-use Rattle.name_table.specs.NameTable.{IsTableOf}
+use Rattle.name_table.specs.FirstSeen.{is_among}
+use Rattle.name_table.specs.Keys.{name_of}
 use Rattle.builtin_index.specs.declared.piece.Parts.{Parts}
 use Rattle.builtin_index.specs.declared.piece.BuiltinField.{BuiltinField}
 use Rattle.builtin_index.specs.declared.seen.Seen.{Seen}
@@ -16,10 +17,11 @@ use Rattle.builtin_index.specs.Aliases.{is_alias, place_among}
 abbrev pub field_shown : Parts → BuiltinField
 field_shown parts = record { «module» = underscored parts.module.now; key = parts.key.now; value = parts.value.now }
 
--- These names were seen, in their order.
-pub record IsSeen (seen : Seen) (names : List (List ℕ)) : Type 0 where
-  pub table : IsTableOf seen.table (map Some names)
-  pub count : seen.count ≡ length names
+-- These names were seen, in their order. The text that was last looked up names the one at its
+-- place.
+pub record IsSeen (seen : Seen) (seen_names : List (List ℕ)) : Type 0 where
+  pub names : map name_of seen.names.keys ≡ seen_names
+  pub last : MatchOption seen.last ⊤ (λ l. (is_among seen_names (underscored l.text.now) ≡ true) × (l.place ≡ place_among seen_names (underscored l.text.now)))
 
 -- An alias of the module at a place: the place, the module's name, and the alias.
 abbrev pub AliasAt : Type 0

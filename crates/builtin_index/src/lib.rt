@@ -3,9 +3,9 @@
 //! modules.builtin.alias.bin.
 //!
 //! The file has pieces `MODULE.KEY=VALUE`, each ended by a NUL: the contents of a module's section
-//! `.modinfo`, under the module's name. The crate uses `km_names` for texts and aliases,
-//! `name_table` for the order of modules, and `index_write` for the map of an index and its file,
-//! by the definitions of `index_format`.
+//! `.modinfo`, under the module's name. The crate uses `km_names` for texts and aliases, `indexmap`
+//! with the keys of `name_table` for the order of modules, and `index_write` for the map of an
+//! index and its file, by the definitions of `index_format`.
 #![tactic(auto)]
 
 mod aliases;

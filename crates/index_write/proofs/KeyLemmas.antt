@@ -1,5 +1,5 @@
 -- The lists of a key map, as they grow by a value.
-use Rattle.std.proofs.Common.{◌≡◌, refl, sym, ap, subst, ◌∙◌, ℕ, zero, suc, ◌<◌, ◌≤◌, Bool, true, false, cond, ◌&&◌, T, List, [], ◌∷◌, length, drop, get_or, Some, None, option_map, unwrap_or, Vec, Result, Ok, Err, OnOk, OnErr, arith, nat_lt, ◌-◌}
+use Rattle.std.proofs.Common.{◌≡◌, refl, sym, ap, subst, ◌∙◌, ℕ, zero, suc, ◌<◌, ◌≤◌, Bool, true, false, cond, ◌&&◌, T, List, [], ◌∷◌, length, drop, get_or, Option, Some, None, option_map, unwrap_or, Vec, String, string_bytes, Result, Ok, Err, OnOk, OnErr, arith, nat_lt, ◌-◌}
 use Rattle.std.specs.List.{AllByRecursion, list_all, insert as insert_at}
 use Rattle.std.specs.List.Sorted.{IsStrictlySortedBy}
 use Rattle.std.specs.declared.alloc.Global.{Global}
@@ -9,11 +9,15 @@ use Rattle.std.specs.Ordering.{nat_cmp, is_lt, is_eq, match_ordering}
 use Rattle.std.proofs.lemmas.Cmp.{nat_list_cmp_total}
 use Rattle.std.proofs.lemmas.Bool.{le-ltb, lt-ltb}
 use Rattle.std.proofs.lemmas.List.{length-map}
+use Rattle.std.proofs.lemmas.List.Elements.{All-weaker}
+use Rattle.std.proofs.lemmas.Str.{IsUtf8-from_ascii}
+use Rattle.std.proofs.lemmas.Str.Ascii.{IsAscii-from_all}
+use Rattle.std.specs.Str.{IsUtf8}
 use Rattle.std.proofs.Math.ListN.{get_or-map}
 use Rattle.std.proofs.Math.Seq.{drop-cons}
 use Rattle.std.specs.Cmp.Lexicographic.{slice_cmp}
 use Rattle.std.specs.BTreeMap.{insert_entry}
-use Rattle.std.specs.Map.{lookup, set_value, keys_of}
+use Rattle.std.specs.Map.{lookup, keys_of}
 use Rattle.std.specs.FinMap.{entries, empty, from_sorted, find, put, insert, entries-from_sorted, entries-insert, same_entries_map, get-from_sorted}
 use Rattle.std.specs.FinMap.Entries.{is_sorted, by_order, below_all, is_sorted-put}
 use Rattle.index_format.specs.Map.{Value, place, with_value, IsKey}
@@ -22,26 +26,26 @@ use Rattle.index_format.proofs.Maps.{entries-empty}
 use Rattle.index_write.specs.declared.key_map.StoredValue.{StoredValue}
 use Rattle.index_write.specs.Lists.{KeyLists, value_of, shown_values, entry_of, entries_of, map_of, found, with_one, IsStorable, IsStorableEntry, AreStorable, AreOrdered}
 
--- the order of the keys, as byte lists and as vectors
+-- the order of the keys, as byte lists and as strings
 abbrev R : List ℕ → List ℕ → Ordering
 R = slice_cmp nat_cmp
 
-abbrev by_items : Vec ℕ Global → Vec ℕ Global → Ordering
-by_items x y = slice_cmp nat_cmp x.items y.items
+abbrev by_bytes : String Global → String Global → Ordering
+by_bytes x y = slice_cmp nat_cmp (string_bytes x) (string_bytes y)
 
-pub entries_of-insert_entry : (es : KeyLists) (k : Vec ℕ Global) (v : Vec StoredValue Global) → entries_of (insert_entry by_items es k v) ≡ put R k.items (shown_values v.items) (entries_of es)
+pub entries_of-insert_entry : (es : KeyLists) (k : String Global) (v : Vec StoredValue Global) → entries_of (insert_entry by_bytes es k v) ≡ put R (string_bytes k) (shown_values v.items) (entries_of es)
 entries_of-insert_entry [] k v = refl
 entries_of-insert_entry (e ∷ es) k v =
-    elim (by_items k e.0) as (λ o. entries_of (match_ordering o ((k, v) ∷ e ∷ es) ((e.0, v) ∷ es) (e ∷ insert_entry by_items es k v)) ≡ by_order o ((k.items, shown_values v.items) ∷ entry_of e ∷ entries_of es) ((e.0.items, shown_values v.items) ∷ entries_of es) (entry_of e ∷ put R k.items (shown_values v.items) (entries_of es))) [
+    elim (by_bytes k e.0) as (λ o. entries_of (match_ordering o ((k, v) ∷ e ∷ es) ((e.0, v) ∷ es) (e ∷ insert_entry by_bytes es k v)) ≡ by_order o ((string_bytes k, shown_values v.items) ∷ entry_of e ∷ entries_of es) ((string_bytes e.0, shown_values v.items) ∷ entries_of es) (entry_of e ∷ put R (string_bytes k) (shown_values v.items) (entries_of es))) [
       | Less ↦ refl
       | Equal ↦ refl
       | Greater ↦ ap (λ xs. entry_of e ∷ xs) (entries_of-insert_entry es k v)
     ]
 
-pub find-entries_of : (es : KeyLists) (q : List ℕ) → find R q (entries_of es) ≡ option_map (λ v. shown_values v.items) (lookup (λ k. is_eq (R q k.items)) es)
+pub find-entries_of : (es : KeyLists) (q : List ℕ) → find R q (entries_of es) ≡ option_map (λ v. shown_values v.items) (lookup (λ k. is_eq (R q (string_bytes k))) es)
 find-entries_of [] q = refl
 find-entries_of (e ∷ es) q =
-    elim (is_eq (R q e.0.items)) as (λ b. cond b (Some (shown_values e.1.items)) (find R q (entries_of es)) ≡ option_map (λ v. shown_values v.items) (cond b (Some e.1) (lookup (λ k. is_eq (R q k.items)) es))) [
+    elim (is_eq (R q (string_bytes e.0))) as (λ b. cond b (Some (shown_values e.1.items)) (find R q (entries_of es)) ≡ option_map (λ v. shown_values v.items) (cond b (Some e.1) (lookup (λ k. is_eq (R q (string_bytes k))) es))) [
       | true ↦ refl
       | false ↦ find-entries_of es q
     ]
@@ -63,12 +67,12 @@ is_less Less p = refl
 is_less Equal p = absurd p
 is_less Greater p = absurd p
 
-below_all-keys : (x : Vec ℕ Global) (es : KeyLists) → AllByRecursion (λ y. by_items x y ≡ Less) (keys_of es) → T (below_all R x.items (entries_of es))
+below_all-keys : (x : String Global) (es : KeyLists) → AllByRecursion (λ y. by_bytes x y ≡ Less) (keys_of es) → T (below_all R (string_bytes x) (entries_of es))
 below_all-keys x [] h = tt
 below_all-keys x (e ∷ es) h = both _ _ (subst (λ o. T (is_lt o)) (sym h.0) tt) (below_all-keys x es h.1)
 
 -- keys that rise in the map rise among the entries
-pub ordered : (es : KeyLists) → IsStrictlySortedBy by_items (keys_of es) → AreOrdered es
+pub ordered : (es : KeyLists) → IsStrictlySortedBy by_bytes (keys_of es) → AreOrdered es
 unfolding IsStrictlySortedBy
 ordered [] h = tt
 ordered (e ∷ es) h = both _ _ (below_all-keys e.0 es h.0) (ordered es h.1)
@@ -83,14 +87,17 @@ not_below q x (e ∷ es) p h =
 same_value : {A : Type 0} (x : A) → Some x ≡ None → ⊥
 same_value x e = subst (λ o. elim o as (λ _. Type 0) [ Some y ↦ Unit {0} | None ↦ ⊥ ]) e tt
 
--- a value that is written over that of a key in order
-pub entries_of-set_value : (es : KeyLists) (q : List ℕ) (w : Vec StoredValue Global) (v : List Value) → AreOrdered es → find R q (entries_of es) ≡ Some v → entries_of (set_value (λ k. is_eq (R q k.items)) es w) ≡ put R q (shown_values w.items) (entries_of es)
-entries_of-set_value [] q w v h f = absurd (same_value v (sym f))
-entries_of-set_value (e ∷ es) q w v h f =
-    elim (R q e.0.items) as (λ o. R q e.0.items ≡ o → cond (is_eq o) (Some (shown_values e.1.items)) (find R q (entries_of es)) ≡ Some v → entries_of (cond (is_eq o) ((e.0, w) ∷ es) (e ∷ set_value (λ k. is_eq (R q k.items)) es w)) ≡ by_order o ((q, shown_values w.items) ∷ entry_of e ∷ entries_of es) ((e.0.items, shown_values w.items) ∷ entries_of es) (entry_of e ∷ put R q (shown_values w.items) (entries_of es))) [
-      | Less ↦ λ p g. absurd (same_value v (sym g ∙ not_below q e.0.items (entries_of es) p (left _ _ h)))
-      | Equal ↦ λ p g. refl
-      | Greater ↦ λ p g. ap (λ xs. entry_of e ∷ xs) (entries_of-set_value es q w v (right _ _ h) g)
+same_one : {A : Type 0} (x y : A) → Some x ≡ Some y → x ≡ y
+same_one x y e = ap (λ o. unwrap_or o x) e
+
+-- the value of a key in order, put again
+put-same : (es : List Entry) (q : List ℕ) (v : List Value) → T (is_sorted R es) → find R q es ≡ Some v → put R q v es ≡ es
+put-same [] q v h f = absurd (same_value v (sym f))
+put-same (e ∷ es) q v h f =
+    elim (R q e.0) as (λ o. R q e.0 ≡ o → cond (is_eq o) (Some e.1) (find R q es) ≡ Some v → by_order o ((q, v) ∷ e ∷ es) ((e.0, v) ∷ es) (e ∷ put R q v es) ≡ e ∷ es) [
+      | Less ↦ λ p g. absurd (same_value v (sym g ∙ not_below q e.0 es p (left _ _ h)))
+      | Equal ↦ λ p g. ap (λ vs. (e.0, vs) ∷ es) (sym (same_one e.1 v g))
+      | Greater ↦ λ p g. ap (λ xs. e ∷ xs) (put-same es q v (right _ _ h) g)
     ] refl f
 
 -- the map of entries with one more value
@@ -136,25 +143,30 @@ place_after (x ∷ xs) (suc n) v d lt h rest =
 pub map_of-nothing : map_of [] ≡ empty
 map_of-nothing = same_entries_map _ _ (entries-from_sorted R [] tt ∙ sym entries-empty)
 
--- ---- one more value of a key that is there
+-- ---- a list that is put for a key
 
-module _ (es : KeyLists) (key : List ℕ) (old w : Vec StoredValue Global) (here : lookup (λ k. is_eq (R key k.items)) es ≡ Some old) where
-  pub set_value-with_one : (v : Value) → AreOrdered es → shown_values w.items ≡ place (shown_values old.items) v → entries_of (set_value (λ k. is_eq (R key k.items)) es w) ≡ with_one (entries_of es) key v
-  set_value-with_one v h e =
-      let f = find-entries_of es key ∙ ap (option_map (λ v. shown_values v.items)) here in
-      entries_of-set_value es key w (shown_values old.items) h f
-      ∙ ap (λ vs. put R key vs (entries_of es)) (e ∙ ap (λ o. place (unwrap_or o []) v) (sym f))
+module _ (es ns : KeyLists) (key : String Global) (old : Option (Vec StoredValue Global)) (w : Vec StoredValue Global) (put_there : ns ≡ insert_entry by_bytes es key w) (here : lookup (λ k. is_eq (R (string_bytes key) (string_bytes k))) es ≡ old) where
+  entries-put : entries_of ns ≡ put R (string_bytes key) (shown_values w.items) (entries_of es)
+  entries-put = ap entries_of put_there ∙ entries_of-insert_entry es key w
 
-same_one : {A : Type 0} (x y : A) → Some x ≡ Some y → x ≡ y
-same_one x y e = ap (λ o. unwrap_or o x) e
+  found-here : find R (string_bytes key) (entries_of es) ≡ option_map (λ v. shown_values v.items) old
+  found-here = find-entries_of es (string_bytes key) ∙ ap (option_map (λ v. shown_values v.items)) here
 
-pub set_value-kept : (es : KeyLists) (key : List ℕ) (old w : Vec StoredValue Global) → lookup (λ k. is_eq (R key k.items)) es ≡ Some old → w.items ≡ old.items → entries_of (set_value (λ k. is_eq (R key k.items)) es w) ≡ entries_of es
-set_value-kept [] key old w here e = refl
-set_value-kept (f ∷ es) key old w here e =
-    elim (is_eq (R key f.0.items)) as (λ b. cond b (Some f.1) (lookup (λ k. is_eq (R key k.items)) es) ≡ Some old → entries_of (cond b ((f.0, w) ∷ es) (f ∷ set_value (λ k. is_eq (R key k.items)) es w)) ≡ entries_of (f ∷ es)) [
-      | true ↦ λ h. ap (λ items. (f.0.items, shown_values items) ∷ entries_of es) (e ∙ sym (ap (λ v. v.items) (same_one f.1 old h)))
-      | false ↦ λ h. ap (λ xs. entry_of f ∷ xs) (set_value-kept es key old w h e)
-    ] here
+  -- it has one more value
+  pub list-with_one : (v : Value) → shown_values w.items ≡ place (unwrap_or (option_map (λ v. shown_values v.items) old) []) v → entries_of ns ≡ with_one (entries_of es) (string_bytes key) v
+  list-with_one v e = entries-put ∙ ap (λ vs. put R (string_bytes key) vs (entries_of es)) (e ∙ ap (λ o. place (unwrap_or o []) v) (sym found-here))
+
+-- it has the same values
+pub list-kept : (es ns : KeyLists) (key : String Global) (old w : Vec StoredValue Global) → ns ≡ insert_entry by_bytes es key w → lookup (λ k. is_eq (R (string_bytes key) (string_bytes k))) es ≡ Some old → AreOrdered es → w.items ≡ old.items → entries_of ns ≡ entries_of es
+list-kept es ns key old w is here h e =
+    entries-put es ns key (Some old) w is here
+    ∙ ap (λ items. put R (string_bytes key) (shown_values items) (entries_of es)) e
+    ∙ put-same (entries_of es) (string_bytes key) (shown_values old.items) h (found-here es ns key (Some old) w is here)
+
+-- ---- a key as a string
+
+pub key-utf8 : (key : List ℕ) → IsKey key → IsUtf8 key
+key-utf8 key is = IsUtf8-from_ascii key (IsAscii-from_all key (All-weaker (λ byte. (0 < byte) × (byte < 128)) (λ byte. byte < 128) (λ byte h. h.1) key is))
 
 -- ---- what the lists keep
 

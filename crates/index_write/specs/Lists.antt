@@ -1,6 +1,6 @@
 -- The writer's map from keys to lists of values, as a map of an index: how contracts see a
 -- `KeyMap`.
-use Rattle.std.specs.Prelude.{ℕ, ◌<◌, ◌^◌, List, [], length, map, unwrap_or, T, Vec}
+use Rattle.std.specs.Prelude.{ℕ, ◌<◌, ◌^◌, List, [], length, map, unwrap_or, T, Vec, String, string_bytes}
 use Rattle.std.specs.List.{AllByRecursion}
 use Rattle.std.specs.declared.alloc.Global.{Global}
 use Rattle.std.specs.Ordering.{nat_cmp}
@@ -18,11 +18,11 @@ abbrev pub shown_values : List StoredValue → List Value
 shown_values vs = map value_of vs
 
 abbrev pub KeyLists : Type 0
-KeyLists = List (Vec ℕ Global × Vec StoredValue Global)
+KeyLists = List (String Global × Vec StoredValue Global)
 
 -- The entries of the lists.
-abbrev pub entry_of : Vec ℕ Global × Vec StoredValue Global → Entry
-entry_of e = (e.0.items, shown_values e.1.items)
+abbrev pub entry_of : String Global × Vec StoredValue Global → Entry
+entry_of e = (string_bytes e.0, shown_values e.1.items)
 
 abbrev pub entries_of : KeyLists → List Entry
 entries_of es = map entry_of es

@@ -1,4 +1,4 @@
-ghost use Rattle.std.specs.Prelude.{◌≡◌, OnOk, OnErr, IfOk};
+ghost use Rattle.std.specs.Prelude.{◌≡◌, OnOk, OnErr, IfOk, string_bytes};
 ghost use Rattle.std.specs.List.{AllByRecursion};
 ghost use Rattle.std.specs.FinMap as map;
 ghost use Rattle.index_format.specs.Map.{IsKey, IsText, with_value};
@@ -22,7 +22,8 @@ pub(crate) struct StoredValue {
 #[derive(Drop)]
 pub struct KeyMap {
     alloc: Global,
-    lists: BTreeMap<Vec<u8>, Vec<StoredValue>>,
+    // Strings are compared many bytes at a time, and slices byte by byte.
+    lists: BTreeMap<String, Vec<StoredValue>>,
 }
 
 impl Model for KeyMap {
@@ -37,6 +38,14 @@ impl Model for KeyMap {
     ghost view = { λ m. map_of m.lists.entries };
 
     ghost invariant = { λ m. AreStorable m.lists.entries };
+}
+
+/// Returns a key as a string. Its bytes are of ASCII.
+fn key_text(key: Vec<u8>) -> String
+    requires { IsKey key.items }
+    ensures { string_bytes result ≡ key.items }
+{
+    String::from_utf8(key).unwrap()
 }
 
 impl KeyMap {
@@ -62,11 +71,29 @@ impl KeyMap {
         ensures ok { OnOk result (self.new ≡ with_value self.old key.now (priority, text.now)) }
         ensures err { OnErr result (self.new ≡ self.old) }
     {
+        let key = Vec::from_slice(self.alloc, key)?;
+        let text = Vec::from_slice(self.alloc, text)?;
+        self.add_owned(key, priority, text)
+    }
+
+    /// Adds a value to a key as [`KeyMap::add`] does. It takes the key and the text over, so it
+    /// copies neither.
+    pub fn add_owned(
+        &mut self,
+        key: Vec<u8>,
+        priority: u32,
+        text: Vec<u8>,
+    ) -> Result<(), AllocError>
+        requires key { IsKey key.items }
+        requires text { IsText text.items }
+        ensures ok { OnOk result (self.new ≡ with_value self.old key.items (priority, text.items)) }
+        ensures err { OnErr result (self.new ≡ self.old) }
+    {
         let value = StoredValue {
             priority,
-            text: Blob::from_slice(self.alloc, text)?,
+            text: Blob::from_vec(text),
         };
-        add_value(self.alloc, &mut self.lists, key, value)
+        add_value(self.alloc, &mut self.lists, key_text(key), value)
     }
 
     /// Returns the keys in their order, each with its values.
@@ -78,7 +105,7 @@ impl KeyMap {
         let mut entries = Vec::new(alloc);
         for (key, list) in &self.lists {
             entries.push(KeyEntry {
-                key: key.as_slice(),
+                key: key.as_bytes(),
                 values: list.as_slice(),
             })?;
         }

@@ -1,13 +1,11 @@
-ghost use Rattle.std.specs.Prelude.{◌≡◌, ◌≤◌, ℕ, List, None, OnOk, OnErr, length, insert};
-ghost use Rattle.std.specs.Ordering.{nat_cmp};
-ghost use Rattle.std.specs.Cmp.Lexicographic.{slice_cmp};
-ghost use Rattle.std.specs.FinMap.{find};
+ghost use Rattle.std.specs.Prelude.{◌≡◌, ◌≤◌, ℕ, List, [], ◌∷◌, OnOk, OnErr, IfOk, length, insert, string_bytes};
 ghost use Rattle.index_format.specs.Map.{place};
 ghost use Rattle.index_write.specs.Lists.{value_of, shown_values, entries_of, with_one, AreOrdered};
 
 use crate::key_map::StoredValue;
 use std::alloc::{AllocError, Global};
 use std::collections::BTreeMap;
+use std::collections::btree_map::Entry;
 
 /// Returns the place of a new value: after the last one whose priority isn't greater.
 fn place_for(list: &[StoredValue], priority: u32) -> usize
@@ -31,36 +29,31 @@ fn add_to(list: &mut Vec<StoredValue>, value: StoredValue) -> Result<(), AllocEr
     Ok(())
 }
 
-/// Inserts the first value of a new key into the map.
-fn add_key(
-    alloc: Global,
-    lists: &mut BTreeMap<Vec<u8>, Vec<StoredValue>>,
-    key: &[u8],
-    value: StoredValue,
-) -> Result<(), AllocError>
-    requires { find (slice_cmp nat_cmp) key.now (entries_of lists.old.entries) ≡ None }
-    ensures ok { OnOk result (entries_of lists.new.entries ≡ with_one (entries_of lists.old.entries) key.now (value_of value)) }
-    ensures err { OnErr result (entries_of lists.new.entries ≡ entries_of lists.old.entries) }
+/// Returns a list of one value. It has no room for others, since most keys have one value.
+fn list_of(alloc: Global, value: StoredValue) -> Result<Vec<StoredValue>, AllocError>
+    ensures { IfOk result (λ list. shown_values list.items ≡ value_of value ∷ []) }
 {
-    let mut list = Vec::new(alloc);
+    let mut list = Vec::with_capacity(alloc, 1)?;
     list.push(value)?;
-    lists.insert(Vec::from_slice(alloc, key)?, list)?;
-    Ok(())
+    Ok(list)
 }
 
 /// Inserts a value into the list of its key.
 pub(crate) fn add_value(
     alloc: Global,
-    lists: &mut BTreeMap<Vec<u8>, Vec<StoredValue>>,
-    key: &[u8],
+    lists: &mut BTreeMap<String, Vec<StoredValue>>,
+    key: String,
     value: StoredValue,
 ) -> Result<(), AllocError>
-    ensures ok { OnOk result (entries_of lists.new.entries ≡ with_one (entries_of lists.old.entries) key.now (value_of value)) }
+    ensures ok { OnOk result (entries_of lists.new.entries ≡ with_one (entries_of lists.old.entries) (string_bytes key) (value_of value)) }
     ensures err { OnErr result (entries_of lists.new.entries ≡ entries_of lists.old.entries) }
     ensures ordered { AreOrdered lists.old.entries }
 {
-    match lists.get_mut(key) {
-        Some(list) => add_to(list, value),
-        None => add_key(alloc, lists, key, value),
+    match lists.entry(key)? {
+        Entry::Occupied(entry) => add_to(entry.into_mut(), value),
+        Entry::Vacant(entry) => {
+            Entry::Vacant(entry).or_try_insert_with(|| list_of(alloc, value))?;
+            Ok(())
+        }
     }
 }

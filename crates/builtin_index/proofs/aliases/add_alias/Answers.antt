@@ -6,22 +6,22 @@ use Rattle.index_write.proofs.VisibleWords.{normal-key, underscored-text}
 use Rattle.builtin_index.specs.Aliases.{with_values}
 use Rattle.builtin_index.proofs.aliases.add_alias.Goals as goal
 
-pub add-requires-clause-key : goal.add-requires-clause-key
-add-requires-clause-key c =
-    subst IsKey (sym c.as_bytes.ensures)
+pub add_owned-requires-clause-key : goal.add_owned-requires-clause-key
+add_owned-requires-clause-key c =
+    subst IsKey (sym c.into_vec.ensures)
     (normal-key c.args.stated.alias.now c.in-Some.key c.requires.alias (sym c.in_ok-key.ensures ∙ c.in-Some.is))
 
-pub add-requires-clause-text : goal.add-requires-clause-text
-add-requires-clause-text c =
-    subst IsText (sym (c.as_bytes-in-Some.ensures ∙ c.in_ok-name.ensures)) (underscored-text c.args.stated.module.now c.requires.module)
+pub add_owned-requires-clause-text : goal.add_owned-requires-clause-text
+add_owned-requires-clause-text c =
+    subst IsText (sym (c.into_vec-in-Some.ensures ∙ c.in_ok-name.ensures)) (underscored-text c.args.stated.module.now c.requires.module)
 
-pub returns-in_ok-add : goal.returns-in_ok-add
-returns-in_ok-add c =
+pub returns-in_ok-add_owned : goal.returns-in_ok-add_owned
+returns-in_ok-add_owned c =
     let stated = c.args.stated in
     let owner = underscored stated.module.now in
-    c.in_ok-add.ensures.ok
-    ∙ ap (λ key. with_value c.args.key_map.now key (stated.place, c.as_bytes-in-Some.result.now)) c.as_bytes.ensures
-    ∙ ap (λ text. with_value c.args.key_map.now c.in-Some.key (stated.place, text)) (c.as_bytes-in-Some.ensures ∙ c.in_ok-name.ensures)
+    c.in_ok-add_owned.ensures.ok
+    ∙ ap (λ key. with_value c.args.key_map.now key (stated.place, c.into_vec-in-Some.result.items)) c.into_vec.ensures
+    ∙ ap (λ text. with_value c.args.key_map.now c.in-Some.key (stated.place, text)) (c.into_vec-in-Some.ensures ∙ c.in_ok-name.ensures)
     ∙ ap (λ o. with_values c.args.key_map.now (option_to_list (option_map (λ (key : List ℕ). (key, (stated.place, owner))) o))) (sym c.in-Some.is ∙ c.in_ok-key.ensures)
 
 pub returns-in_default : goal.returns-in_default

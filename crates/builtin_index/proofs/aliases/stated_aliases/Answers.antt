@@ -11,7 +11,7 @@ use Rattle.builtin_index.specs.Fields.{fields_of}
 use Rattle.builtin_index.specs.Aliases.{is_alias, modules_of}
 use Rattle.builtin_index.specs.Parts.{field_shown, alias_shown, alias_in, IsWord}
 use Rattle.builtin_index.proofs.Pieces.{fields-nil, fields-rest, after-shorter}
-use Rattle.builtin_index.proofs.Places.{Keeps, Placed, same-count, keeps-first, keeps-skipped, keeps-field, keeps-alias}
+use Rattle.builtin_index.proofs.Places.{Keeps, Placed, keeps-first, keeps-skipped, keeps-field, keeps-alias}
 use Rattle.builtin_index.proofs.aliases.stated_aliases.Goals as goal
 
 pub loop-rest-init : goal.loop-rest-init
@@ -23,11 +23,6 @@ loop-rest-init c =
       count = omega (arith, c.new-seen.ensures.count);
       words = subst (All IsWord) (sym c.new-list.ensures.items) (All-nil IsWord);
     }
-
-pub place-requires-clause-same : goal.place-requires-clause-same
-place-requires-clause-same c =
-    let keeps = c.loop-rest.invariant.keeps in
-    same-count c.loop-rest.seen keeps.names keeps.is_seen
 
 pub loop-rest-preserved-in_ok-push : goal.loop-rest-preserved-in_ok-push
 loop-rest-preserved-in_ok-push c =

@@ -1,32 +1,33 @@
-use Rattle.std.proofs.Common.{ap, ◌∙◌, sym, option_map}
+use Rattle.std.proofs.Common.{rules, ap, ◌∙◌, Some, None}
 use Rattle.std.proofs.lemmas.Result.{on_ok_weaker}
-use Rattle.std.specs.Ordering.{nat_cmp}
-use Rattle.std.specs.Cmp.Lexicographic.{slice_cmp}
-use Rattle.std.specs.FinMap.{find}
-use Rattle.index_write.specs.Lists.{value_of, shown_values, entries_of}
-use Rattle.index_write.proofs.KeyLemmas.{find-entries_of, ordered, set_value-with_one, set_value-kept, on_err_weaker}
+use Rattle.index_write.specs.Lists.{value_of}
+use Rattle.index_write.proofs.KeyLemmas.{ordered, list-with_one, list-kept, on_err_weaker}
 use Rattle.index_write.proofs.lists.add_value.Goals as goal
 
-pub add_key-requires : goal.add_key-requires
-add_key-requires c =
-    ap (λ m. find (slice_cmp nat_cmp) c.args.key.now (entries_of m.entries)) c.get_mut.follows.holds-at-none
-    ∙ find-entries_of c.args.lists.now.entries c.args.key.now
-    ∙ ap (option_map (λ v. shown_values v.items)) (sym c.in-None.ensures.value)
+pub returns-in_err-entry-clause-ordered : goal.returns-in_err-entry-clause-ordered
+returns-in_err-entry-clause-ordered c = ordered c.args.lists.now.entries c.entry.ensures.ordered
 
-pub returns-in-Some-clause-ok : goal.returns-in-Some-clause-ok
-returns-in-Some-clause-ok c =
-    on_ok_weaker c.add_to.result (λ e.
-    ap entries_of (c.get_mut.follows.holds c.add_to.new.list).0
-    ∙ set_value-with_one c.args.lists.now.entries c.args.key.now c.in-Some.list.now c.add_to.new.list (sym c.in-Some.ensures.value) (value_of c.args.value) (ordered c.args.lists.now.entries c.get_mut.ensures.ordered) e) c.add_to.ensures.ok
+pub returns-in-Occupied-clause-ok : goal.returns-in-Occupied-clause-ok
+returns-in-Occupied-clause-ok c =
+    on_ok_weaker c.add_to.result
+    (λ e. list-with_one c.args.lists.now.entries _ c.args.key (Some c.into_mut.result.now) c.add_to.new.list (search rules) (search rules) (value_of c.args.value) e)
+    c.add_to.ensures.ok
 
-pub returns-in-Some-clause-err : goal.returns-in-Some-clause-err
-returns-in-Some-clause-err c =
-    on_err_weaker c.add_to.result (λ e.
-    ap entries_of (c.get_mut.follows.holds c.add_to.new.list).0
-    ∙ set_value-kept c.args.lists.now.entries c.args.key.now c.in-Some.list.now c.add_to.new.list (sym c.in-Some.ensures.value) e) c.add_to.ensures.err
+pub returns-in-Occupied-clause-err : goal.returns-in-Occupied-clause-err
+returns-in-Occupied-clause-err c =
+    on_err_weaker c.add_to.result
+    (λ e. list-kept c.args.lists.now.entries _ c.args.key c.into_mut.result.now c.add_to.new.list (search rules) (search rules) (ordered c.args.lists.now.entries c.entry.ensures.ordered) e)
+    c.add_to.ensures.err
 
-pub returns-in-Some-clause-ordered : goal.returns-in-Some-clause-ordered
-returns-in-Some-clause-ordered c = ordered c.args.lists.now.entries c.get_mut.ensures.ordered
+pub returns-in-Occupied-clause-ordered : goal.returns-in-Occupied-clause-ordered
+returns-in-Occupied-clause-ordered c = ordered c.args.lists.now.entries c.entry.ensures.ordered
 
-pub returns-in-None-clause-ordered : goal.returns-in-None-clause-ordered
-returns-in-None-clause-ordered c = ordered c.args.lists.now.entries c.get_mut.ensures.ordered
+pub returns-in_err-or_try_insert_with-in-Vacant-clause-ordered : goal.returns-in_err-or_try_insert_with-in-Vacant-clause-ordered
+returns-in_err-or_try_insert_with-in-Vacant-clause-ordered c = ordered c.args.lists.now.entries c.entry.ensures.ordered
+
+pub returns-in_ok-or_try_insert_with-in-Vacant-clause-ok : goal.returns-in_ok-or_try_insert_with-in-Vacant-clause-ok
+returns-in_ok-or_try_insert_with-in-Vacant-clause-ok c =
+    list-with_one c.args.lists.now.entries _ c.args.key None c.in_ok-or_try_insert_with-in-Vacant.field-0.now (search rules) (search rules) (value_of c.args.value) (search rules)
+
+pub returns-in_ok-or_try_insert_with-in-Vacant-clause-ordered : goal.returns-in_ok-or_try_insert_with-in-Vacant-clause-ordered
+returns-in_ok-or_try_insert_with-in-Vacant-clause-ordered c = ordered c.args.lists.now.entries c.entry.ensures.ordered
