@@ -46,10 +46,13 @@ impl<'a> NameSet<'a> {
         Ok(())
     }
 
-    /// Returns whether the name is in the set.
+    /// Returns whether the name is in the set. Without names no hash is computed.
     pub fn contains(&self, name: &[u8]) -> bool
         ensures { result ≡ is_among self.now name.now }
     {
+        if self.names.is_empty() {
+            return false;
+        }
         self.names.contains(&NameKey::new(name))
     }
 
