@@ -45,10 +45,13 @@ impl<'a, T: Drop> NameGroups<'a, T> {
         push_value(alloc, &mut self.groups, name, value)
     }
 
-    /// Returns the values of a name. There may be none.
+    /// Returns the values of a name. There may be none. Without groups no hash is computed.
     pub fn of(&self, name: &[u8]) -> &[T]
         ensures { result.now ≡ group_of self.now name.now }
     {
+        if self.groups.is_empty() {
+            return &[];
+        }
         match self.groups.get(name) {
             Some(group) => group.as_slice(),
             None => &[],
