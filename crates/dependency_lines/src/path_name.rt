@@ -25,12 +25,19 @@ pub(crate) fn is_plain(text: &[u8]) -> bool
 pub(crate) fn write_name(buffer: &mut Vec<u8>, path: &[u8]) -> Result<(), AllocError>
     ensures { OnOk result (buffer.new.items ≡ module_name path.now) }
 {
-    let text = stem(path);
     buffer.clear();
-    for byte in text {
-        buffer.push(with_underscore(*byte))?;
-    }
+    buffer.extend_from_slice(stem(path))?;
+    underscore(buffer.as_mut_slice());
     Ok(())
+}
+
+/// Writes a `_` in place of each `-`.
+fn underscore(text: &mut [u8])
+    ensures { text.new ≡ underscored text.old }
+{
+    for i in 0..text.len() {
+        text[i] = with_underscore(text[i]);
+    }
 }
 
 /// Returns what follows the last `/` of a path.
