@@ -5,6 +5,7 @@ pub mod Finds
 pub mod Inside
 pub mod Marks
 pub mod ModuleLines
+pub mod NoLines
 pub mod Obstacles
 pub mod RuleLaws
 pub mod PlaceNames

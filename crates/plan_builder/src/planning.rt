@@ -185,6 +185,7 @@ fn names_at(alloc: Global, modules: &Modules<'_>, places: &[usize]) -> Result<Na
 }
 
 /// Makes the order of the plan for what was found, or finds the first obstacle of what is planned.
+/// If modules.unmet has no line, that can only be a cycle, and no paths are compared.
 fn checked_plan(
     alloc: Global,
     planner: &Planner<'_>,
@@ -195,8 +196,29 @@ fn checked_plan(
     ensures err { IfErr result (λ o. (o ≡ Obstacle.Memory) ⊎ (first (plan_tests (sources_of planner.now) founds.now) ≡ Some o)) }
 {
     let Planning { marks, answer } = planned_answer(alloc, planner, founds)?;
+    if planner.unmet().is_empty() {
+        return order_without_lines(alloc, planner, founds, answer);
+    }
     let paths = compared_paths(alloc, planner, &marks)?;
     checked_order(alloc, planner, founds, answer, &paths)
+}
+
+/// Returns the order that was found, unless there is a cycle. modules.unmet has no line. `founds` is
+/// only for the contract.
+fn order_without_lines(
+    alloc: Global,
+    planner: &Planner<'_>,
+    founds: &[Found],
+    answer: PlanOrCycle,
+) -> Result<GroupedOrder, Obstacle>
+    requires lines { length (sources_of planner.now).unmet ≡ 0 }
+    requires answer { IsAnswer (among (before (sources_of planner.now))) (unloaded (sources_of planner.now)) (after (sources_of planner.now)) (asked (sources_of planner.now) founds.now) answer }
+    ensures plan { IfOk result (IsPlan (among (before (sources_of planner.now))) (unloaded (sources_of planner.now)) (after (sources_of planner.now)) (asked (sources_of planner.now) founds.now)) }
+    ensures passed { OnOk result (first (plan_tests (sources_of planner.now) founds.now) ≡ None) }
+    ensures err { IfErr result (λ o. (o ≡ Obstacle.Memory) ⊎ (first (plan_tests (sources_of planner.now) founds.now) ≡ Some o)) }
+{
+    let order = order_of(alloc, planner, answer)?;
+    Ok(order)
 }
 
 /// Returns the order that was found, or finds the first obstacle of what is planned. `founds` is
