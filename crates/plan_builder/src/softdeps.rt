@@ -1,5 +1,5 @@
 // What the names of soft dependencies stand for.
-ghost use Rattle.std.specs.Prelude.{◌≡◌, ◌<◌, ◌++◌, ◌∷◌, ◌==◌, [], not, ℕ, List, length, filter, replicate, None, All, IfOk, OnOk, unwrap_or};
+ghost use Rattle.std.specs.Prelude.{◌≡◌, ◌<◌, ◌++◌, ◌∷◌, ◌==◌, [], not, ℕ, List, length, filter, replicate, Some, None, All, IfOk, IfSome, OnOk, unwrap_or};
 ghost use Rattle.std.specs.List.{flat_map};
 ghost use Rattle.relation_order.specs.Search.{with_items};
 ghost use Rattle.plan_builder.specs.Needs.{modules as modules_in, is_available as can_load};
@@ -117,7 +117,8 @@ fn add_name<'a>(
     }
 }
 
-/// Finds the modules that a name stands for and that can be loaded.
+/// Finds the modules that a name stands for and that can be loaded. If modules.unmet has no line,
+/// each can.
 fn loadable_places(
     alloc: Global,
     planner: &Planner<'_>,
@@ -130,6 +131,9 @@ fn loadable_places(
 {
     let found = planner.found(alloc, name)?;
     let places = planner.modules().places_of(alloc, found.names.as_slice())?;
+    if planner.unmet().is_empty() {
+        return Ok(places);
+    }
     only_loadable(alloc, planner, known, &places)
 }
 
@@ -188,9 +192,11 @@ pub(crate) fn find_named(
 {
     let mut found = PlaceSet::with_hasher(alloc, BuildHasherDefault::new());
     let mut looked_up = NameSet::new(alloc);
+    let mut next = 0;
     for name in names {
         let name = name.as_bytes();
-        let places = places_under(table, name);
+        let (places, after) = places_under(table, next, name);
+        next = after;
         if places.len() < 2 {
             find_others(&mut found, place, places)?;
         } else if !looked_up.contains(name) {
@@ -201,14 +207,30 @@ pub(crate) fn find_named(
     Vec::from_slice(alloc, found.as_slice())
 }
 
-/// Returns the modules under a name, none if the table doesn't have it.
-fn places_under<'t>(table: &'t SoftTable<'_>, name: &[u8]) -> &'t [usize]
-    ensures { result.now ≡ unwrap_or (kept_places table.now.entries name.now) [] }
+/// Returns the modules under a name, none if the table doesn't have it, and where the table goes on
+/// after the name. The names of a rule are mostly one after the other in the table. So the name is
+/// first compared with the next one, for which no hash is computed.
+fn places_under<'t>(table: &'t SoftTable<'_>, next: usize, name: &[u8]) -> (&'t [usize], usize)
+    ensures { result.0.now ≡ unwrap_or (kept_places table.now.entries name.now) [] }
 {
-    match table.get(name) {
-        Some(places) => places.as_slice(),
-        None => &[],
+    if let Some(places) = places_at(table, next, name) {
+        return (places, next.wrapping_add(1));
     }
+    match table.get_full(name) {
+        Some((at, _, places)) => (places.as_slice(), at.wrapping_add(1)),
+        None => (&[], next),
+    }
+}
+
+/// Returns the modules at a place of the table, if they are kept under this name.
+fn places_at<'t>(table: &'t SoftTable<'_>, at: usize, name: &[u8]) -> Option<&'t [usize]>
+    ensures { IfSome result (λ places. kept_places table.now.entries name.now ≡ Some places.now) }
+{
+    let (key, places) = table.get_index(at)?;
+    if *key == name {
+        return Some(places.as_slice());
+    }
+    None
 }
 
 /// Finds the modules among some that aren't this one, unless they were found before.

@@ -20,7 +20,7 @@ loop-name-preserved c =
     let i = c.loop-name.name-index in
     let name = c.name-item.result.now in
     let bytes = c.as_bytes-name.ensures in
-    let under = c.places_under-places.ensures in
+    let under = c.places_under-after.ensures in
     let more : texts (take (i + 1) c.args.names.now) ≡ texts (take i c.args.names.now) ++ c.name-item.result.now ∷ [] =
     ap texts (take_more items i c.name-item.result c.loop-name-test.true ∙ ap (λ n. take i items ++ n ∷ []) (sym c.name-item.is))
     ∙ map-append (λ (n : Bor (List ℕ)). n.now) (take i items) (c.name-item.result ∷ []) in
