@@ -168,6 +168,62 @@ fn obstacles_of(
     Ok(lines)
 }
 
+/// Makes the dependencies of each module, unless walks lead back or something is too many.
+fn closures_of(
+    alloc: Global,
+    tree: &TreeFacts,
+    bindings: &Bindings,
+    kernel: &Kernel,
+) -> Result<Vec<Order>, RelationFault>
+    requires tree { IsTree tree.now }
+    requires bindings { AreBindings tree.now kernel.now bindings.now }
+    ensures ok { IfOk result (λ closures. map places_of closures.items ≡ dependencies (modules_of tree.now) (kernel_of kernel.now)) }
+    ensures passed { OnOk result (relation_fault (modules_of tree.now) (kernel_of kernel.now) ≡ None) }
+    ensures err { IfErr result (λ fault. (fault ≡ RelationFault.Memory)
+        ⊎ (relation_fault (modules_of tree.now) (kernel_of kernel.now) ≡ Some fault)) }
+{
+    let closures = reach(alloc, tree, bindings, kernel)?;
+    check_counts(alloc, &closures, bindings)?;
+    Ok(orders_of(alloc, &closures, tree.len())?)
+}
+
+/// The lists of a relation: the owner of each export, the dependencies of each module, and the
+/// lines of modules.unmet.
+#[derive(Drop)]
+struct Lists {
+    owners: Vec<Provider>,
+    closures: Vec<Order>,
+    unmet: Obstacles,
+}
+
+impl Lists {
+    /// Makes the lists, unless the tree has no relation.
+    fn new(
+        alloc: Global,
+        tree: &TreeFacts,
+        bindings: &Bindings,
+        kernel: &Kernel,
+    ) -> Result<Lists, RelationFault>
+        requires tree { IsTree tree.now }
+        requires bindings { AreBindings tree.now kernel.now bindings.now }
+        ensures owners { IfOk result (λ lists. lists.owners.items ≡ map item_answer bindings.now.items.items) }
+        ensures closures { IfOk result (λ lists. map places_of lists.closures.items ≡ dependencies (modules_of tree.now) (kernel_of kernel.now)) }
+        ensures unmet { IfOk result (λ lists. lists.unmet ≡ unmet (modules_of tree.now) (kernel_of kernel.now)) }
+        ensures passed { OnOk result (relation_fault (modules_of tree.now) (kernel_of kernel.now) ≡ None) }
+        ensures err { IfErr result (λ fault. (fault ≡ RelationFault.Memory)
+            ⊎ (relation_fault (modules_of tree.now) (kernel_of kernel.now) ≡ Some fault)) }
+    {
+        let closures = closures_of(alloc, tree, bindings, kernel)?;
+        let unmet = obstacles_of(alloc, tree, bindings, kernel)?;
+        let owners = owners(alloc, &bindings.items)?;
+        Ok(Lists {
+            owners,
+            closures,
+            unmet,
+        })
+    }
+}
+
 impl Relation {
     /// Makes the relation of the modules of a tree, in its order, over a kernel. modules.dep(5),
     /// depmod(8).
@@ -187,16 +243,13 @@ impl Relation {
             ⊎ (relation_fault (modules_of tree.now) (kernel_of kernel.now) ≡ Some fault)) }
     {
         let bindings = Bindings::new(alloc, tree, kernel)?;
-        let closures = reach(alloc, tree, &bindings, kernel)?;
-        check_counts(alloc, &closures, &bindings)?;
-        let unmet = obstacles_of(alloc, tree, &bindings, kernel)?;
-        let closures = orders_of(alloc, &closures, tree.len())?;
+        let lists = Lists::new(alloc, tree, &bindings, kernel)?;
         Ok(Relation {
             known: bindings.known,
-            owners: owners(alloc, &bindings.items)?,
             names: bindings.names,
-            closures,
-            unmet,
+            owners: lists.owners,
+            closures: lists.closures,
+            unmet: lists.unmet,
         })
     }
 

@@ -1,31 +1,29 @@
-use Rattle.std.proofs.Common.{◌<◌, ◌^◌, ℕ, List, length, map, All, Some, None, sym, ap, subst, ◌∙◌, arith}
+use Rattle.std.proofs.Common.{◌<◌, ◌^◌, ℕ, List, length, All, Some, None, sym, ap, subst, ◌∙◌, arith}
 use Rattle.std.proofs.lemmas.List.{length-map}
 use Rattle.std.proofs.lemmas.Result.{err_from_is_err_and}
 use Rattle.provider_rel.specs.KernelTable.{seen_export}
 use Rattle.provider_rel.specs.Faces.{module_of, modules_of, kernel_of}
-use Rattle.provider_rel.specs.Items.{item_answer}
-use Rattle.provider_rel.specs.Seen.{provider_by, closures_by, obstacles_by}
 use Rattle.provider_rel.proofs.DoubleLaw.{apart-map, modules-apart}
-use Rattle.provider_rel.proofs.MakeSteps.{fault-cycle, fault-counts, deps-long, deps-small, provider-placed, right}
-use Rattle.provider_rel.proofs.relation.Relation.make.Goals as goal
+use Rattle.provider_rel.proofs.MakeSteps.{fault-cycle, fault-counts, deps-long, deps-small, right}
+use Rattle.provider_rel.proofs.relation.closures_of.Goals as goal
 
 pub returns-in_err-closures-clause-err : goal.returns-in_err-closures-clause-err
 returns-in_err-closures-clause-err c =
-    let p = err_from_is_err_and c.from_residual-in_err-closures.result c.from_residual-in_err-closures.ensures.1 in
+    let p = err_from_is_err_and c.from_residual.result c.from_residual.ensures.1 in
     rw (p.1, p.2) (right (fault-cycle c.args.tree.now (kernel_of c.args.kernel.now) c.in_err-closures.field-0.0) c.in_err-closures.ensures.err)
 
 pub check_counts-requires-clause-closures : goal.check_counts-requires-clause-closures
 check_counts-requires-clause-closures c =
-    omega (arith, ap length c.in_ok-closures.ensures.ok, deps-long (modules_of c.args.tree.now) (kernel_of c.args.kernel.now), length-map c.args.tree.now module_of, c.requires.few)
+    omega (arith, ap length c.in_ok-closures.ensures.ok, deps-long (modules_of c.args.tree.now) (kernel_of c.args.kernel.now), length-map c.args.tree.now module_of, c.requires.tree.few)
 
 pub returns-in_err-check_counts-clause-err : goal.returns-in_err-check_counts-clause-err
 returns-in_err-check_counts-clause-err c =
     let k = c.args.kernel.now in
     let tree = c.args.tree.now in
-    let b = c.in_ok-bindings.bindings in
+    let b = c.args.bindings.now in
     let p = err_from_is_err_and c.from_residual-in_err-check_counts.result c.from_residual-in_err-check_counts.ensures.1 in
-    rw (p.1, p.2) (right (fault-counts tree (kernel_of k) c.in_ok-closures.closures b.items.items (Some c.in_err-check_counts.field-0.0) c.in_ok-closures.ensures.passed c.in_ok-closures.ensures.ok c.in_ok-bindings.ensures.ok.items_are
-    (apart-map seen_export k.exports k.table.distinct) (modules-apart tree c.requires.modules)) c.in_err-check_counts.ensures.err)
+    rw (p.1, p.2) (right (fault-counts tree (kernel_of k) c.in_ok-closures.closures b.items.items (Some c.in_err-check_counts.field-0.0) c.in_ok-closures.ensures.passed c.in_ok-closures.ensures.ok c.requires.bindings.items_are
+    (apart-map seen_export k.exports k.table.distinct) (modules-apart tree c.requires.tree.modules)) c.in_err-check_counts.ensures.err)
 
 pub orders_of-requires-clause-long : goal.orders_of-requires-clause-long
 orders_of-requires-clause-long c =
@@ -34,23 +32,15 @@ orders_of-requires-clause-long c =
 pub orders_of-requires-clause-small : goal.orders_of-requires-clause-small
 orders_of-requires-clause-small c =
     let P : List (List ℕ) → Type 0 = λ xss. All (λ xs. All (λ i. i < 2 ^ 32) xs) xss in
-    subst P (sym c.in_ok-closures.ensures.ok) (deps-small (modules_of c.args.tree.now) (kernel_of c.args.kernel.now) (omega (arith, length-map c.args.tree.now module_of, c.requires.few)))
+    subst P (sym c.in_ok-closures.ensures.ok) (deps-small (modules_of c.args.tree.now) (kernel_of c.args.kernel.now) (omega (arith, length-map c.args.tree.now module_of, c.requires.tree.few)))
 
 pub returns-clause-ok : goal.returns-clause-ok
-unfolding provider_by closures_by obstacles_by
-returns-clause-ok c =
-    let b = c.in_ok-bindings.bindings in
-    let made = c.in_ok-bindings.ensures.ok in
-    record {
-      provider = λ x. provider-placed (modules_of c.args.tree.now) (kernel_of c.args.kernel.now) b.names b.items.items c.in_ok-owners.field-0.items b.known x made.items_are made.names_are (c.in_ok-owners.ensures ∙ ap (map item_answer) c.deref.ensures.value) made.known_is;
-      closures = c.in_ok-closures-2.ensures ∙ c.in_ok-closures.ensures.ok;
-      obstacles = c.in_ok-unmet.ensures;
-    }
+returns-clause-ok c = c.in_ok-orders_of.ensures ∙ c.in_ok-closures.ensures.ok
 
 pub returns-clause-passed : goal.returns-clause-passed
 returns-clause-passed c =
     let k = c.args.kernel.now in
     let tree = c.args.tree.now in
-    let b = c.in_ok-bindings.bindings in
-    fault-counts tree (kernel_of k) c.in_ok-closures.closures b.items.items None c.in_ok-closures.ensures.passed c.in_ok-closures.ensures.ok c.in_ok-bindings.ensures.ok.items_are
-    (apart-map seen_export k.exports k.table.distinct) (modules-apart tree c.requires.modules) c.in_ok-check_counts.ensures.passed
+    let b = c.args.bindings.now in
+    fault-counts tree (kernel_of k) c.in_ok-closures.closures b.items.items None c.in_ok-closures.ensures.passed c.in_ok-closures.ensures.ok c.requires.bindings.items_are
+    (apart-map seen_export k.exports k.table.distinct) (modules-apart tree c.requires.tree.modules) c.in_ok-check_counts.ensures.passed
