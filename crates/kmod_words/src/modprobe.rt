@@ -1,5 +1,6 @@
-ghost use Rattle.std.specs.Prelude.{◌≡◌, IfOk, Option, option_map};
+ghost use Rattle.std.specs.Prelude.{◌≡◌, IfOk, Option, codes, option_map, unwrap_or};
 ghost use Rattle.clap.specs.Words.{found_of, rows_of};
+ghost use Rattle.kmod_words.specs.Understood.{value_of as value_in};
 ghost use Rattle.kmod_words.specs.Modprobe.{modprobe_request, modprobe_asked, modprobe_of, mode_asked as mode_of_flags, mode_by_flags as mode_of_four, goes_with as options_go_with, chosen, shown};
 
 use crate::arguments::{Argument, command};
@@ -185,21 +186,74 @@ fn words_for(
     ensures { IfOk result (λ words. words
         ≡ modprobe_of (rows_of (found_of matches.now)) choice.now.mode choice.now.version.now choice.now.region) }
 {
+    let version = Name::from_slice(alloc, choice.version.as_bytes())?;
+    let words = words_of(alloc, matches, "words")?;
+    let plan = plan_paths(alloc, matches)?;
+    let load = load_paths(alloc, matches)?;
     Ok(ModprobeWords {
         mode: choice.mode,
         all: is_given(matches, "all"),
         use_blacklist: is_given(matches, "use-blacklist"),
         ignore_install: is_given(matches, "ignore-install"),
-        dirname: bytes_or(alloc, matches, "dirname", b"/")?,
-        version: Name::from_slice(alloc, choice.version.as_bytes())?,
-        config: bytes_of(alloc, matches, "config")?,
-        loaded: bytes_of(alloc, matches, "loaded")?,
-        system_map: bytes_of(alloc, matches, "system-map")?,
-        symvers: bytes_of(alloc, matches, "symvers")?,
+        dirname: plan.dirname,
+        version,
+        config: plan.config,
+        loaded: plan.loaded,
+        system_map: load.system_map,
+        symvers: load.symvers,
         region_base: choice.region.base,
         region_size: choice.region.size,
-        image: bytes_of(alloc, matches, "image")?,
+        image: load.image,
         params: is_given(matches, "params"),
-        words: words_of(alloc, matches, "words")?,
+        words,
+    })
+}
+
+// The paths that every mode reads.
+#[derive(Drop)]
+struct PlanPaths {
+    dirname: PathText,
+    config: Option<PathText>,
+    loaded: Option<PathText>,
+}
+
+// Returns the paths that every mode reads.
+fn plan_paths(alloc: Global, matches: &ArgMatches<'_>) -> Result<PlanPaths, AllocError>
+    ensures dirname { IfOk result (λ paths. paths.dirname
+        ≡ unwrap_or (value_in (codes "dirname") (rows_of (found_of matches.now))) (codes "/")) }
+    ensures config { IfOk result (λ paths. paths.config ≡ value_in (codes "config") (rows_of (found_of matches.now))) }
+    ensures loaded { IfOk result (λ paths. paths.loaded ≡ value_in (codes "loaded") (rows_of (found_of matches.now))) }
+{
+    let dirname = bytes_or(alloc, matches, "dirname", b"/")?;
+    let config = bytes_of(alloc, matches, "config")?;
+    let loaded = bytes_of(alloc, matches, "loaded")?;
+    Ok(PlanPaths {
+        dirname,
+        config,
+        loaded,
+    })
+}
+
+// The paths that only a load or a removal needs.
+#[derive(Drop)]
+struct LoadPaths {
+    system_map: Option<PathText>,
+    symvers: Option<PathText>,
+    image: Option<PathText>,
+}
+
+// Returns the paths that only a load or a removal needs.
+fn load_paths(alloc: Global, matches: &ArgMatches<'_>) -> Result<LoadPaths, AllocError>
+    ensures system_map { IfOk result (λ paths. paths.system_map ≡ value_in (codes "system-map") (rows_of (found_of matches.now))) }
+    ensures symvers { IfOk result (λ paths. paths.symvers ≡ value_in (codes "symvers") (rows_of (found_of matches.now))) }
+    ensures image { IfOk result (λ paths. paths.image ≡ value_in (codes "image") (rows_of (found_of matches.now))) }
+{
+    let system_map = bytes_of(alloc, matches, "system-map")?;
+    let symvers = bytes_of(alloc, matches, "symvers")?;
+    let image = bytes_of(alloc, matches, "image")?;
+    Ok(LoadPaths {
+        system_map,
+        symvers,
+        image,
     })
 }
