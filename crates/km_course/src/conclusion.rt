@@ -1,8 +1,8 @@
-ghost use Rattle.std.specs.Prelude.{◌≡◌, ◌++◌, IfOk, OnErr};
+ghost use Rattle.std.specs.Prelude.{◌≡◌, ◌++◌, Err, IfOk, OnErr};
 ghost use Rattle.km_outside.specs.OutSeen.{WriteAnswers};
 ghost use Rattle.km_course.specs.Carries.{Closes, Concludes, IsRefused, SaysOf, WritesLine, stop_line, stop_status, unwritten_status};
 ghost use Rattle.km_course.specs.Lines.{end_line};
-ghost use Rattle.km_course.specs.declared.stop.Stop.TheVariants.{Ended};
+ghost use Rattle.km_course.specs.declared.stop.Stop.TheVariants.{Ended, Memory};
 
 use crate::{End, Stop};
 use km_names::Blob;
@@ -20,6 +20,9 @@ const FAULT: u8 = 3;
 /// The status after running out of memory.
 const OUT_OF_MEMORY: u8 = 4;
 
+/// The line of a command that ran out of memory.
+const MEMORY_LINE: &[u8] = b"kmod: out of memory\n";
+
 /// Writes the line of a command's stop to err and returns the exit status. If the line can't be
 /// written the status is 3, or 4 if the command or the text of its refusal ran out of memory. The
 /// line of a failed call is written in pieces and takes no memory.
@@ -28,11 +31,31 @@ pub fn conclude<E: Out>(alloc: Global, outcome: Result<(), Stop>, err: &mut E) -
 {
     match outcome {
         Ok(()) => DONE,
-        Err(stop) => match said(alloc, &stop) {
-            Ok(text) => close(err, &stop, text.as_bytes()),
-            Err(_) => close(err, &Stop::Memory, b""),
-        },
+        Err(stop) => {
+            let status = conclude_stop(alloc, &stop, err);
+            drop(stop);
+            status
+        }
     }
+}
+
+/// Writes the line of the stop to err and returns the status. If the text of a refusal can't be
+/// made, it is the line for that.
+fn conclude_stop<E: Out>(alloc: Global, stop: &Stop, err: &mut E) -> u8
+    ensures { Concludes (Err stop.now) (E.seen err.old) (E.seen err.new) result }
+{
+    match said(alloc, stop) {
+        Ok(text) => close(err, stop, text.as_bytes()),
+        Err(_) => close_memory(err),
+    }
+}
+
+/// Writes the line for want of memory to err, and returns its status.
+fn close_memory<E: Out>(err: &mut E) -> u8
+    ensures { Closes Memory (E.seen err.old) (E.seen err.new) result }
+{
+    let _ = err.write(MEMORY_LINE);
+    OUT_OF_MEMORY
 }
 
 /// Returns the text of the refusal, and nothing if the stop isn't a refusal.
@@ -94,7 +117,7 @@ fn write_line<E: Out>(err: &mut E, stop: &Stop, text: &[u8]) -> Result<(), OutFa
         Stop::FileFault { path } => write_around(err, b"kmod: file fault ", path.as_bytes(), b"\n"),
         Stop::OutputFault => err.write(b"kmod: output fault\n"),
         Stop::WarningFault => Ok(()),
-        Stop::Memory => err.write(b"kmod: out of memory\n"),
+        Stop::Memory => err.write(MEMORY_LINE),
     }
 }
 

@@ -1,7 +1,8 @@
-ghost use Rattle.std.specs.Prelude.{◌≡◌, ◌++◌, IfOk, codes};
+ghost use Rattle.std.specs.Prelude.{◌≡◌, ◌++◌, IfOk, OnOk, codes};
+ghost use Rattle.std.specs.Fmt.{decimal};
 ghost use Rattle.km_course.specs.Lines.{cycle_text, refusal_text};
 
-use km_names::{Blob, Name, Names, PathText};
+use km_names::{Blob, Bytes, Name, Names, PathText};
 use std::alloc::{AllocError, Global};
 
 /// Why a command is refused with status 1: one variant for each line of its own. A missing file and
@@ -58,82 +59,91 @@ impl Refusal {
         ensures { IfOk result (λ text. text ≡ refusal_text self.now) }
     {
         match self {
-            Refusal::BadModule { path, text } => faulty(alloc, path.as_bytes(), text.as_bytes()),
-            Refusal::Compressed { path } => two(alloc, path.as_bytes(), b": compressed"),
-            Refusal::Cycle { names } => two(alloc, b"cycle ", cycle_text(alloc, names)?.as_bytes()),
-            Refusal::NotFound { name } => two(alloc, b"not found ", name.as_bytes()),
-            Refusal::Obstacle { text } => Blob::from_slice(alloc, text.as_bytes()),
-            Refusal::BadIndex { file, text } => faulty(alloc, file.as_bytes(), text.as_bytes()),
-            Refusal::BadLine { file, number } => {
-                let number = format!(in alloc; "{number}")?;
-                three(alloc, file.as_bytes(), b": bad line ", number.as_bytes())
-            }
-            Refusal::InstallChosen { name } => two(alloc, b"install chosen ", name.as_bytes()),
+            Refusal::BadModule { path, text } => faulty(alloc, b"", path, text),
+            Refusal::Compressed { path } => named(alloc, b"", path, b": compressed"),
+            Refusal::Cycle { names } => cycle(alloc, names),
+            Refusal::NotFound { name } => named(alloc, b"not found ", name, b""),
+            Refusal::Obstacle { text } => named(alloc, b"", text, b""),
+            Refusal::BadIndex { file, text } => faulty(alloc, b"", file, text),
+            Refusal::BadLine { file, number } => bad_line(alloc, file, *number),
+            Refusal::InstallChosen { name } => named(alloc, b"install chosen ", name, b""),
             Refusal::KernelWithoutAddress { name } => {
-                two(alloc, b"kernel without address ", name.as_bytes())
+                named(alloc, b"kernel without address ", name, b"")
             }
             Refusal::ListedNotFound { name } => {
-                three(alloc, b"listed module ", name.as_bytes(), b": not found")
+                named(alloc, b"listed module ", name, b": not found")
             }
-            Refusal::ListedRefused { name, text } => {
-                let load = faulty(alloc, name.as_bytes(), text.as_bytes())?;
-                two(alloc, b"listed module ", load.as_bytes())
-            }
-            Refusal::LoadRefused { name, text } => faulty(alloc, name.as_bytes(), text.as_bytes()),
-            Refusal::ParamsRefused { name, text } => {
-                faulty(alloc, name.as_bytes(), text.as_bytes())
-            }
-            Refusal::InUse { name, user } => {
-                three(alloc, name.as_bytes(), b" is in use by ", user.as_bytes())
-            }
-            Refusal::RemoveChosen { name } => two(alloc, b"remove chosen ", name.as_bytes()),
+            Refusal::ListedRefused { name, text } => faulty(alloc, b"listed module ", name, text),
+            Refusal::LoadRefused { name, text } => faulty(alloc, b"", name, text),
+            Refusal::ParamsRefused { name, text } => faulty(alloc, b"", name, text),
+            Refusal::InUse { name, user } => in_use(alloc, name, user),
+            Refusal::RemoveChosen { name } => named(alloc, b"remove chosen ", name, b""),
             Refusal::TooManyModules => Blob::from_slice(alloc, b"too many modules"),
             Refusal::TooManyDependencies => Blob::from_slice(alloc, b"too many dependencies"),
             Refusal::TooManyDoubles => Blob::from_slice(alloc, b"too many doubles"),
-            Refusal::OutputTooLarge { file } => two(alloc, file.as_bytes(), b": output too large"),
-            Refusal::BadPath { path } => two(alloc, b"bad path ", path.as_bytes()),
+            Refusal::OutputTooLarge { file } => named(alloc, b"", file, b": output too large"),
+            Refusal::BadPath { path } => named(alloc, b"bad path ", path, b""),
             Refusal::InnerOutputFull => Blob::from_slice(alloc, b"inner output full"),
         }
     }
 }
 
-/// Returns the two texts, one after the other.
-fn two(alloc: Global, first: &[u8], second: &[u8]) -> Result<Blob, AllocError>
-    ensures { IfOk result (λ text. text ≡ first.now ++ second.now) }
+/// Returns a text that names a thing, with the words before and after it.
+fn named<K>(alloc: Global, before: &[u8], what: &Bytes<K>, after: &[u8]) -> Result<Blob, AllocError>
+    ensures { IfOk result (λ text. text ≡ before.now ++ (what.now ++ after.now)) }
 {
-    let mut text = Blob::from_slice(alloc, first)?;
-    text.extend(second)?;
+    Blob::concat(alloc, &[before, what.as_bytes(), after])
+}
+
+/// Returns the thing that is refused and the text of its fault, with the words before them.
+fn faulty<K>(
+    alloc: Global,
+    before: &[u8],
+    what: &Bytes<K>,
+    fault: &Blob,
+) -> Result<Blob, AllocError>
+    ensures { IfOk result (λ text. text ≡ before.now ++ (what.now ++ (codes ": " ++ fault.now))) }
+{
+    Blob::concat(alloc, &[before, what.as_bytes(), b": ", fault.as_bytes()])
+}
+
+/// Returns the text for a module that another one uses.
+fn in_use(alloc: Global, name: &Name, user: &Name) -> Result<Blob, AllocError>
+    ensures { IfOk result (λ text. text ≡ name.now ++ (codes " is in use by " ++ user.now)) }
+{
+    Blob::concat(
+        alloc,
+        &[name.as_bytes(), b" is in use by ", user.as_bytes()],
+    )
+}
+
+/// Returns the text for a line of a file that isn't understood.
+fn bad_line(alloc: Global, file: &PathText, number: u32) -> Result<Blob, AllocError>
+    ensures { IfOk result (λ text. text ≡ file.now ++ (codes ": bad line " ++ decimal number)) }
+{
+    let number = format!(in alloc; "{number}")?;
+    Blob::concat(alloc, &[file.as_bytes(), b": bad line ", number.as_bytes()])
+}
+
+/// Returns the text for a cycle of modules.
+fn cycle(alloc: Global, names: &Names) -> Result<Blob, AllocError>
+    ensures { IfOk result (λ text. text ≡ codes "cycle " ++ cycle_text names.now) }
+{
+    let mut text = Blob::from_slice(alloc, b"cycle ")?;
+    push_cycle(&mut text, names)?;
     Ok(text)
 }
 
-/// Returns the three texts, one after the other.
-fn three(alloc: Global, first: &[u8], second: &[u8], third: &[u8]) -> Result<Blob, AllocError>
-    ensures { IfOk result (λ text. text ≡ first.now ++ (second.now ++ third.now)) }
+/// Puts the names along a cycle at the end, an arrow between each two, and the first one again.
+fn push_cycle(text: &mut Blob, names: &Names) -> Result<(), AllocError>
+    ensures { OnOk result (text.new ≡ text.old ++ cycle_text names.now) }
 {
-    let mut text = Blob::from_slice(alloc, first)?;
-    text.extend(second)?;
-    text.extend(third)?;
-    Ok(text)
-}
-
-/// Returns the thing that is refused, and the text of its fault.
-fn faulty(alloc: Global, what: &[u8], fault: &[u8]) -> Result<Blob, AllocError>
-    ensures { IfOk result (λ text. text ≡ what.now ++ (codes ": " ++ fault.now)) }
-{
-    three(alloc, what, b": ", fault)
-}
-
-/// Returns the names along a cycle, an arrow between each two, and the first one again.
-fn cycle_text(alloc: Global, names: &Names) -> Result<Blob, AllocError>
-    ensures { IfOk result (λ text. text ≡ cycle_text names.now) }
-{
-    let mut text = Blob::new(alloc);
     for name in names.as_slice() {
         text.extend(name.as_bytes())?;
         text.extend(b" -> ")?;
     }
-    if let Some(first) = names.get(0) {
-        text.extend(first.as_bytes())?;
+    match names.get(0) {
+        Some(first) => text.extend(first.as_bytes()),
+        None => Ok(()),
     }
-    Ok(text)
 }

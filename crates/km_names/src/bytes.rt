@@ -1,4 +1,5 @@
 ghost use Rattle.std.specs.Prelude.{◌≡◌, ◌≤◌, ◌↔◌, ◌==◌, [], ◌∷◌, ◌++◌, length, IsNone, OnOk, OnErr, IfOk, slice_get, option_copied};
+ghost use Rattle.std.specs.List.{flat_map};
 
 use bstr::BStr;
 use std::alloc::{AllocError, Global};
@@ -77,6 +78,17 @@ impl<K> Bytes<K> {
         })
     }
 
+    /// Returns the bytes of these pieces, one piece after the other. It takes memory once, for all.
+    pub fn concat(alloc: Global, pieces: &[&[u8]]) -> Result<Self, AllocError>
+        ensures { IfOk result (λ b. b ≡ flat_map (λ piece. piece.now) pieces.now) }
+    {
+        let mut bytes = Vec::with_capacity(alloc, total_length(pieces))?;
+        for piece in pieces {
+            bytes.extend_from_slice(piece)?;
+        }
+        Ok(Bytes::from_vec(bytes))
+    }
+
     /// Returns the bytes of a vector. It takes no memory.
     pub fn from_vec(bytes: Vec<u8>) -> Self
         ensures { result ≡ bytes.items }
@@ -140,4 +152,13 @@ impl<K> Bytes<K> {
     {
         self.bytes.as_slice()
     }
+}
+
+/// Returns how many bytes the pieces have together, as far as a `usize` counts.
+fn total_length(pieces: &[&[u8]]) -> usize {
+    let mut length = 0usize;
+    for piece in pieces {
+        length = length.saturating_add(piece.len());
+    }
+    length
 }

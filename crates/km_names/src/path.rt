@@ -44,11 +44,7 @@ pub fn join(alloc: Global, dir: &PathText, rest: &[u8]) -> Result<PathText, Allo
     ensures { IfOk result (λ path. path ≡ path_below dir.now rest.now) }
 {
     let folder = without_end_slashes(dir.as_bytes());
-    let mut path = Vec::new(alloc);
-    path.extend_from_slice(folder)?;
-    path.push(b'/')?;
-    path.extend_from_slice(rest)?;
-    Ok(PathText::from_vec(path))
+    PathText::concat(alloc, &[folder, b"/", rest])
 }
 
 /// Returns the bytes before the first such byte, or all if there is none.
