@@ -90,9 +90,7 @@ impl ModuleFault {
             ModuleFault::ExportUndefined { name } => export_text(alloc, name, b" undefined"),
             ModuleFault::BadVersions => Blob::from_slice(alloc, b"bad versions"),
             ModuleFault::BadNamespace { name } => {
-                let mut text = Blob::from_slice(alloc, b"bad namespace of ")?;
-                text.extend(name.as_bytes())?;
-                Ok(text)
+                Blob::concat(alloc, &[b"bad namespace of ", name.as_bytes()])
             }
             ModuleFault::Memory => Blob::from_slice(alloc, b"out of memory"),
         }
@@ -103,8 +101,5 @@ impl ModuleFault {
 fn export_text(alloc: Global, name: &Name, how: &[u8]) -> Result<Blob, AllocError>
     ensures { IfOk result (λ text. text ≡ codes "export " ++ name.now ++ how.now) }
 {
-    let mut text = Blob::from_slice(alloc, b"export ")?;
-    text.extend(name.as_bytes())?;
-    text.extend(how)?;
-    Ok(text)
+    Blob::concat(alloc, &[b"export ", name.as_bytes(), how])
 }

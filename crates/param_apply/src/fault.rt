@@ -49,15 +49,6 @@ impl<T: Drop> From<AllocFailed<T>> for ParamFault {
     }
 }
 
-/// Joins two pieces of text.
-fn joined(alloc: Global, before: &[u8], after: &[u8]) -> Result<Blob, AllocError>
-    ensures { IfOk result (λ text. text ≡ before.now ++ after.now) }
-{
-    let mut text = Blob::from_slice(alloc, before)?;
-    text.extend(after)?;
-    Ok(text)
-}
-
 /// Returns the text for an invalid table.
 fn table_text(alloc: Global, entry: u32) -> Result<Blob, AllocError>
     ensures { IfOk result (λ text. text ≡ codes "bad parameter table at entry " ++ decimal entry) }
@@ -77,10 +68,16 @@ impl ParamFault {
         match self {
             ParamFault::BadParamTable { entry } => table_text(alloc, *entry),
             ParamFault::UnknownParamType { name } => {
-                joined(alloc, b"unknown type of ", name.as_bytes())
+                Blob::concat(alloc, &[b"unknown type of ", name.as_bytes()])
             }
-            ParamFault::BadValue { name } => joined(alloc, b"bad value of ", name.as_bytes()),
-            ParamFault::BadParamPlace { name } => joined(alloc, b"bad place of ", name.as_bytes()),
+            ParamFault::BadValue { name } => Blob::concat(
+                alloc,
+                &[b"bad value of ", name.as_bytes()],
+            ),
+            ParamFault::BadParamPlace { name } => Blob::concat(
+                alloc,
+                &[b"bad place of ", name.as_bytes()],
+            ),
             ParamFault::Memory => Blob::from_slice(alloc, b"out of memory"),
         }
     }
