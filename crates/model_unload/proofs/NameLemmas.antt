@@ -1,5 +1,5 @@
 -- Modules taken out by their names, one after the other.
-use Rattle.std.proofs.Common.{◌≡◌, ◌≤◌, ◌<◌, ◌+◌, ◌∙◌, ◌⊎◌, inl, inr, ℕ, zero, suc, Bool, true, false, List, [], ◌∷◌, Some, None, refl, sym, ap, arith, length, cond, map}
+use Rattle.std.proofs.Common.{◌≡◌, ◌≤◌, ◌<◌, ◌+◌, ◌∙◌, inl, inr, ℕ, zero, suc, Bool, true, false, List, [], ◌∷◌, Some, None, refl, sym, ap, arith, length, cond, map}
 use Rattle.std.specs.Prelude.{find, remove, slice_get, Ok, Err}
 use Rattle.std.specs.List.{AllByRecursion, IsDistinct, range_with_len}
 use Rattle.std.specs.Option.{option_map_or}
@@ -35,7 +35,7 @@ before-differs (y ∷ ys) u zero e at less distinct = absurd (omega (arith, less
 before-differs (y ∷ ys) zero (suc k) e at less distinct = at-place (λ z. bytes_eq y.loaded.name z ≡ false) ys k e at distinct.0
 before-differs (y ∷ ys) (suc u) (suc k) e at less distinct = before-differs ys u k e at (omega (arith, less)) distinct.1
 
-place-is : (machine : Machine) (k : ℕ) → IsDistinct bytes_eq (entry_names machine) → k < length machine.entries → place_of machine (name_at machine k) ≡ Some k
+pub place-is : (machine : Machine) (k : ℕ) → IsDistinct bytes_eq (entry_names machine) → k < length machine.entries → place_of machine (name_at machine k) ≡ Some k
 place-is machine k distinct less =
     let it = item machine.entries k less in
     let e = it.0 in
@@ -45,10 +45,14 @@ place-is machine k distinct less =
     (ap (λ o. option_map_or (λ (x : Entry). bytes_eq x.loaded.name e.loaded.name) o false) it.1 ∙ same-name e.loaded.name)
     (λ u below. before-differs machine.entries u k e it.1 below distinct)
 
-unloaded-is : (machine : Machine) (k : ℕ) → IsDistinct bytes_eq (entry_names machine) → k < length machine.entries → IsUnused machine k → unloaded machine (name_at machine k) ≡ Ok (without machine k)
-unloaded-is machine k distinct less unused =
-    ap (λ o. option_map_or (unloaded_at machine) o (Err NotLoaded)) (place-is machine k distinct less)
+-- A module without a user is removed.
+pub unloaded-unused : (machine : Machine) (name : List ℕ) (k : ℕ) → place_of machine name ≡ Some k → IsUnused machine k → unloaded machine name ≡ Ok (without machine k)
+unloaded-unused machine name k found unused =
+    ap (λ o. option_map_or (unloaded_at machine) o (Err NotLoaded)) found
     ∙ ap (λ o. option_map_or (λ u. Err (InUse u)) o (Ok (without machine k))) (none-found (λ u. binds machine u k) (places machine) unused)
+
+unloaded-is : (machine : Machine) (k : ℕ) → IsDistinct bytes_eq (entry_names machine) → k < length machine.entries → IsUnused machine k → unloaded machine (name_at machine k) ≡ Ok (without machine k)
+unloaded-is machine k distinct less unused = unloaded-unused machine (name_at machine k) k (place-is machine k distinct less) unused
 
 differs-remove : (P : List ℕ → Type 0) (es : List Entry) (k : ℕ) → AllByRecursion P (map name_of es) → AllByRecursion P (map name_of (remove es k))
 differs-remove P [] zero all = all
@@ -56,7 +60,7 @@ differs-remove P [] (suc k) all = all
 differs-remove P (y ∷ ys) zero all = all.1
 differs-remove P (y ∷ ys) (suc k) all = (all.0, differs-remove P ys k all.1)
 
-distinct-remove : (es : List Entry) (k : ℕ) → IsDistinct bytes_eq (map name_of es) → IsDistinct bytes_eq (map name_of (remove es k))
+pub distinct-remove : (es : List Entry) (k : ℕ) → IsDistinct bytes_eq (map name_of es) → IsDistinct bytes_eq (map name_of (remove es k))
 unfolding IsDistinct
 distinct-remove [] zero all = all
 distinct-remove [] (suc k) all = all
@@ -67,7 +71,7 @@ pub fall-less : (n m : ℕ) (ks : List ℕ) → n ≤ m → AreFallingFrom n ks 
 fall-less n m [] le fall = tt
 fall-less n m (k ∷ ks) le fall = (omega (arith, le, fall.0), fall.1)
 
-names-stay : (machine : Machine) (k m : ℕ) (ks : List ℕ) → m ≤ k → AreFallingFrom m ks → map (name_at machine) ks ≡ map (name_at (without machine k)) ks
+pub names-stay : (machine : Machine) (k m : ℕ) (ks : List ℕ) → m ≤ k → AreFallingFrom m ks → map (name_at machine) ks ≡ map (name_at (without machine k)) ks
 names-stay machine k m [] le fall = refl
 names-stay machine k m (j ∷ ks) le fall =
     ap (λ o. option_map_or name_of o [] ∷ map (name_at machine) ks) (sym (below-cut machine.entries k j (omega (arith, le, fall.0))))

@@ -7,6 +7,7 @@
 ghost use Rattle.std.specs.Prelude.{◌≡◌, ◌<◌, ℕ, List, Ok, Err, Some, OnOk, OnErr, IfErr, length, remove};
 ghost use Rattle.module_facts.specs.declared.module.Module.{Module};
 ghost use Rattle.model_loader.specs.Sound.{IsSound};
+ghost use Rattle.model_unload.specs.Below.{IsUnusedBelow};
 ghost use Rattle.model_unload.specs.Unload.{first_user as user_of, place_of as found_at, UnusedAreUnloaded, unloaded};
 
 use model_loader::Machine;
@@ -70,6 +71,32 @@ pub fn unload(machine: &mut Machine, name: &[u8]) -> Result<(), UnloadFault>
     }
     machine.drop_entry(j);
     Ok(())
+}
+
+/// Returns the place of the module of this name, which is below the place `end`.
+fn place_below(machine: &Machine, end: usize, name: &[u8]) -> usize
+    requires { IsUnusedBelow machine.now end name.now }
+    ensures { found_at machine.now name.now ≡ Some result }
+{
+    for k in (0..end).rev() {
+        if machine.module_at(k).name.as_bytes() == name {
+            return k;
+        }
+    }
+    unreachable!()
+}
+
+/// Removes the module of this name, which is below the place `end` and which no module binds to, as
+/// `unload` does. Returns its place. It is looked for from `end` down, so modules that are removed
+/// youngest first, each below the one before it, are found in one pass over the machine.
+pub fn unload_below(machine: &mut Machine, end: usize, name: &[u8]) -> usize
+    requires { IsUnusedBelow machine.old end name.now }
+    ensures done { unloaded machine.old name.now ≡ Ok machine.new }
+    ensures place { found_at machine.old name.now ≡ Some result }
+{
+    let place = place_below(machine, end, name);
+    machine.drop_entry(place);
+    place
 }
 
 /// States that modules that are unused, each at its turn, are removed by their names.
