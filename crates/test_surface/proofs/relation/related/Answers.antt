@@ -19,7 +19,7 @@ over tree kernel (Ok r) is = (kernel, is)
 over tree kernel (Err e) is = is
 
 pub returns-clause-long : goal.returns-clause-long
-returns-clause-long c = as-long _ _ _ _ c.requires.long c.make.ensures.ok
+returns-clause-long g c = as-long _ _ _ _ c.requires.long c.make.ensures.ok
 
 pub returns-clause-relation : goal.returns-clause-relation
-returns-clause-relation c = over _ _ _ c.make.ensures.ok
+returns-clause-relation g c = over _ _ _ c.make.ensures.ok
