@@ -1,5 +1,6 @@
 -- The files one after the other.
-use Rattle.std.proofs.Common.{◌≡◌, sym, ap, ◌∙◌, ◌⊎◌, ⊎_elim, inl, inr, ℕ, List, ◌∷◌, length, Option, Some, None, Ok, Err}
+use Rattle.std.proofs.Common.{◌≡◌, sym, ap, ◌∙◌, ◌⊎◌, ⊎_elim, inl, inr, ℕ, List, [], ◌∷◌, length, Option, Some, None, Ok, Err}
+use Rattle.std.specs.Prelude.{Result, IfOk, OnOk}
 use Rattle.std.proofs.lemmas.List.{length-map}
 use Rattle.std.proofs.lemmas.List.FromFn.{length-range_with_len}
 use Rattle.relation_order.specs.Sets.{below}
@@ -38,6 +39,30 @@ passed rest r none is = ap (λ x. first (x ∷ rest)) none ∙ is
 
 pub failed : {F : Type 0} {o : Option F} (rest : List (Option F)) (fault : F) → o ≡ Some fault → first (o ∷ rest) ≡ Some fault
 failed rest fault some = ap (λ x. first (x ∷ rest)) some
+
+-- the tests in their order, two at a time
+pub passed-pair : {F : Type 0} (a b : Option F) (rest : List (Option F)) (r : Option F) → first (a ∷ b ∷ []) ≡ None → first rest ≡ r → first (a ∷ b ∷ rest) ≡ r
+passed-pair None None rest r none is = is
+passed-pair None (Some f) rest r none is = cc
+passed-pair (Some f) b rest r none is = cc
+
+pub failed-pair : {F : Type 0} (a b : Option F) (rest : List (Option F)) (fault : F) → first (a ∷ b ∷ []) ≡ Some fault → first (a ∷ b ∷ rest) ≡ Some fault
+failed-pair None None rest fault is = cc
+failed-pair None (Some f) rest fault is = is
+failed-pair (Some f) b rest fault is = is
+
+pub right : {A X Y : Type 0} → (X → Y) → A ⊎ X → A ⊎ Y
+right f (inl a) = inl a
+right f (inr x) = inr (f x)
+
+-- two promises of one result
+pub both : {A E : Type 0} (r : Result A E) (P P' Q : A → Type 0) → ((a : A) → P a → P' a → Q a) → IfOk r P → IfOk r P' → IfOk r Q
+both (Ok a) P P' Q f p p' = f a p p'
+both (Err e) P P' Q f p p' = tt
+
+pub both-on : {A E : Type 0} (r : Result A E) (P : A → Type 0) (B : Type 0) (Q : A → Type 0) → ((a : A) → P a → B → Q a) → IfOk r P → OnOk r B → IfOk r Q
+both-on (Ok a) P B Q f p b = f a p b
+both-on (Err e) P B Q f p b = tt
 
 -- a file that is too large
 pub refused : (tree : List Facts) (r : Relation) (builtin : List ℕ) (e : OutputFault) (P : Type 0) → (P → output_fault (files_by tree (closures_by r) (obstacles_by r) builtin) ≡ Some e) → (e ≡ Memory) ⊎ P → (e ≡ Memory) ⊎ ((kernel : Kernel) → IsRelation (modules_of tree) kernel r → outputs_of tree kernel builtin ≡ Err e)

@@ -1,9 +1,11 @@
-ghost use Rattle.std.specs.Prelude.{◌≡◌, ◌⊎◌, Ok, Err, Some, None, length, IfOk, IfErr, OnOk};
+ghost use Rattle.std.specs.Prelude.{◌≡◌, ◌⊎◌, [], ◌∷◌, Ok, Err, Some, None, length, IfOk, IfErr, OnOk};
+ghost use Rattle.km_names.specs.First.{first};
 ghost use Rattle.symbol_binding.specs.Symbols.{Kernel};
 ghost use Rattle.provider_rel.specs.Faces.{modules_of};
 ghost use Rattle.provider_rel.specs.Seen.{IsRelation, closures_by, obstacles_by};
 ghost use Rattle.provider_rel.specs.Tree.{IsTree};
-ghost use Rattle.depmod_core.specs.Files.{content, files_by, size_fault, outputs_of, IsRelationOf, StandFor};
+ghost use Rattle.depmod_core.specs.Files.{content, files_by, size_fault, output_fault, outputs_of, IsRelationOf, StandFor};
+ghost use Rattle.depmod_core.specs.declared.file.OutputFile.{OutputFile as FileOf};
 ghost use Rattle.depmod_core.specs.AllStated.{AreAllStated};
 ghost use Rattle.depmod_core.specs.Kinds.{Stands};
 
@@ -92,6 +94,80 @@ fn make(
     }
 }
 
+/// A file of lines, and its index.
+#[derive(Drop)]
+struct TextAndIndex {
+    text: Blob,
+    index: Blob,
+}
+
+/// Makes the bytes of two of the files, one after the other, unless they are too many.
+fn make_pair(
+    alloc: Global,
+    relation: &Relation,
+    tree: &TreeFacts,
+    all: &AllStated<'_>,
+    builtin: &[u8],
+    first_file: OutputFile,
+    second_file: OutputFile,
+) -> Result<TextAndIndex, OutputFault>
+    requires tree { IsTree tree.now }
+    requires all { AreAllStated tree.now all.now }
+    requires long { length (closures_by relation.now) ≡ length tree.now }
+    ensures text { IfOk result (λ pair. pair.text ≡ content (files_by tree.now (closures_by relation.now) (obstacles_by relation.now) builtin.now) first_file) }
+    ensures index { IfOk result (λ pair. pair.index ≡ content (files_by tree.now (closures_by relation.now) (obstacles_by relation.now) builtin.now) second_file) }
+    ensures passed { OnOk result (first (size_fault first_file (content (files_by tree.now (closures_by relation.now) (obstacles_by relation.now) builtin.now) first_file)
+        ∷ size_fault second_file (content (files_by tree.now (closures_by relation.now) (obstacles_by relation.now) builtin.now) second_file) ∷ []) ≡ None) }
+    ensures err { IfErr result (λ fault. (fault ≡ OutputFault.Memory)
+        ⊎ (first (size_fault first_file (content (files_by tree.now (closures_by relation.now) (obstacles_by relation.now) builtin.now) first_file)
+        ∷ size_fault second_file (content (files_by tree.now (closures_by relation.now) (obstacles_by relation.now) builtin.now) second_file) ∷ []) ≡ Some fault)) }
+    ensures stands { IfOk result (λ pair. Stands tree.now (closures_by relation.now) builtin.now second_file pair.index) }
+{
+    let text = make(alloc, relation, tree, all, builtin, first_file)?;
+    let index = make(alloc, relation, tree, all, builtin, second_file)?;
+    Ok(TextAndIndex { text, index })
+}
+
+/// Makes the bytes of all files, unless those of one are too many.
+fn make_all(
+    alloc: Global,
+    relation: &Relation,
+    tree: &TreeFacts,
+    all: &AllStated<'_>,
+    builtin: &[u8],
+) -> Result<OutputFiles, OutputFault>
+    requires tree { IsTree tree.now }
+    requires all { AreAllStated tree.now all.now }
+    requires long { length (closures_by relation.now) ≡ length tree.now }
+    ensures ok { IfOk result (λ made. made ≡ (files_by tree.now (closures_by relation.now) (obstacles_by relation.now) builtin.now)) }
+    ensures passed { OnOk result (output_fault (files_by tree.now (closures_by relation.now) (obstacles_by relation.now) builtin.now) ≡ None) }
+    ensures err { IfErr result (λ fault. (fault ≡ OutputFault.Memory)
+        ⊎ (output_fault (files_by tree.now (closures_by relation.now) (obstacles_by relation.now) builtin.now) ≡ Some fault)) }
+    ensures stands { IfOk result (λ made. (file : FileOf) → Stands tree.now (closures_by relation.now) builtin.now file (content made file)) }
+{
+    use OutputFile::{
+        Alias, AliasBin, BuiltinBin, Dep, DepBin, Softdep, Symbols, SymbolsBin, Unmet,
+    };
+
+    let dep = make_pair(alloc, relation, tree, all, builtin, Dep, DepBin)?;
+    let alias = make_pair(alloc, relation, tree, all, builtin, Alias, AliasBin)?;
+    let softdep = make(alloc, relation, tree, all, builtin, Softdep)?;
+    let symbols = make_pair(alloc, relation, tree, all, builtin, Symbols, SymbolsBin)?;
+    let builtin_bin = make(alloc, relation, tree, all, builtin, BuiltinBin)?;
+    let unmet = make(alloc, relation, tree, all, builtin, Unmet)?;
+    Ok(OutputFiles {
+        dep: dep.text,
+        dep_bin: dep.index,
+        alias: alias.text,
+        alias_bin: alias.index,
+        softdep,
+        symbols: symbols.text,
+        symbols_bin: symbols.index,
+        builtin_bin,
+        unmet,
+    })
+}
+
 /// Makes the files of depmod from a tree, with the tree's relation over a kernel, and from the
 /// bytes of modules.builtin. The files represent what they are made of: each index its map, and
 /// modules.unmet its lines. modules.dep(5), depmod(8).
@@ -119,24 +195,5 @@ pub fn outputs(
         StandFor tree.now kernel builtin.now files) }
 {
     let all = AllStated::new(alloc, tree)?;
-    let dep = make(alloc, relation, tree, &all, builtin, OutputFile::Dep)?;
-    let dep_bin = make(alloc, relation, tree, &all, builtin, OutputFile::DepBin)?;
-    let alias = make(alloc, relation, tree, &all, builtin, OutputFile::Alias)?;
-    let alias_bin = make(alloc, relation, tree, &all, builtin, OutputFile::AliasBin)?;
-    let softdep = make(alloc, relation, tree, &all, builtin, OutputFile::Softdep)?;
-    let symbols = make(alloc, relation, tree, &all, builtin, OutputFile::Symbols)?;
-    let symbols_bin = make(alloc, relation, tree, &all, builtin, OutputFile::SymbolsBin)?;
-    let builtin_bin = make(alloc, relation, tree, &all, builtin, OutputFile::BuiltinBin)?;
-    let unmet = make(alloc, relation, tree, &all, builtin, OutputFile::Unmet)?;
-    Ok(OutputFiles {
-        dep,
-        dep_bin,
-        alias,
-        alias_bin,
-        softdep,
-        symbols,
-        symbols_bin,
-        builtin_bin,
-        unmet,
-    })
+    make_all(alloc, relation, tree, &all, builtin)
 }
