@@ -32,11 +32,15 @@ standing-more (y ∷ ys) e x =
 one_more : (es : List KernelExport) (i : ℕ) (e : KernelExport) → i < length es → e ≡ get_or es i e → take (i + 1) es ≡ take i es ++ e ∷ []
 one_more es i e inside is = take_more es i e inside ∙ ap (λ y. take i es ++ y ∷ []) (sym is)
 
-pub kernel-more : (old next : ExportTable) (es : List KernelExport) (i : ℕ) (e : KernelExport) (n : Named) → i < length es → e ≡ get_or es i e → ((x : List ℕ) → standing_of old x ≡ kernel_standing (take i es) x) → named_pair n ≡ export_pair None (kernel_placed e) → ((x : List ℕ) → standing_of next x ≡ option_or (standing_of old x) (cond (bytes_eq n.name.items x) (Some n.standing) None)) → (x : List ℕ) → standing_of next x ≡ kernel_standing (take (i + 1) es) x
-kernel-more old next es i e n inside is kept named entered x =
+-- what the table of a kernel keeps after one more export
+pub entered-export : (old next : ExportTable) (e : KernelExport) (n : Named) → named_pair n ≡ export_pair None (kernel_placed e) → ((x : List ℕ) → standing_of next x ≡ option_or (standing_of old x) (cond (bytes_eq n.name.items x) (Some n.standing) None)) → (x : List ℕ) → standing_of next x ≡ option_or (standing_of old x) (cond (bytes_eq e.name x) (Some (standing None (kernel_placed e))) None)
+entered-export old next e n named entered x =
+    entered x ∙ ap (λ (p : List ℕ × Standing). option_or (standing_of old x) (cond (bytes_eq p.0 x) (Some p.1) None)) named
+
+pub kernel-more : (old next : ExportTable) (es : List KernelExport) (i : ℕ) (e : KernelExport) → i < length es → e ≡ get_or es i e → ((x : List ℕ) → standing_of old x ≡ kernel_standing (take i es) x) → ((x : List ℕ) → standing_of next x ≡ option_or (standing_of old x) (cond (bytes_eq e.name x) (Some (standing None (kernel_placed e))) None)) → (x : List ℕ) → standing_of next x ≡ kernel_standing (take (i + 1) es) x
+kernel-more old next es i e inside is kept entered x =
     entered x
-    ∙ ap (λ o. option_or o (cond (bytes_eq n.name.items x) (Some n.standing) None)) (kept x)
-    ∙ ap (λ (p : List ℕ × Standing). option_or (kernel_standing (take i es) x) (cond (bytes_eq p.0 x) (Some p.1) None)) named
+    ∙ ap (λ o. option_or o (cond (bytes_eq e.name x) (Some (standing None (kernel_placed e))) None)) (kept x)
     ∙ sym (ap (λ ys. kernel_standing ys x) (one_more es i e inside is) ∙ standing-more (take i es) e x)
 
 none-append : (p : KernelExport → Bool) (es : List KernelExport) (e : KernelExport) → find p es ≡ None → p e ≡ false → find p (es ++ e ∷ []) ≡ None
@@ -45,9 +49,9 @@ none-append p es e none other = rw (find-append, none, other) refl
 some-append : (p : KernelExport → Bool) (es later : List KernelExport) (e : KernelExport) → find p es ≡ None → p e ≡ true → find p (es ++ e ∷ later) ≡ Some e
 some-append p es later e none here = rw (find-append, none, here) refl
 
-pub addressed-more : (es : List KernelExport) (i : ℕ) (e : KernelExport) (address : ℕ) → i < length es → e ≡ get_or es i e → e.address ≡ Some address → find (λ (k : KernelExport). is_none k.address) (take i es) ≡ None → find (λ (k : KernelExport). is_none k.address) (take (i + 1) es) ≡ None
-addressed-more es i e address inside is has none =
-    ap (find (λ (k : KernelExport). is_none k.address)) (one_more es i e inside is) ∙ none-append (λ (k : KernelExport). is_none k.address) (take i es) e none (ap is_none has)
+pub addressed-more : (es : List KernelExport) (i : ℕ) (e : KernelExport) → i < length es → e ≡ get_or es i e → is_none e.address ≡ false → find (λ (k : KernelExport). is_none k.address) (take i es) ≡ None → find (λ (k : KernelExport). is_none k.address) (take (i + 1) es) ≡ None
+addressed-more es i e inside is has none =
+    ap (find (λ (k : KernelExport). is_none k.address)) (one_more es i e inside is) ∙ none-append (λ (k : KernelExport). is_none k.address) (take i es) e none has
 
 pub without-address : (es : List KernelExport) (i : ℕ) (e : KernelExport) → i < length es → e ≡ get_or es i e → e.address ≡ None → find (λ (k : KernelExport). is_none k.address) (take i es) ≡ None → kernel_fault es ≡ Some (KernelWithoutAddress e.name)
 without-address es i e inside is lacks none =

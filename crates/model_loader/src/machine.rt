@@ -1,6 +1,6 @@
 // The machine, and loads into it.
 
-ghost use Rattle.std.specs.Prelude.{◌≡◌, ◌<◌, ◌≤◌, ◌⊎◌, ◌++◌, ◌∷◌, [], ℕ, List, None, Ok, Err, Some, OnOk, OnErr, IfErr, IfOk, find, length, map, option_map, remove, vec_capacity, vec_len, slice_get, option_copied};
+ghost use Rattle.std.specs.Prelude.{◌≡◌, ◌<◌, ◌≤◌, ◌⊎◌, ◌++◌, ◌∷◌, [], ℕ, List, None, Ok, Err, Some, OnOk, OnErr, IfErr, IfOk, find, length, map, option_map, remove, vec_capacity, vec_len, slice_get, option_copied, is_none, false, if◌then◌else◌};
 ghost use Rattle.std.specs.HashMap.{spare};
 ghost use Rattle.std.specs.Option.{option_or};
 ghost use Rattle.std.specs.Str.{bytes_eq};
@@ -65,14 +65,15 @@ fn named_kernel_export(
     requires { export.now.address ≡ Some address }
     ensures { IfOk result (λ n. named_pair n ≡ export_pair None (kernel_placed export.now)) }
 {
+    let name = Vec::from_slice(alloc, export.name.as_bytes())?;
+    let space = Name::from_slice(alloc, export.space.as_bytes())?;
     let standing = Standing {
         crc: export.crc,
         gpl: export.gpl,
-        space: Name::from_slice(alloc, export.space.as_bytes())?,
+        space,
         address,
         owner: None,
     };
-    let name = Vec::from_slice(alloc, export.name.as_bytes())?;
     Ok(Named { name, standing })
 }
 
@@ -85,6 +86,27 @@ fn without_address(alloc: Global, export: &KernelExport) -> Result<MachineFault,
     })
 }
 
+/// Enters an export of a kernel into a table, unless it has no address.
+fn enter_export(
+    alloc: Global,
+    table: &mut ExportTable,
+    export: &KernelExport,
+) -> Result<(), MachineFault>
+    ensures table { OnOk result ((x : List ℕ) → standing_of table.new x
+        ≡ option_or (standing_of table.old x) (if bytes_eq export.now.name x then Some (standing None (kernel_placed export.now)) else None)) }
+    ensures passed { OnOk result (is_none export.now.address ≡ false) }
+    ensures fault { IfErr result (λ e. (e ≡ MachineFault.Memory)
+        ⊎ ((export.now.address ≡ None) × (e ≡ KernelWithoutAddress export.now.name))) }
+{
+    let Some(address) = export.address else {
+        return Err(without_address(alloc, export)?);
+    };
+    table.reserve(1)?;
+    let named = named_kernel_export(alloc, export, address)?;
+    table.enter(named);
+    Ok(())
+}
+
 /// Returns the table of the exports of a kernel.
 fn kernel_table(alloc: Global, kernel: &Kernel) -> Result<ExportTable, MachineFault>
     ensures table { IfOk result (λ t. (x : List ℕ) → standing_of t x ≡ option_map (standing None) (export_named x (map kernel_placed kernel.now.exports))) }
@@ -93,12 +115,7 @@ fn kernel_table(alloc: Global, kernel: &Kernel) -> Result<ExportTable, MachineFa
 {
     let mut table = ExportTable::new(alloc);
     for export in kernel.exports.as_slice() {
-        let Some(address) = export.address else {
-            return Err(without_address(alloc, export)?);
-        };
-        let named = named_kernel_export(alloc, export, address)?;
-        table.reserve(1)?;
-        table.enter(named);
+        enter_export(alloc, &mut table, export)?;
     }
     Ok(table)
 }
@@ -191,8 +208,7 @@ impl Machine {
         ensures { IfOk result (λ v. AreUses self.now (map (λ u. u.items) v.items)) }
     {
         let places = places_of(alloc, &self.entries)?;
-        let all = all_bound_places(alloc, &self.table, &places, &self.entries)?;
-        Ok(all)
+        all_bound_places(alloc, &self.table, &places, &self.entries)
     }
 
     /// Removes the `j`-th loaded module. No other module binds to it. All others stay as they are,

@@ -91,14 +91,16 @@ pub(crate) fn bound_needs(alloc: Global, needs: &Needs) -> Result<List<BoundNeed
 fn named_export(alloc: Global, owner: &[u8], export: &PlacedExport) -> Result<Named, AllocError>
     ensures { IfOk result (λ n. named_pair n ≡ export_pair (Some owner.now) export.now) }
 {
+    let name = Vec::from_slice(alloc, export.name.as_bytes())?;
+    let space = copied(alloc, &export.space)?;
+    let owner = Name::from_slice(alloc, owner)?;
     let standing = Standing {
         crc: export.crc,
         gpl: export.gpl,
-        space: copied(alloc, &export.space)?,
+        space,
         address: export.address,
-        owner: Some(Name::from_slice(alloc, owner)?),
+        owner: Some(owner),
     };
-    let name = Vec::from_slice(alloc, export.name.as_bytes())?;
     Ok(Named { name, standing })
 }
 
