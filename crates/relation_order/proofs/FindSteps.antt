@@ -52,8 +52,8 @@ finds-free : (round none : ℕ) (far found : List ℕ) (x : ℕ) → x < length 
 finds-free round none far found x low free = record {
   far_is = λ z. elim (cases_eq z x) [
     | inl s ↦
-      ap (λ i. get_or (set far x round) i 0) s ∙ get_or-set_same far x round 0 low
-      ∙ sym (ap (λ b. if b && eqb z x then round else get_or far z 0) (is-free z s) ∙ ap (λ b. if b then round else get_or far z 0) (eq-eqb z x s))
+        ap (λ i. get_or (set far x round) i 0) s ∙ get_or-set_same far x round 0 low
+        ∙ sym (ap (λ b. if b && eqb z x then round else get_or far z 0) (is-free z s) ∙ ap (λ b. if b then round else get_or far z 0) (eq-eqb z x s))
     | inr other ↦ get_or-set_other far x z round 0 other ∙ sym (ap (λ b. if b then round else get_or far z 0) (isnt-it z other))
   ];
   found_is = λ z. list_any-append (eqb z) found (x ∷ []) ∙ ap (λ b. has found z || b) (elim (cases_eq z x) [
@@ -64,6 +64,7 @@ finds-free round none far found x low free = record {
   where
     is-free : (z : ℕ) → z ≡ x → eqb (get_or far z 0) none ≡ true
     is-free z s = eq-eqb (get_or far z 0) none (ap (λ i. get_or far i 0) s ∙ free)
+
     isnt-it : (z : ℕ) → (z ≡ x → ⊥) → (eqb (get_or far z 0) none && eqb z x) ≡ false
     isnt-it z other = ap (λ b. eqb (get_or far z 0) none && b) (ne_eqb z x other) ∙ and-false (eqb (get_or far z 0) none)
 

@@ -26,11 +26,11 @@ module _ (r : Relation) (many b : Bool) (states : List State) (stack : List ℕ)
       elim (cases_eq (get_or stack p 0) x) [
         | inl same ↦ ap (state_of (set states x (Done b))) same ∙ get_or-set_same states x (Done b) New inside ∙ ap Done (is ∙ ap (λ y. many || r y y) (sym same))
         | inr other ↦
-          get_or-set_other states x (get_or stack p 0) (Done b) New other
-          ∙ elim (cases_eq p (from + i)) [
-            | inl here ↦ absurd (other (ap (λ q. get_or stack q 0) here ∙ sym at))
-            | inr apart ↦ before p above (omega arith)
-          ]
+            get_or-set_other states x (get_or stack p 0) (Done b) New other
+            ∙ elim (cases_eq p (from + i)) [
+              | inl here ↦ absurd (other (ap (λ q. get_or stack q 0) here ∙ sym at))
+              | inr apart ↦ before p above (omega arith)
+            ]
       ]
 
   pub rest-same : (old : List State) → from + i < length stack → ((y : ℕ) → ((p : ℕ) → from ≤ p → p < length stack → get_or stack p 0 ≡ y → ⊥) → state_of states y ≡ state_of old y) → (y : ℕ) → ((p : ℕ) → from ≤ p → p < length stack → get_or stack p 0 ≡ y → ⊥) → state_of (set states x (Done b)) y ≡ state_of old y

@@ -22,9 +22,9 @@ loop-item-preserved c =
     let is : c.if-many.value ≡ (nat_lt (from + 1) (length stack) || goes c.args.lists.now x x) = elim c.if-many.branch [
       | then-many w ↦ w.value-is ∙ first-true (nat_lt (from + 1) (length stack)) (goes c.args.lists.now x x) (let more = w.if-many.true in grind (arith, nat_tests))
       | else-many w ↦
-        w.value-is ∙ w.stands_in.ensures ∙ ap (λ ys. has ys x) w.deref.ensures.value
-        ∙ sym (goes-at c.args.lists.now x x w.index-lists-item.result low w.index-lists-item.is)
-        ∙ first-false (nat_lt (from + 1) (length stack)) (goes c.args.lists.now x x) (let no = w.if-many.false in grind (arith, nat_tests))
+          w.value-is ∙ w.stands_in.ensures ∙ ap (λ ys. has ys x) w.deref.ensures.value
+          ∙ sym (goes-at c.args.lists.now x x w.index-lists-item.result low w.index-lists-item.is)
+          ∙ first-false (nat_lt (from + 1) (length stack)) (goes c.args.lists.now x x) (let no = w.if-many.false in grind (arith, nat_tests))
     ] in
     record {
       long = length-set l.states.items x (Done c.if-many.value) ∙ l.invariant.long;

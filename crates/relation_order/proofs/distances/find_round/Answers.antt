@@ -19,6 +19,6 @@ loop-y-preserved c =
     record {
       long = c.in_ok-find_all.ensures.long ∙ l.invariant.long;
       finds = finds-next_list (goes c.args.sources.now) c.deref.result.now c.args.last.now l.y-index c.args.round c.args.none c.args.far.now.items l.far.items c.find_all.new.far.items [] l.found.items c.find_all.new.found.items c.loop-y-test.true c.requires.round
-        (λ z. ap (λ xs. has xs z) c.deref.ensures.value ∙ sym (goes-at c.args.sources.now y z c.index-sources-y.result low c.index-sources-y.is))
-        l.invariant.finds c.in_ok-find_all.ensures.finds;
+          (λ z. ap (λ xs. has xs z) c.deref.ensures.value ∙ sym (goes-at c.args.sources.now y z c.index-sources-y.result low c.index-sources-y.is))
+          l.invariant.finds c.in_ok-find_all.ensures.finds;
     }
