@@ -1,5 +1,5 @@
 // The files of a tool's configuration.
-ghost use Rattle.std.specs.Prelude.{◌≡◌, ◌≤◌, ◌∷◌, [], List, ℕ, length, All, IfOk, OnOk};
+ghost use Rattle.std.specs.Prelude.{◌≡◌, ◌≤◌, ◌∷◌, [], List, ℕ, length, map, All, IfOk, OnOk};
 ghost use Rattle.std.specs.BTreeMap as tree;
 ghost use Rattle.std.specs.FinMap as fin;
 ghost use Rattle.km_names.specs.Limit.{file_limit};
@@ -74,12 +74,20 @@ pub fn stop_of_fault(fault: ConfFault) -> Stop
 fn roots(alloc: Global) -> Result<Paths, AllocError>
     ensures { IfOk result (λ paths. paths ≡ roots_in_order) }
 {
+    paths_from(
+        alloc,
+        &[b"/etc", b"/run", b"/usr/local/lib", b"/usr/lib", b"/lib"],
+    )
+}
+
+/// Returns the paths with these texts.
+fn paths_from(alloc: Global, texts: &[&[u8]]) -> Result<Paths, AllocError>
+    ensures { IfOk result (λ paths. paths ≡ map (λ text. text.now) texts.now) }
+{
     let mut paths = Paths::new(alloc);
-    paths.push(PathText::from_slice(alloc, b"/etc")?)?;
-    paths.push(PathText::from_slice(alloc, b"/run")?)?;
-    paths.push(PathText::from_slice(alloc, b"/usr/local/lib")?)?;
-    paths.push(PathText::from_slice(alloc, b"/usr/lib")?)?;
-    paths.push(PathText::from_slice(alloc, b"/lib")?)?;
+    for text in texts {
+        paths.push(PathText::from_slice(alloc, text)?)?;
+    }
     Ok(paths)
 }
 
