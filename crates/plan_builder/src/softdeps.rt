@@ -75,7 +75,7 @@ fn add_rule<'a>(
     }
 }
 
-/// Adds names.
+/// Adds names. The table has room for all of them before the first one is added.
 fn add_names<'a>(
     alloc: Global,
     planner: &Planner<'a>,
@@ -88,6 +88,7 @@ fn add_names<'a>(
     ensures table { OnOk result ((names : List (List ℕ)) → IsSoftTable (sources_of planner.now) names table.old.entries
         → IsSoftTable (sources_of planner.now) (names ++ more.now) table.new.entries) }
 {
+    table.reserve(more.len())?;
     for name in more.as_slice() {
         add_name(alloc, planner, known, table, name)?;
     }

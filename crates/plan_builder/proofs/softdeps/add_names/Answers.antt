@@ -9,7 +9,9 @@ loop-name-init c =
     let s = sources_of c.args.planner.now in
     record {
       known = c.requires;
-      table = λ names is. subst (λ ns. IsSoftTable s ns c.args.table.now.entries) (sym (append-nil names)) is;
+      table = λ names is.
+          subst (λ ns. IsSoftTable s ns c.reserve.new.self.entries) (sym (append-nil names))
+          (subst (IsSoftTable s names) (sym c.in_ok-reserve.ensures.entries) is);
     }
 
 pub loop-name-preserved : goal.loop-name-preserved
