@@ -27,8 +27,11 @@ use Rattle.param_apply.specs.FaultText.{param_fault_text}
 use Rattle.km_course.specs.Course.{Stage, ◌>>=◌, gives, says, when◌then◌else◌}
 use Rattle.km_course.specs.Course.Outcome.{value, end}
 use Rattle.km_course.specs.declared.end.End.TheVariants.{Refused}
+use Rattle.km_course.specs.Follows.{Answers}
 use Rattle.km_course.specs.declared.refusal.Refusal.{Refusal}
 use Rattle.km_course.specs.declared.refusal.Refusal.TheVariants.{ParamsRefused}
+use Rattle.km_course.specs.declared.stop.Stop.{Stop}
+use Rattle.km_course.specs.declared.stop.Stop.TheVariants.{Memory as NoRoom}
 use Rattle.stages_loads.specs.declared.load.Cause.{Cause}
 use Rattle.stages_loads.specs.declared.load.Cause.TheVariants.{Planned}
 use Rattle.stages_loads.specs.declared.load.Insertion.{Insertion}
@@ -67,15 +70,16 @@ pub loaded_ok : (cause : Cause) (name : List ℕ) (r : Result Machine LoadFault)
 unfolding load_outcome
 loaded_ok cause name r after is = ap (load_outcome cause name) is
 
--- a fault that isn't out of memory is that of the step
-pub loaded_not : (cause : Cause) (name named text : List ℕ) (r : Result Machine LoadFault) (fault : LoadFault) (refused : Refusal) → (fault ≡ Memory) ⊎ (r ≡ Err fault) → (fault ≡ Memory → ⊥) → text ≡ load_fault_text fault → named ≡ name → refused ≡ load_refusal cause named text → load_outcome cause name r ≡ end (Refused refused)
+-- a fault is out of memory or that of the step
+pub stopped : (cause : Cause) (name : List ℕ) (r : Result Machine LoadFault) (fault : LoadFault) (stop : Stop) → (fault ≡ Memory) ⊎ (r ≡ Err fault) → (fault ≡ Memory → stop ≡ NoRoom) → Answers (λ (x : Machine). x) (load_outcome cause name (Err fault)) (Err stop) → Answers (λ (x : Machine). x) (load_outcome cause name r) (Err stop)
+stopped cause name r fault stop (inl ran_out) wanting is =
+    subst (λ s. Answers (λ (x : Machine). x) (load_outcome cause name r) (Err s)) (sym (wanting ran_out)) tt
+stopped cause name r fault stop (inr f) wanting is =
+    subst (λ t. Answers (λ (x : Machine). x) (load_outcome cause name t) (Err stop)) (sym f) is
+
+pub refused_as : (cause : Cause) (name : List ℕ) (fault : LoadFault) (refused : Refusal) → refused ≡ load_refusal cause name (load_fault_text fault) → load_outcome cause name (Err fault) ≡ end (Refused refused)
 unfolding load_outcome
-loaded_not cause name named text r fault refused (inl m) wanting is same made = absurd (wanting m)
-loaded_not cause name named text r fault refused (inr f) wanting is same made =
-    ap (load_outcome cause name) f
-    ∙ ap (λ t. end (Refused (load_refusal cause name t))) (sym is)
-    ∙ ap (λ n. end (Refused (load_refusal cause n text))) (sym same)
-    ∙ ap (λ x. end (Refused x)) (sym made)
+refused_as cause name fault refused is = ap (λ x. end (Refused x)) (sym is)
 
 -- a load that gave a machine is a step to it
 stepped : (cause : Cause) (name : List ℕ) (r : Result Machine LoadFault) (after : Machine) → load_outcome cause name r ≡ value after → r ≡ Ok after

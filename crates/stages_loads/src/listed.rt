@@ -85,7 +85,9 @@ fn load_listed_file<F: Reads>(
         (world (F.seen files.old) out err) (world (F.seen files.new) out err) result }
 {
     let module = read_module_in(alloc, folder, path, files)?;
-    load(alloc, Cause::Listed, machine, &module)
+    let after = load(alloc, Cause::Listed, machine, &module);
+    drop(module);
+    after
 }
 
 /// Returns the path in the folder of the listed module of a name, or its refusal.

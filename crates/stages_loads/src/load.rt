@@ -1,8 +1,9 @@
 // Loads of the modules of a plan.
-ghost use Rattle.std.specs.Prelude.{◌≡◌};
+ghost use Rattle.std.specs.Prelude.{◌≡◌, Err, IfOk};
 ghost use Rattle.km_outside.specs.OutSeen.{OutSeen};
 ghost use Rattle.km_course.specs.World.{world};
 ghost use Rattle.km_course.specs.Follows.{Answers, Follows};
+ghost use Rattle.model_loader.specs.FaultText.{load_fault_text};
 ghost use Rattle.model_loader.specs.Step.{step};
 ghost use Rattle.stages_loads.specs.Loads.{load_outcome, load_refusal, loads_all, loads_one};
 ghost use Rattle.stages_loads.specs.Read.{loads_read};
@@ -14,7 +15,7 @@ use km_names::{Blob, List, Name, PathText};
 use km_outside::{Out, Writes};
 use model_loader::{LoadFault, Machine};
 use module_facts::Module;
-use std::alloc::Global;
+use std::alloc::{AllocError, Global};
 
 /// Why a module is loaded.
 #[derive(Clone, Copy)]
@@ -73,7 +74,10 @@ fn load_one<F: Writes, O: Out>(
         (world (F.seen files.old) (O.seen out.old) err) (world (F.seen files.new) (O.seen out.new) err) result }
 {
     let module = read_module_in(alloc, folder, &insert.path, files)?;
-    load_read(alloc, images, machine, &module, &insert.options, files, out)
+    let options = &insert.options;
+    let after = load_read(alloc, images, machine, &module, options, files, out);
+    drop(module);
+    after
 }
 
 /// Loads a module that was read and shows it, and gives the machine after it.
@@ -105,23 +109,41 @@ pub(crate) fn load(
 {
     match machine.load(module) {
         Ok(_) => Ok(machine),
-        Err(fault) => match fault {
-            LoadFault::Memory => Err(Stop::Memory),
-            _ => {
-                let text = fault.text(alloc)?;
-                let name = Name::from_slice(alloc, module.facts.name.as_bytes())?;
-                Err(Stop::from(refused(cause, name, text)))
-            }
+        Err(fault) => {
+            let stop = load_stop(alloc, cause, &module.facts.name, &fault);
+            drop(fault);
+            Err(stop)
+        }
+    }
+}
+
+/// Returns the stop for a load that is refused for this fault.
+fn load_stop(alloc: Global, cause: Cause, name: &Name, fault: &LoadFault) -> Stop
+    ensures memory { fault.now ≡ LoadFault.Memory → result ≡ Stop.Memory }
+    ensures refused { Answers (λ x. x) (load_outcome cause name.now (Err fault.now)) (Err result) }
+{
+    match fault {
+        LoadFault::Memory => Stop::Memory,
+        _ => match refused(alloc, cause, name, fault) {
+            Ok(refusal) => Stop::from(refusal),
+            Err(_) => Stop::Memory,
         },
     }
 }
 
-/// Returns the refusal of a load.
-fn refused(cause: Cause, name: Name, text: Blob) -> Refusal
-    ensures { result ≡ load_refusal cause name text }
+/// Returns the refusal of a load for this fault.
+fn refused(
+    alloc: Global,
+    cause: Cause,
+    name: &Name,
+    fault: &LoadFault,
+) -> Result<Refusal, AllocError>
+    ensures { IfOk result (λ refusal. refusal ≡ load_refusal cause name.now (load_fault_text fault.now)) }
 {
-    match cause {
+    let text = fault.text(alloc)?;
+    let name = Name::from_slice(alloc, name.as_bytes())?;
+    Ok(match cause {
         Cause::Listed => Refusal::ListedRefused { name, text },
         Cause::Planned => Refusal::LoadRefused { name, text },
-    }
+    })
 }

@@ -112,9 +112,7 @@ fn params_in(
 fn params_name(alloc: Global, name: &Name) -> Result<Blob, AllocError>
     ensures { IfOk result (λ text. text ≡ name.now ++ codes ".params") }
 {
-    let mut text = Blob::from_slice(alloc, name.as_bytes())?;
-    text.extend(b".params")?;
-    Ok(text)
+    Blob::concat(alloc, &[name.as_bytes(), b".params"])
 }
 
 /// Returns the line of the parameters of a module of this name: how many the options name, and the
@@ -126,10 +124,7 @@ fn params_line(alloc: Global, name: &Name, params: &Params) -> Result<Blob, Allo
     let digest = hex::encode(alloc, Sha256::digest(params.image.as_bytes()).as_slice())?;
     let count = params.count;
     let rest = format!(in alloc; " {count} {digest}\n")?;
-    let mut line = Blob::from_slice(alloc, b"params ")?;
-    line.extend(name.as_bytes())?;
-    line.extend(rest.as_bytes())?;
-    Ok(line)
+    Blob::concat(alloc, &[b"params ", name.as_bytes(), rest.as_bytes()])
 }
 
 /// Puts an image into the folder for images, if there is one, and then writes its line.
@@ -173,8 +168,7 @@ fn put_image<F: Writes>(
 fn image_path(alloc: Global, folder: &PathText, name: &[u8]) -> Result<PathText, AllocError>
     ensures { IfOk result (λ path. path ≡ path_below folder.now (name.now ++ codes ".img")) }
 {
-    let mut file = Blob::from_slice(alloc, name)?;
-    file.extend(b".img")?;
+    let file = Blob::concat(alloc, &[name, b".img"])?;
     join(alloc, folder, file.as_bytes())
 }
 
@@ -194,9 +188,6 @@ pub fn entry_line(
     let digest = hex::encode(alloc, Sha256::digest(image).as_slice())?;
     let size = loaded.size;
     let rest = format!(in alloc; " {base} {size} {digest}\n")?;
-    let mut line = Blob::from_slice(alloc, word)?;
-    line.push(b' ')?;
-    line.extend(loaded.name.as_bytes())?;
-    line.extend(rest.as_bytes())?;
-    Ok(line)
+    let name = loaded.name.as_bytes();
+    Blob::concat(alloc, &[word, b" ", name, rest.as_bytes()])
 }

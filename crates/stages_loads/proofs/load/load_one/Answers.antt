@@ -11,4 +11,4 @@ returns-in_err-module g c = λ err.
 pub returns : goal.returns
 returns g c = λ err.
     next (one_read c.args.images.now c.args.insert.now.options c.args.machine) (c.in_ok-module.ensures (g.O.Out.seen c.args.out.now) err)
-    (c.load_read.ensures err)
+    (c.load_read-after.ensures err)
