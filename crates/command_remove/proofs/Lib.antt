@@ -1,3 +1,4 @@
 pub mod TakenLemmas
 pub mod LineLemmas
 pub mod RemoveSteps
+pub mod OutLemmas

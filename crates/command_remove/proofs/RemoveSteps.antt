@@ -1,10 +1,10 @@
 -- The stages of a removal, joined.
-use Rattle.std.proofs.Common.{◌≡◌, ◌∙◌, ◌+◌, ◌<◌, ◌≤◌, ℕ, Bool, true, false, List, [], ◌∷◌, ◌++◌, Option, Some, None, refl, sym, ap, subst, map, drop, length, inl, inr}
+use Rattle.std.proofs.Common.{◌≡◌, ◌∙◌, ◌+◌, ◌≤◌, ℕ, Bool, true, false, List, ◌∷◌, Option, Some, None, refl, sym, ap, subst, map, drop, length, inl, inr}
 use Rattle.std.specs.Prelude.{◌⊎◌, Result, Ok, Err, option_map, ⊤}
 use Rattle.std.specs.Option.{option_map_or}
 use Rattle.std.proofs.lemmas.List.{drop_all}
 use Rattle.km_names.specs.First.{first}
-use Rattle.km_course.specs.Course.{Outcome, Stage, ◌>>=◌, each_from, ends, given, gives, says_any}
+use Rattle.km_course.specs.Course.{Stage, ◌>>=◌, ends, given, gives, says_any}
 use Rattle.km_course.specs.Course.Outcome.{value, end}
 use Rattle.km_course.specs.World.{World}
 use Rattle.km_course.specs.Follows.{Answers, Follows}
@@ -30,12 +30,13 @@ use Rattle.remove_plan.specs.Removal.{in_use, is_asked}
 use Rattle.remove_plan.specs.Steps.{removal_fault, removal_steps}
 use Rattle.stages_files.specs.KernelModules.{modules_folder}
 use Rattle.stages_known.specs.declared.known.Known.{Known}
-use Rattle.stages_known.specs.Known.{reads_known}
 use Rattle.stages_loads.specs.Tables.{reads_machine}
 use Rattle.command_remove.specs.declared.course.Removal.{Removal}
+use Rattle.command_remove.specs.declared.course.Sources.{Sources}
+use Rattle.command_remove.specs.Over.{removes_over}
 use Rattle.command_remove.specs.Listed.{takes_listed}
 use Rattle.command_remove.specs.Lines.{left_lines, step_lines}
-use Rattle.command_remove.specs.Remove.{carries_out, chosen_outcome, command_owner, first_owner, removal_of, removes_from, removes_listed, removes_names, step_name, steps_outcome, steps_unless, unless_owner, unloads_all, unloads_one, unloads_unless, without_named}
+use Rattle.command_remove.specs.Remove.{carries_out, chosen_outcome, command_owner, first_owner, removal_of, removes_from, removes_listed, removes_names, step_name, steps_outcome, steps_unless, unless_owner, unloads_unless, without_named}
 
 -- ---- the stages after each part of a removal
 
@@ -70,11 +71,18 @@ after_machine folder removal known machine = removes_listed folder removal known
 abbrev pub after_known : List ℕ → Removal → List ℕ → Option (List ℕ) → Region → Known → Stage ⊤
 after_known folder removal system_map symvers region known = reads_machine system_map symvers region >>= after_machine folder removal known
 
--- what is asked for, where its folder, what is to be removed and its System.map are these
-pub removes-asked : (dry_run : Bool) (asked : ModprobeWords) (folder : List ℕ) (system_map : List ℕ) (region : Region) (old new : World) (r : Result ⊤ Stop) → folder ≡ modules_folder asked.dirname asked.version → asked.system_map ≡ Some system_map → Follows (λ x. x) (reads_known asked.config folder asked.loaded >>= after_known folder (removal_of dry_run asked) system_map asked.symvers region) old new r → Follows (λ x. x) (removes_from dry_run asked asked.system_map (Some region)) old new r
-removes-asked dry_run asked folder system_map region old new r place map f =
-    along (λ o. removes_from dry_run asked o (Some region)) (Some system_map) asked.system_map (sym map)
-    (along (λ p. reads_known asked.config p asked.loaded >>= after_known p (removal_of dry_run asked) system_map asked.symvers region) folder (modules_folder asked.dirname asked.version) place f)
+-- what is asked for, over the files that it names
+abbrev sources_of : ModprobeWords → Sources
+sources_of asked = record { config = asked.config; loaded = asked.loaded; system_map = asked.system_map; symvers = asked.symvers }
+
+same-course : (dry_run : Bool) (asked : ModprobeWords) (map : Option (List ℕ)) (region : Region) → ◌≡◌ {A = Stage ⊤} (removes_over (modules_folder asked.dirname asked.version) (removal_of dry_run asked) (sources_of asked) map region) (removes_from dry_run asked map (Some region))
+same-course dry_run asked None region = refl
+same-course dry_run asked (Some map) region = refl
+
+pub removes-asked : (dry_run : Bool) (asked : ModprobeWords) (folder : List ℕ) (region : Region) (old new : World) (r : Result ⊤ Stop) → folder ≡ modules_folder asked.dirname asked.version → Follows (λ x. x) (removes_over folder (removal_of dry_run asked) (sources_of asked) asked.system_map region) old new r → Follows (λ x. x) (removes_from dry_run asked asked.system_map (Some region)) old new r
+removes-asked dry_run asked folder region old new r place f =
+    subst (λ s. Follows (λ (x : ⊤). x) s old new r) (same-course dry_run asked asked.system_map region)
+    (along (λ p. removes_over p (removal_of dry_run asked) (sources_of asked) asked.system_map region) folder (modules_folder asked.dirname asked.version) place f)
 
 -- what isn't understood
 pub misunderstood : (stage : Stage ⊤) (w : World) (stop : Stop) → ends NotUnderstood ≡ stage → stop ≡ Ended NotUnderstood → Follows (λ x. x) stage w w (Err stop)
@@ -132,19 +140,6 @@ refuses-chosen true steps name dry is = cc
 pub can-go : (machine : Machine) (names : List (List ℕ)) (left : Machine) (r : Result Machine UnloadFault) → unless_refused (λ next. unload_all next names) r ≡ Ok left → (after : Machine) × (r ≡ Ok after)
 can-go machine names left (Ok after) is = (after, refl)
 can-go machine names left (Err fault) is = cc
-
--- the first of some modules that can be taken out can be taken out
-pub first-unloads : (machine : Machine) (steps : List RemoveStep) (i : ℕ) (step : RemoveStep) (left : Machine) → drop i steps ≡ step ∷ drop (i + 1) steps → unload_all machine (map step_name (drop i steps)) ≡ Ok left → (after : Machine) × (unloaded machine (step_name step) ≡ Ok after)
-first-unloads machine steps i step left cut is =
-    can-go machine (map step_name (drop (i + 1) steps)) left (unloaded machine (step_name step))
-    (ap (λ ss. unload_all machine (map step_name ss)) (sym cut) ∙ is)
-
--- and after it the others come to the same
-pub others-unload : (machine after : Machine) (steps : List RemoveStep) (i : ℕ) (step : RemoveStep) (whole : Result Machine UnloadFault) → drop i steps ≡ step ∷ drop (i + 1) steps → unloaded machine (step_name step) ≡ Ok after → unload_all machine (map step_name (drop i steps)) ≡ whole → unload_all after (map step_name (drop (i + 1) steps)) ≡ whole
-others-unload machine after steps i step whole cut took is =
-    ap (unless_refused (λ next. unload_all next (map step_name (drop (i + 1) steps)))) (sym took)
-    ∙ ap (λ ss. unload_all machine (map step_name ss)) (sym cut)
-    ∙ is
 
 pub same-machine : (a b : Machine) → ◌≡◌ {A = Result Machine UnloadFault} (Ok a) (Ok b) → a ≡ b
 same-machine a b is = cc

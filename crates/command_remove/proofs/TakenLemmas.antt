@@ -1,6 +1,6 @@
 -- The machine of the listed modules is that of their loads, and no step of a removal from it is
 -- refused.
-use Rattle.std.proofs.Common.{◌≡◌, ◌∙◌, ℕ, Bool, List, [], ◌∷◌, Option, Some, None, refl, sym, ap, ap₂, subst, inl, inr, map}
+use Rattle.std.proofs.Common.{◌≡◌, ◌∙◌, ℕ, Bool, List, [], ◌∷◌, Option, Some, None, refl, sym, ap, ap₂, subst, arith, inl, inr, length, map}
 use Rattle.std.specs.Prelude.{Result, Ok, Err}
 use Rattle.km_course.specs.Course.{Outcome, Stage, ◌>>=◌, each_from, given, possible_after}
 use Rattle.km_course.specs.Course.Outcome.{value, end}
@@ -22,7 +22,8 @@ use Rattle.remove_plan.specs.Steps.{chosen_command, remove_step, removal_steps, 
 use Rattle.laws_closed_plans.specs.Binding.{IsLoaded}
 use Rattle.laws_closed_plans.specs.Loads.{load_all, unless_refused}
 use Rattle.laws_closed_plans.proofs.BindingLemmas.{loads-bind}
-use Rattle.laws_removal.proofs.UnloadedLemmas.{removals-are-unloaded, removals-stay-sound}
+use Rattle.laws_removal.proofs.PassLemmas.{removals-pass}
+use Rattle.laws_removal.proofs.UnloadedLemmas.{removals-are-unloaded, removed-fall}
 use Rattle.stages_files.specs.KernelTable.{Table}
 use Rattle.stages_loads.specs.declared.load.Cause.TheVariants.{Listed}
 use Rattle.stages_loads.specs.Listed.{listed_outcome, loads_listed_at}
@@ -32,7 +33,8 @@ use Rattle.stages_loads.specs.Tables.{kernel_with, machine_outcome, reads_addres
 use Rattle.stages_loads.proofs.ListedSteps.{listed_found, listed_read}
 use Rattle.stages_loads.proofs.TableSteps.{made}
 use Rattle.command_remove.specs.Listed.{takes_listed_one, well_formed_path}
-use Rattle.command_remove.specs.Remove.{CanBeTakenOut, step_name, steps_outcome, steps_unless}
+use Rattle.command_remove.specs.Remove.{step_name, steps_outcome, steps_unless}
+use Rattle.command_remove.specs.Taken.{CanBeTakenOut}
 
 -- ---- what stages may give
 
@@ -125,12 +127,15 @@ steps-unload kernel region ms machine rules ignored names steps loaded s =
     ap (unload_all machine) (ap (map step_name) s.are ∙ step-names machine rules ignored (is_asked machine names) (removed_by machine names))
     ∙ removals-are-unloaded machine names (loads-bind kernel region ms machine loaded).names s.free
 
-pub can-be-taken-out : (machine : Machine) (rules : List Rule) (ignored : Bool) (names : List (List ℕ)) (steps : List RemoveStep) → IsOfLoads machine → steps_outcome machine rules ignored names ≡ value steps → CanBeTakenOut machine steps
+pub can-be-taken-out : (machine : Machine) (rules : List Rule) (ignored : Bool) (names : List (List ℕ)) (steps : List RemoveStep) → IsOfLoads machine → steps_outcome machine rules ignored names ≡ value steps → CanBeTakenOut machine (length machine.entries) steps
 can-be-taken-out machine rules ignored names steps of is =
     let s = are-steps machine rules ignored names steps is in
-    let sound = loads-bind of.0 of.1 of.2 machine of.3 in
+    let ks = removed_by machine names in
     record {
-      left = left_after machine names;
-      unloads = steps-unload of.0 of.1 of.2 machine rules ignored names steps of.3 s;
-      names = (removals-stay-sound machine of.2 names sound s.free).names;
+      places = ks;
+      named = ap (map step_name) s.are ∙ step-names machine rules ignored (is_asked machine names) ks;
+      falling = removed-fall machine names;
+      within = omega arith;
+      unused = (removals-pass machine names s.free).0;
+      names = (loads-bind of.0 of.1 of.2 machine of.3).names;
     }

@@ -1,3 +1,5 @@
 pub mod Listed
 pub mod Lines
+pub mod Over
 pub mod Remove
+pub mod Taken

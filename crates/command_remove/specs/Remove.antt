@@ -1,17 +1,14 @@
 -- The course of `modprobe -r`: modules are taken out of the modelled machine. modprobe(8),
 -- modprobe.d(5), -r.
-use Rattle.std.specs.Prelude.{◌≡◌, ℕ, Bool, true, false, List, map, Option, Some, None, Ok, ⊤, if◌then◌else◌}
-use Rattle.std.specs.List.{IsDistinct}
+use Rattle.std.specs.Prelude.{ℕ, Bool, true, false, List, map, Option, Some, None, ⊤, if◌then◌else◌}
 use Rattle.std.specs.Option.{option_map_or}
-use Rattle.std.specs.Str.{bytes_eq}
 use Rattle.km_names.specs.First.{first}
 use Rattle.kmod_words.specs.declared.modprobe.ModprobeWords.{ModprobeWords}
 use Rattle.modprobe_conf.specs.declared.rule.Rule.{Rule}
 use Rattle.model_loader.specs.declared.region.Region.{Region}
 use Rattle.model_loader.specs.Machine.{Machine}
-use Rattle.model_loader.specs.Sound.{entry_names}
 use Rattle.model_loader.specs.Use.{name_at, without}
-use Rattle.model_unload.specs.Unload.{place_of, unload_all}
+use Rattle.model_unload.specs.Unload.{place_of}
 use Rattle.remove_plan.specs.declared.step.RemoveStep.{RemoveStep}
 use Rattle.remove_plan.specs.declared.step.RemoveStep.TheVariants.{Rmmod, Command}
 use Rattle.remove_plan.specs.Removal.{in_use, is_asked}
@@ -90,13 +87,6 @@ unloads_all machine steps = do
 abbrev pub unloads_unless : Bool → Machine → List RemoveStep → Stage ⊤
 unloads_unless true machine steps = gives tt
 unloads_unless false machine steps = unloads_all machine steps
-
--- No step of a removal is refused. The modules of the steps can be taken out one after the other,
--- and in the machine that is left no two modules have one name.
-pub record CanBeTakenOut (machine : Machine) (steps : List RemoveStep) : Type 0 where
-  pub left : Machine
-  pub unloads : unload_all machine (map step_name steps) ≡ Ok left
-  pub names : IsDistinct bytes_eq (entry_names left)
 
 -- ---- the course
 

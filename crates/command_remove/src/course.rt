@@ -1,4 +1,4 @@
-ghost use Rattle.std.specs.Prelude.{◌≡◌, ℕ, List};
+ghost use Rattle.std.specs.Prelude.{◌≡◌, List, length};
 ghost use Rattle.km_outside.specs.FilesSeen.{FilesSeen};
 ghost use Rattle.km_outside.specs.OutSeen.{OutSeen};
 ghost use Rattle.km_course.specs.World.{world};
@@ -8,7 +8,9 @@ ghost use Rattle.provider_rel.specs.declared.kernel.Kernel.{Kernel};
 ghost use Rattle.model_loader.specs.declared.region.Region.{Region as Placing};
 ghost use Rattle.model_loader.specs.Machine.{new_machine};
 ghost use Rattle.laws_closed_plans.specs.Binding.{IsLoaded};
-ghost use Rattle.command_remove.specs.Remove.{CanBeTakenOut, carries_out, removes, removes_from, removes_listed, removes_names};
+ghost use Rattle.command_remove.specs.Over.{removes_known, removes_over};
+ghost use Rattle.command_remove.specs.Remove.{carries_out, removes, removes_from, removes_listed, removes_names};
+ghost use Rattle.command_remove.specs.Taken.{CanBeTakenOut};
 
 use crate::lines::step_lines;
 use crate::listed::take_listed;
@@ -86,14 +88,71 @@ fn remove_from<F: Reads, O: Out>(
         ignore_remove: ignore_install,
         dry_run,
     };
+    let sources = Sources {
+        config,
+        loaded,
+        system_map,
+        symvers,
+    };
+    remove_over(alloc, &folder, &removal, sources, region, files, out)
+}
+
+/// The files that a removal reads, beside those of the folder of the kernel's modules.
+#[derive(Drop)]
+struct Sources {
+    config: Option<PathText>,
+    loaded: Option<PathText>,
+    system_map: Option<PathText>,
+    symvers: Option<PathText>,
+}
+
+/// Reads these files, and removes modules from a machine with this region.
+fn remove_over<F: Reads, O: Out>(
+    alloc: Global,
+    folder: &PathText,
+    removal: &Removal,
+    sources: Sources,
+    region: Region,
+    files: &mut F,
+    out: &mut O,
+) -> Result<(), Stop>
+    ensures { (err : OutSeen) → Follows (λ x. x) (removes_over folder.now removal.now sources sources.system_map region)
+        (world (F.seen files.old) (O.seen out.old) err) (world (F.seen files.new) (O.seen out.new) err) result }
+{
+    let Sources {
+        config,
+        loaded,
+        system_map,
+        symvers,
+    } = sources;
     match system_map {
         Some(system_map) => {
-            let known = read_known(alloc, config, &folder, loaded, files)?;
-            let machine = read_machine(alloc, system_map, symvers, region, files)?;
-            remove_listed(alloc, &folder, &removal, &known, machine, files, out)
+            let known = read_known(alloc, config, folder, loaded, files)?;
+            remove_known(
+                alloc, folder, removal, &known, system_map, symvers, region, files, out,
+            )
         }
         None => Err(Stop::from(End::NotUnderstood)),
     }
+}
+
+/// Reads the symbols of the kernel, and removes modules from a machine with this region.
+fn remove_known<F: Reads, O: Out>(
+    alloc: Global,
+    folder: &PathText,
+    removal: &Removal,
+    known: &Known,
+    system_map: PathText,
+    symvers: Option<PathText>,
+    region: Region,
+    files: &mut F,
+    out: &mut O,
+) -> Result<(), Stop>
+    ensures { (err : OutSeen) → Follows (λ x. x) (removes_known folder.now removal.now known.now system_map symvers region)
+        (world (F.seen files.old) (O.seen out.old) err) (world (F.seen files.new) (O.seen out.new) err) result }
+{
+    let machine = read_machine(alloc, system_map, symvers, region, files)?;
+    remove_listed(alloc, folder, removal, known, machine, files, out)
 }
 
 /// Loads the listed modules, and removes the modules of the names.
@@ -110,7 +169,7 @@ fn remove_listed<F: Reads, O: Out>(
     ensures { (err : OutSeen) → Follows (λ x. x) (removes_listed folder.now removal.now known.now machine)
         (world (F.seen files.old) (O.seen out.old) err) (world (F.seen files.new) (O.seen out.new) err) result }
 {
-    let listed = take_listed(
+    let mut listed = take_listed(
         alloc,
         folder,
         &known.indexes,
@@ -118,7 +177,7 @@ fn remove_listed<F: Reads, O: Out>(
         known.loaded.as_slice(),
         files,
     )?;
-    remove_names(alloc, removal, known, listed, out)
+    remove_names(alloc, removal, known, &mut listed, out)
 }
 
 /// Looks the names up, and removes the modules that they stand for.
@@ -126,11 +185,11 @@ fn remove_names<O: Out>(
     alloc: Global,
     removal: &Removal,
     known: &Known,
-    listed: Machine,
+    listed: &mut Machine,
     out: &mut O,
 ) -> Result<(), Stop>
-    requires { (kernel : Kernel) × (region : Placing) × (ms : List Module) × IsLoaded kernel region ms listed }
-    ensures { (files : FilesSeen) (err : OutSeen) → Follows (λ x. x) (removes_names removal.now known.now listed)
+    requires { (kernel : Kernel) × (region : Placing) × (ms : List Module) × IsLoaded kernel region ms listed.old }
+    ensures { (files : FilesSeen) (err : OutSeen) → Follows (λ x. x) (removes_names removal.now known.now listed.old)
         (world files (O.seen out.old) err) (world files (O.seen out.new) err) result }
 {
     let names = names_found(
@@ -139,7 +198,7 @@ fn remove_names<O: Out>(
         removal.use_blacklist,
         removal.names.as_slice(),
     )?;
-    let steps = steps_in(alloc, &names, removal.ignore_remove, &known.rules, &listed)?;
+    let steps = steps_in(alloc, &names, removal.ignore_remove, &known.rules, listed)?;
     carry_out(alloc, removal.dry_run, listed, &steps, out)
 }
 
@@ -147,12 +206,12 @@ fn remove_names<O: Out>(
 fn carry_out<O: Out>(
     alloc: Global,
     dry_run: bool,
-    machine: Machine,
+    machine: &mut Machine,
     steps: &RemovePlan,
     out: &mut O,
 ) -> Result<(), Stop>
-    requires { CanBeTakenOut machine steps.now }
-    ensures { (files : FilesSeen) (err : OutSeen) → Follows (λ x. x) (carries_out dry_run machine steps.now)
+    requires { CanBeTakenOut machine.old (length machine.old.entries) steps.now }
+    ensures { (files : FilesSeen) (err : OutSeen) → Follows (λ x. x) (carries_out dry_run machine.old steps.now)
         (world files (O.seen out.old) err) (world files (O.seen out.new) err) result }
 {
     check_chosen(alloc, dry_run, steps)?;

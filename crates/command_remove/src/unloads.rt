@@ -1,20 +1,24 @@
 // Modules that are taken out of the machine.
-ghost use Rattle.std.specs.Prelude.{◌≡◌, IfOk, Ok, map};
+ghost use Rattle.std.specs.Prelude.{◌≡◌, ℕ, IfOk, OnOk, Ok, Some, length, ⊤};
+ghost use Rattle.std.specs.List.{IsDistinct};
+ghost use Rattle.std.specs.Str.{bytes_eq};
 ghost use Rattle.km_outside.specs.FilesSeen.{FilesSeen};
 ghost use Rattle.km_outside.specs.OutSeen.{OutSeen};
 ghost use Rattle.km_course.specs.World.{world};
 ghost use Rattle.km_course.specs.Follows.{Follows};
 ghost use Rattle.km_course.specs.Course.{each_from};
-ghost use Rattle.model_loader.specs.Machine.{Machine as Modelled};
-ghost use Rattle.model_unload.specs.Unload.{unload_all, unloaded};
-ghost use Rattle.command_remove.specs.Remove.{CanBeTakenOut, step_name, unloads_all, unloads_one, unloads_unless};
+ghost use Rattle.model_loader.specs.Sound.{entry_names};
+ghost use Rattle.model_unload.specs.Below.{IsUnusedBelow};
+ghost use Rattle.model_unload.specs.Unload.{place_of, unloaded};
+ghost use Rattle.command_remove.specs.Remove.{step_name, unloads_all, unloads_one, unloads_unless};
+ghost use Rattle.command_remove.specs.Taken.{CanBeTakenOut};
 
 use crate::lines::{left_lines, push_two};
 use km_course::{Stop, say, say_any};
 use km_names::Blob;
 use km_outside::Out;
 use model_loader::Machine;
-use model_unload::unload;
+use model_unload::unload_below;
 use remove_plan::{RemovePlan, RemoveStep};
 use std::alloc::Global;
 
@@ -23,12 +27,12 @@ use std::alloc::Global;
 pub(crate) fn unload_unless<O: Out>(
     alloc: Global,
     dry_run: bool,
-    machine: Machine,
+    machine: &mut Machine,
     steps: &RemovePlan,
     out: &mut O,
 ) -> Result<(), Stop>
-    requires { CanBeTakenOut machine steps.now }
-    ensures { (files : FilesSeen) (err : OutSeen) → Follows (λ x. x) (unloads_unless dry_run machine steps.now)
+    requires { CanBeTakenOut machine.old (length machine.old.entries) steps.now }
+    ensures { (files : FilesSeen) (err : OutSeen) → Follows (λ x. x) (unloads_unless dry_run machine.old steps.now)
         (world files (O.seen out.old) err) (world files (O.seen out.new) err) result }
 {
     if dry_run {
@@ -40,59 +44,60 @@ pub(crate) fn unload_unless<O: Out>(
 /// Takes the modules of the steps out of a machine, and says what is left.
 fn unload_and_list<O: Out>(
     alloc: Global,
-    machine: Machine,
+    machine: &mut Machine,
     steps: &RemovePlan,
     out: &mut O,
 ) -> Result<(), Stop>
-    requires { CanBeTakenOut machine steps.now }
-    ensures { (files : FilesSeen) (err : OutSeen) → Follows (λ x. x) (unloads_all machine steps.now)
+    requires { CanBeTakenOut machine.old (length machine.old.entries) steps.now }
+    ensures { (files : FilesSeen) (err : OutSeen) → Follows (λ x. x) (unloads_all machine.old steps.now)
         (world files (O.seen out.old) err) (world files (O.seen out.new) err) result }
 {
-    let left = unload_steps(alloc, machine, steps, out)?;
-    let text = left_lines(alloc, &left)?;
+    unload_steps(alloc, machine, steps, out)?;
+    let text = left_lines(alloc, machine)?;
     say_any(out, text.as_bytes())
 }
 
-/// Takes the modules of the steps out of a machine, one after the other, and says so of each.
+/// Takes the modules of the steps out of a machine, one after the other, and says so of each. Each
+/// is looked for below the one before it, so all of them are found in one pass over the machine.
 fn unload_steps<O: Out>(
     alloc: Global,
-    mut machine: Machine,
+    machine: &mut Machine,
     steps: &RemovePlan,
     out: &mut O,
-) -> Result<Machine, Stop>
-    requires { CanBeTakenOut machine steps.now }
-    ensures follows { (files : FilesSeen) (err : OutSeen) → Follows (λ x. x) (each_from unloads_one machine steps.now)
+) -> Result<(), Stop>
+    requires { CanBeTakenOut machine.old (length machine.old.entries) steps.now }
+    ensures follows { (files : FilesSeen) (err : OutSeen) → Follows (λ (done : ⊤). machine.new) (each_from unloads_one machine.old steps.now)
         (world files (O.seen out.old) err) (world files (O.seen out.new) err) result }
-    ensures left { IfOk result (λ left. unload_all machine (map step_name steps.now) ≡ Ok left) }
+    ensures names { OnOk result (IsDistinct bytes_eq (entry_names machine.new)) }
 {
+    let mut end = machine.module_count();
     for step in steps.as_slice() {
-        machine = unload_one(alloc, machine, step, out)?;
+        end = unload_one(alloc, machine, end, step, out)?;
     }
-    Ok(machine)
+    Ok(())
 }
 
-/// Takes the module of a step out of a machine, and says so.
+/// Takes the module of a step, which is below the place `end`, out of a machine, and says so.
+/// Returns its place.
 fn unload_one<O: Out>(
     alloc: Global,
-    mut machine: Machine,
+    machine: &mut Machine,
+    end: usize,
     step: &RemoveStep,
     out: &mut O,
-) -> Result<Machine, Stop>
-    requires { (after : Modelled) × (unloaded machine (step_name step.now) ≡ Ok after) }
-    ensures follows { (files : FilesSeen) (err : OutSeen) → Follows (λ x. x) (unloads_one machine step.now)
+) -> Result<usize, Stop>
+    requires { IsUnusedBelow machine.old end (step_name step.now) }
+    ensures follows { (files : FilesSeen) (err : OutSeen) → Follows (λ (place : ℕ). machine.new) (unloads_one machine.old step.now)
         (world files (O.seen out.old) err) (world files (O.seen out.new) err) result }
-    ensures after { IfOk result (λ after. unloaded machine (step_name step.now) ≡ Ok after) }
+    ensures after { unloaded machine.old (step_name step.now) ≡ Ok machine.new }
+    ensures place { IfOk result (λ place. place_of machine.old (step_name step.now) ≡ Some place) }
 {
     let name = step_name(step);
-    match unload(&mut machine, name) {
-        Ok(()) => {
-            let mut line = Blob::new(alloc);
-            push_two(&mut line, b"unloaded ", name)?;
-            say(out, line.as_bytes())?;
-            Ok(machine)
-        }
-        Err(_) => unreachable!(),
-    }
+    let place = unload_below(machine, end, name);
+    let mut line = Blob::new(alloc);
+    push_two(&mut line, b"unloaded ", name)?;
+    say(out, line.as_bytes())?;
+    Ok(place)
 }
 
 /// Returns the name of the module that a step is for.

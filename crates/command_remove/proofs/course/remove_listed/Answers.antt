@@ -1,6 +1,4 @@
-use Rattle.std.proofs.Common.{◌∙◌}
 use Rattle.std.specs.Prelude.{reverse}
-use Rattle.std.proofs.Common.{ap}
 use Rattle.std.proofs.lemmas.Result.{err_from_is_err_and}
 use Rattle.km_course.proofs.Steps.{next, exits}
 use Rattle.km_course.proofs.Following.{along}

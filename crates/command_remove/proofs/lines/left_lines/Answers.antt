@@ -1,4 +1,4 @@
-use Rattle.std.proofs.Common.{◌≡◌, ◌<◌, ◌++◌, ◌∙◌, length, ap, subst, arith}
+use Rattle.std.proofs.Common.{◌<◌, ◌++◌, ◌∙◌, length, ap, subst, arith}
 use Rattle.command_remove.specs.Lines.{left_lines}
 use Rattle.command_remove.proofs.LineLemmas.{all-lines, entry-there, lines-on}
 use Rattle.command_remove.proofs.lines.left_lines.Goals as goal
