@@ -1,3 +1,4 @@
+pub mod BasisSteps
 pub mod ResolvedSteps
 pub mod PlanSteps
 pub mod LoadSteps

@@ -1,6 +1,6 @@
 -- The stages of a plan that is loaded, joined.
-use Rattle.std.proofs.Common.{◌≡◌, ℕ, ◌+◌, ◌≤◌, Bool, true, false, List, ◌∷◌, ◌++◌, length, map, drop, refl, sym, ap, subst, ◌∙◌, append_assoc, append-nil, inl, inr}
-use Rattle.std.specs.Prelude.{Option, Some, None, Result, Err, ◌⊎◌, if◌then◌else◌, option_map, ⊤}
+use Rattle.std.proofs.Common.{◌≡◌, ℕ, ◌+◌, ◌≤◌, List, ◌∷◌, ◌++◌, length, map, drop, refl, sym, ap, subst, ◌∙◌, append_assoc, append-nil, inl, inr}
+use Rattle.std.specs.Prelude.{Option, Some, None, Result, Err, ◌⊎◌, option_map, ⊤}
 use Rattle.std.specs.List.{flat_map}
 use Rattle.std.proofs.lemmas.List.{drop_all}
 use Rattle.km_names.specs.First.{first}
@@ -22,10 +22,10 @@ use Rattle.stages_files.specs.KernelModules.{modules_folder}
 use Rattle.stages_loads.specs.declared.load.Insertion.{Insertion}
 use Rattle.stages_loads.specs.declared.shown.Images.{Images}
 use Rattle.stages_loads.specs.Loads.{loads_all}
-use Rattle.stages_loads.specs.Tables.{reads_machine}
 use Rattle.stages_known.specs.declared.known.Known.{Known}
 use Rattle.stages_known.specs.Known.{reads_known}
 use Rattle.command_modprobe.specs.Planned.{plan_lines, request_of}
+use Rattle.command_modprobe.specs.Parts.{loads_known}
 use Rattle.command_modprobe.specs.Loaded.{command_owner, images_asked, inserted, inserts_outcome, install_stop, loads_into, loads_request, loads_steps, unless_install}
 
 -- the stages after each part of a load
@@ -47,15 +47,14 @@ after_steps folder images known machine steps = given (inserts_outcome steps) >>
 abbrev pub after_machine : List ℕ → Images → Request → Known → Machine → Stage ⊤
 after_machine folder images request known machine = loads_request folder images request known machine
 
-abbrev pub loads_known : List ℕ → Images → Request → List ℕ → Option (List ℕ) → Region → Known → Stage ⊤
-loads_known folder images request system_map symvers region known = reads_machine system_map symvers region >>= after_machine folder images request known
-
--- what is asked for, where its folder, its request and its System.map are these
-pub loads-asked : (asked : ModprobeWords) (folder : List ℕ) (request : Request) (system_map : List ℕ) (region : Region) (old new : World) (r : Result ⊤ Stop) → folder ≡ modules_folder asked.dirname asked.version → request ≡ request_of asked → asked.system_map ≡ Some system_map → Follows (λ x. x) (reads_known asked.config folder asked.loaded >>= loads_known folder (images_asked asked) request system_map asked.symvers region) old new r → Follows (λ x. x) (loads_into asked asked.system_map (Some region)) old new r
-loads-asked asked folder request system_map region old new r place what map f =
-    along (λ o. loads_into asked o (Some region)) (Some system_map) asked.system_map (sym map)
-    (along (λ p. reads_known asked.config p asked.loaded >>= loads_known p (images_asked asked) (request_of asked) system_map asked.symvers region) folder (modules_folder asked.dirname asked.version) place
-    (along (λ q. reads_known asked.config folder asked.loaded >>= loads_known folder (images_asked asked) q system_map asked.symvers region) request (request_of asked) what f))
+-- what is asked for, where its folder, its images, its request and its Module.symvers are these
+pub loads-asked : (asked : ModprobeWords) (folder : List ℕ) (images : Images) (request : Request) (system_map : List ℕ) (symvers : Option (List ℕ)) (region : Region) (old new : World) (r : Result ⊤ Stop) → folder ≡ modules_folder asked.dirname asked.version → images ≡ images_asked asked → request ≡ request_of asked → symvers ≡ asked.symvers → Follows (λ x. x) (reads_known asked.config (modules_folder asked.dirname asked.version) asked.loaded >>= loads_known folder images request system_map symvers region) old new r → Follows (λ x. x) (loads_into asked (Some system_map) (Some region)) old new r
+loads-asked asked folder images request system_map symvers region old new r place shown what table f =
+    let known = reads_known asked.config (modules_folder asked.dirname asked.version) asked.loaded in
+    along (λ p. known >>= loads_known p (images_asked asked) (request_of asked) system_map asked.symvers region) folder (modules_folder asked.dirname asked.version) place
+    (along (λ i. known >>= loads_known folder i (request_of asked) system_map asked.symvers region) images (images_asked asked) shown
+    (along (λ q. known >>= loads_known folder images q system_map asked.symvers region) request (request_of asked) what
+    (along (λ s. known >>= loads_known folder images request system_map s region) symvers asked.symvers table f)))
 
 -- what isn't understood
 pub misunderstood : (stage : Stage ⊤) (w : World) (stop : Stop) → ends NotUnderstood ≡ stage → stop ≡ Ended NotUnderstood → Follows (λ x. x) stage w w (Err stop)

@@ -2,7 +2,6 @@
 use Rattle.std.proofs.Common.{◌≡◌, ℕ, Bool, true, false, List, [], ◌∷◌, length, drop, refl, sym, ap, subst, ◌∙◌, inl, inr, arith}
 use Rattle.std.specs.Prelude.{Some, None, Result, Err, ◌⊎◌, if◌then◌else◌, ⊤}
 use Rattle.std.proofs.lemmas.List.{drop_all}
-use Rattle.kmod_words.specs.declared.modprobe.Mode.{Mode}
 use Rattle.kmod_words.specs.declared.modprobe.ModprobeWords.{ModprobeWords}
 use Rattle.plan_builder.specs.declared.obstacle.Obstacle.{Obstacle}
 use Rattle.plan_builder.specs.declared.obstacle.Obstacle.TheVariants as obstacles
@@ -11,7 +10,7 @@ use Rattle.plan_builder.specs.declared.step.PlanStep.{PlanStep}
 use Rattle.plan_builder.specs.Obstacles.{obstacle_of}
 use Rattle.plan_builder.specs.Steps.{plan_steps, spaced}
 use Rattle.plan_builder.specs.Text.{obstacle_text}
-use Rattle.km_course.specs.Course.{Stage, ◌>>=◌, given, says_any}
+use Rattle.km_course.specs.Course.{Stage, ◌>>=◌, says_any}
 use Rattle.km_course.specs.Course.Outcome.{value}
 use Rattle.km_course.specs.World.{World}
 use Rattle.km_course.specs.Follows.{Answers, Follows}
@@ -24,21 +23,19 @@ use Rattle.stages_files.specs.KernelModules.{modules_folder}
 use Rattle.stages_known.specs.declared.known.Known.{Known}
 use Rattle.stages_known.specs.Known.{reads_known}
 use Rattle.command_modprobe.specs.Resolved.{names_asked}
-use Rattle.command_modprobe.specs.Planned.{loaded_in, plan_lines, plan_outcome, plan_unless, request_of, shows_plan, sources_with}
+use Rattle.command_modprobe.specs.Parts.{prints_plan}
+use Rattle.command_modprobe.specs.Planned.{plan_lines, plan_outcome, plan_unless, request_of, shows_plan, sources_with}
 
 -- the stage after a plan was made
 abbrev pub after_plan : List ℕ → List PlanStep → Stage ⊤
 after_plan folder steps = says_any (plan_lines folder steps)
 
--- the stage after what is known was read
-abbrev pub plans_known : List ℕ → Request → Mode → Known → Stage ⊤
-plans_known folder request mode known = given (plan_outcome known (loaded_in mode known.loaded) request) >>= after_plan folder
-
 -- what is asked for, where its folder and its request are these
-pub shows-asked : (asked : ModprobeWords) (folder : List ℕ) (request : Request) (old new : World) (r : Result ⊤ Stop) → folder ≡ modules_folder asked.dirname asked.version → request ≡ request_of asked → Follows (λ x. x) (reads_known asked.config folder asked.loaded >>= plans_known folder request asked.mode) old new r → Follows (λ x. x) (shows_plan asked) old new r
+pub shows-asked : (asked : ModprobeWords) (folder : List ℕ) (request : Request) (old new : World) (r : Result ⊤ Stop) → folder ≡ modules_folder asked.dirname asked.version → request ≡ request_of asked → Follows (λ x. x) (reads_known asked.config (modules_folder asked.dirname asked.version) asked.loaded >>= prints_plan folder request asked.mode) old new r → Follows (λ x. x) (shows_plan asked) old new r
 shows-asked asked folder request old new r place what f =
-    along (λ p. reads_known asked.config p asked.loaded >>= plans_known p (request_of asked) asked.mode) folder (modules_folder asked.dirname asked.version) place
-    (along (λ q. reads_known asked.config folder asked.loaded >>= plans_known folder q asked.mode) request (request_of asked) what f)
+    let known = reads_known asked.config (modules_folder asked.dirname asked.version) asked.loaded in
+    along (λ p. known >>= prints_plan p (request_of asked) asked.mode) folder (modules_folder asked.dirname asked.version) place
+    (along (λ q. known >>= prints_plan folder q asked.mode) request (request_of asked) what f)
 
 -- the words after those that are names
 pub options-after : (all : Bool) (words : List (List ℕ)) → spaced (drop (length (names_asked all words)) words) ≡ (if all then [] else spaced (drop 1 words))

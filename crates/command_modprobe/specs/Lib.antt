@@ -1,4 +1,5 @@
 pub mod Resolved
 pub mod Planned
 pub mod Loaded
+pub mod Parts
 pub mod Modprobe

@@ -6,6 +6,7 @@
 //! `stages_loads` for loads, and on `command_remove` for removals.
 #![tactic(auto)]
 
+mod basis;
 mod course;
 mod load;
 mod plan;

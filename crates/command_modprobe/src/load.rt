@@ -4,16 +4,16 @@ ghost use Rattle.km_outside.specs.OutSeen.{OutSeen};
 ghost use Rattle.km_course.specs.World.{world};
 ghost use Rattle.km_course.specs.Follows.{Answers, Follows};
 ghost use Rattle.command_modprobe.specs.Loaded.{command_owner, inserted, inserts_outcome, install_stop, loads_into, loads_plan, loads_request, loads_steps};
+ghost use Rattle.command_modprobe.specs.Parts.{loads_known};
 
-use crate::plan::{plan_in, plan_text, request_of};
-use km_course::{End, Refusal, Stop, say_any};
+use crate::basis::{Basis, read_basis};
+use crate::plan::{plan_in, say_plan};
+use km_course::{End, Refusal, Stop};
 use km_names::{Blob, Name, PathText};
 use km_outside::{Out, Writes};
 use kmod_words::{Mode, ModprobeWords};
 use model_loader::{Machine, Region};
-use plan_builder::{PlanStep, PlanSteps, Request};
-use stages_files::modules_folder;
-use stages_known::{Known, read_known};
+use plan_builder::{PlanStep, PlanSteps};
 use stages_loads::{Images, Insertion, Insertions, load_all, load_listed, read_machine, region_at};
 use std::alloc::Global;
 
@@ -37,7 +37,7 @@ pub(crate) fn load_plan<F: Writes, O: Out>(
 /// Loads the plan for the requested names into a machine with this region.
 fn load_into<F: Writes, O: Out>(
     alloc: Global,
-    asked: ModprobeWords,
+    mut asked: ModprobeWords,
     region: Region,
     files: &mut F,
     out: &mut O,
@@ -45,82 +45,99 @@ fn load_into<F: Writes, O: Out>(
     ensures { (err : OutSeen) → Follows (λ x. x) (loads_into asked asked.system_map (Some region))
         (world (F.seen files.old) (O.seen out.old) err) (world (F.seen files.new) (O.seen out.new) err) result }
 {
-    let folder = modules_folder(alloc, &asked.dirname, &asked.version)?;
-    let request = request_of(alloc, &asked)?;
-    let ModprobeWords {
-        config,
-        loaded,
-        system_map,
-        symvers,
-        image,
-        params,
-        ..
-    } = asked;
-    let images = Images {
-        folder: image,
-        params,
-    };
-    match system_map {
-        Some(system_map) => {
-            let known = read_known(alloc, config, &folder, loaded, files)?;
-            let machine = read_machine(alloc, system_map, symvers, region, files)?;
-            load_request(
-                alloc, &folder, &images, &request, &known, machine, files, out,
-            )
-        }
+    match asked.system_map.take() {
+        Some(system_map) => load_from(alloc, asked, system_map, region, files, out),
         None => Err(Stop::from(End::NotUnderstood)),
     }
+}
+
+/// Loads the plan for the requested names into a machine of this System.map and region.
+fn load_from<F: Writes, O: Out>(
+    alloc: Global,
+    mut asked: ModprobeWords,
+    system_map: PathText,
+    region: Region,
+    files: &mut F,
+    out: &mut O,
+) -> Result<(), Stop>
+    ensures { (err : OutSeen) → Follows (λ x. x) (loads_into asked (Some system_map) (Some region))
+        (world (F.seen files.old) (O.seen out.old) err) (world (F.seen files.new) (O.seen out.new) err) result }
+{
+    let symvers = asked.symvers.take();
+    let images = Images {
+        folder: asked.image.take(),
+        params: asked.params,
+    };
+    let basis = read_basis(alloc, asked, files)?;
+    load_known(
+        alloc, &images, &basis, system_map, symvers, region, files, out,
+    )
+}
+
+/// Reads the machine, makes the plan of a request, and loads it.
+fn load_known<F: Writes, O: Out>(
+    alloc: Global,
+    images: &Images,
+    basis: &Basis,
+    system_map: PathText,
+    symvers: Option<PathText>,
+    region: Region,
+    files: &mut F,
+    out: &mut O,
+) -> Result<(), Stop>
+    ensures { (err : OutSeen) → Follows (λ x. x)
+        (loads_known basis.now.folder images.now basis.now.request system_map symvers region basis.now.known)
+        (world (F.seen files.old) (O.seen out.old) err) (world (F.seen files.new) (O.seen out.new) err) result }
+{
+    let machine = read_machine(alloc, system_map, symvers, region, files)?;
+    load_request(alloc, images, basis, machine, files, out)
 }
 
 /// Makes the plan of a request, and loads it.
 fn load_request<F: Writes, O: Out>(
     alloc: Global,
-    folder: &PathText,
     images: &Images,
-    request: &Request,
-    known: &Known,
+    basis: &Basis,
     machine: Machine,
     files: &mut F,
     out: &mut O,
 ) -> Result<(), Stop>
-    ensures { (err : OutSeen) → Follows (λ x. x) (loads_request folder.now images.now request.now known.now machine)
+    ensures { (err : OutSeen) → Follows (λ x. x)
+        (loads_request basis.now.folder images.now basis.now.request basis.now.known machine)
         (world (F.seen files.old) (O.seen out.old) err) (world (F.seen files.new) (O.seen out.new) err) result }
 {
-    let steps = plan_in(alloc, Mode::Load, known, request)?;
+    let steps = plan_in(alloc, Mode::Load, &basis.known, &basis.request)?;
     let inserts = inserts_of(alloc, &steps)?;
-    load_steps(
-        alloc, folder, images, known, machine, &steps, &inserts, files, out,
-    )
+    load_steps(alloc, images, basis, machine, &steps, &inserts, files, out)
 }
 
 /// Loads the listed modules, prints the lines of a plan, and loads its modules.
 fn load_steps<F: Writes, O: Out>(
     alloc: Global,
-    folder: &PathText,
     images: &Images,
-    known: &Known,
+    basis: &Basis,
     machine: Machine,
     steps: &PlanSteps,
     inserts: &Insertions,
     files: &mut F,
     out: &mut O,
 ) -> Result<(), Stop>
-    ensures { (err : OutSeen) → Follows (λ x. x) (loads_steps folder.now images.now known.now machine steps.now inserts.now)
+    ensures { (err : OutSeen) → Follows (λ x. x)
+        (loads_steps basis.now.folder images.now basis.now.known machine steps.now inserts.now)
         (world (F.seen files.old) (O.seen out.old) err) (world (F.seen files.new) (O.seen out.new) err) result }
 {
     let listed = load_listed(
         alloc,
-        folder,
-        &known.indexes.dep,
+        &basis.folder,
+        &basis.known.indexes.dep,
         machine,
-        known.loaded.as_slice(),
+        basis.known.loaded.as_slice(),
         files,
     )?;
-    let text = plan_text(alloc, folder, steps)?;
-    say_any(out, text.as_bytes())?;
+    say_plan(alloc, &basis.folder, steps, out)?;
     load_all(
         alloc,
-        folder,
+        &basis.folder,
         images,
         listed,
         inserts.as_slice(),

@@ -1,25 +1,26 @@
 // The plan of what is asked for, and its lines.
 ghost use Rattle.std.specs.Prelude.{◌≡◌, ◌∷◌, ◌++◌, ◌⊎◌, [], IfOk, OnOk};
+ghost use Rattle.km_outside.specs.FilesSeen.{FilesSeen};
 ghost use Rattle.km_outside.specs.OutSeen.{OutSeen};
+ghost use Rattle.km_course.specs.Course.{says_any};
 ghost use Rattle.km_course.specs.World.{world};
 ghost use Rattle.km_course.specs.Follows.{Answers, Follows};
 ghost use Rattle.km_course.specs.declared.end.End.TheVariants.{Refused};
 ghost use Rattle.km_course.specs.declared.refusal.Refusal.TheVariants.{Obstacle as Unplanned};
 ghost use Rattle.km_course.specs.declared.stop.Stop.TheVariants.{Ended, Memory};
 ghost use Rattle.plan_builder.specs.declared.obstacle.Obstacle.TheVariants as obstacles;
-ghost use Rattle.plan_builder.specs.Steps.{spaced};
 ghost use Rattle.plan_builder.specs.Text.{obstacle_text};
-ghost use Rattle.command_modprobe.specs.Planned.{insert_line, loaded_in, plan_lines, plan_outcome, request_of, shows_plan, step_line};
+ghost use Rattle.command_modprobe.specs.Parts.{prints_plan};
+ghost use Rattle.command_modprobe.specs.Planned.{insert_line, loaded_in, plan_lines, plan_outcome, shows_plan, step_line};
 
-use crate::resolve_alias::names_asked;
+use crate::basis::{Basis, read_basis};
 use km_course::{Refusal, Stop, say_any};
-use km_names::{Blob, Name, Names, PathText, join};
+use km_names::{Blob, PathText, join};
 use km_outside::{Out, Reads};
 use kmod_words::{Mode, ModprobeWords};
 use loaded_list::Loaded;
 use plan_builder::{Obstacle, PlanStep, PlanSteps, Request, plan};
-use stages_files::modules_folder;
-use stages_known::{Known, read_known};
+use stages_known::Known;
 use std::alloc::{AllocError, Global};
 
 /// Prints the plan for the requested names, one step a line. modprobe(8), `--dry-run` and
@@ -33,58 +34,19 @@ pub(crate) fn show_plan<F: Reads, O: Out>(
     ensures { (err : OutSeen) → Follows (λ x. x) (shows_plan asked)
         (world (F.seen files.old) (O.seen out.old) err) (world (F.seen files.new) (O.seen out.new) err) result }
 {
-    let folder = modules_folder(alloc, &asked.dirname, &asked.version)?;
-    let request = request_of(alloc, &asked)?;
-    let ModprobeWords {
-        mode,
-        config,
-        loaded,
-        ..
-    } = asked;
-    let known = read_known(alloc, config, &folder, loaded, files)?;
-    let steps = plan_in(alloc, mode, &known, &request)?;
-    let text = plan_text(alloc, &folder, &steps)?;
-    say_any(out, text.as_bytes())
+    let mode = asked.mode;
+    let basis = read_basis(alloc, asked, files)?;
+    print_plan(alloc, mode, &basis, out)
 }
 
-/// Returns what is to be planned: the names, and the parameters for the module of the first word,
-/// if the other words are parameters.
-pub(crate) fn request_of(alloc: Global, asked: &ModprobeWords) -> Result<Request, AllocError>
-    ensures { IfOk result (λ request. request ≡ request_of asked.now) }
+/// Prints the plan of a request in a mode.
+fn print_plan<O: Out>(alloc: Global, mode: Mode, basis: &Basis, out: &mut O) -> Result<(), Stop>
+    ensures { (files : FilesSeen) (err : OutSeen) → Follows (λ x. x)
+        (prints_plan basis.now.folder basis.now.request mode basis.now.known)
+        (world files (O.seen out.old) err) (world files (O.seen out.new) err) result }
 {
-    let words = asked.words.as_slice();
-    let names = names_asked(asked.all, words);
-    Ok(Request {
-        names: copied_names(alloc, names)?,
-        options: spaced(alloc, &words[names.len()..])?,
-        use_blacklist: asked.use_blacklist,
-        ignore_install: asked.ignore_install,
-    })
-}
-
-/// Copies some names.
-fn copied_names(alloc: Global, names: &[Name]) -> Result<Names, AllocError>
-    ensures { IfOk result (λ copies. copies ≡ names.now) }
-{
-    let mut copies = Names::new(alloc);
-    for name in names {
-        copies.push(Name::from_slice(alloc, name.as_bytes())?)?;
-    }
-    Ok(copies)
-}
-
-/// Joins words with a space between each and the next.
-fn spaced(alloc: Global, words: &[Name]) -> Result<Blob, AllocError>
-    ensures { IfOk result (λ text. text ≡ spaced words.now) }
-{
-    let mut text = Blob::new(alloc);
-    for i in 0..words.len() {
-        if i > 0 {
-            text.push(b' ')?;
-        }
-        text.extend(words[i].as_bytes())?;
-    }
-    Ok(text)
+    let steps = plan_in(alloc, mode, &basis.known, &basis.request)?;
+    say_plan(alloc, &basis.folder, &steps, out)
 }
 
 /// Returns the plan of a request in a mode, or the refusal of its first obstacle.
@@ -137,12 +99,22 @@ fn refused(alloc: Global, obstacle: &Obstacle) -> Stop
     }
 }
 
-/// Returns the lines of a plan for the modules in a folder, one line a step.
-pub(crate) fn plan_text(
+/// Prints the lines of a plan for the modules in a folder.
+pub(crate) fn say_plan<O: Out>(
     alloc: Global,
     folder: &PathText,
     steps: &PlanSteps,
-) -> Result<Blob, AllocError>
+    out: &mut O,
+) -> Result<(), Stop>
+    ensures { (files : FilesSeen) (err : OutSeen) → Follows (λ x. x) (says_any (plan_lines folder.now steps.now))
+        (world files (O.seen out.old) err) (world files (O.seen out.new) err) result }
+{
+    let text = plan_text(alloc, folder, steps)?;
+    say_any(out, text.as_bytes())
+}
+
+/// Returns the lines of a plan for the modules in a folder, one line a step.
+fn plan_text(alloc: Global, folder: &PathText, steps: &PlanSteps) -> Result<Blob, AllocError>
     ensures { IfOk result (λ text. text ≡ plan_lines folder.now steps.now) }
 {
     let mut text = Blob::new(alloc);

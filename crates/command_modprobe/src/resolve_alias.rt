@@ -1,16 +1,20 @@
 // What names stand for: `modprobe -R`.
 ghost use Rattle.std.specs.Prelude.{◌≡◌, ⊤, IfOk};
+ghost use Rattle.km_outside.specs.FilesSeen.{FilesSeen};
 ghost use Rattle.km_outside.specs.OutSeen.{OutSeen};
+ghost use Rattle.km_course.specs.Course.{says_any};
 ghost use Rattle.km_course.specs.World.{world};
 ghost use Rattle.km_course.specs.Follows.{Follows};
-ghost use Rattle.command_modprobe.specs.Resolved.{names_asked, lines_of_names, resolves_alias};
+ghost use Rattle.command_modprobe.specs.Parts.{prints_names};
+ghost use Rattle.command_modprobe.specs.Resolved.{lines_of_names, resolves_alias};
 
+use crate::basis::read_basis;
 use km_course::{Stop, say_any};
-use km_names::{Blob, Name, Names};
+use km_names::{Blob, Names};
 use km_outside::{Out, Reads};
 use kmod_words::ModprobeWords;
-use stages_files::modules_folder;
-use stages_known::{names_found, read_known};
+use plan_builder::Request;
+use stages_known::{Known, names_found};
 use std::alloc::{AllocError, Global};
 
 /// Prints the names of what each requested name stands for, one a line. Nothing is printed if a
@@ -24,31 +28,36 @@ pub(crate) fn resolve_alias<F: Reads, O: Out>(
     ensures { (err : OutSeen) → Follows (λ x. x) (resolves_alias asked)
         (world (F.seen files.old) (O.seen out.old) err) (world (F.seen files.new) (O.seen out.new) err) result }
 {
-    let folder = modules_folder(alloc, &asked.dirname, &asked.version)?;
-    let ModprobeWords {
-        all,
-        use_blacklist,
-        config,
-        loaded,
-        words,
-        ..
-    } = asked;
-    let known = read_known(alloc, config, &folder, loaded, files)?;
-    let asked_for = names_asked(all, words.as_slice());
-    let names = names_found(alloc, &known, use_blacklist, asked_for)?;
-    let text = lines_of_names(alloc, &names)?;
-    say_any(out, text.as_bytes())
+    let basis = read_basis(alloc, asked, files)?;
+    print_names(alloc, &basis.known, &basis.request, out)
 }
 
-/// Returns the words that are names: all, or the first.
-pub(crate) fn names_asked(all: bool, words: &[Name]) -> &[Name]
-    ensures { result.now ≡ names_asked all words.now }
+/// Prints the names of what each name of a request stands for, by what is known.
+fn print_names<O: Out>(
+    alloc: Global,
+    known: &Known,
+    request: &Request,
+    out: &mut O,
+) -> Result<(), Stop>
+    ensures { (files : FilesSeen) (err : OutSeen) → Follows (λ x. x) (prints_names request.now known.now)
+        (world files (O.seen out.old) err) (world files (O.seen out.new) err) result }
 {
-    if all || words.len() <= 1 {
-        words
-    } else {
-        &words[..1]
-    }
+    let names = names_found(
+        alloc,
+        known,
+        request.use_blacklist,
+        request.names.as_slice(),
+    )?;
+    say_names(alloc, &names, out)
+}
+
+/// Prints a line for each name.
+fn say_names<O: Out>(alloc: Global, names: &Names, out: &mut O) -> Result<(), Stop>
+    ensures { (files : FilesSeen) (err : OutSeen) → Follows (λ x. x) (says_any (lines_of_names names.now))
+        (world files (O.seen out.old) err) (world files (O.seen out.new) err) result }
+{
+    let text = lines_of_names(alloc, names)?;
+    say_any(out, text.as_bytes())
 }
 
 /// Returns a line for each name.

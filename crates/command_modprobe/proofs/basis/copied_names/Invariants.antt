@@ -1,5 +1,5 @@
 use Rattle.std.proofs.Common.{◌≡◌, take}
-use Rattle.command_modprobe.proofs.plan.copied_names.Given as goal
+use Rattle.command_modprobe.proofs.basis.copied_names.Given as goal
 
 abbrev pub invariant-loop-name : goal.invariant-loop-name
 invariant-loop-name l = l.copies ≡ take l.name-index l.names
