@@ -109,16 +109,6 @@ impl From<LayFault> for LoadFault {
     }
 }
 
-/// Joins three pieces of text.
-fn joined(alloc: Global, before: &[u8], middle: &[u8], after: &[u8]) -> Result<Blob, AllocError>
-    ensures { IfOk result (λ text. text ≡ before.now ++ middle.now ++ after.now) }
-{
-    let mut text = Blob::from_slice(alloc, before)?;
-    text.extend(middle)?;
-    text.extend(after)?;
-    Ok(text)
-}
-
 /// Returns the text for a load that finds no gap.
 fn full_text(alloc: Global, pages: u64) -> Result<Blob, AllocError>
     ensures { IfOk result (λ text. text ≡ codes "region full, " ++ (decimal pages ++ codes " pages")) }
@@ -146,17 +136,23 @@ impl LoadFault {
         match self {
             LoadFault::AlreadyLoaded => Blob::from_slice(alloc, b"already loaded"),
             LoadFault::MissingSymbol { name } => {
-                joined(alloc, b"missing symbol ", name.as_bytes(), b"")
+                Blob::concat(alloc, &[b"missing symbol ", name.as_bytes()])
             }
-            LoadFault::GplOnly { name } => joined(alloc, b"", name.as_bytes(), b" is GPL-only"),
+            LoadFault::GplOnly { name } => Blob::concat(alloc, &[name.as_bytes(), b" is GPL-only"]),
             LoadFault::VersionDiffers { name } => {
-                joined(alloc, b"version of ", name.as_bytes(), b" differs")
+                Blob::concat(alloc, &[b"version of ", name.as_bytes(), b" differs"])
             }
             LoadFault::NotImported { name } => {
-                joined(alloc, b"namespace of ", name.as_bytes(), b" not imported")
+                Blob::concat(
+                    alloc,
+                    &[b"namespace of ", name.as_bytes(), b" not imported"],
+                )
             }
             LoadFault::ExportTaken { name, owner } => {
-                joined(alloc, name.as_bytes(), b" is taken by ", owner.as_bytes())
+                Blob::concat(
+                    alloc,
+                    &[name.as_bytes(), b" is taken by ", owner.as_bytes()],
+                )
             }
             LoadFault::RegionFull { pages } => full_text(alloc, *pages),
             LoadFault::Overflow { section, entry } => overflow_text(alloc, *section, *entry),
