@@ -1,9 +1,6 @@
 // The lines of a removal.
 ghost use Rattle.std.specs.Prelude.{◌≡◌, ◌<◌, ◌++◌, IfOk, OnOk, Some, length, slice_get};
-ghost use Rattle.std.specs.List.{IsDistinct};
-ghost use Rattle.std.specs.Str.{bytes_eq};
 ghost use Rattle.model_loader.specs.declared.entry.Entry.{Entry};
-ghost use Rattle.model_loader.specs.Sound.{entry_names};
 ghost use Rattle.command_remove.specs.Lines.{left_line as left_line_of, left_lines as left_lines_of, line_of_two, step_line, step_lines as step_lines_of};
 
 use km_names::Blob;
@@ -44,7 +41,6 @@ pub(crate) fn push_two(text: &mut Blob, word: &[u8], rest: &[u8]) -> Result<(), 
 
 /// Returns a line for each module of a machine, the oldest first.
 pub(crate) fn left_lines(alloc: Global, machine: &Machine) -> Result<Blob, AllocError>
-    requires { IsDistinct bytes_eq (entry_names machine.now) }
     ensures { IfOk result (λ text. text ≡ left_lines_of machine.now.entries) }
 {
     let mut text = Blob::new(alloc);
@@ -57,11 +53,8 @@ pub(crate) fn left_lines(alloc: Global, machine: &Machine) -> Result<Blob, Alloc
 
 /// Returns the line of the module that was loaded `i`-th.
 fn left_line(alloc: Global, machine: &Machine, i: usize) -> Result<Blob, AllocError>
-    requires names { IsDistinct bytes_eq (entry_names machine.now) }
-    requires place { i < length machine.now.entries }
+    requires { i < length machine.now.entries }
     ensures { IfOk result (λ line. (e : Entry) → slice_get machine.now.entries i ≡ Some e → line ≡ left_line_of e) }
 {
-    let loaded = machine.module_at(i);
-    let image = machine.image(loaded.name.as_bytes()).unwrap();
-    entry_line(alloc, b"left", loaded, image)
+    entry_line(alloc, b"left", machine.module_at(i), machine.image_at(i))
 }

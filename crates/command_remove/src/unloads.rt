@@ -1,13 +1,10 @@
 // Modules that are taken out of the machine.
-ghost use Rattle.std.specs.Prelude.{◌≡◌, ℕ, IfOk, OnOk, Ok, Some, length, ⊤};
-ghost use Rattle.std.specs.List.{IsDistinct};
-ghost use Rattle.std.specs.Str.{bytes_eq};
+ghost use Rattle.std.specs.Prelude.{◌≡◌, ℕ, IfOk, Ok, Some, length, ⊤};
 ghost use Rattle.km_outside.specs.FilesSeen.{FilesSeen};
 ghost use Rattle.km_outside.specs.OutSeen.{OutSeen};
 ghost use Rattle.km_course.specs.World.{world};
 ghost use Rattle.km_course.specs.Follows.{Follows};
 ghost use Rattle.km_course.specs.Course.{each_from};
-ghost use Rattle.model_loader.specs.Sound.{entry_names};
 ghost use Rattle.model_unload.specs.Below.{IsUnusedBelow};
 ghost use Rattle.model_unload.specs.Unload.{place_of, unloaded};
 ghost use Rattle.command_remove.specs.Remove.{step_name, unloads_all, unloads_one, unloads_unless};
@@ -66,9 +63,8 @@ fn unload_steps<O: Out>(
     out: &mut O,
 ) -> Result<(), Stop>
     requires { CanBeTakenOut machine.old (length machine.old.entries) steps.now }
-    ensures follows { (files : FilesSeen) (err : OutSeen) → Follows (λ (done : ⊤). machine.new) (each_from unloads_one machine.old steps.now)
+    ensures { (files : FilesSeen) (err : OutSeen) → Follows (λ (done : ⊤). machine.new) (each_from unloads_one machine.old steps.now)
         (world files (O.seen out.old) err) (world files (O.seen out.new) err) result }
-    ensures names { OnOk result (IsDistinct bytes_eq (entry_names machine.new)) }
 {
     let mut end = machine.module_count();
     for step in steps.as_slice() {

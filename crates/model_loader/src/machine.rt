@@ -249,4 +249,12 @@ impl Machine {
     {
         &self.entries[i].loaded
     }
+
+    /// Returns the image of the `i`-th loaded module, counted from 0, the oldest first.
+    pub fn image_at(&self, i: usize) -> &[u8]
+        requires { i < length self.now.entries }
+        ensures { option_map (λ e. e.image) (slice_get self.now.entries i) ≡ Some result.now }
+    {
+        self.entries[i].image.as_bytes()
+    }
 }

@@ -28,8 +28,8 @@ unload_one-requires g c =
     first-out c.loop-step.machine c.loop-step.end step (drop (i + 1) steps)
     (subst (CanBeTakenOut c.loop-step.machine c.loop-step.end) cut c.loop-step.invariant.rest)
 
-pub returns-in_err-end-clause-follows : goal.returns-in_err-end-clause-follows
-returns-in_err-end-clause-follows g c = λ files err.
+pub returns-in_err-end : goal.returns-in_err-end
+returns-in_err-end g c = λ files err.
     let p = err_from_is_err_and c.from_residual.result c.from_residual.ensures.1 in
     let steps = c.args.steps.now in
     let i = c.loop-step.step-index in
@@ -60,11 +60,8 @@ loop-step-preserved g c =
           c.in_ok-end.ensures.place c.in_ok-end.ensures.after;
     }
 
-pub returns-clause-follows : goal.returns-clause-follows
-returns-clause-follows g c = λ files err.
+pub returns : goal.returns
+returns g c = λ files err.
     leads-done (λ (done : ⊤). c.loop-step.machine) _ _ _ unloads_one tt c.args.steps.now c.loop-step.step-index
     (subst (λ (all : List RemoveStep). length all ≤ c.loop-step.step-index) c.as_slice-step-items.ensures c.loop-step-test.false)
     (c.loop-step.invariant.leads files err c.loop-step.machine)
-
-pub returns-clause-names : goal.returns-clause-names
-returns-clause-names g c = c.loop-step.invariant.rest.names
