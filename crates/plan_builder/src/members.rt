@@ -160,16 +160,9 @@ fn marks_but(
 {
     let mut marks = Vec::new(alloc);
     for place in 0..modules.len() {
-        marks.push(!has_name(names, modules.name(place)))?;
+        marks.push(!names.contains(modules.name(place)))?;
     }
     Ok(marks)
-}
-
-/// Returns whether a set has the name. Most often nothing is loaded, and no name is looked up then.
-fn has_name(names: &NameSet<'_>, name: &[u8]) -> bool
-    ensures { result ≡ is_among names.now name.now }
-{
-    names.len() > 0 && names.contains(name)
 }
 
 /// Names as a set.

@@ -7,4 +7,4 @@ use Rattle.plan_builder.proofs.members.marks_but.Goals as goal
 pub loop-place-preserved : goal.loop-place-preserved
 loop-place-preserved c =
     mark-more (λ x. not (is_among c.args.names.now (name_at c.args.modules.now x))) c.loop-place.place c.loop-place.marks.items c.push.new.self.items _ c.loop-place.invariant c.in_ok-push.ensures.items
-    (ap not (c.has_name.ensures ∙ ap (is_among c.args.names.now) c.name.ensures))
+    (ap not (c.contains.ensures ∙ ap (is_among c.args.names.now) c.name.ensures))
