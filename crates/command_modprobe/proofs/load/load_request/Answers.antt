@@ -1,4 +1,4 @@
-use Rattle.std.proofs.Common.{ℕ, List}
+use Rattle.std.proofs.Common.{List}
 use Rattle.std.specs.Prelude.{Ok, Err}
 use Rattle.std.proofs.lemmas.Result.{err_from_is_err_and}
 use Rattle.plan_builder.specs.declared.step.PlanStep.{PlanStep}
