@@ -1,4 +1,4 @@
--- Parts of the courses, once what is known was read. Only private contracts cite this file.
+-- Parts of the courses, once what is known was read. No public contract cites this file.
 use Rattle.std.specs.Prelude.{ℕ, List, Option, ⊤}
 use Rattle.kmod_words.specs.declared.modprobe.Mode.{Mode}
 use Rattle.km_course.specs.Course.{Stage, ◌>>=◌, given, says_any}

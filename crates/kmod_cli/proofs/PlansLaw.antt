@@ -29,9 +29,10 @@ use Rattle.stages_known.specs.Known.{reads_known}
 use Rattle.stages_loads.specs.Region.{region_at}
 use Rattle.command_modprobe.specs.Loaded.{images_asked, loads_into, loads_plan}
 use Rattle.command_modprobe.specs.Modprobe.{modprobe_asked_for, modprobe_course, modprobe_in_mode}
+use Rattle.command_modprobe.specs.Parts.{loads_known, prints_plan}
 use Rattle.command_modprobe.specs.Planned.{loaded_in, plan_lines, plan_outcome, plan_unless, request_of, shows_plan}
-use Rattle.command_modprobe.proofs.LoadSteps.{after_machine, after_steps, loads_known}
-use Rattle.command_modprobe.proofs.PlanSteps.{after_plan, plans_known}
+use Rattle.command_modprobe.proofs.LoadSteps.{after_machine, after_steps}
+use Rattle.command_modprobe.proofs.PlanSteps.{after_plan}
 use Rattle.laws_planned_loads.specs.Acts.{is_reading, said}
 use Rattle.laws_planned_loads.specs.Courses.{HasMachine}
 use Rattle.laws_planned_loads.proofs.KnownLemmas.{only-known}
@@ -67,7 +68,7 @@ shown-so held asked known knows steps made =
       before = (reading.run held).acts;
       reads = only;
       is =
-          run-on reading (plans_known folder (request_of asked) asked.mode) held known only knows
+          run-on reading (prints_plan folder (request_of asked) asked.mode) held known only knows
           ∙ ap (joined (reading.run held).acts)
           (run-then plan (after_plan folder) held [] steps (run-given _ held ∙ ap (run_of []) made) ∙ ap (joined []) (lines-said lines held));
     }
@@ -83,7 +84,7 @@ shown-not held asked known knows e met =
       before = (reading.run held).acts;
       reads = only;
       is =
-          run-on reading (plans_known folder (request_of asked) asked.mode) held known only knows
+          run-on reading (prints_plan folder (request_of asked) asked.mode) held known only knows
           ∙ ap (joined (reading.run held).acts)
           (run-ends plan (after_plan folder) held [] e (run-given _ held ∙ ap (run_of []) met));
     }

@@ -94,11 +94,12 @@ use Rattle.command_remove.specs.Remove.{chosen_outcome, first_owner, removal_of,
 use Rattle.command_remove.proofs.RemoveSteps as removals
 use Rattle.command_remove.proofs.RemoveSteps.{after_left, one_unloaded}
 use Rattle.command_modprobe.specs.Modprobe.{modprobe_in_mode}
+use Rattle.command_modprobe.specs.Parts.{loads_known}
 use Rattle.command_modprobe.specs.Planned.{loaded_in, plan_lines, plan_outcome, plan_unless, request_of, sources_with}
 use Rattle.command_modprobe.specs.Resolved.{lines_of_names, names_asked}
 use Rattle.stages_known.specs.Named.{found_names, is_unknown, names_outcome, normal_or_itself, unless_unknown}
 use Rattle.stages_known.proofs.KnownSteps.{loaded_stated}
-use Rattle.command_modprobe.proofs.LoadSteps.{after_lines, after_listed, after_loads, after_machine, after_inserts, after_steps, loads_known}
+use Rattle.command_modprobe.proofs.LoadSteps.{after_lines, after_listed, after_loads, after_machine, after_inserts, after_steps}
 use Rattle.laws_planned_loads.specs.Reading.{CoursesPass, IsOtherEnd, IsReading, bad_configuration, indexes_of, is_known, known_of, no_configuration, no_list, of_configuration, of_map, of_symvers}
 use Rattle.laws_planned_loads.proofs.EndsLemmas.{EndsIn, ends-each, ends-given, ends-gives, ends-names, ends-puts, ends-read, ends-says, ends-says_any, ends-then, ends-when, no-end, on-end, on-value, so-ends}
 use Rattle.laws_planned_loads.proofs.KnownLemmas.{of_folder, one_more_file, one_more_folder, only-known}

@@ -25,10 +25,11 @@ use Rattle.stages_loads.specs.Tables.{machine_outcome, reads_addressed, reads_ma
 use Rattle.stages_loads.proofs.TableSteps.{both_added, both_read, both_understood, made}
 use Rattle.stages_known.specs.declared.known.Known.{Known}
 use Rattle.stages_known.specs.Known.{reads_known}
+use Rattle.command_modprobe.specs.Parts.{loads_known}
 use Rattle.command_modprobe.specs.Planned.{plan_lines, plan_outcome, request_of}
 use Rattle.stages_loads.specs.Region.{region_at}
 use Rattle.command_modprobe.specs.Loaded.{images_asked, inserts_outcome, loads_into, loads_plan}
-use Rattle.command_modprobe.proofs.LoadSteps.{after_lines, after_listed, after_loads, after_machine, after_inserts, after_steps, loads_known}
+use Rattle.command_modprobe.proofs.LoadSteps.{after_lines, after_listed, after_loads, after_machine, after_inserts, after_steps}
 use Rattle.laws_planned_loads.specs.Acts.{is_reading, said}
 use Rattle.laws_planned_loads.specs.Courses.{CoursesLoad, HasMachine, IsLoadingCourse, CameToLoads, ended}
 use Rattle.laws_planned_loads.proofs.KnownLemmas.{only-known}
