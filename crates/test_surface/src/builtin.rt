@@ -1,6 +1,6 @@
 //! The fields of built-in modules, and the map of their aliases.
 
-use crate::same::{same, same_length};
+use crate::same::{holds, same, same_length};
 use builtin_index::{builtin_aliases, builtin_fields};
 use index_write::encode;
 use std::alloc::Global;
@@ -23,7 +23,7 @@ fn fields_are_read(rt: &impl Abort, alloc: Global) {
 }
 
 fn aliases_are_indexed(rt: &impl Abort, alloc: Global) {
-    assert!(rt; TTY.len() <= 67_108_864);
+    holds(rt, TTY.len() <= 67_108_864);
     let map = builtin_aliases(alloc, TTY).expect(rt, "a map");
     let index = encode(alloc, &map).expect(rt, "an index");
     same(rt, index.as_bytes(), TTY_INDEX);

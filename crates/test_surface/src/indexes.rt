@@ -1,7 +1,7 @@
 //! Patterns, and index files: written, read node by node, and looked up.
 ghost use Rattle.std.specs.Prelude.{◌≡◌, ◌<◌};
 
-use crate::same::same;
+use crate::same::{holds, same};
 use glob_match::matches;
 use index_nodes::{IndexFault, Nodes};
 use index_read::{Index, Pairs, Steps, Values};
@@ -49,8 +49,8 @@ pub(crate) fn file_of(rt: &impl Abort, alloc: Global, pairs: &[(&str, &str)]) ->
     let mut map = KeyMap::new(alloc);
     let mut place = 0;
     for (key, text) in pairs {
-        assert!(rt; is_key(key.as_bytes()));
-        assert!(rt; is_text(text.as_bytes()));
+        holds(rt, is_key(key.as_bytes()));
+        holds(rt, is_text(text.as_bytes()));
         map.add(key.as_bytes(), place, text.as_bytes())
             .expect(rt, "added");
         place = place.wrapping_add(1);
@@ -112,7 +112,7 @@ fn bad_files_are_refused(rt: &impl Abort, alloc: Global) {
         let Err(fault) = adopted_nodes(rt, alloc, file) else {
             panic!(rt; "not refused");
         };
-        assert_eq!(rt; fault, *want);
+        holds(rt, fault == *want);
         let shown = fault.text(alloc).expect(rt, "a text");
         same(rt, shown.as_bytes(), text.as_bytes());
     }
@@ -126,16 +126,16 @@ fn read_nodes<L: Ledger>(rt: &impl Abort, alloc: Global, steps: &mut Steps<L>) {
     };
     let root = nodes.node(&nodes.root(), steps);
     same(rt, nodes.prefix(&root), b"");
-    assert!(rt; nodes.first_value(&root).is_none());
-    assert!(rt; nodes.child(&root, b'b').is_none());
+    holds(rt, nodes.first_value(&root).is_none());
+    holds(rt, nodes.child(&root, b'b').is_none());
     let below = nodes.child(&root, b'o').expect(rt, "a child");
     let on = nodes.node(&below, steps);
     same(rt, nodes.prefix(&on), b"n");
-    assert!(rt; nodes.child(&on, b'e').is_some());
+    holds(rt, nodes.child(&on, b'e').is_some());
     let place = nodes.first_value(&on).expect(rt, "a value");
-    assert_eq!(rt; place.priority(), 2);
+    holds(rt, place.priority() == 2);
     same(rt, nodes.text(&place), b"x");
-    assert!(rt; nodes.next_value(&place).is_none());
+    holds(rt, nodes.next_value(&place).is_none());
 }
 
 /// Returns each value as its priority and text.
@@ -208,9 +208,9 @@ fn all<L: Ledger>(rt: &impl Abort, alloc: Global, index: &Index, steps: &mut Ste
 fn look_up_keys<L: Ledger>(rt: &impl Abort, alloc: Global, steps: &mut Steps<L>) {
     let index = adopt(rt, alloc, FIVE_KEYS);
     let (priority, text) = find_one(rt, alloc, &index, b"once", steps).expect(rt, "a value");
-    assert_eq!(rt; priority, 3);
+    holds(rt, priority == 3);
     same(rt, text.as_bytes(), b"x");
-    assert!(rt; find_one(rt, alloc, &index, b"onc", steps).is_none());
+    holds(rt, find_one(rt, alloc, &index, b"onc", steps).is_none());
     same(rt, find(rt, alloc, &index, b"on", steps).as_bytes(), b"2x ");
     let pairs = all(rt, alloc, &index, steps);
     same(rt, pairs.as_bytes(), b"ask0x ate1x on2x once3x one4x ");

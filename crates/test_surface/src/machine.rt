@@ -2,7 +2,7 @@
 ghost use Rattle.std.specs.Prelude.{◌≡◌};
 
 use crate::lists::path;
-use crate::same::same;
+use crate::same::{holds, same};
 use km_names::Blob;
 use model_loader::{LoadFault, LoadedAt, Machine, MachineFault, Region};
 use module_facts::{Module, ModuleFault, read_module};
@@ -28,12 +28,12 @@ fn words_are_put_into_an_image(rt: &impl Abort, alloc: Global) {
 }
 
 fn words_are_those_of_the_table(rt: &impl Abort) {
-    assert_eq!(rt; value(0, 5, 5, 5), Ok(Written::Nothing));
+    holds(rt, value(0, 5, 5, 5) == Ok(Written::Nothing));
     let low = value(11, 0xffff_ffff_8000_0000, 0, 0);
-    assert_eq!(rt; low, Ok(Written::Four(0x8000_0000)));
-    assert_eq!(rt; value(11, 0x8000_0000, 0, 0), Err(TooWide));
+    holds(rt, low == Ok(Written::Four(0x8000_0000)));
+    holds(rt, value(11, 0x8000_0000, 0, 0) == Err(TooWide));
     let way = value(24, 0, 0, 1);
-    assert_eq!(rt; way, Ok(Written::Eight(0xffff_ffff_ffff_ffff)));
+    holds(rt, way == Ok(Written::Eight(0xffff_ffff_ffff_ffff)));
 }
 
 /// Returns a patch of four bytes with the address of its symbol.
@@ -56,14 +56,14 @@ fn patches_are_applied(rt: &impl Abort, alloc: Global) {
     let mut image = Image::zeroed(alloc, 8).expect(rt, "an image");
     let patches = [four_bytes(0, 4, 0x0403_0201), four_bytes(1, 0, 1 << 32)];
     let first = Patches::from_vec(patches[..1].to_vec(alloc).expect(rt, "a copy"));
-    assert!(rt; apply(&mut image, &first).is_ok());
+    holds(rt, apply(&mut image, &first).is_ok());
     same(rt, image.as_bytes(), b"\0\0\0\0\x01\x02\x03\x04");
     let both = Patches::from_vec(patches.to_vec(alloc).expect(rt, "a copy"));
     let want = Overflow {
         section: 3,
         entry: 1,
     };
-    assert_eq!(rt; apply(&mut image, &both), Err(want));
+    holds(rt, apply(&mut image, &both) == Err(want));
 }
 
 /// Bases and sizes, and whether they are those of a region.
@@ -78,7 +78,7 @@ static REGIONS: [(u64, u64, bool); 6] = [
 
 fn regions_are_whole_pages(rt: &impl Abort) {
     for (base, size, is_region) in &REGIONS {
-        assert_eq!(rt; Region::new(*base, *size).is_some(), *is_region);
+        holds(rt, Region::new(*base, *size).is_some() == *is_region);
     }
 }
 
@@ -108,7 +108,7 @@ pub(crate) fn read(
     at: &[u8],
     bytes: Blob,
 ) -> Result<Module, ModuleFault> {
-    assert!(rt; bytes.len() <= 67_108_864);
+    holds(rt, bytes.len() <= 67_108_864);
     read_module(alloc, &path(rt, alloc, at), bytes)
 }
 
@@ -148,25 +148,25 @@ pub(crate) fn load_b(rt: &impl Abort, alloc: Global, machine: &mut Machine) -> (
 
 /// Stops unless the modules are `a` and `b`.
 fn expect_a_and_b(rt: &impl Abort, machine: &Machine) {
-    assert_eq!(rt; machine.module_count(), 2);
+    holds(rt, machine.module_count() == 2);
     same(rt, machine.module_at(1).name.as_bytes(), b"b");
-    assert_eq!(rt; machine.module_at(0).base, BASE);
+    holds(rt, machine.module_at(0).base == BASE);
 }
 
 /// Stops unless the image of `b` begins with the address of `fa`.
 fn expect_image_of_b(rt: &impl Abort, machine: &Machine) {
     let image = machine.image(b"b").expect(rt, "an image");
-    assert_eq!(rt; image.len(), 0x1000);
+    holds(rt, image.len() == 0x1000);
     same(rt, &image[..8], b"\0\0\0\xc0\xff\xff\xff\xff");
-    assert!(rt; machine.image(b"c").is_none());
+    holds(rt, machine.image(b"c").is_none());
 }
 
 fn modules_are_loaded(rt: &impl Abort, alloc: Global) {
     let mut machine = machine(rt, alloc, 0x3000);
     let a = load_a(rt, alloc, &mut machine);
-    assert_eq!(rt; a, (BASE, 0x2000));
+    holds(rt, a == (BASE, 0x2000));
     let b = load_b(rt, alloc, &mut machine);
-    assert_eq!(rt; b, (BASE + 0x2000, 0x1000));
+    holds(rt, b == (BASE + 0x2000, 0x1000));
     expect_a_and_b(rt, &machine);
     expect_image_of_b(rt, &machine)
 }
@@ -192,7 +192,7 @@ fn expect_full(rt: &impl Abort, alloc: Global, machine: &mut Machine) {
     let LoadFault::RegionFull { pages } = refused_b(rt, alloc, machine) else {
         panic!(rt; "another refusal");
     };
-    assert_eq!(rt; pages, 1);
+    holds(rt, pages == 1);
 }
 
 fn a_region_is_full(rt: &impl Abort, alloc: Global) {
@@ -200,7 +200,7 @@ fn a_region_is_full(rt: &impl Abort, alloc: Global) {
     expect_missing(rt, alloc, &mut machine);
     let _at = load_a(rt, alloc, &mut machine);
     expect_full(rt, alloc, &mut machine);
-    assert_eq!(rt; machine.module_count(), 1);
+    holds(rt, machine.module_count() == 1);
 }
 
 fn a_kernel_needs_addresses(rt: &impl Abort, alloc: Global) {

@@ -1,7 +1,7 @@
 //! Names, paths, aliases, lines of configuration, lists and words.
 
 use crate::lists::{names, path, spaced};
-use crate::same::{same, same_length, same_option};
+use crate::same::{holds, same, same_length, same_option};
 use km_names::{
     Lines, TreeIndex, Word, conf_lines, is_compressed, join, module_name, normal_alias,
 };
@@ -13,21 +13,21 @@ fn lists_are_made_and_read(rt: &impl Abort, alloc: Global) {
     same_length(rt, list.len(), 3);
     same(rt, list.get(2).expect(rt, "a name").as_bytes(), b"vfat");
     same(rt, spaced(rt, alloc, &list).as_slice(), b"fat  vfat ");
-    assert!(rt; list.get(3).is_none());
+    holds(rt, list.get(3).is_none());
     let path = path(rt, alloc, b"/lib");
     same_length(rt, path.len(), 4);
-    assert_eq!(rt; path.get(1).copied(), Some(b'l'));
+    holds(rt, path.get(1).copied() == Some(b'l'));
     same(rt, path.as_bytes(), b"/lib");
-    assert_eq!(rt; TreeIndex(3).0, 3);
+    holds(rt, TreeIndex(3).0 == 3);
 }
 
 fn words_are_texts(rt: &impl Abort, alloc: Global) {
     let word = Word::from_text(alloc, "-\u{e4}").expect(rt, "a word");
-    assert_eq!(rt; word.as_str(), "-\u{e4}");
+    holds(rt, word.as_str() == "-\u{e4}");
     same(rt, word.as_bytes(), b"-\xc3\xa4");
     same_length(rt, word.len(), 3);
-    assert_eq!(rt; word.get(2).copied(), Some(0xa4));
-    assert!(rt; word.get(3).is_none());
+    holds(rt, word.get(2).copied() == Some(0xa4));
+    holds(rt, word.get(3).is_none());
 }
 
 /// Paths, with their module names, and whether they name a compressed file.
@@ -47,7 +47,7 @@ fn paths_have_module_names(rt: &impl Abort, alloc: Global) {
             module_name(alloc, &path).expect(rt, "a name").as_bytes(),
             *name,
         );
-        assert_eq!(rt; is_compressed(&path), *compressed);
+        holds(rt, is_compressed(&path) == *compressed);
     }
 }
 
@@ -91,7 +91,7 @@ static CONFIGURATION: &[u8] =
 
 /// Returns the joined lines of that configuration.
 fn joined_lines(rt: &impl Abort, alloc: Global) -> Lines {
-    assert!(rt; CONFIGURATION.len() <= 67_108_864);
+    holds(rt, CONFIGURATION.len() <= 67_108_864);
     conf_lines(alloc, CONFIGURATION).expect(rt, "joined lines")
 }
 
@@ -99,10 +99,10 @@ fn lines_of_configuration_are_joined(rt: &impl Abort, alloc: Global) {
     let lines = joined_lines(rt, alloc);
     same_length(rt, lines.len(), 2);
     let first = lines.get(0).expect(rt, "a first line");
-    assert_eq!(rt; first.number, 4);
+    holds(rt, first.number == 4);
     same(rt, first.text.as_bytes(), b"alias a  b");
     let second = lines.get(1).expect(rt, "a second line");
-    assert_eq!(rt; second.number, 6);
+    holds(rt, second.number == 6);
     same(rt, second.text.as_bytes(), b"options x y");
 }
 

@@ -1,7 +1,7 @@
 //! Device nodes, their text, and its reader.
 
 use crate::lists::path;
-use crate::same::{same, same_length};
+use crate::same::{holds, same, same_length};
 use devname_nodes::{NodeList, nodes, nodes_text, read_nodes};
 use km_names::{Blob, ConfFault, Name, Names, Texts};
 use module_facts::{Exports, Facts, Needs};
@@ -41,7 +41,7 @@ static FUSE_TEXT: &[u8] =
 
 /// Reads the nodes of a modules.devname.
 fn read(rt: &impl Abort, alloc: Global, text: &[u8]) -> Result<NodeList, ConfFault> {
-    assert!(rt; text.len() <= 67_108_864);
+    holds(rt, text.len() <= 67_108_864);
     read_nodes(alloc, &path(rt, alloc, b"modules.devname"), text)
 }
 
@@ -51,7 +51,7 @@ fn expect_fuse(rt: &impl Abort, list: &NodeList) {
     let node = list.get(0).expect(rt, "a node");
     same(rt, node.module.as_bytes(), b"fuse");
     same(rt, node.device.as_bytes(), b"fuse");
-    assert_eq!(rt; (node.block, node.major, node.minor), (false, 10, 229));
+    holds(rt, (node.block, node.major, node.minor) == (false, 10, 229));
 }
 
 fn nodes_are_written_and_read(rt: &impl Abort, alloc: Global) {
@@ -63,7 +63,7 @@ fn nodes_are_written_and_read(rt: &impl Abort, alloc: Global) {
     let Err(ConfFault::BadLine { line, .. }) = read(rt, alloc, b"# x\nfuse fuse c10\n") else {
         panic!(rt; "not refused");
     };
-    assert_eq!(rt; line, 2);
+    holds(rt, line == 2);
 }
 
 #[test]

@@ -2,7 +2,7 @@
 
 use crate::lists::{path, spaced};
 use crate::machine::read;
-use crate::same::{same, same_length};
+use crate::same::{holds, same, same_length};
 use elf_object::{Object, ObjectFault, SectionFault, Sections};
 use km_names::{Blob, List, Name};
 use modinfo_fields::{Field, FieldList, fields};
@@ -29,14 +29,17 @@ fn sections_of(rt: &impl Abort, alloc: Global, length: usize) -> Result<Sections
 
 fn sections_are_read(rt: &impl Abort, alloc: Global) {
     let sections = sections_of(rt, alloc, 288).expect(rt, "sections");
-    assert_eq!(rt; sections.section_count(), 3);
-    assert_eq!(rt; sections.section_named(b".modinfo"), Some(1));
-    assert_eq!(rt; sections.section_named(b".text"), None);
+    holds(rt, sections.section_count() == 3);
+    holds(rt, sections.section_named(b".modinfo") == Some(1));
+    holds(rt, sections.section_named(b".text") == None);
     let section = sections.section(1);
     same(rt, section.name.as_bytes(), b".modinfo");
-    assert_eq!(rt; [section.kind, section.link, section.info], [1, 0, 0]);
-    assert_eq!(rt; [section.flags, section.offset, section.size], [2, 64, 12]);
-    assert_eq!(rt; (section.align, section.kept), (1, false));
+    holds(rt, [section.kind, section.link, section.info] == [1, 0, 0]);
+    holds(
+        rt,
+        [section.flags, section.offset, section.size] == [2, 64, 12],
+    );
+    holds(rt, (section.align, section.kept) == (1, false));
     same(rt, sections.section_bytes(1), b"license=GPL\0");
 }
 
@@ -48,7 +51,7 @@ fn a_file_that_is_cut_is_refused(rt: &impl Abort, alloc: Global) {
         offset: 96,
         need: 192,
     };
-    assert_eq!(rt; fault, want);
+    holds(rt, fault == want);
     let text = fault.text(alloc).expect(rt, "a text");
     same(rt, text.as_bytes(), b"truncated at 96 need 192");
 }
@@ -79,23 +82,23 @@ fn needs_fa(rt: &impl Abort, alloc: Global, kind: u32) -> Sheet {
 fn object_that_needs_fa(rt: &impl Abort, alloc: Global, kind: u32) -> Blob {
     let sheet = needs_fa(rt, alloc, kind);
     let can_be_written = is_sheet(alloc, &sheet, &SheetMore::none(alloc)).expect(rt, "an answer");
-    assert!(rt; can_be_written);
+    holds(rt, can_be_written);
     object(alloc, &sheet).expect(rt, "an object")
 }
 
 /// Reads that object.
 fn read_object(rt: &impl Abort, alloc: Global, kind: u32) -> Result<Object, ObjectFault> {
     let bytes = object_that_needs_fa(rt, alloc, kind);
-    assert!(rt; bytes.len() <= 67_108_864);
+    holds(rt, bytes.len() <= 67_108_864);
     Object::read(alloc, bytes)
 }
 
 fn an_object_is_read(rt: &impl Abort, alloc: Global) {
     let object = read_object(rt, alloc, 1).expect(rt, "an object");
-    assert_eq!(rt; object.section_count(), 9);
-    assert_eq!(rt; object.section_named(b".data"), Some(2));
-    assert_eq!(rt; object.section(2).size, 8);
-    assert!(rt; object.section(2).kept);
+    holds(rt, object.section_count() == 9);
+    holds(rt, object.section_named(b".data") == Some(2));
+    holds(rt, object.section(2).size == 8);
+    holds(rt, object.section(2).kept);
     same(rt, object.section_bytes(2), &[0; 8]);
     expect_symbol(rt, &object);
     expect_place(rt, &object);
@@ -103,19 +106,22 @@ fn an_object_is_read(rt: &impl Abort, alloc: Global) {
 
 /// Stops unless the symbol is `fa`, which isn't defined.
 fn expect_symbol(rt: &impl Abort, object: &Object) {
-    assert_eq!(rt; object.symbol_count(), 2);
+    holds(rt, object.symbol_count() == 2);
     let symbol = object.symbol(1);
     same(rt, symbol.name.as_bytes(), b"fa");
-    assert_eq!(rt; (symbol.binding, symbol.section, symbol.value), (1, 0, 0));
+    holds(
+        rt,
+        (symbol.binding, symbol.section, symbol.value) == (1, 0, 0),
+    );
 }
 
 /// Stops unless the place is that of `fa`.
 fn expect_place(rt: &impl Abort, object: &Object) {
-    assert_eq!(rt; object.place_count(), 1);
+    holds(rt, object.place_count() == 1);
     let place = object.place(0);
-    assert_eq!(rt; [place.section, place.entry, place.target], [5, 0, 2]);
-    assert_eq!(rt; [place.symbol, place.kind], [1, 1]);
-    assert_eq!(rt; (place.offset, place.addend), (0, -7));
+    holds(rt, [place.section, place.entry, place.target] == [5, 0, 2]);
+    holds(rt, [place.symbol, place.kind] == [1, 1]);
+    holds(rt, (place.offset, place.addend) == (0, -7));
 }
 
 /// Returns the object of that sheet with a version in the extended form.
@@ -129,7 +135,7 @@ fn object_with_version(rt: &impl Abort, alloc: Global) -> Blob {
         })
         .expect(rt, "one more");
     let can_be_written = is_sheet(alloc, &sheet, &more).expect(rt, "an answer");
-    assert!(rt; can_be_written);
+    holds(rt, can_be_written);
     object_more(alloc, &sheet, &more).expect(rt, "an object")
 }
 
@@ -137,7 +143,7 @@ fn an_object_has_more(rt: &impl Abort, alloc: Global) {
     let bytes = object_with_version(rt, alloc);
     let module = read(rt, alloc, b"kernel/b.ko", bytes).expect(rt, "a module");
     let need = module.facts.needs.get(0).expect(rt, "a need");
-    assert_eq!(rt; need.crc, Some(0x11));
+    holds(rt, need.crc == Some(0x11));
 }
 
 /// Stops unless a module is refused with this text.
@@ -165,7 +171,7 @@ fn an_unknown_relocation_is_reported(rt: &impl Abort, alloc: Global) {
         entry: 0,
         kind: 9,
     };
-    assert_eq!(rt; fault, want);
+    holds(rt, fault == want);
     let text = fault.text(alloc).expect(rt, "a text");
     same(rt, text.as_bytes(), b"unknown relocation 5 0 9");
 }
@@ -174,7 +180,7 @@ fn a_module_has_its_facts(rt: &impl Abort, alloc: Global) {
     let bytes = object_that_needs_fa(rt, alloc, 1);
     let module = read(rt, alloc, b"kernel/b-c.ko", bytes).expect(rt, "a module");
     expect_facts(rt, &module.facts);
-    assert_eq!(rt; module.object.place_count(), 1);
+    holds(rt, module.object.place_count() == 1);
 }
 
 /// Stops unless a module has its path and its name, exports nothing, needs only `fa` and isn't
@@ -182,12 +188,12 @@ fn a_module_has_its_facts(rt: &impl Abort, alloc: Global) {
 fn expect_facts(rt: &impl Abort, facts: &Facts) {
     same(rt, facts.path.as_bytes(), b"kernel/b-c.ko");
     same(rt, facts.name.as_bytes(), b"b_c");
-    assert!(rt; facts.exports.is_empty());
-    assert!(rt; !facts.free);
+    holds(rt, facts.exports.is_empty());
+    holds(rt, !facts.free);
     same_length(rt, facts.needs.len(), 1);
     let need = facts.needs.get(0).expect(rt, "a need");
     same(rt, need.name.as_bytes(), b"fa");
-    assert_eq!(rt; (need.symbol, need.weak, need.crc), (1, false, None));
+    holds(rt, (need.symbol, need.weak, need.crc) == (1, false, None));
 }
 
 /// Exports that are the same but for their kind: whether only GPL modules use them, and their
@@ -202,7 +208,7 @@ static EXPORTS: [(MoreRow, bool, &[u8]); 3] = [
 fn expect_export(rt: &impl Abort, facts: &Facts, gpl: bool, space: &[u8]) {
     let export = facts.exports.get(0).expect(rt, "an export");
     same(rt, export.name.as_bytes(), b"fa");
-    assert_eq!(rt; export.gpl, gpl);
+    holds(rt, export.gpl == gpl);
     same(rt, export.space.as_bytes(), space);
 }
 
@@ -241,7 +247,7 @@ fn long_names_have_versions(rt: &impl Abort, alloc: Global) {
     let module = read(rt, alloc, b"kernel/b.ko", bytes).expect(rt, "a module");
     let need = module.facts.needs.get(0).expect(rt, "a need");
     same(rt, need.name.as_bytes(), LONG);
-    assert_eq!(rt; need.crc, Some(0x11));
+    holds(rt, need.crc == Some(0x11));
 }
 
 /// Fields with NULs between them, one without `=`.

@@ -2,7 +2,7 @@
 ghost use Rattle.std.specs.Prelude.{None, true};
 
 use crate::lists::path;
-use crate::same::same;
+use crate::same::{holds, same};
 use km_names::{Blob, FILE_LIMIT, Names, PathText, Paths};
 use km_outside::{FileAnswer, FileBuffer, Files, Out, OutFailed, Reads, ReplaceAnswer, Writes};
 use std::alloc::Global;
@@ -139,8 +139,8 @@ fn write_both<O: Out>(out: &mut O) -> Result<(), OutFailed> {
 #[test]
 fn an_output_of_a_users_own(rt: HostRuntime) {
     let mut out = ByteCount { count: 0 };
-    assert_eq!(rt; write_both(&mut out), Ok(()));
-    assert_eq!(rt; out.count, 5);
+    holds(&rt, write_both(&mut out) == Ok(()));
+    holds(&rt, out.count == 5);
 }
 
 fn its_file_is_read(rt: &impl Abort, alloc: Global) {
@@ -151,18 +151,18 @@ fn its_file_is_read(rt: &impl Abort, alloc: Global) {
     let mut buffer = FileBuffer::new(alloc);
     read_into(alloc, &mut files, &at, &mut buffer).expect(rt, "a buffer");
     same(rt, buffer.as_bytes(), b"bytes");
-    assert_eq!(rt; (files.calls, files.absences), (2, 0));
+    holds(rt, (files.calls, files.absences) == (2, 0));
 }
 
 fn others_are_absent(rt: &impl Abort, alloc: Global) {
     let mut files = OneFile::new(b"/m/a.ko", b"bytes");
     let at = path(rt, alloc, b"/m/b.ko");
     let answer = read(alloc, &mut files, &at).err();
-    assert_eq!(rt; answer, Some(FileAnswer::Absent));
-    assert_eq!(rt; list(alloc, &mut files, &at), answer);
+    holds(rt, answer == Some(FileAnswer::Absent));
+    holds(rt, list(alloc, &mut files, &at) == answer);
     let want = (Some(ReplaceAnswer::Memory), answer);
-    assert_eq!(rt; replace_and_list(alloc, &mut files, &at), want);
-    assert_eq!(rt; (files.calls, files.absences), (4, 3));
+    holds(rt, replace_and_list(alloc, &mut files, &at) == want);
+    holds(rt, (files.calls, files.absences) == (4, 3));
 }
 
 #[test]

@@ -1,7 +1,7 @@
 //! Files and outputs in memory, and those of the machine.
 
 use crate::lists::{path, spaced};
-use crate::same::{same, same_option};
+use crate::same::{holds, same, same_option};
 use km_names::{Blob, Names, PathText, Paths};
 use km_outside::{
     CallKind, DiskFiles, FileAnswer, Files, MemFiles, MemOut, Out, OutFailed, Reads, ReplaceAnswer,
@@ -73,12 +73,12 @@ fn files_in_memory_are_read_and_replaced(rt: &impl Abort, alloc: Global) {
     let there = path(rt, alloc, b"/e/a.conf");
     let text = read(alloc, &mut files, &there).expect(rt, "bytes");
     same(rt, text.as_bytes(), b"text");
-    assert_eq!(rt; replace(alloc, &mut files, &there, b"new"), Ok(()));
+    holds(rt, replace(alloc, &mut files, &there, b"new") == Ok(()));
     same_option(rt, held(&files, &there), Some(b"new"));
     let nowhere = path(rt, alloc, b"/e/none");
     let answer = read(alloc, &mut files, &nowhere);
-    assert_eq!(rt; answer.err(), Some(FileAnswer::Absent));
-    assert!(rt; held(&files, &nowhere).is_none());
+    holds(rt, answer.err() == Some(FileAnswer::Absent));
+    holds(rt, held(&files, &nowhere).is_none());
 }
 
 fn folders_in_memory_are_listed(rt: &impl Abort, alloc: Global) {
@@ -89,7 +89,7 @@ fn folders_in_memory_are_listed(rt: &impl Abort, alloc: Global) {
     let want = b"a.conf a.ko b.conf f/c.conf ".as_slice();
     same(rt, spaced(rt, alloc, &paths).as_slice(), want);
     let none = list_conf(alloc, &mut files, &path(rt, alloc, b"/none"));
-    assert_eq!(rt; none.err(), Some(FileAnswer::Absent));
+    holds(rt, none.err() == Some(FileAnswer::Absent));
 }
 
 /// Makes those files, whose second read and first call of each other kind fails.
@@ -106,12 +106,12 @@ fn listed_calls_fail(rt: &impl Abort, alloc: Global) {
     let mut files = failing_files(rt, alloc);
     let at = path(rt, alloc, b"/e/a.conf");
     let failed = Some(FileAnswer::Failed);
-    assert!(rt; read(alloc, &mut files, &at).is_ok());
-    assert_eq!(rt; read(alloc, &mut files, &at).err(), failed);
-    assert_eq!(rt; list_conf(alloc, &mut files, &at).err(), failed);
-    assert_eq!(rt; list_tree(alloc, &mut files, &at).err(), failed);
+    holds(rt, read(alloc, &mut files, &at).is_ok());
+    holds(rt, read(alloc, &mut files, &at).err() == failed);
+    holds(rt, list_conf(alloc, &mut files, &at).err() == failed);
+    holds(rt, list_tree(alloc, &mut files, &at).err() == failed);
     let answer = replace(alloc, &mut files, &at, b"");
-    assert_eq!(rt; answer.err(), Some(ReplaceAnswer::Failed));
+    holds(rt, answer.err() == Some(ReplaceAnswer::Failed));
     same_option(rt, held(&files, &at), Some(b"text"));
 }
 
@@ -122,22 +122,22 @@ fn write(out: &mut MemOut, piece: &[u8]) -> Result<(), OutFailed> {
 
 fn outputs_in_memory_have_a_room(rt: &impl Abort, alloc: Global) {
     let mut out = MemOut::with_room(alloc, 5).expect(rt, "an output");
-    assert_eq!(rt; write(&mut out, b"abc"), Ok(()));
-    assert_eq!(rt; write(&mut out, b"def"), Err(OutFailed));
-    assert_eq!(rt; write(&mut out, b"de"), Ok(()));
+    holds(rt, write(&mut out, b"abc") == Ok(()));
+    holds(rt, write(&mut out, b"def") == Err(OutFailed));
+    holds(rt, write(&mut out, b"de") == Ok(()));
     same(rt, out.bytes(), b"abcde");
     out.fail_write(3).expect(rt, "one write more");
-    assert_eq!(rt; write(&mut out, b""), Err(OutFailed));
-    assert_eq!(rt; write(&mut out, b""), Ok(()));
+    holds(rt, write(&mut out, b"") == Err(OutFailed));
+    holds(rt, write(&mut out, b"") == Ok(()));
 }
 
 #[test]
 fn the_files_and_outputs_of_the_machine(rt: HostRuntime) {
     let alloc = rt.alloc();
     let mut out = StdOut::new(rt.stdout());
-    assert_eq!(rt; out.write(b""), Ok(()));
+    holds(&rt, out.write(b"") == Ok(()));
     let mut err = StdErr::new(rt.stderr());
-    assert_eq!(rt; err.write(b""), Ok(()));
+    holds(&rt, err.write(b"") == Ok(()));
     let nowhere = path(&rt, alloc, b"/none/none.ko");
     let mut files = DiskFiles::new(rt);
     let answer = files.read(alloc, &nowhere).err();

@@ -2,7 +2,7 @@
 //! of their images.
 
 use crate::machine::{BASE, load, machine, read};
-use crate::same::{same, same_length, same_option};
+use crate::same::{holds, same, same_length, same_option};
 use elf_object::Object;
 use image_layout::image_size;
 use km_names::{Blob, List, Name};
@@ -35,18 +35,18 @@ fn module_of_two(rt: &impl Abort, alloc: Global) -> Module {
 /// Returns where the section of this name begins in the image.
 fn offset_of(rt: &impl Abort, object: &Object, name: &[u8]) -> u64 {
     let number = object.section_named(name).expect(rt, "a section");
-    assert!(rt; number < object.section_count());
+    holds(rt, number < object.section_count());
     let is_kept = object.section(number).kept;
-    assert!(rt; is_kept);
+    holds(rt, is_kept);
     let size = image_size(object);
-    assert!(rt; size < 0x1_0000_0000_0000_0000);
+    holds(rt, size < 0x1_0000_0000_0000_0000);
     section_at(object, number)
 }
 
 fn sections_have_their_places(rt: &impl Abort, alloc: Global) {
     let module = module_of_two(rt, alloc);
-    assert_eq!(rt; offset_of(rt, &module.object, b"__param"), 0);
-    assert_eq!(rt; offset_of(rt, &module.object, b".data"), 4096);
+    holds(rt, offset_of(rt, &module.object, b"__param") == 0);
+    holds(rt, offset_of(rt, &module.object, b".data") == 4096);
 }
 
 /// Makes a machine with that module.
@@ -66,7 +66,7 @@ fn applied(
 ) -> Result<Params, ParamFault> {
     let image = machine.image(b"p").expect(rt, "an image");
     let size = image_size(&module.object);
-    assert_eq!(rt; image.len() as u128, size);
+    holds(rt, image.len() as u128 == size);
     apply_params(alloc, module, BASE, image, options)
 }
 
@@ -76,7 +76,7 @@ fn parameters_are_written(rt: &impl Abort, alloc: Global) {
     let Ok(params) = applied(rt, alloc, &module, &machine, b"depth=3 raw") else {
         panic!(rt; "refused");
     };
-    assert_eq!(rt; params.count, 2);
+    holds(rt, params.count == 2);
     let before = machine.image(b"p").expect(rt, "an image");
     expect_values(rt, params.image.as_bytes());
     expect_unchanged(rt, before, params.image.as_bytes());
@@ -84,9 +84,9 @@ fn parameters_are_written(rt: &impl Abort, alloc: Global) {
 
 /// Stops unless an image has the values, with the names behind them.
 fn expect_values(rt: &impl Abort, image: &[u8]) {
-    assert_eq!(rt; image.len(), 8192);
+    holds(rt, image.len() == 8192);
     let values = b"\x03\0\0\0\0\0\0\0\x01\0\0\0\0\0\0\0depth\0raw\0".as_slice();
-    assert_eq!(rt; &image[4096..4122], values);
+    holds(rt, &image[4096..4122] == values);
 }
 
 /// Stops unless the machine's own image has no values, and is else as the other.

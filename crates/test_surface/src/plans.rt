@@ -3,7 +3,7 @@
 use crate::indexes::{adopt, file_of};
 use crate::lists::{names, path, spaced};
 use crate::relation::{TWO_MODULES, one_file};
-use crate::same::{same, same_length, same_option};
+use crate::same::{holds, same, same_length, same_option};
 use km_names::{Blob, ConfFault, Name};
 use modprobe_conf::{Rule, Rules, parse};
 use name_lookup::{Found, Indexes, resolve};
@@ -54,7 +54,7 @@ fn a_bad_line_is_reported(rt: &impl Abort, alloc: Global) {
         panic!(rt; "not refused");
     };
     same(rt, file.as_bytes(), b"/e/a.conf");
-    assert_eq!(rt; line, 1);
+    holds(rt, line == 1);
 }
 
 /// Makes the indexes of two modules and of `built`, which is built in. `b` needs `a`, which exports
@@ -104,7 +104,7 @@ fn names_are_looked_up(rt: &impl Abort, alloc: Global) {
     let rules = rules_of(rt, alloc, THREE_RULES).expect(rt, "rules");
     for (name, use_blacklist, list, want) in &LOOKUPS {
         let found = found(rt, alloc, name, *use_blacklist, &rules, &indexes);
-        assert_eq!(rt; found.list, *list);
+        holds(rt, found.list == *list);
         same(
             rt,
             spaced(rt, alloc, &found.names).as_slice(),
@@ -124,7 +124,7 @@ fn dependency_lines_have_paths(rt: &impl Abort, alloc: Global) {
     for (name, want) in &LINES {
         let name = Name::from_slice(alloc, name).expect(rt, "a name");
         let answer = well_formed(alloc, &name, &indexes).expect(rt, "an answer");
-        assert_eq!(rt; answer, *want);
+        holds(rt, answer == *want);
     }
 }
 
@@ -145,7 +145,7 @@ fn lists_of_ones_own_are_made(rt: &impl Abort, alloc: Global) {
         .push(Name::from_slice(alloc, b"a").expect(rt, "a name"))
         .expect(rt, "names");
     same_length(rt, loaded.len(), 1);
-    assert!(rt; loaded.get(0).is_some() && loaded.get(1).is_none());
+    holds(rt, loaded.get(0).is_some() && loaded.get(1).is_none());
     let mut unmet = Unmet::new(alloc);
     unmet
         .push(Unbound::Missing {
@@ -154,12 +154,12 @@ fn lists_of_ones_own_are_made(rt: &impl Abort, alloc: Global) {
         })
         .expect(rt, "one more");
     same_length(rt, unmet.len(), 1);
-    assert!(rt; unmet.get(0).is_some() && unmet.get(1).is_none());
+    holds(rt, unmet.get(0).is_some() && unmet.get(1).is_none());
 }
 
 /// Reads the lines of a modules.unmet.
 fn unmet_of(rt: &impl Abort, alloc: Global, text: &[u8]) -> Result<Unmet, ConfFault> {
-    assert!(rt; text.len() <= 67_108_864);
+    holds(rt, text.len() <= 67_108_864);
     Unmet::read(alloc, &path(rt, alloc, b"modules.unmet"), text)
 }
 
@@ -197,7 +197,7 @@ fn a_bad_obstacle_line_is_reported(rt: &impl Abort, alloc: Global) {
     let Err(ConfFault::BadLine { line, .. }) = unmet_of(rt, alloc, b"missing m.ko x\n\n") else {
         panic!(rt; "not refused");
     };
-    assert_eq!(rt; line, 2);
+    holds(rt, line == 2);
 }
 
 /// A name, the rules, the lines of modules.unmet, the loaded modules, and the plan or the obstacle.

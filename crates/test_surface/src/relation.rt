@@ -9,7 +9,7 @@ ghost use Rattle.provider_rel.specs.Tree.{IsTree, IsTreeModule};
 ghost use Rattle.depmod_core.specs.Files.{IsRelationOf};
 
 use crate::lists::{names, paths, spaced};
-use crate::same::{same, same_length};
+use crate::same::{holds, same, same_length};
 use depmod_core::{OutputFault, OutputFiles, outputs};
 use km_names::{ConfFault, ConfFiles, Name, Names, PathText, Texts, TreeIndex, is_graphic};
 use mod_tree::{Search, Tree, TreeFault, choose, parse_search};
@@ -55,7 +55,7 @@ fn a_bad_search_line_is_reported(rt: &impl Abort, alloc: Global) {
         panic!(rt; "not refused");
     };
     same(rt, file.as_bytes(), b"/e/a.conf");
-    assert_eq!(rt; line, 2);
+    holds(rt, line == 2);
 }
 
 /// Chooses modules of a listing by a search list of these words.
@@ -105,13 +105,13 @@ fn a_bad_path_is_reported(rt: &impl Abort, alloc: Global) {
 
 /// Reads the addresses of a System.map into a table.
 fn add(rt: &impl Abort, kernel: &mut Kernel, map: &[u8]) -> Result<(), KernelFault> {
-    assert!(rt; map.len() <= 67_108_864);
+    holds(rt, map.len() <= 67_108_864);
     kernel.add_addresses(map)
 }
 
 /// Reads the table of a System.map.
 fn mapped(rt: &impl Abort, alloc: Global, map: &[u8]) -> Result<Kernel, KernelFault> {
-    assert!(rt; map.len() <= 67_108_864);
+    holds(rt, map.len() <= 67_108_864);
     Kernel::from_map(alloc, map)
 }
 
@@ -120,23 +120,26 @@ fn a_kernel_of_ones_own_is_made(rt: &impl Abort, alloc: Global) {
         known: true,
         exports: KernelExports::new(alloc),
     };
-    assert!(rt; kernel.known);
-    assert!(rt; kernel.exports.is_empty());
-    assert!(rt; !Kernel::unknown(alloc).known);
+    holds(rt, kernel.known);
+    holds(rt, kernel.exports.is_empty());
+    holds(rt, !Kernel::unknown(alloc).known);
 }
 
 /// Stops unless a kernel exports `printk`, whose address isn't known.
 fn expect_printk(rt: &impl Abort, kernel: &Kernel) {
     let export = kernel.exports.get(0).expect(rt, "an export");
     same(rt, export.name.as_bytes(), b"printk");
-    assert_eq!(rt; (export.crc, export.address), (Some(0x1111_1111), None));
+    holds(
+        rt,
+        (export.crc, export.address) == (Some(0x1111_1111), None),
+    );
 }
 
 /// Stops unless all modules may use what a kernel exports, whose address is known.
 fn expect_address(rt: &impl Abort, kernel: &Kernel) {
     let export = kernel.exports.get(0).expect(rt, "an export");
-    assert_eq!(rt; export.address, Some(0xffff_ffff_8100_0000));
-    assert!(rt; !export.gpl && export.space.is_empty());
+    holds(rt, export.address == Some(0xffff_ffff_8100_0000));
+    holds(rt, !export.gpl && export.space.is_empty());
 }
 
 fn kernels_are_read(rt: &impl Abort, alloc: Global) {
@@ -149,21 +152,21 @@ fn kernels_are_read(rt: &impl Abort, alloc: Global) {
 fn kernels_are_read_from_maps(rt: &impl Abort, alloc: Global) {
     let map = b"ffffffff81000000 T printk\nffffffff82000000 r __ksymtab_printk\n".as_slice();
     let kernel = mapped(rt, alloc, map).expect(rt, "a kernel");
-    assert!(rt; kernel.known);
+    holds(rt, kernel.known);
     let export = kernel.exports.get(0).expect(rt, "an export");
-    assert_eq!(rt;
-        (export.crc, export.address),
-        (None, Some(0xffff_ffff_8100_0000))
+    holds(
+        rt,
+        (export.crc, export.address) == (None, Some(0xffff_ffff_8100_0000)),
     );
     let Err(KernelFault::BadKernelLine { line }) = mapped(rt, alloc, b"\n1 T  a") else {
         panic!(rt; "not refused");
     };
-    assert_eq!(rt; line, 2);
+    holds(rt, line == 2);
 }
 
 fn versions_agree(rt: &impl Abort) {
-    assert!(rt; agree(Some(0x1234_5678), None));
-    assert!(rt; !agree(Some(0x1_1234_5678), Some(0x1234_5678)));
+    holds(rt, agree(Some(0x1234_5678), None));
+    holds(rt, !agree(Some(0x1_1234_5678), Some(0x1234_5678)));
 }
 
 /// What a module of a test states: its path, its name, its export and its need.
@@ -179,7 +182,7 @@ struct ModuleRow {
 fn expect_word(rt: &impl Abort, text: &[u8])
     ensures { IsTrue (is_graphic text.now) }
 {
-    assert!(rt; is_graphic(text));
+    holds(rt, is_graphic(text));
 }
 
 /// Whether a text has a `:`.
@@ -193,7 +196,7 @@ fn has_colon(text: &[u8]) -> bool
 fn expect_no_colon(rt: &impl Abort, text: &[u8])
     ensures { IsTrue (not (list_any (λ b. b == 58) text.now)) }
 {
-    assert!(rt; !has_colon(text));
+    holds(rt, !has_colon(text));
 }
 
 /// Returns the one symbol that a module exports.
@@ -259,7 +262,7 @@ fn expect_apart(rt: &impl Abort, first: &[u8], second: &[u8])
     ensures { first.now ≡ second.now → ⊥ }
 {
     let same = first == second;
-    assert!(rt; !same);
+    holds(rt, !same);
 }
 
 /// Makes a tree of two modules.
@@ -330,9 +333,12 @@ fn a_tree_is_related(rt: &impl Abort, alloc: Global) {
 
 /// Stops unless `a` provides `fa`, the kernel `printk`, and nobody `nosuch`.
 fn expect_providers(rt: &impl Abort, relation: &Relation) {
-    assert_eq!(rt; relation.provider(b"fa"), Provider::Module(TreeIndex(0)));
-    assert_eq!(rt; relation.provider(b"printk"), Provider::Kernel);
-    assert_eq!(rt; relation.provider(b"nosuch"), Provider::Nobody);
+    holds(
+        rt,
+        relation.provider(b"fa") == Provider::Module(TreeIndex(0)),
+    );
+    holds(rt, relation.provider(b"printk") == Provider::Kernel);
+    holds(rt, relation.provider(b"nosuch") == Provider::Nobody);
 }
 
 /// Stops unless only `b` depends on a module, `a`.
@@ -340,9 +346,9 @@ fn expect_closures(rt: &impl Abort, relation: &Relation)
     requires { length (closures_by relation.now) ≡ 2 }
 {
     same_length(rt, relation.closure(TreeIndex(0)).len(), 0);
-    assert_eq!(rt;
-        relation.closure(TreeIndex(1)).get(0).copied(),
-        Some(TreeIndex(0))
+    holds(
+        rt,
+        relation.closure(TreeIndex(1)).get(0).copied() == Some(TreeIndex(0)),
     );
 }
 

@@ -3,7 +3,7 @@ ghost use Rattle.std.specs.Prelude.{◌≡◌, ◌<◌, length};
 ghost use Rattle.model_unload.specs.Unload.{first_user as user_of};
 
 use crate::machine::{load_a, load_b, machine};
-use crate::same::same;
+use crate::same::{holds, same};
 use model_loader::Machine;
 use model_unload::{UnloadFault, unload};
 use std::alloc::Global;
@@ -19,10 +19,10 @@ pub(crate) fn machine_of_two(rt: &impl Abort, alloc: Global) -> Machine {
 
 /// Stops unless only `b` binds to `a`.
 fn expect_bound(rt: &impl Abort, machine: &Machine) {
-    assert_eq!(rt; machine.module_count(), 2);
-    assert!(rt; machine.binds(1, 0));
-    assert!(rt; !machine.binds(0, 1));
-    assert!(rt; !machine.binds(0, 0));
+    holds(rt, machine.module_count() == 2);
+    holds(rt, machine.binds(1, 0));
+    holds(rt, !machine.binds(0, 1));
+    holds(rt, !machine.binds(0, 0));
 }
 
 fn users_are_known(rt: &impl Abort, alloc: Global) {
@@ -34,10 +34,10 @@ fn users_are_known(rt: &impl Abort, alloc: Global) {
 
 /// Stops unless `a` uses nothing, and `b` only `a`.
 fn expect_uses(rt: &impl Abort, uses: &[Vec<usize>]) {
-    assert_eq!(rt; uses.len(), 2);
-    assert!(rt; uses[0].is_empty());
-    assert_eq!(rt; uses[1].first().copied(), Some(0));
-    assert!(rt; uses[1].iter().all(|place| *place == 0));
+    holds(rt, uses.len() == 2);
+    holds(rt, uses[0].is_empty());
+    holds(rt, uses[1].first().copied() == Some(0));
+    holds(rt, uses[1].iter().all(|place| *place == 0));
 }
 
 /// Takes a module out by its name.
@@ -48,23 +48,23 @@ fn take_out(machine: &mut Machine, name: &[u8]) -> Result<(), UnloadFault> {
 /// Stops unless `a` stays, which `b` uses, and no module `c` is known.
 fn expect_refused(rt: &impl Abort, machine: &mut Machine) {
     let used = UnloadFault::InUse { user: 1 };
-    assert_eq!(rt; take_out(machine, b"a"), Err(used));
+    holds(rt, take_out(machine, b"a") == Err(used));
     let unknown = UnloadFault::NotLoaded;
-    assert_eq!(rt; take_out(machine, b"c"), Err(unknown));
-    assert_eq!(rt; machine.module_count(), 2);
+    holds(rt, take_out(machine, b"c") == Err(unknown));
+    holds(rt, machine.module_count() == 2);
 }
 
 /// Stops unless only `a` is left.
 fn expect_only_a(rt: &impl Abort, machine: &Machine) {
-    assert_eq!(rt; machine.module_count(), 1);
+    holds(rt, machine.module_count() == 1);
     same(rt, machine.module_at(0).name.as_bytes(), b"a");
-    assert!(rt; machine.image(b"b").is_none());
+    holds(rt, machine.image(b"b").is_none());
 }
 
 fn modules_are_taken_out_by_name(rt: &impl Abort, alloc: Global) {
     let mut machine = machine_of_two(rt, alloc);
     expect_refused(rt, &mut machine);
-    assert_eq!(rt; take_out(&mut machine, b"b"), Ok(()));
+    holds(rt, take_out(&mut machine, b"b") == Ok(()));
     expect_only_a(rt, &machine);
 }
 
@@ -95,13 +95,13 @@ fn drop_unused(machine: &mut Machine, j: usize) -> Result<(), usize>
 
 /// Takes out `b`, and then `a`, which it used.
 fn take_out_both(rt: &impl Abort, machine: &mut Machine) {
-    assert_eq!(rt; machine.module_count(), 2);
-    assert_eq!(rt; drop_unused(machine, 0), Err(1));
-    assert_eq!(rt; machine.module_count(), 2);
-    assert_eq!(rt; drop_unused(machine, 1), Ok(()));
-    assert_eq!(rt; machine.module_count(), 1);
-    assert_eq!(rt; drop_unused(machine, 0), Ok(()));
-    assert_eq!(rt; machine.module_count(), 0);
+    holds(rt, machine.module_count() == 2);
+    holds(rt, drop_unused(machine, 0) == Err(1));
+    holds(rt, machine.module_count() == 2);
+    holds(rt, drop_unused(machine, 1) == Ok(()));
+    holds(rt, machine.module_count() == 1);
+    holds(rt, drop_unused(machine, 0) == Ok(()));
+    holds(rt, machine.module_count() == 0);
 }
 
 fn modules_are_taken_out_by_place(rt: &impl Abort, alloc: Global) {
