@@ -1,7 +1,9 @@
-//! Machines into which modules were loaded, and what can be seen of them.
+//! Machines into which modules were loaded, what can be seen of them, and comparisons.
+
+ghost use Rattle.std.specs.Prelude.{◌≡◌, true};
 
 use km_names::{Blob, PathText};
-use model_loader::{LoadFault, LoadedAt, Machine, Region};
+use model_loader::{LoadFault, LoadedAt, LoadedModule, Machine, Region};
 use module_facts::{Module, read_module};
 use provider_rel::Kernel;
 use std::alloc::{AllocError, Global};
@@ -19,14 +21,22 @@ pub(crate) struct Prepared {
 
 // What prepares a test gives nothing if it is out of memory.
 
-/// Returns a machine without a module, whose kernel exports `printk`.
-pub(crate) fn new_machine(alloc: Global) -> Option<Machine> {
+/// Returns the usual kernel: it exports `printk`.
+fn usual_kernel(alloc: Global) -> Option<Kernel> {
     let symvers = b"0x11111111\tprintk\tvmlinux\tEXPORT_SYMBOL\n".as_slice();
     let mut kernel = Kernel::from_symvers(alloc, symvers).ok()?;
     let map = b"ffffffff81000000 T printk\n".as_slice();
     kernel.add_addresses(map).ok()?;
+    Some(kernel)
+}
+
+/// Returns a machine of the usual kernel with a module.
+pub(crate) fn machine_with(alloc: Global, module: &Module) -> Option<Machine> {
     let region = Region::new(BASE, 0x10_0000)?;
-    Machine::new(alloc, kernel, region).ok()
+    let kernel = usual_kernel(alloc)?;
+    let mut machine = Machine::new(alloc, kernel, region).ok()?;
+    let is_loaded = load(&mut machine, module).is_ok();
+    is_loaded.then_some(machine)
 }
 
 /// Reads the module of these bytes at a path.
@@ -36,7 +46,7 @@ pub(crate) fn module_of(
     path: &[u8],
     bytes: Blob,
 ) -> Option<Module> {
-    assert!(rt; bytes.len() <= 67_108_864);
+    holds(rt, bytes.len() <= 67_108_864);
     let path = PathText::from_slice(alloc, path).ok()?;
     read_module(alloc, &path, bytes).ok()
 }
@@ -46,24 +56,47 @@ pub(crate) fn load(machine: &mut Machine, module: &Module) -> Result<LoadedAt, L
     machine.load(module)
 }
 
+/// Puts the name, base and size of a module at the end, and its image.
+fn push_seen(text: &mut Vec<u8>, module: &LoadedModule, image: &[u8]) -> Result<(), AllocError> {
+    text.extend_from_slice(module.name.as_bytes())?;
+    text.extend_from_slice(&module.base.to_le_bytes())?;
+    text.extend_from_slice(&module.size.to_le_bytes())?;
+    text.extend_from_slice(image)
+}
+
 /// Returns each module of a machine, oldest first: its name, base and size, and its image.
 fn seen(alloc: Global, machine: &Machine) -> Result<Vec<u8>, AllocError> {
     let mut text = Vec::new(alloc);
     for i in 0..machine.module_count() {
         let module = machine.module_at(i);
         let image = machine.image(module.name.as_bytes()).unwrap_or(&[]);
-        text.extend_from_slice(module.name.as_bytes())?;
-        text.extend_from_slice(&module.base.to_le_bytes())?;
-        text.extend_from_slice(&module.size.to_le_bytes())?;
-        text.extend_from_slice(image)?;
+        push_seen(&mut text, module, image)?;
     }
     Ok(text)
 }
 
 /// Returns all that can be seen of a machine. One allocation of it may be refused.
-pub(crate) fn shown(alloc: Global, machine: &Machine) -> Result<Vec<u8>, AllocError> {
+pub(crate) fn shown(rt: &impl Abort, alloc: Global, machine: &Machine) -> Vec<u8> {
     match seen(alloc, machine) {
-        Ok(text) => Ok(text),
-        Err(AllocError) => seen(alloc, machine),
+        Ok(text) => text,
+        Err(AllocError) => seen(alloc, machine).expect(rt, "what is seen"),
     }
+}
+
+/// Stops unless this is what can be seen of a machine.
+pub(crate) fn expect_shown(rt: &impl Abort, alloc: Global, machine: &Machine, want: &[u8]) {
+    let text = shown(rt, alloc, machine);
+    same(rt, text.as_slice(), want);
+}
+
+/// Stops unless this is so.
+pub(crate) fn holds(rt: &impl Abort, is_so: bool)
+    ensures { is_so ≡ true }
+{
+    assert!(rt; is_so);
+}
+
+/// Stops unless these are the same bytes.
+pub(crate) fn same(rt: &impl Abort, got: &[u8], want: &[u8]) {
+    assert_eq!(rt; got, want);
 }

@@ -1,91 +1,100 @@
 //! Options that are written into a copy of an image, while an allocation may be refused.
 
-use crate::machines::{BASE, Prepared, load, module_of, new_machine, shown};
+use crate::machines::{BASE, Prepared, expect_shown, holds, machine_with, module_of, same, shown};
 use image_layout::image_size;
 use km_names::{List, Name};
+use module_facts::Module;
 use param_apply::{ParamFault, Params, apply_params};
 use std::alloc::{AllocError, Global};
 use std::process::Abort;
-use std::test::Fail;
 use tree_gen::{SheetParam, SheetParams, param_object};
+
+/// Adds a parameter.
+fn push_param(
+    alloc: Global,
+    params: &mut SheetParams,
+    name: &[u8],
+    kind: &[u8],
+) -> Result<(), AllocError> {
+    params.push(SheetParam {
+        name: Name::from_slice(alloc, name)?,
+        kind: Name::from_slice(alloc, kind)?,
+    })
+}
 
 /// Returns the parameters `depth`, an `int`, and `raw`, a `bool`.
 fn two_params(alloc: Global) -> Result<SheetParams, AllocError> {
     let mut params: SheetParams = List::new(alloc);
-    for (name, kind) in [(b"depth".as_slice(), b"int".as_slice()), (b"raw", b"bool")] {
-        params.push(SheetParam {
-            name: Name::from_slice(alloc, name)?,
-            kind: Name::from_slice(alloc, kind)?,
-        })?;
-    }
+    push_param(alloc, &mut params, b"depth", b"int")?;
+    push_param(alloc, &mut params, b"raw", b"bool")?;
     Ok(params)
+}
+
+/// Reads the module of these parameters.
+fn module_p(rt: &impl Abort, alloc: Global) -> Option<Module> {
+    let params = two_params(alloc).ok()?;
+    let bytes = param_object(alloc, &params).ok()?;
+    module_of(rt, alloc, b"kernel/p.ko", bytes)
 }
 
 /// Makes a machine with the module of these parameters.
 fn prepared_once(rt: &impl Abort, alloc: Global) -> Option<Prepared> {
-    let mut machine = new_machine(alloc)?;
-    let bytes = param_object(alloc, &two_params(alloc).ok()?).ok()?;
-    let module = module_of(rt, alloc, b"kernel/p.ko", bytes)?;
-    load(&mut machine, &module).ok()?;
+    let module = module_p(rt, alloc)?;
+    let machine = machine_with(alloc, &module)?;
     Some(Prepared { machine, module })
 }
 
 /// Makes a machine with the module of these parameters. One allocation of it may be refused.
-fn prepared(rt: &impl Abort, alloc: Global) -> Result<Prepared, Fail> {
+fn prepared(rt: &impl Abort, alloc: Global) -> Prepared {
     match prepared_once(rt, alloc) {
-        Some(made) => Ok(made),
-        None => Ok(prepared_once(rt, alloc).ok_or("not prepared")?),
+        Some(made) => made,
+        None => prepared_once(rt, alloc).expect(rt, "a machine"),
     }
 }
 
 /// Writes options into a copy of the module's image.
-fn applied(
-    rt: &impl Abort,
-    alloc: Global,
-    prepared: &Prepared,
-) -> Result<Result<Params, ParamFault>, Fail> {
-    let image = prepared.machine.image(b"p").ok_or("no image")?;
+fn applied(rt: &impl Abort, alloc: Global, prepared: &Prepared) -> Result<Params, ParamFault> {
+    let image = prepared.machine.image(b"p").expect(rt, "an image");
     let size = image_size(&prepared.module.object);
-    assert_eq!(rt; image.len() as u128, size);
-    let options = b"depth=3 raw".as_slice();
-    Ok(apply_params(alloc, &prepared.module, BASE, image, options))
+    holds(rt, image.len() as u128 == size);
+    apply_params(alloc, &prepared.module, BASE, image, b"depth=3 raw")
+}
+
+/// Stops unless the options are out of memory.
+fn expect_memory(rt: &impl Abort, fault: &ParamFault) {
+    holds(rt, matches!(fault, ParamFault::Memory));
 }
 
 /// Writes options into a copy of the module's image. If that is out of memory, the machine is as it
 /// was before, and the options are written then.
-fn applied_at_last(
-    rt: &impl Abort,
-    alloc: Global,
-    prepared: &Prepared,
-    before: &[u8],
-) -> Result<Params, Fail> {
-    match applied(rt, alloc, prepared)? {
-        Err(ParamFault::Memory) => {
-            assert_eq!(rt; shown(alloc, &prepared.machine)?.as_slice(), before);
-            Ok(applied(rt, alloc, prepared)??)
+fn applied_at_last(rt: &impl Abort, alloc: Global, prepared: &Prepared, before: &[u8]) -> Params {
+    match applied(rt, alloc, prepared) {
+        Ok(params) => params,
+        Err(fault) => {
+            expect_memory(rt, &fault);
+            expect_shown(rt, alloc, &prepared.machine, before);
+            applied(rt, alloc, prepared).expect(rt, "parameters")
         }
-        answer => Ok(answer?),
     }
 }
 
+fn parameters_change_nothing(rt: &impl Abort, alloc: Global, prepared: &Prepared) {
+    let before = shown(rt, alloc, &prepared.machine);
+    let params = applied_at_last(rt, alloc, prepared, before.as_slice());
+    holds(rt, params.count == 2);
+    expect_values(rt, params.image.as_bytes());
+    expect_shown(rt, alloc, &prepared.machine, before.as_slice());
+}
+
 #[test]
-fn refused_parameters_change_nothing(rt: HostRuntime) -> Result<(), Fail> {
-    let alloc = rt.alloc();
-    let prepared = prepared(&rt, alloc)?;
-    let before = shown(alloc, &prepared.machine)?;
-    let params = applied_at_last(&rt, alloc, &prepared, before.as_slice())?;
-    assert_eq!(rt; params.count, 2);
-    expect_values(&rt, params.image.as_bytes());
-    assert_eq!(rt;
-        shown(alloc, &prepared.machine)?.as_slice(),
-        before.as_slice()
-    );
-    Ok(())
+fn refused_parameters_change_nothing(rt: HostRuntime) {
+    let prepared = prepared(&rt, rt.alloc());
+    parameters_change_nothing(&rt, rt.alloc(), &prepared);
 }
 
 /// Stops unless an image has the values, with the names behind them.
 fn expect_values(rt: &impl Abort, image: &[u8]) {
-    assert_eq!(rt; image.len(), 8192);
-    let values = b"\x03\0\0\0\0\0\0\0\x01\0\0\0\0\0\0\0depth\0raw\0".as_slice();
-    assert_eq!(rt; &image[4096..4122], values);
+    holds(rt, image.len() == 8192);
+    let values = b"\x03\0\0\0\0\0\0\0\x01\0\0\0\0\0\0\0depth\0raw\0";
+    same(rt, &image[4096..4122], values);
 }
