@@ -1,4 +1,4 @@
--- A removal over the files that it reads.
+-- A removal over the files that it reads. Only private contracts cite this file.
 use Rattle.std.specs.Prelude.{ℕ, List, Option, Some, None, ⊤}
 use Rattle.model_loader.specs.declared.region.Region.{Region}
 use Rattle.km_course.specs.Course.{Stage, ◌>>=◌, ends}

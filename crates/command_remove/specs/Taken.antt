@@ -1,4 +1,4 @@
--- Steps of a removal, none of which is refused.
+-- Steps of a removal, none of which is refused. Only private contracts cite this file.
 use Rattle.std.specs.Prelude.{◌≡◌, ◌≤◌, ℕ, List, map, length}
 use Rattle.std.specs.List.{IsDistinct}
 use Rattle.std.specs.Str.{bytes_eq}

@@ -1,4 +1,5 @@
 -- A module that is removed at its turn, where modules are removed from the youngest to the oldest.
+-- delete_module(2).
 use Rattle.std.specs.Prelude.{◌≡◌, ◌≤◌, ◌<◌, ℕ, List, length, Some}
 use Rattle.std.specs.List.{IsDistinct}
 use Rattle.std.specs.Str.{bytes_eq}

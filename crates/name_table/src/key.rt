@@ -60,7 +60,7 @@ impl<'a> Hash for NameKey<'a> {
 pub enum OwnedNameKey<'a> {
     /// A name that the table owns.
     Owned(Vec<u8>),
-    /// A name that is looked up in the table.
+    /// A name that is borrowed: it is looked up, or it outlives the table.
     Asked(&'a [u8]),
 }
 
