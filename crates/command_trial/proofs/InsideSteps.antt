@@ -87,7 +87,7 @@ came_inside course words want files left out err said warned concluded result st
 
     handed : Handed inner_room files.contents old
     handed = record {
-      calls = files.counts.calls;
+      calls = Some files.calls;
       tells = record { files = refl; calls = refl; out = ap (λ (o : MemOutSeen). Some o.bytes) out-is; err = ap (λ (o : MemOutSeen). Some o.bytes) err-is };
       sure = listed;
       out = ap (λ (o : MemOutSeen). (mem_out_seen o).room) out-is;

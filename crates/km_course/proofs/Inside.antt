@@ -1,6 +1,6 @@
 -- What the status of a call says of its course, where the call is made inside another command.
 use Rattle.std.proofs.Common.{◌≡◌, ℕ, ◌≤◌, ◌||◌, Bool, true, false, List, [], ◌∷◌, ◌++◌, length, refl, sym, ◌∙◌, ap, subst, arith, inl, inr, if◌then◌else◌}
-use Rattle.std.specs.Prelude.{Some, IfSome, IsSomeAnd, nat_lt, ⊤, ◌⊎◌}
+use Rattle.std.specs.Prelude.{Option, Some, IfSome, IsSomeAnd, nat_lt, ⊤, ◌⊎◌}
 use Rattle.std.proofs.lemmas.Bool.{le-ltb, ltb-false}
 use Rattle.km_outside.specs.Contents.{Contents}
 use Rattle.km_outside.specs.OutSeen.{OutSeen, Within}
@@ -19,7 +19,7 @@ use Rattle.km_course.proofs.Steps.{done-append}
 -- What a call inside another gets: files with known contents whose calls don't fail, and two empty
 -- outputs with this known capacity.
 pub record Handed (room : ℕ) (files : Contents) (old : World) : Type 0 where
-  pub calls : ℕ
+  pub calls : Option ℕ
   pub tells : Tells old (record (bare files) { calls = calls })
   pub sure : old.files.sure ≡ true
   pub out : old.out.room ≡ Some room
@@ -70,7 +70,7 @@ two-is (ends.TooLarge path) h = absurd (omega (arith, h))
 two-is (ends.Inner line) h = absurd (omega (arith, h))
 
 -- how many calls were made before changes nothing else that is known
-pub done-calls : (acts : List Act) (shown : Shown) (calls : ℕ) → (n : ℕ) × (done acts (record shown { calls = calls }) ≡ record (done acts shown) { calls = n })
+pub done-calls : (acts : List Act) (shown : Shown) (calls : Option ℕ) → (n : Option ℕ) × (done acts (record shown { calls = calls }) ≡ record (done acts shown) { calls = n })
 done-calls [] shown calls = (calls, refl)
 done-calls (act ∷ acts) shown calls = done-calls acts (act_done act shown) (calls_done act calls)
 
@@ -112,7 +112,7 @@ inner_came room course files old new status handed c = record {
     began : Shown
     began = record (bare files) { calls = handed.calls }
 
-    same : (n : ℕ) × (done (whole_acts run) began ≡ record told { calls = n })
+    same : (n : Option ℕ) × (done (whole_acts run) began ≡ record told { calls = n })
     same = done-calls (whole_acts run) (bare files) handed.calls
 
     came : status ≤ 2 → HasEnded run began old new status

@@ -6,10 +6,10 @@ use Rattle.std.specs.Prelude.{Option, Some, None, Result, Ok, Err, ◌⊎◌, is
 use Rattle.std.specs.Option.{option_map}
 use Rattle.std.specs.FinMap as map
 use Rattle.km_names.specs.Limit.{file_limit}
-use Rattle.km_outside.specs.CallCounts.{CallCounts, NoneFell, made, refused}
+use Rattle.km_outside.specs.CallCounts.{CallCounts, NoneFell, refused}
 use Rattle.km_outside.specs.Contents.{Contents, listed, rests_below, is_path, is_conf_name}
 use Rattle.km_outside.specs.Counts.{count_end, one_more}
-use Rattle.km_outside.specs.FilesSeen.{FilesSeen, ReadAnswers, IsReadAt, ListAnswers, IsListOf, ReplaceAnswers, list_limit}
+use Rattle.km_outside.specs.FilesSeen.{FilesSeen, one_called, ReadAnswers, IsReadAt, ListAnswers, IsListOf, ReplaceAnswers, list_limit}
 use Rattle.km_outside.specs.OutSeen.{OutSeen, WriteAnswers, LacksRoom}
 use Rattle.km_outside.specs.declared.files.FileAnswer.{FileAnswer}
 use Rattle.km_outside.specs.declared.files.FileAnswer.TheVariants as answers
@@ -18,7 +18,7 @@ use Rattle.km_outside.specs.declared.out.OutFailed.{OutFailed}
 use Rattle.km_course.specs.Course.{Act, Outcome, act_with, reads_or, read_outcome, lists_or, list_outcome, says, warns, says_any, puts}
 use Rattle.km_course.specs.Course.Act.{read, list, say, warn, put}
 use Rattle.km_course.specs.Course.Outcome.{value, end}
-use Rattle.km_course.specs.World.{World, world, Shown, Tells, Keeps, KeepsOut, Extends, NoFault, act_done, act_begun}
+use Rattle.km_course.specs.World.{World, world, Shown, Tells, Keeps, KeepsOut, Extends, NotFewer, NoFault, act_done, act_begun}
 use Rattle.km_course.specs.Follows.{IsCallAt, EndCounts, Follows, PassesRoom, stop_for}
 use Rattle.km_course.specs.declared.end.End.{End}
 use Rattle.km_course.specs.declared.end.End.TheVariants.{NoFile, TooLarge}
@@ -26,77 +26,78 @@ use Rattle.km_course.specs.declared.stop.Stop.{Stop}
 use Rattle.km_course.specs.declared.stop.Stop.TheVariants.{Ended, FileFault, OutputFault, WarningFault, Memory}
 use Rattle.km_course.proofs.Steps.{KeepsFiles-same, KeepsOut-same, gave}
 
--- the files with these counts and nothing else changed
-abbrev pub counting : FilesSeen → CallCounts → FilesSeen
-counting files counts = record files { counts = counts }
+one_more-later : (n : ℕ) → n ≤ one_more n
+one_more-later n = omega arith
 
--- a call on files changes nothing but counts, none of which falls
-keeps_counting : (old : FilesSeen) (counts : CallCounts) (out err : OutSeen) → NoneFell old.counts counts → Keeps (world old out err) (world (counting old counts) out err)
-keeps_counting old counts out err n = record {
-  files = record { told = refl; sure = refl; counts = n };
+-- one more call isn't fewer
+later : (calls : Option ℕ) → NotFewer calls (option_map one_more calls)
+later None = refl
+later (Some n) = one_more-later n
+
+-- a call on files changes nothing but how many there were and counts, none of which falls
+keeps_called : (old : FilesSeen) (counts : CallCounts) (out err : OutSeen) → NoneFell old.counts counts → Keeps (world old out err) (world (one_called old counts) out err)
+keeps_called old counts out err n = record {
+  files = record { told = refl; calls = later old.calls; sure = refl; counts = n };
   out = KeepsOut-same out;
   err = KeepsOut-same err;
 }
 
-one_more-later : (n : ℕ) → n ≤ one_more n
-one_more-later n = omega arith
-
 -- what each answer leaves of the counts
-fell_ok : (counts : CallCounts) → NoneFell counts (made counts)
-fell_ok counts = record { calls = one_more-later counts.calls; faults = omega arith; absences = omega arith; excesses = omega arith }
+fell_ok : (counts : CallCounts) → NoneFell counts counts
+fell_ok counts = record { faults = omega arith; absences = omega arith; excesses = omega arith }
 
-fell : (counts : CallCounts) (answer : FileAnswer) → NoneFell counts (refused (made counts) answer)
-fell counts answers.Absent = record { calls = one_more-later counts.calls; faults = omega arith; absences = one_more-later counts.absences; excesses = omega arith }
-fell counts answers.Failed = record { calls = one_more-later counts.calls; faults = one_more-later counts.faults; absences = omega arith; excesses = omega arith }
-fell counts (answers.TooLarge n) = record { calls = one_more-later counts.calls; faults = omega arith; absences = omega arith; excesses = one_more-later counts.excesses }
+fell : (counts : CallCounts) (answer : FileAnswer) → NoneFell counts (refused counts answer)
+fell counts answers.Absent = record { faults = omega arith; absences = one_more-later counts.absences; excesses = omega arith }
+fell counts answers.Failed = record { faults = one_more-later counts.faults; absences = omega arith; excesses = omega arith }
+fell counts (answers.TooLarge n) = record { faults = omega arith; absences = omega arith; excesses = one_more-later counts.excesses }
 fell counts answers.Memory = fell_ok counts
 
 -- no fault is counted
-no_fault : (old : FilesSeen) (counts : CallCounts) (out err : OutSeen) → counts.faults ≡ old.counts.faults → NoFault (world old out err) (world (counting old counts) out err)
+no_fault : (old : FilesSeen) (counts : CallCounts) (out err : OutSeen) → counts.faults ≡ old.counts.faults → NoFault (world old out err) (world (one_called old counts) out err)
 no_fault old counts out err e = record { files = e; out = refl; err = refl }
 
 -- what is known after a call that was made, with these counts
-tells_called : (old : FilesSeen) (counts : CallCounts) (out err : OutSeen) (shown : Shown) → counts.calls ≡ one_more old.counts.calls → Tells (world old out err) shown → Tells (world (counting old counts) out err) (record shown { calls = one_more shown.calls })
-tells_called old counts out err shown e h = record { files = h.files; calls = e ∙ ap one_more h.calls; out = h.out; err = h.err }
+tells_called : (old : FilesSeen) (counts : CallCounts) (out err : OutSeen) (shown : Shown) → Tells (world old out err) shown → Tells (world (one_called old counts) out err) (record shown { calls = option_map one_more shown.calls })
+tells_called old counts out err shown h = record { files = h.files; calls = ap (option_map one_more) h.calls; out = h.out; err = h.err }
 
 some_at : (P : Contents → Type 0) (contents : Option Contents) (files : Contents) → contents ≡ Some files → IfSome contents P → P files
 some_at P contents files e h = subst (λ o. IfSome o P) e h
 
 -- an act that is a call on files and leaves them as they were
 abbrev pub IsQuiet : Act → Type 0
-IsQuiet act = (shown : Shown) → act_done act shown ≡ record shown { calls = one_more shown.calls }
+IsQuiet act = (shown : Shown) → act_done act shown ≡ record shown { calls = option_map one_more shown.calls }
 
 -- such a call gave a value
-call_gave : {T X : Type 0} (view : T → X) (act : Act) (outcome : Contents → Outcome X) (possible : Outcome X → Type 0) (old : FilesSeen) (counts : CallCounts) (out err : OutSeen) (x : T) → IsQuiet act → NoneFell old.counts counts → counts.faults ≡ old.counts.faults → counts.calls ≡ one_more old.counts.calls → possible (value (view x)) → ((files : Contents) → old.contents ≡ Some files → outcome files ≡ value (view x)) → Follows view (act_with act outcome possible) (world old out err) (world (counting old counts) out err) (Ok x)
+call_gave : {T X : Type 0} (view : T → X) (act : Act) (outcome : Contents → Outcome X) (possible : Outcome X → Type 0) (old : FilesSeen) (counts : CallCounts) (out err : OutSeen) (x : T) → IsQuiet act → NoneFell old.counts counts → counts.faults ≡ old.counts.faults → possible (value (view x)) → ((files : Contents) → old.contents ≡ Some files → outcome files ≡ value (view x)) → Follows view (act_with act outcome possible) (world old out err) (world (one_called old counts) out err) (Ok x)
 unfolding act_with
-call_gave view act outcome possible old counts out err x quiet n faults calls may told = record {
-  keeps = keeps_counting old counts out err n;
+call_gave view act outcome possible old counts out err x quiet n faults may told = record {
+  keeps = keeps_called old counts out err n;
   counts = no_fault old counts out err faults;
   comes = may;
-  told = λ shown h. (told shown.files h.files, subst (Tells (world (counting old counts) out err)) (sym (quiet shown)) (tells_called old counts out err shown calls h));
+  told = λ shown h. (told shown.files h.files, subst (Tells (world (one_called old counts) out err)) (sym (quiet shown)) (tells_called old counts out err shown h));
 }
 
 -- such a call came to an end
-call_ended : {T X : Type 0} (view : T → X) (act : Act) (outcome : Contents → Outcome X) (possible : Outcome X → Type 0) (old : FilesSeen) (counts : CallCounts) (out err : OutSeen) (e : End) → IsQuiet act → NoneFell old.counts counts → counts.faults ≡ old.counts.faults → counts.calls ≡ one_more old.counts.calls → EndCounts (world old out err) (world (counting old counts) out err) e → possible (end e) → ((files : Contents) → old.contents ≡ Some files → outcome files ≡ end e) → Follows view (act_with act outcome possible) (world old out err) (world (counting old counts) out err) (Err (Ended e))
+call_ended : {T X : Type 0} (view : T → X) (act : Act) (outcome : Contents → Outcome X) (possible : Outcome X → Type 0) (old : FilesSeen) (counts : CallCounts) (out err : OutSeen) (e : End) → IsQuiet act → NoneFell old.counts counts → counts.faults ≡ old.counts.faults → EndCounts (world old out err) (world (one_called old counts) out err) e → possible (end e) → ((files : Contents) → old.contents ≡ Some files → outcome files ≡ end e) → Follows view (act_with act outcome possible) (world old out err) (world (one_called old counts) out err) (Err (Ended e))
 unfolding act_with
-call_ended view act outcome possible old counts out err e quiet n faults calls cause may told = record {
-  keeps = keeps_counting old counts out err n;
+call_ended view act outcome possible old counts out err e quiet n faults cause may told = record {
+  keeps = keeps_called old counts out err n;
   counts = (no_fault old counts out err faults, cause);
   comes = may;
-  told = λ shown h. (told shown.files h.files, subst (Tells (world (counting old counts) out err)) (sym (quiet shown)) (tells_called old counts out err shown calls h));
+  told = λ shown h. (told shown.files h.files, subst (Tells (world (one_called old counts) out err)) (sym (quiet shown)) (tells_called old counts out err shown h));
 }
 
 -- an act that is a call on files at this path
 abbrev pub IsCall : List ℕ → Act → Type 0
-IsCall path act = ((shown : Shown) → act_begun 1 act shown ≡ record shown { calls = one_more shown.calls }) × IsCallAt path act
+IsCall path act = ((shown : Shown) → act_begun 1 act shown ≡ record shown { calls = option_map one_more shown.calls }) × IsCallAt path act
 
 -- a call on files failed
-call_failed : {T X : Type 0} (view : T → X) (path : List ℕ) (act : Act) (outcome : Contents → Outcome X) (possible : Outcome X → Type 0) (old : FilesSeen) (out err : OutSeen) → IsCall path act → old.sure ≡ false → Follows view (act_with act outcome possible) (world old out err) (world (counting old (refused (made old.counts) answers.Failed)) out err) (Err (FileFault path))
+call_failed : {T X : Type 0} (view : T → X) (path : List ℕ) (act : Act) (outcome : Contents → Outcome X) (possible : Outcome X → Type 0) (old : FilesSeen) (out err : OutSeen) → IsCall path act → old.sure ≡ false → Follows view (act_with act outcome possible) (world old out err) (world (one_called old (refused old.counts answers.Failed)) out err) (Err (FileFault path))
 unfolding act_with
 call_failed view path act outcome possible old out err is sure =
-    let counts = refused (made old.counts) answers.Failed in
+    let counts = refused old.counts answers.Failed in
     record {
-      keeps = keeps_counting old counts out err (fell old.counts answers.Failed);
+      keeps = keeps_called old counts out err (fell old.counts answers.Failed);
       counts = (omega arith, refl, refl);
       comes = tt;
       told = λ shown h. record {
@@ -104,18 +105,18 @@ call_failed view path act outcome possible old out err is sure =
         rest = act ∷ [];
         count = 1;
         split = refl;
-        tells = subst (Tells (world (counting old counts) out err)) (sym (is.0 shown)) (tells_called old counts out err shown refl h);
+        tells = subst (Tells (world (one_called old counts) out err)) (sym (is.0 shown)) (tells_called old counts out err shown h);
         because = (is.1, refl, sure);
       };
     }
 
 -- a call on files wanted memory
-call_wanting : {T X : Type 0} (view : T → X) (path : List ℕ) (act : Act) (outcome : Contents → Outcome X) (possible : Outcome X → Type 0) (old : FilesSeen) (out err : OutSeen) → IsCall path act → Follows view (act_with act outcome possible) (world old out err) (world (counting old (made old.counts)) out err) (Err Memory)
+call_wanting : {T X : Type 0} (view : T → X) (path : List ℕ) (act : Act) (outcome : Contents → Outcome X) (possible : Outcome X → Type 0) (old : FilesSeen) (out err : OutSeen) → IsCall path act → Follows view (act_with act outcome possible) (world old out err) (world (one_called old old.counts) out err) (Err Memory)
 unfolding act_with
 call_wanting view path act outcome possible old out err is =
-    let counts = made old.counts in
+    let counts = old.counts in
     record {
-      keeps = keeps_counting old counts out err (fell_ok old.counts);
+      keeps = keeps_called old counts out err (fell_ok old.counts);
       counts = no_fault old counts out err refl;
       comes = tt;
       told = λ shown h. record {
@@ -123,7 +124,7 @@ call_wanting view path act outcome possible old out err is =
         rest = act ∷ [];
         count = 1;
         split = refl;
-        tells = subst (Tells (world (counting old counts) out err)) (sym (is.0 shown)) (tells_called old counts out err shown refl h);
+        tells = subst (Tells (world (one_called old counts) out err)) (sym (is.0 shown)) (tells_called old counts out err shown h);
         because = tt;
       };
     }
@@ -150,13 +151,13 @@ present answer (inr (inr memory)) absent = cc
 pub read_ok : (absent : Outcome (List ℕ)) (path bytes : List ℕ) (old new : FilesSeen) (out err : OutSeen) → ReadAnswers path old new (Ok bytes) → Follows (λ (x : List ℕ). x) (reads_or absent path) (world old out err) (world new out err) (Ok bytes)
 read_ok absent path bytes old new out err a =
     subst (λ f. Follows (λ (x : List ℕ). x) (reads_or absent path) (world old out err) (world f out err) (Ok bytes)) (sym a.0)
-    (call_gave (λ (x : List ℕ). x) _ _ _ old (made old.counts) out err bytes (λ shown. refl) (fell_ok old.counts) refl refl (inr (inr (bytes, a.1.0, refl))) (read_told absent path bytes old a.1))
+    (call_gave (λ (x : List ℕ). x) _ _ _ old old.counts out err bytes (λ shown. refl) (fell_ok old.counts) refl (inr (inr (bytes, a.1.0, refl))) (read_told absent path bytes old a.1))
 
 -- nothing was there, which gives a value
 pub read_absent : (path default : List ℕ) (old new : FilesSeen) (out err : OutSeen) → ReadAnswers path old new (Err answers.Absent) → Follows (λ (x : List ℕ). x) (reads_or (value default) path) (world old out err) (world new out err) (Ok default)
 read_absent path default old new out err a =
     subst (λ f. Follows (λ (x : List ℕ). x) (reads_or (value default) path) (world old out err) (world f out err) (Ok default)) (sym a.0)
-    (call_gave (λ (x : List ℕ). x) _ _ _ old (refused (made old.counts) answers.Absent) out err default (λ shown. refl) (fell old.counts answers.Absent) refl refl (inl refl)
+    (call_gave (λ (x : List ℕ). x) _ _ _ old (refused old.counts answers.Absent) out err default (λ shown. refl) (fell old.counts answers.Absent) refl (inl refl)
     (λ told h. ap (read_outcome (value default) path) (some_at (λ t. map.get t path ≡ None) old.contents told h a.1)))
 
 -- whatever a refused read answers, the stop is its stage's
@@ -164,13 +165,13 @@ pub read_refused : (absent : Outcome (List ℕ)) (path : List ℕ) (answer : Fil
 read_refused absent path answer old new out err needed a =
     subst (λ f. Follows (λ (x : List ℕ). x) (reads_or absent path) (world old out err) (world f out err) (Err (stop_for answer path))) (sym a.0) (by_answer answer needed a.1)
   where
-    by_answer : (answer : FileAnswer) → (answer ≡ answers.Absent → absent ≡ end (NoFile path)) → IsReadAt path old (Err answer) → Follows (λ (x : List ℕ). x) (reads_or absent path) (world old out err) (world (counting old (refused (made old.counts) answer)) out err) (Err (stop_for answer path))
+    by_answer : (answer : FileAnswer) → (answer ≡ answers.Absent → absent ≡ end (NoFile path)) → IsReadAt path old (Err answer) → Follows (λ (x : List ℕ). x) (reads_or absent path) (world old out err) (world (one_called old (refused old.counts answer)) out err) (Err (stop_for answer path))
     by_answer answers.Absent needed a =
-        call_ended (λ (x : List ℕ). x) _ _ _ old (refused (made old.counts) answers.Absent) out err (NoFile path) (λ shown. refl) (fell old.counts answers.Absent) refl refl (omega arith) (inl (sym (needed refl)))
+        call_ended (λ (x : List ℕ). x) _ _ _ old (refused old.counts answers.Absent) out err (NoFile path) (λ shown. refl) (fell old.counts answers.Absent) refl (omega arith) (inl (sym (needed refl)))
         (λ told h. ap (read_outcome absent path) (some_at (λ t. map.get t path ≡ None) old.contents told h a) ∙ needed refl)
     by_answer answers.Failed needed a = call_failed (λ (x : List ℕ). x) path (read path) _ _ old out err ((λ shown. refl), refl) a
     by_answer (answers.TooLarge n) needed a =
-        call_ended (λ (x : List ℕ). x) _ _ _ old (refused (made old.counts) (answers.TooLarge n)) out err (TooLarge path) (λ shown. refl) (fell old.counts (answers.TooLarge n)) refl refl (omega arith) (inr (inl refl))
+        call_ended (λ (x : List ℕ). x) _ _ _ old (refused old.counts (answers.TooLarge n)) out err (TooLarge path) (λ shown. refl) (fell old.counts (answers.TooLarge n)) refl (omega arith) (inr (inl refl))
         (λ told h. read_long absent path n (map.get told path) a.0 (some_at (λ t. IsSomeAnd (map.get t path) (λ bytes. n ≡ min (length bytes) count_end)) old.contents told h a.1))
     by_answer answers.Memory needed a = call_wanting (λ (x : List ℕ). x) path (read path) _ _ old out err ((λ shown. refl), refl)
 
@@ -210,12 +211,12 @@ list_told absent fits folder names files a told h =
 pub list_ok : (absent : Outcome (List (List ℕ))) (fits : List ℕ → Bool) (folder : List ℕ) (names : List (List ℕ)) (old new : FilesSeen) (out err : OutSeen) → ListAnswers fits folder old new (Ok names) → Follows (λ (x : List (List ℕ)). x) (lists_or absent fits folder) (world old out err) (world new out err) (Ok names)
 list_ok absent fits folder names old new out err a =
     subst (λ f. Follows (λ (x : List (List ℕ)). x) (lists_or absent fits folder) (world old out err) (world f out err) (Ok names)) (sym a.0)
-    (call_gave (λ (x : List (List ℕ)). x) _ _ _ old (made old.counts) out err names (λ shown. refl) (fell_ok old.counts) refl refl (inr (inr (names, a.1.0, a.1.1, a.1.2, refl))) (list_told absent fits folder names old a.1))
+    (call_gave (λ (x : List (List ℕ)). x) _ _ _ old old.counts out err names (λ shown. refl) (fell_ok old.counts) refl (inr (inr (names, a.1.0, a.1.1, a.1.2, refl))) (list_told absent fits folder names old a.1))
 
 pub list_absent : (fits : List ℕ → Bool) (folder : List ℕ) (default : List (List ℕ)) (old new : FilesSeen) (out err : OutSeen) → ListAnswers fits folder old new (Err answers.Absent) → Follows (λ (x : List (List ℕ)). x) (lists_or (value default) fits folder) (world old out err) (world new out err) (Ok default)
 list_absent fits folder default old new out err a =
     subst (λ f. Follows (λ (x : List (List ℕ)). x) (lists_or (value default) fits folder) (world old out err) (world f out err) (Ok default)) (sym a.0)
-    (call_gave (λ (x : List (List ℕ)). x) _ _ _ old (refused (made old.counts) answers.Absent) out err default (λ shown. refl) (fell old.counts answers.Absent) refl refl (inl refl)
+    (call_gave (λ (x : List (List ℕ)). x) _ _ _ old (refused old.counts answers.Absent) out err default (λ shown. refl) (fell old.counts answers.Absent) refl (inl refl)
     (λ told h. ap (λ below. list_outcome (value default) folder below (listed fits folder told)) (some_at (λ t. listed is_path folder t ≡ []) old.contents told h a.1)))
 
 -- whatever a refused listing answers, the stop is its stage's
@@ -223,13 +224,13 @@ pub list_refused : (absent : Outcome (List (List ℕ))) (fits : List ℕ → Boo
 list_refused absent fits folder answer old new out err paths needed a =
     subst (λ f. Follows (λ (x : List (List ℕ)). x) (lists_or absent fits folder) (world old out err) (world f out err) (Err (stop_for answer folder))) (sym a.0) (by_answer answer needed a.1)
   where
-    by_answer : (answer : FileAnswer) → (answer ≡ answers.Absent → absent ≡ end (NoFile folder)) → IsListOf fits folder old (Err answer) → Follows (λ (x : List (List ℕ)). x) (lists_or absent fits folder) (world old out err) (world (counting old (refused (made old.counts) answer)) out err) (Err (stop_for answer folder))
+    by_answer : (answer : FileAnswer) → (answer ≡ answers.Absent → absent ≡ end (NoFile folder)) → IsListOf fits folder old (Err answer) → Follows (λ (x : List (List ℕ)). x) (lists_or absent fits folder) (world old out err) (world (one_called old (refused old.counts answer)) out err) (Err (stop_for answer folder))
     by_answer answers.Absent needed a =
-        call_ended (λ (x : List (List ℕ)). x) _ _ _ old (refused (made old.counts) answers.Absent) out err (NoFile folder) (λ shown. refl) (fell old.counts answers.Absent) refl refl (omega arith) (inl (sym (needed refl)))
+        call_ended (λ (x : List (List ℕ)). x) _ _ _ old (refused old.counts answers.Absent) out err (NoFile folder) (λ shown. refl) (fell old.counts answers.Absent) refl (omega arith) (inl (sym (needed refl)))
         (λ told h. ap (λ below. list_outcome absent folder below (listed fits folder told)) (some_at (λ t. listed is_path folder t ≡ []) old.contents told h a) ∙ needed refl)
     by_answer answers.Failed needed a = call_failed (λ (x : List (List ℕ)). x) folder (list folder) _ _ old out err ((λ shown. refl), refl) a
     by_answer (answers.TooLarge n) needed a =
-        call_ended (λ (x : List (List ℕ)). x) _ _ _ old (refused (made old.counts) (answers.TooLarge n)) out err (TooLarge folder) (λ shown. refl) (fell old.counts (answers.TooLarge n)) refl refl (omega arith) (inr (inl refl))
+        call_ended (λ (x : List (List ℕ)). x) _ _ _ old (refused old.counts (answers.TooLarge n)) out err (TooLarge folder) (λ shown. refl) (fell old.counts (answers.TooLarge n)) refl (omega arith) (inr (inl refl))
         (λ told h. list_many absent fits folder n (listed is_path folder told) (listed fits folder told) (fewer fits (rests_below folder told) paths) a.0 (some_at (λ t. n ≡ min (length (listed fits folder t)) count_end) old.contents told h a.1))
     by_answer answers.Memory needed a = call_wanting (λ (x : List (List ℕ)). x) folder (list folder) _ _ old out err ((λ shown. refl), refl)
 
@@ -240,7 +241,7 @@ put_follows path bytes old new out err a =
     subst (λ f. Follows (λ (x : ⊤). x) (puts path bytes) (world old out err) (world f out err) (Ok tt)) (sym a)
     (record {
       keeps = record {
-        files = record { told = kept old.contents; sure = refl; counts = fell_ok old.counts };
+        files = record { told = kept old.contents; calls = later old.calls; sure = refl; counts = fell_ok old.counts };
         out = KeepsOut-same out;
         err = KeepsOut-same err;
       };
@@ -250,7 +251,7 @@ put_follows path bytes old new out err a =
         refl,
         record {
           files = ap (option_map (λ told. map.insert told path bytes)) h.files;
-          calls = ap one_more h.calls;
+          calls = ap (option_map one_more) h.calls;
           out = h.out;
           err = h.err;
         },

@@ -8,7 +8,7 @@ use Rattle.km_outside.specs.OutSeen.{OutSeen}
 use Rattle.km_course.specs.Course.{Act, Outcome, Run, Stage, after, continued, possible_after, ◌>>=◌, given, each_from, when◌then◌else◌}
 use Rattle.km_course.specs.Course.Act.{read, list, say, warn, put}
 use Rattle.km_course.specs.Course.Outcome.{value, end}
-use Rattle.km_course.specs.World.{World, Shown, Tells, Keeps, KeepsFiles, KeepsOut, Extends, NoFault, act_done, act_begun, done, begun}
+use Rattle.km_course.specs.World.{World, Shown, Tells, Keeps, KeepsFiles, KeepsOut, Extends, NotFewer, NoFault, act_done, act_begun, done, begun}
 use Rattle.km_course.specs.Follows.{StopsAt, next_act, CallFailed, OutputFailed, WarningFailed, Free, Stopped, Told, EndCounts, StopCounts, Counts, Comes, Follows, Answers}
 use Rattle.km_course.specs.declared.end.End.{End}
 use Rattle.km_course.specs.declared.end.End.TheVariants.{Refused, NotUnderstood, NoFile, TooLarge, Inner}
@@ -32,19 +32,30 @@ Extends-trans None b c h k = subst (λ o. Extends o c) h k
 Extends-trans (Some bytes) b c h k =
     let l = subst (λ o. Extends o c) h.1 k in (h.0 ++ l.0, l.1 ∙ ap Some (append_assoc bytes h.0 l.0))
 
+NotFewer-same : (calls : Option ℕ) → NotFewer calls calls
+NotFewer-same None = refl
+NotFewer-same (Some n) = omega arith
+
+NotFewer-trans : (a b c : Option ℕ) → NotFewer a b → NotFewer b c → NotFewer a c
+NotFewer-trans None b c h k = subst (λ o. NotFewer o c) h k
+NotFewer-trans (Some n) None c h k = absurd h
+NotFewer-trans (Some n) (Some m) None h k = absurd k
+NotFewer-trans (Some n) (Some m) (Some l) h k = omega arith
+
 pub KeepsFiles-same : (files : FilesSeen) → KeepsFiles files files
 KeepsFiles-same files = record {
   told = refl;
+  calls = NotFewer-same files.calls;
   sure = refl;
-  counts = record { calls = omega arith; faults = omega arith; absences = omega arith; excesses = omega arith };
+  counts = record { faults = omega arith; absences = omega arith; excesses = omega arith };
 }
 
 KeepsFiles-trans : {a b c : FilesSeen} → KeepsFiles a b → KeepsFiles b c → KeepsFiles a c
-KeepsFiles-trans k l = record {
+KeepsFiles-trans {a} {b} {c} k l = record {
   told = l.told ∙ k.told;
+  calls = NotFewer-trans a.calls b.calls c.calls k.calls l.calls;
   sure = l.sure ∙ k.sure;
   counts = record {
-    calls = omega (arith, k.counts.calls, l.counts.calls);
     faults = omega (arith, k.counts.faults, l.counts.faults);
     absences = omega (arith, k.counts.absences, l.counts.absences);
     excesses = omega (arith, k.counts.excesses, l.counts.excesses);

@@ -1,6 +1,6 @@
 -- A course inside another: over files that were made for it, with outputs of its own whose
 -- capacities are known.
-use Rattle.std.specs.Prelude.{ℕ, nat_lt, Bool, ◌||◌, if◌then◌else◌, List, [], length, ⊤}
+use Rattle.std.specs.Prelude.{ℕ, nat_lt, Bool, ◌||◌, if◌then◌else◌, List, [], length, Some, ⊤}
 use Rattle.km_outside.specs.Contents.{Contents}
 use Rattle.km_course.specs.Lines.{end_line}
 use Rattle.km_course.specs.Course.{Outcome, Run, Stage, given}
@@ -18,7 +18,7 @@ pub record Left : Type 0 where
 
 -- What is seen as an inner course begins: the files that were made, no call, and no byte written.
 abbrev pub bare : Contents → Shown
-bare files = record { files = files; calls = 0; out = []; err = [] }
+bare files = record { files = files; calls = Some 0; out = []; err = [] }
 
 -- What is seen after all acts of the inner course and the line of its end.
 abbrev pub inner_told : Run ⊤ → Contents → Shown

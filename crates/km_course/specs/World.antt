@@ -1,5 +1,6 @@
 -- What is seen of the three objects that the program gets, and what acts do to what is seen.
-use Rattle.std.specs.Prelude.{◌≡◌, ℕ, zero, suc, ◌≤◌, List, [], ◌∷◌, ◌++◌, take, Option, Some, None, is_some}
+use Rattle.std.specs.Prelude.{◌≡◌, ℕ, zero, suc, ◌≤◌, List, [], ◌∷◌, ◌++◌, take, Option, Some, None, is_some, IsSomeAnd}
+use Rattle.std.specs.Option.{option_map}
 use Rattle.km_outside.specs.CallCounts.{NoneFell}
 use Rattle.km_outside.specs.Contents.{Contents}
 use Rattle.km_outside.specs.Counts.{one_more}
@@ -18,25 +19,25 @@ abbrev pub world : FilesSeen → OutSeen → OutSeen → World
 world files out err = record { files = files; out = out; err = err }
 
 -- Everything that three objects with known contents show: the files, how many calls were made on
--- them, and the bytes written to each output.
+-- them if they tell it, and the bytes written to each output.
 pub record Shown : Type 0 where
   pub files : Contents
-  pub calls : ℕ
+  pub calls : Option ℕ
   pub out : List ℕ
   pub err : List ℕ
 
 -- The three objects show this.
 pub record Tells (seen : World) (shown : Shown) : Type 0 where
   pub files : seen.files.contents ≡ Some shown.files
-  pub calls : seen.files.counts.calls ≡ shown.calls
+  pub calls : seen.files.calls ≡ shown.calls
   pub out : seen.out.told ≡ Some shown.out
   pub err : seen.err.told ≡ Some shown.err
 
--- The count of calls on files after the act.
-abbrev pub calls_done : Act → ℕ → ℕ
-calls_done (read path) calls = one_more calls
-calls_done (list folder) calls = one_more calls
-calls_done (put path bytes) calls = one_more calls
+-- How many calls on files were made after the act.
+abbrev pub calls_done : Act → Option ℕ → Option ℕ
+calls_done (read path) calls = option_map one_more calls
+calls_done (list folder) calls = option_map one_more calls
+calls_done (put path bytes) calls = option_map one_more calls
 calls_done (say bytes) calls = calls
 calls_done (warn bytes) calls = calls
 
@@ -64,10 +65,10 @@ abbrev pub done : List Act → Shown → Shown
 done [] shown = shown
 done (act ∷ acts) shown = done acts (act_done act shown)
 
--- The number of calls on files after n parts of an act that is one: it was made unless n is 0.
-abbrev pub call_begun : ℕ → ℕ → ℕ
+-- How many calls on files were made after n parts of an act that is one: it was made unless n is 0.
+abbrev pub call_begun : ℕ → Option ℕ → Option ℕ
 call_begun zero calls = calls
-call_begun (suc n) calls = one_more calls
+call_begun (suc n) calls = option_map one_more calls
 
 -- What is seen after a first part of the act. A write has written its first n bytes. A call on
 -- files was made unless n is 0, and left the files as they were.
@@ -88,10 +89,16 @@ abbrev pub Extends : Option (List ℕ) → Option (List ℕ) → Type 0
 Extends None new = new ≡ None
 Extends (Some bytes) new = (more : List ℕ) × (new ≡ Some (bytes ++ more))
 
--- What no call on files changes: whether the contents are known and whether the files are sure.
--- What never falls: the counts.
+-- A number of calls that is known stays known, and doesn't fall.
+abbrev pub NotFewer : Option ℕ → Option ℕ → Type 0
+NotFewer None new = new ≡ None
+NotFewer (Some n) new = IsSomeAnd new (λ m. n ≤ m)
+
+-- What no call on files changes: whether the contents and the number of calls are known, and whether
+-- the files are sure. What never falls: the number of calls, and the counts.
 pub record KeepsFiles (old new : FilesSeen) : Type 0 where
   pub told : is_some new.contents ≡ is_some old.contents
+  pub calls : NotFewer old.calls new.calls
   pub sure : new.sure ≡ old.sure
   pub counts : NoneFell old.counts new.counts
 

@@ -1,4 +1,4 @@
--- The number of calls of files, and of their refusals by cause.
+-- The number of refused calls of files, by their cause.
 use Rattle.std.specs.Prelude.{ℕ, ◌≤◌, Result, Ok, Err}
 use Rattle.km_outside.specs.Counts.{one_more}
 use Rattle.km_outside.specs.declared.files.FileAnswer.{FileAnswer}
@@ -6,16 +6,15 @@ use Rattle.km_outside.specs.declared.files.FileAnswer.TheVariants.{Absent, Faile
 use Rattle.km_outside.specs.declared.files.ReplaceAnswer.{ReplaceAnswer}
 use Rattle.km_outside.specs.declared.files.ReplaceAnswer.TheVariants as replaces
 
--- The number of calls, and how many of them failed, found nothing or exceeded a limit.
+-- How many calls failed, found nothing or exceeded a limit.
 pub record CallCounts : Type 0 where
-  pub calls : ℕ
   pub faults : ℕ
   pub absences : ℕ
   pub excesses : ℕ
 
 -- Counts of zero.
 abbrev pub no_counts : CallCounts
-no_counts = record { calls = 0; faults = 0; absences = 0; excesses = 0 }
+no_counts = record { faults = 0; absences = 0; excesses = 0 }
 
 -- The counts after a refusal: the count of its cause is one higher. Out of memory isn't counted.
 abbrev pub refused : CallCounts → FileAnswer → CallCounts
@@ -24,24 +23,19 @@ refused counts Failed = record counts { faults = one_more counts.faults }
 refused counts (TooLarge _) = record counts { excesses = one_more counts.excesses }
 refused counts Memory = counts
 
--- The counts after one more call.
-abbrev pub made : CallCounts → CallCounts
-made counts = record counts { calls = one_more counts.calls }
-
 -- The counts after a call that reads a file or lists a folder, with this answer.
 abbrev pub answered : {T : Type 0} → CallCounts → Result T FileAnswer → CallCounts
-answered counts (Ok _) = made counts
-answered counts (Err refusal) = refused (made counts) refusal
+answered counts (Ok _) = counts
+answered counts (Err refusal) = refused counts refusal
 
 -- The counts after a call that replaces a file, with this answer.
 abbrev pub replied : {T : Type 0} → CallCounts → Result T ReplaceAnswer → CallCounts
-replied counts (Ok _) = made counts
-replied counts (Err replaces.Failed) = refused (made counts) Failed
-replied counts (Err replaces.Memory) = made counts
+replied counts (Ok _) = counts
+replied counts (Err replaces.Failed) = refused counts Failed
+replied counts (Err replaces.Memory) = counts
 
 -- No count fell.
 pub record NoneFell (before now : CallCounts) : Type 0 where
-  pub calls : before.calls ≤ now.calls
   pub faults : before.faults ≤ now.faults
   pub absences : before.absences ≤ now.absences
   pub excesses : before.excesses ≤ now.excesses

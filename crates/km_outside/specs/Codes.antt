@@ -6,6 +6,7 @@ use Rattle.std.specs.FinMap as map
 use Rattle.km_outside.specs.CallCounts.{CallCounts}
 use Rattle.km_outside.specs.CallsSeen.{CallsSeen}
 use Rattle.km_outside.specs.Contents.{Contents}
+use Rattle.km_outside.specs.Counted.{Counted}
 use Rattle.km_outside.specs.MemFilesSeen.{MemFilesSeen, KindsSeen}
 
 abbrev pub contents_code : Coded Contents
@@ -25,14 +26,19 @@ kinds_code =
 
 abbrev pub counts_code : Coded CallCounts
 counts_code =
-    code_by (ℕ × (ℕ × (ℕ × ℕ))) (coded× coded_ℕ (coded× coded_ℕ (coded× coded_ℕ coded_ℕ)))
-    (λ c. (c.calls, (c.faults, (c.absences, c.excesses))))
-    (λ p. record { calls = p.0; faults = p.1.0; absences = p.1.1.0; excesses = p.1.1.1 })
+    code_by (ℕ × (ℕ × ℕ)) (coded× coded_ℕ (coded× coded_ℕ coded_ℕ))
+    (λ c. (c.faults, (c.absences, c.excesses)))
+    (λ p. record { faults = p.0; absences = p.1.0; excesses = p.1.1 })
+    (λ _. refl)
+
+abbrev pub counted_code : Coded Counted
+counted_code =
+    code_by (ℕ × CallCounts) (coded× coded_ℕ counts_code) (λ c. (c.calls, c.counts)) (λ p. record { calls = p.0; counts = p.1 })
     (λ _. refl)
 
 abbrev pub mem_files_code : Coded MemFilesSeen
 mem_files_code =
-    code_by (Contents × (KindsSeen × CallCounts)) (coded× contents_code (coded× kinds_code counts_code))
-    (λ f. (f.contents, (f.kinds, f.counts)))
-    (λ p. record { contents = p.0; kinds = p.1.0; counts = p.1.1 })
+    code_by (Contents × (KindsSeen × (ℕ × CallCounts))) (coded× contents_code (coded× kinds_code (coded× coded_ℕ counts_code)))
+    (λ f. (f.contents, (f.kinds, (f.calls, f.counts))))
+    (λ p. record { contents = p.0; kinds = p.1.0; calls = p.1.1.0; counts = p.1.1.1 })
     (λ _. refl)

@@ -6,7 +6,7 @@ use Rattle.std.specs.FinMap as map
 use Rattle.km_names.specs.Limit.{file_limit}
 use Rattle.km_outside.specs.CallCounts.{CallCounts, answered, replied}
 use Rattle.km_outside.specs.Contents.{Contents, by_bytes, listed, is_path}
-use Rattle.km_outside.specs.Counts.{count_end}
+use Rattle.km_outside.specs.Counts.{count_end, one_more}
 use Rattle.km_outside.specs.declared.files.FileAnswer.{FileAnswer}
 use Rattle.km_outside.specs.declared.files.FileAnswer.TheVariants.{Absent, Failed, TooLarge, Memory}
 use Rattle.km_outside.specs.declared.files.ReplaceAnswer.{ReplaceAnswer}
@@ -16,12 +16,17 @@ use Rattle.km_outside.specs.declared.files.ReplaceAnswer.TheVariants as replaces
 abbrev pub list_limit : ℕ
 list_limit = 1000000
 
--- What is seen of files: the counts of calls and refusals, the contents if they are known, and
--- whether the files are sure. Sure means that no call fails.
+-- What is seen of files: the counts of refusals, how many calls were made if the files tell it, the
+-- contents if they are known, and whether the files are sure. Sure means that no call fails.
 pub record FilesSeen : Type 0 where
   pub counts : CallCounts
+  pub calls : Option ℕ
   pub contents : Option Contents
   pub sure : Bool
+
+-- The files after one more call, which left these counts and nothing else changed.
+abbrev pub one_called : FilesSeen → CallCounts → FilesSeen
+one_called files counts = record files { counts = counts; calls = option_map one_more files.calls }
 
 -- What a read of the path may answer: bytes within the limit, that nothing is there, or the length
 -- of a file past the limit. Over known contents these are the file's own. It may also answer that
@@ -48,21 +53,21 @@ IsListOf fits folder files (Err (TooLarge n)) =
     (list_limit < n) × IfSome files.contents (λ told. n ≡ min (length (listed fits folder told)) count_end)
 IsListOf fits folder files (Err Memory) = ⊤
 
--- What a read answers and leaves: one more call is counted, with its cause if it is refused, and
--- nothing else changes.
+-- What a read answers and leaves: one more call was made, whose cause is counted if it is refused,
+-- and nothing else changes.
 abbrev pub ReadAnswers : List ℕ → FilesSeen → FilesSeen → Result (List ℕ) FileAnswer → Type 0
-ReadAnswers path old new result = (new ≡ record old { counts = answered old.counts result }) × IsReadAt path old result
+ReadAnswers path old new result = (new ≡ one_called old (answered old.counts result)) × IsReadAt path old result
 
 -- The answer of a read into a buffer that holds these bytes after it.
 abbrev pub buffered : List ℕ → Result ⊤ FileAnswer → Result (List ℕ) FileAnswer
 buffered bytes (Ok done) = Ok bytes
 buffered bytes (Err refusal) = Err refusal
 
--- What a listing answers and leaves: one more call is counted, with its cause if it is refused, and
--- nothing else changes.
+-- What a listing answers and leaves: one more call was made, whose cause is counted if it is
+-- refused, and nothing else changes.
 abbrev pub ListAnswers : (List ℕ → Bool) → List ℕ → FilesSeen → FilesSeen → Result (List (List ℕ)) FileAnswer → Type 0
 ListAnswers fits folder old new result =
-    (new ≡ record old { counts = answered old.counts result }) × IsListOf fits folder old result
+    (new ≡ one_called old (answered old.counts result)) × IsListOf fits folder old result
 
 -- The files with these bytes at the path, if the contents are known.
 abbrev pub with_file_at : List ℕ → List ℕ → FilesSeen → FilesSeen
@@ -72,8 +77,8 @@ with_file_at path bytes files = record files { contents = option_map (λ told. m
 -- else changes, or all contents are as before.
 abbrev pub ReplaceAnswers : List ℕ → List ℕ → FilesSeen → FilesSeen → Result ⊤ ReplaceAnswer → Type 0
 ReplaceAnswers path bytes old new (Ok done) =
-    new ≡ record (with_file_at path bytes old) { counts = replied old.counts (Ok done) }
+    new ≡ with_file_at path bytes (one_called old (replied old.counts (Ok done)))
 ReplaceAnswers path bytes old new (Err replaces.Failed) =
-    (new ≡ record old { counts = replied {T = ⊤} old.counts (Err replaces.Failed) }) × (old.sure ≡ false)
+    (new ≡ one_called old (replied {T = ⊤} old.counts (Err replaces.Failed))) × (old.sure ≡ false)
 ReplaceAnswers path bytes old new (Err replaces.Memory) =
-    new ≡ record old { counts = replied {T = ⊤} old.counts (Err replaces.Memory) }
+    new ≡ one_called old (replied {T = ⊤} old.counts (Err replaces.Memory))

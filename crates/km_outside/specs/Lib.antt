@@ -2,6 +2,7 @@ pub mod CallsSeen
 pub mod CallCounts
 pub mod Codes
 pub mod Contents
+pub mod Counted
 pub mod Counts
 pub mod DiskSeen
 pub mod Entries

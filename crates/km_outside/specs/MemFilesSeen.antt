@@ -4,7 +4,7 @@ use Rattle.std.specs.FinMap as map
 use Rattle.km_names.specs.Limit.{file_limit}
 use Rattle.km_outside.specs.CallCounts.{CallCounts, no_counts, answered, replied}
 use Rattle.km_outside.specs.Contents.{Contents, listed, is_path}
-use Rattle.km_outside.specs.Counts.{count_end}
+use Rattle.km_outside.specs.Counts.{count_end, one_more}
 use Rattle.km_outside.specs.CallsSeen.{CallsSeen, no_calls, next_fails, called, with_failing, none_listed}
 use Rattle.km_outside.specs.FilesSeen.{FilesSeen, list_limit}
 use Rattle.km_outside.specs.declared.files.FileAnswer.{FileAnswer}
@@ -20,10 +20,11 @@ pub record KindsSeen : Type 0 where
   pub tree_lists : CallsSeen
   pub replaces : CallsSeen
 
--- The files, the calls by kind and number, and the counts of calls and refusals.
+-- The files, the calls by kind and number, how many calls were made, and the counts of refusals.
 pub record MemFilesSeen : Type 0 where
   pub contents : Contents
   pub kinds : KindsSeen
+  pub calls : ℕ
   pub counts : CallCounts
 
 -- Whether no call is listed to fail.
@@ -36,6 +37,7 @@ no_kind_listed kinds =
 abbrev pub mem_files_seen : MemFilesSeen → FilesSeen
 mem_files_seen files = record {
   counts = files.counts;
+  calls = Some files.calls;
   contents = Some files.contents;
   sure = no_kind_listed files.kinds;
 }
@@ -46,7 +48,7 @@ no_kinds = record { reads = no_calls; conf_lists = no_calls; tree_lists = no_cal
 
 -- No files, no calls, and none listed to fail.
 abbrev pub no_files : MemFilesSeen
-no_files = record { contents = map.empty; kinds = no_kinds; counts = no_counts }
+no_files = record { contents = map.empty; kinds = no_kinds; calls = 0; counts = no_counts }
 
 -- The files with these bytes at the path, in place of what was there.
 abbrev pub with_file : MemFilesSeen → List ℕ → List ℕ → MemFilesSeen
@@ -101,15 +103,21 @@ mem_list files kind fits folder =
 
 -- The files after the next call of this kind, which read or listed with this answer.
 abbrev pub after_call : {T : Type 0} → MemFilesSeen → CallKind → Result T FileAnswer → MemFilesSeen
-after_call files kind answer = record files { kinds = kind_called files.kinds kind; counts = answered files.counts answer }
+after_call files kind answer = record files {
+  kinds = kind_called files.kinds kind;
+  calls = one_more files.calls;
+  counts = answered files.counts answer;
+}
 
 -- The files after the next replacement, which had this answer.
 abbrev pub after_replace : MemFilesSeen → List ℕ → List ℕ → Result ⊤ ReplaceAnswer → MemFilesSeen
 after_replace files path bytes (Ok done) = record (with_file files path bytes) {
   kinds = kind_called files.kinds Replace;
+  calls = one_more files.calls;
   counts = replied files.counts (Ok done);
 }
 after_replace files path bytes (Err refusal) = record files {
   kinds = kind_called files.kinds Replace;
+  calls = one_more files.calls;
   counts = replied {T = ⊤} files.counts (Err refusal);
 }

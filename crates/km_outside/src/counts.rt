@@ -1,5 +1,6 @@
 ghost use Rattle.std.specs.Prelude.{◌≡◌};
-ghost use Rattle.km_outside.specs.CallCounts.{made, no_counts, refused};
+ghost use Rattle.km_outside.specs.CallCounts.{refused};
+ghost use Rattle.km_outside.specs.Counted.{none_counted, one_counted};
 
 use crate::{FileAnswer, ReplaceAnswer};
 use std::marker::Model;
@@ -14,17 +15,21 @@ pub(crate) struct Counts {
 }
 
 impl Model for Counts {
-    ghost use Rattle.km_outside.specs.CallCounts.{CallCounts};
+    ghost use Rattle.km_outside.specs.Counted.{Counted};
 
-    ghost Value = { CallCounts };
+    ghost Value = { Counted };
 
-    ghost view = { λ c. record { calls = c.calls; faults = c.faults; absences = c.absences; excesses = c.excesses } };
+    ghost use Rattle.km_outside.specs.Codes.{counted_code};
+
+    ghost coded = { counted_code };
+
+    ghost view = { λ c. record { calls = c.calls; counts = record { faults = c.faults; absences = c.absences; excesses = c.excesses } } };
 }
 
 impl Counts {
     /// Returns counts of zero.
     pub(crate) fn new() -> Self
-        ensures { result ≡ no_counts }
+        ensures { result ≡ none_counted }
     {
         Counts {
             calls: 0,
@@ -36,7 +41,7 @@ impl Counts {
 
     /// Counts one more call.
     pub(crate) fn make(&mut self)
-        ensures { self.new ≡ made self.old }
+        ensures { self.new ≡ one_counted self.old self.old.counts }
     {
         self.calls = self.calls.saturating_add(1);
     }
@@ -44,7 +49,7 @@ impl Counts {
     /// Counts the cause of a refusal, and returns the refusal.
     pub(crate) fn refuse(&mut self, refusal: FileAnswer) -> FileAnswer
         ensures same { result ≡ refusal }
-        ensures after { self.new ≡ refused self.old refusal }
+        ensures after { self.new ≡ record self.old { counts = refused self.old.counts refusal } }
     {
         match refusal {
             FileAnswer::Absent => self.absences = self.absences.saturating_add(1),

@@ -1,6 +1,7 @@
 ghost use Rattle.std.specs.Prelude.{◌≡◌};
-ghost use Rattle.km_outside.specs.CallCounts.{no_counts, answered, replied};
+ghost use Rattle.km_outside.specs.CallCounts.{answered, replied};
 ghost use Rattle.km_outside.specs.Contents.{is_conf_name, is_path};
+ghost use Rattle.km_outside.specs.Counted.{none_counted, one_counted};
 ghost use Rattle.km_outside.specs.DiskSeen.{disk_seen};
 ghost use Rattle.km_outside.specs.FilesSeen.{ListAnswers, ReadAnswers, ReplaceAnswers, buffered};
 ghost use Rattle.km_outside.specs.Listing.{test_of};
@@ -25,9 +26,13 @@ pub struct DiskFiles<R> {
 }
 
 impl<R> Model for DiskFiles<R> {
-    ghost use Rattle.km_outside.specs.CallCounts.{CallCounts};
+    ghost use Rattle.km_outside.specs.Counted.{Counted};
 
-    ghost Value = { CallCounts };
+    ghost Value = { Counted };
+
+    ghost use Rattle.km_outside.specs.Codes.{counted_code};
+
+    ghost coded = { counted_code };
 
     ghost view = { λ d. d.counts };
 }
@@ -35,7 +40,7 @@ impl<R> Model for DiskFiles<R> {
 impl<R: rt::Files + AllocGlobal + Clone + Drop> DiskFiles<R> {
     /// Returns the files that the runtime reaches, with nothing counted.
     pub fn new(rt: R) -> Self
-        ensures { result ≡ no_counts }
+        ensures { result ≡ none_counted }
     {
         DiskFiles {
             rt,
@@ -51,7 +56,7 @@ impl<R: rt::Files + AllocGlobal + Clone + Drop> DiskFiles<R> {
         dir: &PathText,
     ) -> Result<List<Bytes<K>>, FileAnswer>
         ensures answers { ListAnswers (test_of listing) dir.now (disk_seen self.old) (disk_seen self.new) result }
-        ensures after { self.new ≡ answered self.old result }
+        ensures after { self.new ≡ one_counted self.old (answered self.old.counts result) }
     {
         self.counts.make();
         match list_folder(&self.rt, alloc, listing, dir) {
@@ -69,7 +74,7 @@ impl<R: rt::Files + AllocGlobal + Clone + Drop> Reads for DiskFiles<R> {
     /// of the system are `Failed`. A regular file that is longer than the limit isn't read.
     fn read(&mut self, alloc: Global, path: &PathText) -> Result<Blob, FileAnswer>
         ensures answers { ReadAnswers path.now (disk_seen self.old) (disk_seen self.new) result }
-        ensures after { self.new ≡ answered self.old result }
+        ensures after { self.new ≡ one_counted self.old (answered self.old.counts result) }
     {
         let mut buffer = FileBuffer::new(alloc);
         self.read_into(alloc, path, &mut buffer)?;
@@ -83,7 +88,7 @@ impl<R: rt::Files + AllocGlobal + Clone + Drop> Reads for DiskFiles<R> {
         buffer: &mut FileBuffer,
     ) -> Result<(), FileAnswer>
         ensures answers { ReadAnswers path.now (disk_seen self.old) (disk_seen self.new) (buffered buffer.new result) }
-        ensures after { self.new ≡ answered self.old result }
+        ensures after { self.new ≡ one_counted self.old (answered self.old.counts result) }
     {
         self.counts.make();
         match read_file(&self.rt, path, buffer) {
@@ -98,7 +103,7 @@ impl<R: rt::Files + AllocGlobal + Clone + Drop> Reads for DiskFiles<R> {
     /// the system are `Failed`.
     fn list_conf(&mut self, alloc: Global, dir: &PathText) -> Result<Names, FileAnswer>
         ensures answers { ListAnswers is_conf_name dir.now (disk_seen self.old) (disk_seen self.new) result }
-        ensures after { self.new ≡ answered self.old result }
+        ensures after { self.new ≡ one_counted self.old (answered self.old.counts result) }
     {
         self.list(alloc, Listing::Conf, dir)
     }
@@ -110,7 +115,7 @@ impl<R: rt::Files + AllocGlobal + Clone + Drop> Writes for DiskFiles<R> {
     /// and its target stays as it was.
     fn replace(&mut self, alloc: Global, path: &PathText, bytes: &[u8]) -> Result<(), ReplaceAnswer>
         ensures answers { ReplaceAnswers path.now bytes.now (disk_seen self.old) (disk_seen self.new) result }
-        ensures after { self.new ≡ replied self.old result }
+        ensures after { self.new ≡ one_counted self.old (replied self.old.counts result) }
     {
         self.counts.make();
         let answer = replace_file(&self.rt, alloc, path, bytes);
@@ -126,7 +131,7 @@ impl<R: rt::Files + AllocGlobal + Clone + Drop> Files for DiskFiles<R> {
     /// nor listed. The refusals are the same as for a listing of configuration files.
     fn list_tree(&mut self, alloc: Global, dir: &PathText) -> Result<Paths, FileAnswer>
         ensures answers { ListAnswers is_path dir.now (disk_seen self.old) (disk_seen self.new) result }
-        ensures after { self.new ≡ answered self.old result }
+        ensures after { self.new ≡ one_counted self.old (answered self.old.counts result) }
     {
         self.list(alloc, Listing::Tree, dir)
     }

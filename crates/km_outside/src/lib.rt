@@ -1,11 +1,11 @@
 //! The world outside as traits: the files that the program reads, lists and replaces, and the
 //! outputs that it writes to.
 //!
-//! A contract sees how many calls an object had and, if they are known, its contents. Files in
-//! memory have known contents. Real files and outputs don't: they only count. So what is proved
-//! over known contents holds for the same code over real files. What a real file holds, and what
-//! happens to the bytes written, is trusted. Files that are read one after the other may share the
-//! memory of one [`FileBuffer`]. The crate uses `km_names`.
+//! A contract sees how many calls of an object were refused and, if they are known, its contents
+//! and how many calls were made. Files in memory have known contents. Real files and outputs don't:
+//! they only count. So what is proved over known contents holds for the same code over real files.
+//! What a real file holds, and what happens to the bytes written, is trusted. Files that are read
+//! one after the other may share the memory of one [`FileBuffer`]. The crate uses `km_names`.
 #![tactic(auto)]
 
 mod calls;

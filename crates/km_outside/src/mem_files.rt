@@ -53,7 +53,7 @@ impl Model for MemFiles {
 
     ghost coded = { mem_files_code };
 
-    ghost view = { λ f. record { contents = files_of f.files.entries; kinds = f.kinds; counts = f.counts } };
+    ghost view = { λ f. record { contents = files_of f.files.entries; kinds = f.kinds; calls = f.counts.calls; counts = f.counts.counts } };
 }
 
 impl MemFiles {

@@ -123,8 +123,8 @@ with_images (Some images) (s ∷ ss) files =
 abbrev pub printed : ModprobeWords → Loading → List ShownImage → List ℕ
 printed asked l ss = plan_lines (folder_asked asked) l.steps ++ flat_map (λ (s : ShownImage). s.line) ss
 
--- What is known after these images were shown and this line was written on err, except for the
--- count of calls on files.
+-- What is known after these images were shown and this line was written on err, except for how many
+-- calls on files were made.
 abbrev pub told_after : ModprobeWords → Loading → List ShownImage → List ℕ → Shown → Shown
 told_after asked l ss err_line shown = record {
   files = with_images asked.image ss shown.files;

@@ -48,7 +48,7 @@ abbrev pub status_of : Outcome IndexedTree → ℕ
 status_of (value i) = 0
 status_of (end e) = end_status e
 
--- What files and outputs then have, whatever the count of calls on files is. The target folder has
+-- What files and outputs then have, however many calls on files were made. The target folder has
 -- the files of the index, each whole, or their texts are printed; or the line of the end is on err.
 -- All else is as it was.
 abbrev pub told_of : DepmodWords → Outcome IndexedTree → Shown → Shown

@@ -8,13 +8,12 @@ use km_outside::{FileAnswer, FileBuffer, Files, Out, OutFailed, Reads, ReplaceAn
 use std::alloc::Global;
 use std::process::Abort;
 
-/// Files of which one can be read. No folder can be listed. Contracts don't see their contents,
-/// and no call fails.
+/// Files of which one can be read. No folder can be listed. Contracts see neither their contents nor
+/// how many calls were made, and no call fails.
 #[derive(Drop)]
 struct OneFile {
     path: &'static [u8],
     bytes: &'static [u8],
-    calls: u64,
     absences: u64,
     excesses: u64,
 }
@@ -25,7 +24,6 @@ impl OneFile {
         OneFile {
             path,
             bytes,
-            calls: 0,
             absences: 0,
             excesses: 0,
         }
@@ -34,13 +32,13 @@ impl OneFile {
 
 impl Reads for OneFile {
     ghost seen = { λ f. record {
-      counts = record { calls = f.calls; faults = 0; absences = f.absences; excesses = f.excesses };
+      counts = record { faults = 0; absences = f.absences; excesses = f.excesses };
+      calls = None;
       contents = None;
       sure = true;
     } };
 
     fn read(&mut self, alloc: Global, path: &PathText) -> Result<Blob, FileAnswer> {
-        self.calls = self.calls.saturating_add(1);
         if path.as_bytes() != self.path {
             self.absences = self.absences.saturating_add(1);
             return Err(FileAnswer::Absent);
@@ -54,7 +52,6 @@ impl Reads for OneFile {
     }
 
     fn list_conf(&mut self, _alloc: Global, _dir: &PathText) -> Result<Names, FileAnswer> {
-        self.calls = self.calls.saturating_add(1);
         self.absences = self.absences.saturating_add(1);
         Err(FileAnswer::Absent)
     }
@@ -67,14 +64,12 @@ impl Writes for OneFile {
         _path: &PathText,
         _bytes: &[u8],
     ) -> Result<(), ReplaceAnswer> {
-        self.calls = self.calls.saturating_add(1);
         Err(ReplaceAnswer::Memory)
     }
 }
 
 impl Files for OneFile {
     fn list_tree(&mut self, _alloc: Global, _dir: &PathText) -> Result<Paths, FileAnswer> {
-        self.calls = self.calls.saturating_add(1);
         self.absences = self.absences.saturating_add(1);
         Err(FileAnswer::Absent)
     }
@@ -151,7 +146,7 @@ fn its_file_is_read(rt: &impl Abort, alloc: Global) {
     let mut buffer = FileBuffer::new(alloc);
     read_into(alloc, &mut files, &at, &mut buffer).expect(rt, "a buffer");
     same(rt, buffer.as_bytes(), b"bytes");
-    holds(rt, (files.calls, files.absences) == (2, 0));
+    holds(rt, files.absences == 0);
 }
 
 fn others_are_absent(rt: &impl Abort, alloc: Global) {
@@ -162,7 +157,7 @@ fn others_are_absent(rt: &impl Abort, alloc: Global) {
     holds(rt, list(alloc, &mut files, &at) == answer);
     let want = (Some(ReplaceAnswer::Memory), answer);
     holds(rt, replace_and_list(alloc, &mut files, &at) == want);
-    holds(rt, (files.calls, files.absences) == (4, 3));
+    holds(rt, files.absences == 3);
 }
 
 #[test]

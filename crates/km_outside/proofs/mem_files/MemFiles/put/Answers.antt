@@ -13,5 +13,5 @@ returns-clause-ok c =
     ap files_of c.in_ok-insert.ensures.entries ∙ files_of-insert _ _ _
     ∙ ap (λ p. insert (files_of c.self.inside.files.entries) p c.in_ok-bytes.bytes) path
     ∙ ap (λ b. insert (files_of c.self.inside.files.entries) c.args.path.now b) bytes in
-    ap (λ m. record { contents = m; kinds = c.self.inside.kinds; counts = c.self.inside.counts }) contents
+    ap (λ m. record { contents = m; kinds = c.self.inside.kinds; calls = c.self.inside.counts.calls; counts = c.self.inside.counts.counts }) contents
     ∙ ap (λ f. with_file f c.args.path.now c.args.bytes.now) c.self.view_is
