@@ -2,5 +2,6 @@ pub mod Lines
 pub mod Course
 pub mod World
 pub mod Follows
+pub mod FollowsOn
 pub mod Carries
 pub mod Inner

@@ -2,10 +2,9 @@
 // before the call, since the stop of a failed call takes no memory.
 ghost use Rattle.std.specs.Prelude.{◌≡◌, ◌≤◌, length, IfOk, OnOk};
 ghost use Rattle.km_names.specs.Limit.{file_limit};
-ghost use Rattle.km_outside.specs.OutSeen.{OutSeen};
 ghost use Rattle.km_course.specs.Course.{reads, reads_any, lists_conf, lists_any_conf, lists_tree};
-ghost use Rattle.km_course.specs.World.{world};
-ghost use Rattle.km_course.specs.Follows.{Follows, stop_for};
+ghost use Rattle.km_course.specs.Follows.{stop_for};
+ghost use Rattle.km_course.specs.FollowsOn.{FollowsOnFiles, FollowsOnFilesAs};
 
 use crate::{End, Stop};
 use km_names::{Blob, Names, PathText, Paths};
@@ -15,8 +14,7 @@ use std::alloc::Global;
 /// Reads the file at the path, which is needed. An absent file and one past the limit end the
 /// command with status 1, and a failed read stops it with status 3.
 pub fn read_needed<F: Reads>(alloc: Global, files: &mut F, path: &PathText) -> Result<Blob, Stop>
-    ensures follows { (out err : OutSeen) → Follows (λ bytes. bytes) (reads path.now)
-        (world (F.seen files.old) out err) (world (F.seen files.new) out err) result }
+    ensures follows { FollowsOnFiles (reads path.now) F.seen files.old files.new result }
     ensures limit { IfOk result (λ bytes. length bytes ≤ file_limit) }
 {
     let named = PathText::from_slice(alloc, path.as_bytes())?;
@@ -33,8 +31,7 @@ pub fn read_needed_into<F: Reads>(
     path: &PathText,
     buffer: &mut FileBuffer,
 ) -> Result<(), Stop>
-    ensures follows { (out err : OutSeen) → Follows (λ done. buffer.new) (reads path.now)
-        (world (F.seen files.old) out err) (world (F.seen files.new) out err) result }
+    ensures follows { FollowsOnFilesAs (λ done. buffer.new) (reads path.now) F.seen files.old files.new result }
     ensures limit { OnOk result (length buffer.new ≤ file_limit) }
 {
     let named = PathText::from_slice(alloc, path.as_bytes())?;
@@ -46,8 +43,7 @@ pub fn read_needed_into<F: Reads>(
 
 /// Reads the file at the path. Returns no bytes if nothing is there.
 pub fn read_optional<F: Reads>(alloc: Global, files: &mut F, path: &PathText) -> Result<Blob, Stop>
-    ensures follows { (out err : OutSeen) → Follows (λ bytes. bytes) (reads_any path.now)
-        (world (F.seen files.old) out err) (world (F.seen files.new) out err) result }
+    ensures follows { FollowsOnFiles (reads_any path.now) F.seen files.old files.new result }
     ensures limit { IfOk result (λ bytes. length bytes ≤ file_limit) }
 {
     let named = PathText::from_slice(alloc, path.as_bytes())?;
@@ -68,8 +64,7 @@ pub fn list_conf_needed<F: Reads>(
     files: &mut F,
     dir: &PathText,
 ) -> Result<Names, Stop>
-    ensures { (out err : OutSeen) → Follows (λ names. names) (lists_conf dir.now)
-        (world (F.seen files.old) out err) (world (F.seen files.new) out err) result }
+    ensures { FollowsOnFiles (lists_conf dir.now) F.seen files.old files.new result }
 {
     let named = PathText::from_slice(alloc, dir.as_bytes())?;
     match files.list_conf(alloc, dir) {
@@ -84,8 +79,7 @@ pub fn list_conf_optional<F: Reads>(
     files: &mut F,
     dir: &PathText,
 ) -> Result<Names, Stop>
-    ensures { (out err : OutSeen) → Follows (λ names. names) (lists_any_conf dir.now)
-        (world (F.seen files.old) out err) (world (F.seen files.new) out err) result }
+    ensures { FollowsOnFiles (lists_any_conf dir.now) F.seen files.old files.new result }
 {
     let named = PathText::from_slice(alloc, dir.as_bytes())?;
     match files.list_conf(alloc, dir) {
@@ -105,8 +99,7 @@ pub fn list_tree_needed<F: Files>(
     files: &mut F,
     dir: &PathText,
 ) -> Result<Paths, Stop>
-    ensures { (out err : OutSeen) → Follows (λ paths. paths) (lists_tree dir.now)
-        (world (F.seen files.old) out err) (world (F.seen files.new) out err) result }
+    ensures { FollowsOnFiles (lists_tree dir.now) F.seen files.old files.new result }
 {
     let named = PathText::from_slice(alloc, dir.as_bytes())?;
     match files.list_tree(alloc, dir) {

@@ -1,9 +1,6 @@
 ghost use Rattle.std.specs.Prelude.{⊤};
-ghost use Rattle.km_outside.specs.FilesSeen.{FilesSeen};
-ghost use Rattle.km_outside.specs.OutSeen.{OutSeen};
 ghost use Rattle.km_course.specs.Course.{says, says_any, warns, puts};
-ghost use Rattle.km_course.specs.World.{world};
-ghost use Rattle.km_course.specs.Follows.{Follows};
+ghost use Rattle.km_course.specs.FollowsOn.{FollowsOnErr, FollowsOnFiles, FollowsOnOut};
 
 use crate::Stop;
 use km_names::PathText;
@@ -12,8 +9,7 @@ use std::alloc::Global;
 
 /// Writes the bytes to the output, in one piece. A failed write stops the command with status 3.
 pub fn say<O: Out>(out: &mut O, bytes: &[u8]) -> Result<(), Stop>
-    ensures { (files : FilesSeen) (err : OutSeen) → Follows (λ x. x) (says bytes.now)
-        (world files (O.seen out.old) err) (world files (O.seen out.new) err) result }
+    ensures { FollowsOnOut (says bytes.now) O.seen out.old out.new result }
 {
     match out.write(bytes) {
         Ok(()) => Ok(()),
@@ -23,8 +19,7 @@ pub fn say<O: Out>(out: &mut O, bytes: &[u8]) -> Result<(), Stop>
 
 /// Writes the bytes to the output if there are any.
 pub fn say_any<O: Out>(out: &mut O, bytes: &[u8]) -> Result<(), Stop>
-    ensures { (files : FilesSeen) (err : OutSeen) → Follows (λ x. x) (says_any bytes.now)
-        (world files (O.seen out.old) err) (world files (O.seen out.new) err) result }
+    ensures { FollowsOnOut (says_any bytes.now) O.seen out.old out.new result }
 {
     if bytes.is_empty() {
         return Ok(());
@@ -34,8 +29,7 @@ pub fn say_any<O: Out>(out: &mut O, bytes: &[u8]) -> Result<(), Stop>
 
 /// Writes the bytes to err, in one piece. A failed write stops the command with status 3.
 pub fn warn<E: Out>(err: &mut E, bytes: &[u8]) -> Result<(), Stop>
-    ensures { (files : FilesSeen) (out : OutSeen) → Follows (λ x. x) (warns bytes.now)
-        (world files out (E.seen err.old)) (world files out (E.seen err.new)) result }
+    ensures { FollowsOnErr (warns bytes.now) E.seen err.old err.new result }
 {
     match err.write(bytes) {
         Ok(()) => Ok(()),
@@ -51,8 +45,7 @@ pub fn put<F: Writes>(
     path: PathText,
     bytes: &[u8],
 ) -> Result<(), Stop>
-    ensures { (out err : OutSeen) → Follows (λ x. x) (puts path bytes.now)
-        (world (F.seen files.old) out err) (world (F.seen files.new) out err) result }
+    ensures { FollowsOnFiles (puts path bytes.now) F.seen files.old files.new result }
 {
     match files.replace(alloc, &path, bytes) {
         Ok(()) => Ok(()),
