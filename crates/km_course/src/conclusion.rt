@@ -92,7 +92,9 @@ fn status(stop: &Stop) -> u8
 {
     match stop {
         Stop::Ended(End::NotUnderstood) => NOT_UNDERSTOOD,
-        Stop::Ended(_) => REFUSED,
+        Stop::Ended(
+            End::Refused(_) | End::NoFile { .. } | End::TooLarge { .. } | End::Inner { .. },
+        ) => REFUSED,
         Stop::FileFault { .. } | Stop::OutputFault | Stop::WarningFault => FAULT,
         Stop::Memory => OUT_OF_MEMORY,
     }
