@@ -30,13 +30,13 @@ use Rattle.laws_planned_loads.proofs.CourseLemmas.{courses-bind, plan-placed}
 use Rattle.laws_planned_loads.proofs.EndLemmas.{fault-placed, plan-refused}
 use Rattle.laws_planned_loads.proofs.LoadLemmas.{loads-are}
 use Rattle.laws_planned_loads.proofs.WholeLemmas.{courses-load}
-use Rattle.kmod_cli.specs.Headline.{ComesTo, Headline, IsEndOfPlan, IsFirstPart, Loading, StandsAsIndexed, all_loaded, folder_asked, images_shown, no_place, printed, told_after, unwritten, with_images}
+use Rattle.kmod_cli.specs.Headline.{ComesTo, Headline, IsEndOfPlan, IsFirstPart, Loading, IsIndexedLoad, all_loaded, folder_asked, images_shown, no_place, printed, told_after, unwritten, with_images}
 use Rattle.kmod_cli.proofs.ActsLeft.{Cut, Shows}
 use Rattle.kmod_cli.proofs.CameLemmas.{came-to}
 use Rattle.kmod_cli.proofs.LoadsLeft.{AreOfLoads, Doing, doings, doings-acts, doings-shown, loads-left, loads-part, shown_of}
 
 -- the course of words that ask for a load
-load-course : (held : Contents) (words : List (List ℕ)) (asked : ModprobeWords) (l : Loading) → modprobe_request words ≡ Some asked → StandsAsIndexed held asked l → modprobe_course words ≡ loads_plan asked
+load-course : (held : Contents) (words : List (List ℕ)) (asked : ModprobeWords) (l : Loading) → modprobe_request words ≡ Some asked → IsIndexedLoad held asked l → modprobe_course words ≡ loads_plan asked
 load-course held words asked l is s = ap modprobe_asked_for is ∙ ap (λ mode. modprobe_in_mode mode asked) s.mode
 
 abbrev Bound : Contents → ModprobeWords → Loading → Type 0

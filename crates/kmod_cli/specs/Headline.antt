@@ -59,7 +59,7 @@ pub record Loading : Type 0 where
   pub inserts : List Insertion
 
 -- Tree and kernel are as indexed, no install command is chosen, and the listed modules load.
-pub record StandsAsIndexed (held : Contents) (asked : ModprobeWords) (l : Loading) : Type 0 where
+pub record IsIndexedLoad (held : Contents) (asked : ModprobeWords) (l : Loading) : Type 0 where
   -- a load is asked for
   pub mode : asked.mode ≡ Load
   -- the folder is as depmod indexed it, and the kernel's table is the same, with an address for
@@ -171,4 +171,4 @@ abbrev pub Headline : List (List ℕ) → World → World → ℕ → Type 0
 Headline words old new status =
     (shown : Shown) → Tells old shown →
     (asked : ModprobeWords) → modprobe_request words ≡ Some asked →
-    (l : Loading) → StandsAsIndexed shown.files asked l → LoadsBind asked l shown old new status
+    (l : Loading) → IsIndexedLoad shown.files asked l → LoadsBind asked l shown old new status

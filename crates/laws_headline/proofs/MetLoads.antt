@@ -47,7 +47,7 @@ use Rattle.laws_depmod_leaves.specs.Loads.{IsLoadAfter}
 use Rattle.laws_depmod_leaves.proofs.LeftLemmas.{left-indexed}
 use Rattle.laws_depmod_leaves.proofs.PutLemmas.{all-there}
 use Rattle.laws_depmod_leaves.proofs.TableLemmas.{left-for-loads}
-use Rattle.kmod_cli.specs.Headline.{Loading, StandsAsIndexed}
+use Rattle.kmod_cli.specs.Headline.{Loading, IsIndexedLoad}
 use Rattle.laws_headline.specs.Objects.{folder_found, found, giver_file, taker_file}
 use Rattle.laws_headline.specs.Met.{HeadlineIsMet, depmod_asked, indexed, left, load_asked}
 use Rattle.laws_headline.proofs.Computing.{computing}
@@ -272,7 +272,7 @@ loading = record {
   inserts = two_inserts;
 }
 
-stands : StandsAsIndexed left load_asked loading
+stands : IsIndexedLoad left load_asked loading
 stands = record {
   mode = refl;
   stands = left-for-loads found depmod_asked indexed left load_asked kernel whole is-indexed stood after;

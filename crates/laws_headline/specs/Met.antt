@@ -16,7 +16,7 @@ use Rattle.laws_depmod_leaves.specs.Comes.{IndexedTree, IsIndexed, made_of}
 use Rattle.laws_depmod_leaves.specs.Left.{with_files}
 use Rattle.laws_planned_loads.specs.Files.{AreFileModules}
 use Rattle.stages_loads.specs.Loads.{paths_of}
-use Rattle.kmod_cli.specs.Headline.{Loading, StandsAsIndexed, folder_asked}
+use Rattle.kmod_cli.specs.Headline.{Loading, IsIndexedLoad, folder_asked}
 use Rattle.laws_headline.specs.Objects.{found, giver_facts, taker_facts}
 
 -- ---- what is asked for
@@ -75,7 +75,7 @@ load_asked = record {
 -- the module with the export is at the region's base, and the 8 bytes of data of the other are the
 -- address of the export.
 pub record IsMet (l : Loading) : Type 0 where
-  pub stands : StandsAsIndexed left load_asked l
+  pub stands : IsIndexedLoad left load_asked l
   pub plan : List Module
   pub files : AreFileModules left (folder_asked load_asked) (paths_of l.inserts) plan
   pub paths : paths_of l.inserts ≡ codes "p.ko" ∷ codes "m.ko" ∷ []
