@@ -5,8 +5,9 @@ use Rattle.std.specs.Prelude.{◌≡◌, ◌<◌, ◌≤◌, ℕ, Bool, true, Al
 use Rattle.std.specs.FinMap.{insert}
 use Rattle.km_names.specs.Path.{path_below}
 use Rattle.km_outside.specs.Contents.{Contents}
-use Rattle.km_course.specs.Lines.{line}
+use Rattle.km_course.specs.Lines.{line, refusal_text}
 use Rattle.km_course.specs.World.{World, Shown, Tells}
+use Rattle.km_course.specs.declared.refusal.Refusal.TheVariants.{LoadRefused, ParamsRefused}
 use Rattle.kmod_words.specs.declared.modprobe.Mode.TheVariants.{Load}
 use Rattle.kmod_words.specs.declared.modprobe.ModprobeWords.{ModprobeWords}
 use Rattle.kmod_words.specs.Modprobe.{modprobe_request}
@@ -78,9 +79,9 @@ pub data IsEndOfPlan (params : Bool) (machine : Machine) : List WentIn → List 
   -- all are loaded
   all_loaded : (went : List WentIn) → All (AreWritable params) went → IsEndOfPlan params machine went [] 0 []
   -- the next one finds no room in the region, or has a word that doesn't fit there
-  no_place : (went : List WentIn) → All (AreWritable params) went → (m : Module) (ms : List Module) (fault : LoadFault) → step machine m ≡ Err fault → IsPlaceFault fault → IsEndOfPlan params machine went (m ∷ ms) 1 (line (m.facts.name ++ (codes ": " ++ load_fault_text fault)))
+  no_place : (went : List WentIn) → All (AreWritable params) went → (m : Module) (ms : List Module) (fault : LoadFault) → step machine m ≡ Err fault → IsPlaceFault fault → IsEndOfPlan params machine went (m ∷ ms) 1 (line (refusal_text (LoadRefused m.facts.name (load_fault_text fault))))
   -- only with `--params`: the options of the last one that went in can't be written
-  unwritten : (went : List WentIn) → All (AreWritable params) went → (last : WentIn) → params ≡ true → (ms : List Module) (fault : ParamFault) → fault_of last ≡ Some fault → IsEndOfPlan params machine (went ++ last ∷ []) ms 1 (line (last.entry.loaded.name ++ (codes ": " ++ param_fault_text fault)))
+  unwritten : (went : List WentIn) → All (AreWritable params) went → (last : WentIn) → params ≡ true → (ms : List Module) (fault : ParamFault) → fault_of last ≡ Some fault → IsEndOfPlan params machine (went ++ last ∷ []) ms 1 (line (refusal_text (ParamsRefused last.entry.loaded.name (param_fault_text fault))))
 
 -- What loading a plan results in, whose steps load this, after listed modules were loaded and this
 -- was the machine; with `--params` or without.

@@ -1,9 +1,10 @@
 -- Taking back: what `modprobe -r` takes out of the modelled machine of the listed modules, what it
 -- prints of that, and what is left. modprobe(8), -r.
-use Rattle.std.specs.Prelude.{◌≡◌, ℕ, Bool, true, false, List, [], ◌++◌, codes, reverse, Option, Some, None, Ok}
+use Rattle.std.specs.Prelude.{◌≡◌, ℕ, Bool, true, false, List, [], ◌++◌, reverse, Option, Some, None, Ok}
 use Rattle.km_outside.specs.Contents.{Contents}
-use Rattle.km_course.specs.Lines.{line}
+use Rattle.km_course.specs.Lines.{line, refusal_text}
 use Rattle.km_course.specs.World.{World, Shown, Tells}
+use Rattle.km_course.specs.declared.refusal.Refusal.TheVariants.{InUse, RemoveChosen}
 use Rattle.kmod_words.specs.declared.modprobe.Mode.TheVariants.{Remove}
 use Rattle.kmod_words.specs.declared.modprobe.ModprobeWords.{ModprobeWords}
 use Rattle.kmod_words.specs.Modprobe.{modprobe_request}
@@ -69,10 +70,10 @@ pub record IsTakenBack (asked : ModprobeWords) (dry_run : Bool) (r : Removing) (
   -- if a module that is asked for is used by one that isn't, the oldest such module and its oldest
   -- such user are named, and nothing is taken out
   pub used : (j k : ℕ) → in_use r.listed (is_asked r.listed r.names) ≡ Some (j, k)
-      → CameTo 1 (record shown { err = shown.err ++ line (name_at r.listed j ++ (codes " is in use by " ++ name_at r.listed k)) }) (IsPrintedPart [] shown) old new status
+      → CameTo 1 (record shown { err = shown.err ++ line (refusal_text (InUse (name_at r.listed j) (name_at r.listed k))) }) (IsPrintedPart [] shown) old new status
   -- if a command would be run, the first module with one is named, and nothing is taken out
   pub chosen : NoneInUse r → dry_run ≡ false → (name : List ℕ) → first_command asked r ≡ Some name
-      → CameTo 1 (record shown { err = shown.err ++ line (codes "remove chosen " ++ name) }) (IsPrintedPart [] shown) old new status
+      → CameTo 1 (record shown { err = shown.err ++ line (refusal_text (RemoveChosen name)) }) (IsPrintedPart [] shown) old new status
   -- with `-n` the lines of the steps are printed, and that is all
   pub printed : NoneInUse r → dry_run ≡ true
       → CameTo 0 (record shown { out = shown.out ++ step_lines (steps_asked asked r.known r.listed r.names) }) (IsPrintedPart (step_lines (steps_asked asked r.known r.listed r.names)) shown) old new status
