@@ -5,6 +5,7 @@ pub mod ChildLemmas
 pub mod ArrivalLemmas
 pub mod CheckLemmas
 pub mod OrderLemmas
+pub mod PutLemmas
 pub mod SoundNodes
 pub mod ReadLemmas
 pub mod ValueStartLemmas

@@ -1,12 +1,12 @@
 -- What is still to be visited.
 -- It belongs to the code: no public meaning rests on it.
-use Rattle.std.specs.Prelude.{◌≡◌, ℕ, zero, suc, ◌+◌, ◌*◌, ◌<◌, ◌≤◌, false, List, [], ◌∷◌, ◌++◌, length, nat_eq, Option}
+use Rattle.std.specs.Prelude.{◌≡◌, ℕ, zero, suc, ◌+◌, ◌*◌, ◌<◌, ◌≤◌, true, false, List, [], ◌∷◌, ◌++◌, length, nat_eq, Option}
 use Rattle.std.specs.List.{cons_option, flat_map, list_any}
 use Rattle.km_names.specs.Number.{be}
 use Rattle.index_format.specs.Link.{place_of}
 use Rattle.index_format.specs.Node.{present, children}
 use Rattle.km_names.specs.First.{first}
-use Rattle.index_format.specs.Check.{Fault, Arrival, arrivals, arrival_faults, root_arrival}
+use Rattle.index_format.specs.Check.{Fault, Arrival, is_sound, arrivals, arrival_faults, root_arrival}
 use Rattle.index_nodes.specs.declared.check.Pending.{Pending}
 use Rattle.index_nodes.specs.declared.check.Visit.{Visit}
 use Rattle.index_nodes.specs.declared.place_set.PlaceSet.{PlaceSet}
@@ -46,9 +46,12 @@ HasPlaces set seen = (place : ℕ) → has_place set place ≡ list_any (nat_eq 
 abbrev pub arrival_of : Visit → Arrival
 arrival_of v = record { above = v.above; is_root = v.is_root; link = v.link }
 
--- A visit to a place below its parent is the first one there.
-abbrev pub IsFirstVisit : List ℕ → Visit → Type 0
-IsFirstVisit seen v = place_of v.link < v.above → list_any (nat_eq (place_of v.link)) seen ≡ false
+-- The visit passes, if no other was at its place, and the offsets of its node's children come after
+-- these.
+pub record IsVisited (b : List ℕ) (v : Visit) (before after : List ℕ) : Type 0 where
+  pub low : place_of v.link < v.above
+  pub sound : is_sound b (arrival_of v) ≡ true
+  pub links : after ≡ before ++ children b v.link
 
 -- What is pending after the visit to a node: its children.
 pub record IsPendingOf (b : List ℕ) (link : ℕ) (p : Pending) : Type 0 where

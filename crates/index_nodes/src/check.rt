@@ -8,10 +8,11 @@ ghost use Rattle.index_nodes.specs.Faults.{IsFirstFault};
 ghost use Rattle.index_nodes.specs.Fields.{HasFields};
 ghost use Rattle.index_nodes.specs.TextEnds.{AreTextEnds};
 ghost use Rattle.index_nodes.specs.ValueStarts.{AreValueStarts};
-ghost use Rattle.index_nodes.specs.Pending.{links_of, arrivals_left, child_arrivals, nodes_fault, IsInside, HasPlaces, arrival_of, IsPendingOf, IsFirstVisit};
+ghost use Rattle.index_nodes.specs.Pending.{links_of, arrivals_left, child_arrivals, nodes_fault, IsInside, HasPlaces, arrival_of, IsPendingOf};
 
 use crate::fault::IndexFault;
 use crate::fields::{has_whole_values, node_at, place};
+use crate::in_order::check_in_order;
 use crate::node::Node;
 use crate::place_set::PlaceSet;
 use crate::text_ends::TextEnds;
@@ -21,7 +22,7 @@ use km_names::be_u32_at;
 use std::alloc::{AllocError, Global};
 
 /// The bytes of an offset.
-const OFFSET_SIZE: usize = 4;
+pub(crate) const OFFSET_SIZE: usize = 4;
 
 /// A node that the reader visits: its offset, and the place below which it has to be.
 #[derive(Clone, Copy)]
@@ -32,12 +33,10 @@ pub(crate) struct Visit {
 }
 
 /// Children that are still to be visited: a number of offsets from a place on, of the node at the
-/// place `above`. If nodes are in a writer's order, no place between `floor` and `above` was
-/// visited.
+/// place `above`.
 #[derive(Clone, Copy)]
 pub(crate) struct Pending {
     pub(crate) above: u32,
-    pub(crate) floor: u32,
     pub(crate) next: usize,
     pub(crate) left: usize,
 }
@@ -54,7 +53,7 @@ fn has_number(bytes: &[u8], at: usize, number: u32) -> bool
 
 /// Returns the children of a node.
 #[inline(always)]
-fn children_of(bytes: &[u8], node: &Node) -> Pending
+pub(crate) fn children_of(bytes: &[u8], node: &Node) -> Pending
     requires fields { HasFields bytes.now node.now }
     requires fit { children_fit bytes.now node.now.link ≡ true }
     ensures { IsPendingOf bytes.now node.now.link result }
@@ -63,7 +62,6 @@ fn children_of(bytes: &[u8], node: &Node) -> Pending
     if node.link & HAS_CHILDREN == 0 {
         return Pending {
             above,
-            floor: 0,
             next: 0,
             left: 0,
         };
@@ -72,7 +70,6 @@ fn children_of(bytes: &[u8], node: &Node) -> Pending
     let last = bytes[node.children + 1];
     Pending {
         above,
-        floor: 0,
         next: node.children + 2,
         left: usize::from(last - first) + 1,
     }
@@ -87,7 +84,7 @@ fn has_field(link: u32) -> bool
 
 /// Reads the node of a visit. Returns `None` if it isn't sound.
 #[inline(always)]
-fn sound_node(
+pub(crate) fn sound_node(
     bytes: &[u8],
     ends: &TextEnds,
     visit: &Visit,
@@ -151,41 +148,13 @@ fn visit_node(
     Ok(children_of(bytes, &node))
 }
 
-/// Visits a node at a place that wasn't visited before: the other tests of the reader, in their
-/// order.
-#[inline(always)]
-fn visit_new(
-    bytes: &[u8],
-    ends: &TextEnds,
-    visit: &Visit,
-    starts: &mut ValueStarts,
-) -> Result<Pending, IndexFault>
-    requires ends { AreTextEnds bytes.now ends.now }
-    requires starts { AreValueStarts bytes.now starts.old }
-    ensures starts { AreValueStarts bytes.now starts.new }
-    ensures fault { (seen : List ℕ) → IsFirstVisit seen visit.now
-        → IfErr result (λ fault. IsFirstFault (arrival_fault bytes.now seen (arrival_of visit.now)) fault) }
-    ensures passes { (seen : List ℕ) → IsFirstVisit seen visit.now
-        → OnOk result (arrival_fault bytes.now seen (arrival_of visit.now) ≡ None) }
-    ensures pending { IfOk result (IsPendingOf bytes.now visit.now.link) }
-{
-    let offset = place(visit.link);
-    if offset as usize >= visit.above {
-        return Err(IndexFault::BadNode { offset });
-    }
-    let Some(node) = sound_node(bytes, ends, visit, starts)? else {
-        return Err(IndexFault::BadNode { offset });
-    };
-    Ok(children_of(bytes, &node))
-}
-
 /// Returns the next child that is present, and the children after it, or `None` if there is none.
 #[inline(always)]
 fn next_child(bytes: &[u8], pending: &Pending) -> Option<(u32, Pending)>
     requires { IsInside bytes.now pending.now }
     ensures { MatchOption result (links_of bytes.now pending.now ≡ [])
         (λ r. (links_of bytes.now pending.now ≡ r.0 ∷ links_of bytes.now r.1)
-        × (r.1.above ≡ pending.now.above) × IsInside bytes.now r.1 × (r.1.floor ≡ pending.now.floor)) }
+        × (r.1.above ≡ pending.now.above) × IsInside bytes.now r.1) }
 {
     for n in 0..pending.left {
         let next = pending.next + OFFSET_SIZE * n;
@@ -193,7 +162,6 @@ fn next_child(bytes: &[u8], pending: &Pending) -> Option<(u32, Pending)>
         if place(link) != 0 {
             let rest = Pending {
                 above: pending.above,
-                floor: pending.floor,
                 next: next + OFFSET_SIZE,
                 left: pending.left - n - 1,
             };
@@ -216,55 +184,6 @@ fn push_pending(stack: &mut Vec<Pending>, pending: Pending) -> Result<(), AllocE
         stack.push(pending)?;
     }
     Ok(())
-}
-
-/// Visits all nodes of a file as long as they are in a writer's order: each after all nodes below
-/// its older siblings, so that no place is visited twice. Returns false if a node isn't; then
-/// nothing is known of the file.
-fn check_in_order(alloc: Global, bytes: &[u8], ends: &TextEnds) -> Result<bool, IndexFault>
-    requires first { FIRST_PLACE ≤ length bytes.now }
-    requires ends { AreTextEnds bytes.now ends.now }
-    ensures fault { IfErr result (IsFirstFault (nodes_fault bytes.now)) }
-    ensures passes { IfOk result (λ whole. whole ≡ true → nodes_fault bytes.now ≡ None) }
-{
-    let mut starts = ValueStarts::new(alloc, bytes)?;
-    let root = Visit {
-        above: bytes.len() + 1,
-        is_root: true,
-        link: be_u32_at(bytes, 8),
-    };
-    let first = visit_new(bytes, ends, &root, &mut starts)?;
-    let mut above = Vec::new(alloc);
-    let mut level = Pending { floor: 0, ..first };
-    'level: loop {
-        let Some((link, rest)) = next_child(bytes, &level) else {
-            match above.pop() {
-                Some(pending) => level = pending,
-                None => return Ok(true),
-            }
-            continue;
-        };
-        let floor = place(link);
-        if floor <= level.floor {
-            return Ok(false);
-        }
-        let child = Visit {
-            above: level.above as usize,
-            is_root: false,
-            link,
-        };
-        let below = visit_new(bytes, ends, &child, &mut starts)?;
-        let younger = Pending { floor, ..rest };
-        if below.left == 0 {
-            level = younger;
-        } else {
-            push_pending(&mut above, younger)?;
-            level = Pending {
-                floor: level.floor,
-                ..below
-            };
-        }
-    }
 }
 
 /// Visits all nodes of a file in any order. The places that were visited are in a set.
@@ -313,11 +232,10 @@ fn check_nodes(alloc: Global, bytes: &[u8], ends: &TextEnds) -> Result<(), Index
     ensures fault { IfErr result (IsFirstFault (nodes_fault bytes.now)) }
     ensures passes { OnOk result (nodes_fault bytes.now ≡ None) }
 {
-    match check_in_order(alloc, bytes, ends) {
-        Ok(true) => Ok(()),
-        Ok(false) => check_in_any_order(alloc, bytes, ends),
-        Err(fault) => Err(fault),
+    if check_in_order(alloc, bytes, ends)? {
+        return Ok(());
     }
+    check_in_any_order(alloc, bytes, ends)
 }
 
 /// Checks that the bytes are an index, by the tests of the reader in their order.

@@ -76,6 +76,7 @@ fn children_end(bytes: &[u8], link: u32, start: usize) -> Option<usize>
 }
 
 /// Returns the node to which an offset leads, or `None` if its prefix or its children aren't whole.
+#[inline(always)]
 pub(crate) fn node_at(bytes: &[u8], ends: &TextEnds, link: u32) -> Option<Node>
     requires ends { AreTextEnds bytes.now ends.now }
     requires within { place_of link ≤ length bytes.now }

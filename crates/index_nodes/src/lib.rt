@@ -9,12 +9,14 @@
 //!   which that many are whole.
 //!
 //! The check keeps one such place for each number of values up to the greatest that is asked for.
-//! It keeps an entry for each level on which children are still to be visited. Nothing in it calls
-//! itself.
+//! Nothing in it calls itself.
 //!
-//! A writer leaves each node after all nodes below its older siblings. In a file in this order no
-//! place is visited twice, and the order shows it. A file in another order is visited once more,
-//! with one bit a byte for the places that were visited.
+//! A writer leaves each node after all nodes below it and below its older siblings. In a file in
+//! this order the places of nodes fall on a way from the root that takes the youngest child first,
+//! and show that no node is visited twice. The offsets that are still to be visited on this way are
+//! in a list of a fixed size. A file in another order, or with more of them, is visited once more
+//! the other way, with one bit a byte for the places that were visited and an entry for each level
+//! on which children are still to be visited.
 //!
 //! Only this crate reads an index's bytes. It uses `km_names` for numbers and names, the
 //! definitions of `index_format`, `memchr` for the search of NULs, and `thiserror` for the error
@@ -24,6 +26,7 @@
 mod check;
 mod fault;
 mod fields;
+mod in_order;
 mod node;
 mod nodes;
 mod place;

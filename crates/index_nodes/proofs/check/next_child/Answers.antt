@@ -19,7 +19,6 @@ returns-then-place-ne0 c =
           ∙ ap (λ o. cons_option o (links_at b (here + 4) m)) present_here,
       refl,
       omega arith,
-      refl,
     )
 
 pub loop-n-preserved : goal.loop-n-preserved
