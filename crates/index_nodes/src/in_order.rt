@@ -15,8 +15,8 @@ use km_names::be_u32_at;
 use std::alloc::{AllocError, Global};
 
 /// How many offsets of nodes that are still to be visited there is room for. The indexes of a
-/// kernel have some hundreds at a time.
-const ROOM: usize = 4096;
+/// kernel have fewer than a hundred at a time.
+const ROOM: usize = 1024;
 
 /// Puts the offsets of children that are present after the first `count` offsets, and returns how
 /// many there are then.

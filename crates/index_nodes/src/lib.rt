@@ -1,10 +1,10 @@
 //! The nodes of a module index, read in place. A file is checked once. From then on each node that
 //! is read is one step on a ledger that the caller gives.
 //!
-//! `Nodes` keeps the bytes of a file and, for every 256 of them, where the text that begins there
+//! `Nodes` keeps the bytes of a file and, for every 1024 of them, where the text that begins there
 //! ends. [`Nodes::adopt`] refuses a file exactly for the first fault that a reader meets. Its time
 //! is linear in the file, also if nodes overlap:
-//! - The end of a prefix is found within 256 bytes.
+//! - The end of a prefix is found within 1024 bytes.
 //! - One comparison decides whether a number of values is whole. It is with the last place from
 //!   which that many are whole.
 //!

@@ -9,7 +9,7 @@ use std::alloc::{AllocError, Global};
 use std::simd::prelude::*;
 
 /// The bytes of one block.
-const BLOCK: usize = 256;
+const BLOCK: usize = 1024;
 
 /// How many bytes are looked at together before a search. Nearly all prefixes are shorter.
 const NEAR: usize = 32;
