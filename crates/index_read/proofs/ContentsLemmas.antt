@@ -25,6 +25,8 @@ use Rattle.glob_match.specs.Decision.{is_match}
 use Rattle.glob_match.proofs.DecisionLemmas.{decides}
 use Rattle.index_read.proofs.ListingLemmas.{Chosen, none, taken, passed, bare, pairs_of}
 use Rattle.index_read.proofs.MatchLemmas.{values_in}
+use Rattle.index_read.specs.Firsts.{firsts_of}
+use Rattle.index_read.proofs.FirstLemmas.{first_of}
 
 abbrev Entry : Type 0
 Entry = List ℕ × List Value
@@ -173,3 +175,23 @@ unfolding contents
 all_matching b text ps c =
     chosen-matching b text (all_items b) ps c
     ∙ ap (λ es. values_matching es text) (sym (entries-from_sorted R (flat_map (entry_of b) (all_items b)) (all_rise b)))
+
+-- ---- the first values of all keys
+
+firsts_more : (b : List ℕ) (item : Item) (es : List Entry) → firsts_of (entry_of b item ++ es) ≡ first_of b item ++ firsts_of es
+firsts_more b item es =
+    elim (length (values b item.1) == 0) as (λ t. (length (values b item.1) == 0) ≡ t → firsts_of (cond t [] ((item.0, values b item.1) ∷ []) ++ es) ≡ first_of b item ++ firsts_of es) [
+      | true ↦ λ e. rw (no_length (values b item.1) e) refl
+      | false ↦ λ _. refl
+    ] refl
+
+firsts-items : (b : List ℕ) (is : List Item) → flat_map (first_of b) is ≡ firsts_of (flat_map (entry_of b) is)
+firsts-items b [] = refl
+firsts-items b (item ∷ is) =
+    ap (λ ps. first_of b item ++ ps) (firsts-items b is) ∙ sym (firsts_more b item (flat_map (entry_of b) is))
+
+pub all_firsts : (b : List ℕ) → flat_map (first_of b) (all_items b) ≡ firsts_of (entries (contents b))
+unfolding contents
+all_firsts b =
+    firsts-items b (all_items b)
+    ∙ ap firsts_of (sym (entries-from_sorted R (flat_map (entry_of b) (all_items b)) (all_rise b)))

@@ -10,4 +10,5 @@ pub mod MatchLemmas
 pub mod SortLemmas
 pub mod SelectLemmas
 pub mod PriorityLemmas
+pub mod FirstLemmas
 pub mod ContentsLemmas

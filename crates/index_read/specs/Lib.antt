@@ -4,3 +4,4 @@ pub mod Walks
 pub mod Fronts
 pub mod Contents
 pub mod Lookups
+pub mod Firsts

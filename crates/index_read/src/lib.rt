@@ -16,6 +16,7 @@
 //! `index_nodes`.
 #![tactic(auto)]
 
+mod first;
 mod front;
 mod index;
 pub mod plain;
@@ -24,6 +25,7 @@ mod room;
 mod value;
 mod walk;
 
+pub use first::{FirstValues, first_values};
 pub use index::Index;
 pub use index_nodes::{IndexFault, Place, Steps};
 pub use value::{Pair, Pairs, Value, Values};
