@@ -1,13 +1,15 @@
 -- The paths of a dependency line, taken off one by one.
-use Rattle.std.proofs.Common.{◌≡◌, ℕ, suc, ◌+◌, ◌<◌, ◌≤◌, Bool, true, false, cond, List, [], ◌∷◌, Option, Some, None, length, take, drop, map, refl, sym, ap, ◌∙◌, arith}
-use Rattle.std.specs.Prelude.{◌||◌, ◌==◌}
-use Rattle.std.specs.List.{slice_split, onto_first, before_first, after_first, position_or_len, list_any}
+use Rattle.std.proofs.Common.{◌≡◌, ℕ, suc, ◌+◌, ◌<◌, ◌≤◌, Bool, true, false, List, [], ◌∷◌, Option, Some, None, length, take, drop, map, refl, sym, ap, ◌∙◌, arith}
+use Rattle.std.specs.Prelude.{◌&&◌, ◌||◌, ◌==◌, slice_index}
+use Rattle.std.specs.List.{slice_split, onto_first, before_first, after_first, position_or_len, list_all, list_any}
+use Rattle.std.specs.Str.{bytes_eq}
 use Rattle.std.proofs.lemmas.Bool.{true≢false}
 use Rattle.std.proofs.lemmas.List.{length-drop}
 use Rattle.std.proofs.lemmas.List.Splits.{slice_split-cons_no, slice_split-cons_yes}
-use Rattle.mod_tree.specs.DependencyLine.{needed_paths, line_needs, line_path, is_dependency_line, own_path}
-use Rattle.dependency_lines.specs.Modules.{needed_names}
-use Rattle.dependency_lines.specs.Pairs.{IsAfterSpace}
+use Rattle.mod_tree.specs.DependencyLine.{is_line_path, are_needed, needed_paths, line_needs, is_dependency_line, own_path}
+use Rattle.mod_tree.proofs.PieceSteps.{needed-none}
+use Rattle.dependency_lines.specs.Modules.{is_line_of, needed_names}
+use Rattle.dependency_lines.specs.GoodPaths.{is_good, are_good_needs}
 use Rattle.km_names.specs.Path.{module_name}
 
 take_next : (n x : ℕ) (xs : List ℕ) → take (1 + n) (x ∷ xs) ≡ x ∷ take n xs
@@ -64,23 +66,6 @@ others-none p (x ∷ xs) h = by_test (p x) refl h (others-none p xs)
     by_test true e h ih = absurd (true≢false h)
     by_test false e h ih = ap needed_paths (slice_split-cons_no p x xs e) ∙ others x (slice_split p xs) ∙ ih h
 
--- the pieces of what may be left between spaces
-abbrev pub pieces_of : Option (List ℕ) → List (List ℕ)
-pieces_of None = []
-pieces_of (Some text) = slice_split (λ b. b == 32) text
-
-pub pieces-first : (text : List ℕ) (next : Option (List ℕ)) → IsAfterSpace text next → pieces_of next ≡ needed_paths (slice_split (λ b. b == 32) text)
-pieces-first text None h = sym (others-none (λ b. b == 32) text h)
-pieces-first text (Some after) h =
-    front (λ b. b == 32) after
-    ∙ ap (λ ys. before_first (λ b. b == 32) ys ∷ needed_paths (slice_split (λ b. b == 32) ys)) h.1
-    ∙ sym (others-next (λ b. b == 32) text h.0)
-
--- the first piece, and the others
-pub pieces-next : (text : List ℕ) (next : Option (List ℕ)) → IsAfterSpace text next → slice_split (λ b. b == 32) text ≡ before_first (λ b. b == 32) text ∷ pieces_of next
-pieces-next text next h =
-    front (λ b. b == 32) text ∙ ap (λ ps. before_first (λ b. b == 32) text ∷ ps) (sym (pieces-first text next h))
-
 -- a byte passes exactly where something is left after the first part
 before-yes : (p : ℕ → Bool) (x : ℕ) (xs : List ℕ) → p x ≡ true → before_first p (x ∷ xs) ≡ []
 before-yes p x xs e = simp e
@@ -108,18 +93,66 @@ pub needed-is : (line : List ℕ) → needed_names line ≡ map module_name (nee
 unfolding line_needs
 needed-is line = refl
 
-pub line-some : (line path : List ℕ) → Some path ≡ line_path line → (is_dependency_line line ≡ true) × (path ≡ own_path line)
-unfolding line_path
-line-some line path h = go (is_dependency_line line) refl h
-  where
-    go : (b : Bool) → is_dependency_line line ≡ b → Some path ≡ cond b (Some (own_path line)) None → (is_dependency_line line ≡ true) × (path ≡ own_path line)
-    go true e h = (e, cc)
-    go false e h = absurd (let bad = h in cc)
+-- ---- paths that are needed, a path more at a time
 
-pub line-none : (line : List ℕ) → None ≡ line_path line → is_dependency_line line ≡ false
-unfolding line_path
-line-none line h = go (is_dependency_line line) refl h
+record Cut (p : ℕ → Bool) (xs : List ℕ) : Type 0 where
+  pub more : List (List ℕ)
+  pub front : slice_split p xs ≡ before_first p xs ∷ more
+  pub rest : slice_split p (drop (length (before_first p xs)) xs) ≡ [] ∷ more
+
+-- the first piece, and the others, which also follow an empty piece where the text begins with what
+-- parts it
+cut : (p : ℕ → Bool) (xs : List ℕ) → Cut p xs
+cut p [] = record { more = []; front = refl; rest = refl }
+cut p (x ∷ xs) = by_test (p x) refl (cut p xs)
   where
-    go : (b : Bool) → is_dependency_line line ≡ b → None ≡ cond b (Some (own_path line)) None → is_dependency_line line ≡ false
-    go true e h = absurd (let bad = h in cc)
-    go false e h = e
+    by_test : (b : Bool) → p x ≡ b → Cut p xs → Cut p (x ∷ xs)
+    by_test true e c = record { more = slice_split p xs; front = simp e; rest = simp e }
+    by_test false e c =
+        let f = before-no p x xs e in
+        record {
+          more = c.more;
+          front = slice_split-cons_no p x xs e ∙ ap (onto_first x) c.front ∙ ap (λ piece. piece ∷ c.more) (sym f);
+          rest = ap (λ piece. slice_split p (drop (length piece) (x ∷ xs))) f ∙ c.rest;
+        }
+
+swap : (a b c d : Bool) → ((a && b) && (c && d)) ≡ ((a && c) && (b && d))
+swap true true c d = refl
+swap true false true d = refl
+swap true false false d = refl
+swap false b c d = refl
+
+module _ (has : List ℕ → Bool) where
+  good_next : (xs : List ℕ) → are_good_needs has (32 ∷ xs) ≡ (is_good has (before_first (λ b. b == 32) xs) && are_good_needs has (drop (length (before_first (λ b. b == 32) xs)) xs))
+  good_next xs =
+      let c = cut (λ b. b == 32) xs in
+      let path = before_first (λ b. b == 32) xs in
+      ap (λ ps. list_all is_line_path ps && list_all has (map module_name ps)) c.front
+      ∙ swap (is_line_path path) (list_all is_line_path c.more) (has (module_name path)) (list_all has (map module_name c.more))
+      ∙ sym (ap (λ ps. is_good has path && (are_needed ps && list_all has (map module_name (needed_paths ps)))) c.rest)
+
+  -- of a text that begins with a space, where these are the parts of it
+  pub good-parts : (text paths path after : List ℕ) → 0 < length text → slice_index text 0 ≡ 32 → paths ≡ drop 1 text → path ≡ before_first (λ b. b == 32) paths → after ≡ drop (length path) paths → are_good_needs has text ≡ (is_good has path && are_good_needs has after)
+  good-parts [] paths path after h s p q r = absurd (omega arith)
+  good-parts (x ∷ xs) paths path after h s p q r = rw (s, r, q, p) (good_next xs)
+
+  -- what doesn't begin with a space has no path after one
+  pub good-none : (text : List ℕ) → 0 < length text → (slice_index text 0 == 32) ≡ false → are_good_needs has text ≡ false
+  good-none text h e = ap (λ b. b && list_all has (map module_name (needed_paths (slice_split (λ b. b == 32) text)))) (needed-none text h e)
+
+  pub good-nothing : (text : List ℕ) → length text ≡ 0 → are_good_needs has text ≡ true
+  good-nothing [] e = refl
+  good-nothing (x ∷ xs) e = absurd (omega (arith, e))
+
+  parts : (a b c d e : Bool) → ((a && (b && c)) && (d && e)) ≡ ((a && b) && (d && (c && e)))
+  parts true true true d e = refl
+  parts true true false true e = refl
+  parts true true false false e = refl
+  parts true false c d e = refl
+  parts false b c d e = refl
+
+  -- a line by what comes before its first colon, and what comes after it
+  pub line-parts : (name line : List ℕ) → is_line_of has name line ≡ ((list_any (λ b. b == 58) line && is_line_path (own_path line)) && (bytes_eq (module_name (own_path line)) name && are_good_needs has (after_first (λ b. b == 58) line)))
+  unfolding is_dependency_line line_needs
+  line-parts name line =
+      parts (list_any (λ b. b == 58) line) (is_line_path (own_path line)) (are_needed (slice_split (λ b. b == 32) (after_first (λ b. b == 58) line))) (bytes_eq (module_name (own_path line)) name) (list_all has (needed_names line))

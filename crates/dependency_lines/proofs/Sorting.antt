@@ -1,37 +1,35 @@
--- References to pairs that were sorted by priority, as modules by their numbers.
+-- Modules that were sorted by number.
 use Rattle.std.proofs.Common.{◌≡◌, refl, sym, ap, ◌∙◌, ℕ, zero, suc, ◌+◌, ◌<◌, Bool, true, false, cond, List, [], ◌∷◌, length, filter, get_or, arith}
-use Rattle.std.specs.Borrow.{Bor}
 use Rattle.std.specs.List.Sorted.{IsSortedByKey, IsStableByKey, ties}
 use Rattle.std.specs.Ordering.{nat_cmp, is_lt}
 use Rattle.index_format.specs.Listing.{KeyValue}
-use Rattle.index_read.specs.declared.value.Pair.{Pair}
-use Rattle.index_read.specs.Values.{pair_of}
+use Rattle.dependency_lines.specs.declared.listed.Line.{Line}
 use Rattle.dependency_lines.specs.Modules.{by_number}
-use Rattle.dependency_lines.specs.Tables.{shown}
+use Rattle.dependency_lines.specs.Tables.{module_of, shown}
 use Rattle.dependency_lines.proofs.ByNumber.{by_number-is}
 
-shown-get : (ps : List (Bor Pair)) (i : ℕ) (d : KeyValue) (e : Bor Pair) → i < length ps → get_or (shown ps) i d ≡ pair_of (get_or ps i e).now
+pub shown-get : (ls : List Line) (i : ℕ) (d : KeyValue) (e : Line) → i < length ls → get_or (shown ls) i d ≡ module_of (get_or ls i e)
 shown-get [] i d e low = absurd (omega (arith, low))
-shown-get (p ∷ ps) zero d e low = refl
-shown-get (p ∷ ps) (suc i) d e low = shown-get ps i d e (omega (arith, low))
+shown-get (l ∷ ls) zero d e low = refl
+shown-get (l ∷ ls) (suc i) d e low = shown-get ls i d e (omega (arith, low))
 
-pub shown-length : (ps : List (Bor Pair)) → length (shown ps) ≡ length ps
+pub shown-length : (ls : List Line) → length (shown ls) ≡ length ls
 shown-length [] = refl
-shown-length (p ∷ ps) = ap suc (shown-length ps)
+shown-length (l ∷ ls) = ap suc (shown-length ls)
 
-shown-filter : (f : KeyValue → Bool) (ps : List (Bor Pair)) → filter f (shown ps) ≡ shown (filter (λ p. f (pair_of p.now)) ps)
+shown-filter : (f : KeyValue → Bool) (ls : List Line) → filter f (shown ls) ≡ shown (filter (λ l. f (module_of l)) ls)
 shown-filter f [] = refl
-shown-filter f (p ∷ ps) =
-    elim (f (pair_of p.now)) as (λ t. cond t (pair_of p.now ∷ filter f (shown ps)) (filter f (shown ps)) ≡ shown (cond t (p ∷ filter (λ p. f (pair_of p.now)) ps) (filter (λ p. f (pair_of p.now)) ps))) [
-      | true ↦ ap (λ us. pair_of p.now ∷ us) (shown-filter f ps)
-      | false ↦ shown-filter f ps
+shown-filter f (l ∷ ls) =
+    elim (f (module_of l)) as (λ t. cond t (module_of l ∷ filter f (shown ls)) (filter f (shown ls)) ≡ shown (cond t (l ∷ filter (λ l. f (module_of l)) ls) (filter (λ l. f (module_of l)) ls))) [
+      | true ↦ ap (λ us. module_of l ∷ us) (shown-filter f ls)
+      | false ↦ shown-filter f ls
     ]
 
--- a pair in code with this number
-abbrev with_number : KeyValue → Bor Pair
-with_number m = record { ref_ptr = (0, 0); now = record { key = m.0; value = record { priority = m.1.0; text = m.1.1 } } }
+-- a line of this number
+abbrev with_number : KeyValue → Line
+with_number m = record { name = record { ref_ptr = (0, 0); now = m.0 }; number = m.1.0; text = record { ref_ptr = (0, 0); now = m.1.1 } }
 
-pub sorted-is : (before after : List (Bor Pair)) → IsSortedByKey (λ (p : Bor Pair). p.now.value.priority) nat_cmp after → IsStableByKey (λ (p : Bor Pair). p.now.value.priority) nat_cmp before after → shown after ≡ by_number (shown before)
+pub sorted-is : (before after : List Line) → IsSortedByKey (λ (l : Line). l.number) nat_cmp after → IsStableByKey (λ (l : Line). l.number) nat_cmp before after → shown after ≡ by_number (shown before)
 sorted-is before after up still =
     by_number-is (shown before) (shown after)
     (λ k d low high.

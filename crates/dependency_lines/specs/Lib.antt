@@ -1,3 +1,4 @@
+pub mod GoodPaths
 pub mod Modules
-pub mod Pairs
+pub mod Spaces
 pub mod Tables

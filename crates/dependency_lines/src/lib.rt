@@ -11,13 +11,15 @@
 //! [`well_formed`] tests the line of one name in the index itself.
 //!
 //! The crate builds on `mod_tree` for what a dependency line is, on `index_read` for the values of
-//! an index, on `name_table` for the places of names, and on `memchr` for the names in paths.
+//! an index, on `name_table` for the places of names, and on `memchr` for the names in paths. Most
+//! paths are found among those that were tested before.
 #![tactic(auto)]
 
 mod fault;
+mod good_paths;
 mod line;
+mod listed;
 mod modules;
-mod pairs;
 mod path_name;
 mod places;
 

@@ -1,18 +1,23 @@
 // Dependency lines by what they name.
-ghost use Rattle.std.specs.Prelude.{◌≡◌, ◌==◌, ◌⊎◌, ℕ, List, Bool, Some, None, IfOk, IfErr, OnOk, option_copied, option_map};
-ghost use Rattle.std.specs.List.{before_first, list_all};
+ghost use Rattle.std.specs.Prelude.{◌≡◌, ◌==◌, ◌&&◌, ◌⊎◌, ℕ, List, Bool, Some, None, IfOk, IfErr, OnOk, drop, length, option_copied, option_map};
+ghost use Rattle.std.specs.List.{before_first, list_any};
 ghost use Rattle.std.specs.Str.{bytes_eq};
 ghost use Rattle.km_names.specs.Path.{module_name as module_name_of};
 ghost use Rattle.index_read.specs.Contents.{contents};
-ghost use Rattle.dependency_lines.specs.Modules.{needed_names as needed_names_of, is_line_of, is_well_formed, bad_among};
-ghost use Rattle.dependency_lines.specs.Pairs.{IsAfterSpace};
+ghost use Rattle.mod_tree.specs.DependencyLine.{is_line_path as can_be_path, own_path};
+ghost use Rattle.dependency_lines.specs.GoodPaths.{AreGood, are_good_needs, is_good as is_good_path};
+ghost use Rattle.dependency_lines.specs.Modules.{is_line_of, is_well_formed, bad_among};
+ghost use Rattle.dependency_lines.specs.Spaces.{IsAfterSpace};
 ghost use Rattle.dependency_lines.specs.Tables.{shown};
 
 use crate::fault::LineFault;
+use crate::good_paths::{GoodPaths, slot_of};
+use crate::listed::Line;
 use crate::path_name::{is_plain, stem, write_name};
-use index_read::{Index, Pair, plain};
+use index_read::{Index, plain};
 use km_names::{Name, split_at_byte};
-use mod_tree::line_path;
+use memchr::memchr;
+use mod_tree::is_line_path;
 use name_lookup::Indexes;
 use std::alloc::{AllocError, Global};
 
@@ -43,32 +48,29 @@ pub fn well_formed(alloc: Global, name: &Name, indexes: &Indexes) -> Result<bool
 {
     match plain::first_text(&indexes.dep, name.as_bytes()) {
         Some(line) => {
+            let mut paths = GoodPaths::without_slots(alloc);
             let mut buffer = Vec::new(alloc);
-            is_line(&mut buffer, &indexes.dep, name.as_bytes(), line)
+            is_line(&mut paths, &mut buffer, &indexes.dep, name.as_bytes(), line)
         }
         None => Ok(false),
     }
 }
 
-/// Tests that each pair's value is the dependency line of its module.
-pub(crate) fn check_lines<K: Known>(
+/// Tests that each module has a dependency line of its own.
+pub(crate) fn check_lines<'a, K: Known>(
     alloc: Global,
     known: &K,
-    pairs: &[&Pair],
+    lines: &[Line<'a>],
 ) -> Result<(), LineFault>
-    ensures passed { OnOk result (bad_among (K.has known.now) (shown pairs.now) ≡ None) }
-    ensures err { IfErr result (λ fault. (fault ≡ LineFault.Memory) ⊎ (option_map LineFault.BadLine (bad_among (K.has known.now) (shown pairs.now)) ≡ Some fault)) }
+    ensures passed { OnOk result (bad_among (K.has known.now) (shown lines.now) ≡ None) }
+    ensures err { IfErr result (λ fault. (fault ≡ LineFault.Memory) ⊎ (option_map LineFault.BadLine (bad_among (K.has known.now) (shown lines.now)) ≡ Some fault)) }
 {
+    let mut paths = GoodPaths::new(alloc)?;
     let mut buffer = Vec::new(alloc);
-    for pair in pairs {
-        if !is_line(
-            &mut buffer,
-            known,
-            pair.key.as_bytes(),
-            pair.value.text.as_bytes(),
-        )? {
+    for line in lines {
+        if !is_line(&mut paths, &mut buffer, known, line.name, line.text)? {
             return Err(LineFault::BadLine {
-                name: Name::from_slice(alloc, pair.key.as_bytes())?,
+                name: Name::from_slice(alloc, line.name)?,
             });
         }
     }
@@ -76,24 +78,32 @@ pub(crate) fn check_lines<K: Known>(
 }
 
 /// Returns whether a text is the dependency line of the module of this name, and each module that
-/// it needs is known. The names of its modules are written to a buffer, one after the other.
-fn is_line<K: Known>(
+/// it needs is known. Names that aren't as in their paths are written to a buffer, one after the
+/// other.
+fn is_line<'a, K: Known>(
+    paths: &mut GoodPaths<'a>,
     buffer: &mut Vec<u8>,
     known: &K,
     name: &[u8],
-    line: &[u8],
+    line: &'a [u8],
 ) -> Result<bool, AllocError>
-    ensures { IfOk result (λ good. good ≡ is_line_of (K.has known.now) name.now line.now) }
+    requires { AreGood (K.has known.now) paths.old.slots.items }
+    ensures good { IfOk result (λ good. good ≡ is_line_of (K.has known.now) name.now line.now) }
+    ensures kept { OnOk result (AreGood (K.has known.now) paths.new.slots.items) }
 {
-    match line_path(line) {
-        Some(path) => {
-            if !names_module(buffer, path, name)? {
-                return Ok(false);
-            }
-            all_known(buffer, known, line)
-        }
-        None => Ok(false),
+    let (own, needs) = split_at_byte(line, b':');
+    if !is_front(line, own) || !names_module(buffer, own, name)? {
+        return Ok(false);
     }
+    are_good(paths, buffer, known, needs)
+}
+
+/// Returns whether what a line has before its first `:` is a path and isn't the whole line.
+fn is_front(line: &[u8], own: &[u8]) -> bool
+    requires { own.now ≡ own_path line.now }
+    ensures { result ≡ (list_any (λ b. b == 58) line.now && can_be_path own.now) }
+{
+    own.len() < line.len() && is_line_path(own)
 }
 
 /// Returns whether the module at a path has this name.
@@ -121,19 +131,63 @@ fn is_known<K: Known>(buffer: &mut Vec<u8>, known: &K, path: &[u8]) -> Result<bo
     Ok(known.has(buffer.as_slice()))
 }
 
-/// Returns whether each module that a dependency line needs is known.
-fn all_known<K: Known>(buffer: &mut Vec<u8>, known: &K, line: &[u8]) -> Result<bool, AllocError>
-    ensures { IfOk result (λ all. all ≡ list_all (K.has known.now) (needed_names_of line.now)) }
+/// Returns whether what follows the `:` of a line is a sequence of paths of known modules, maybe
+/// none, with a space before each.
+fn are_good<'a, K: Known>(
+    paths: &mut GoodPaths<'a>,
+    buffer: &mut Vec<u8>,
+    known: &K,
+    needs: &'a [u8],
+) -> Result<bool, AllocError>
+    requires { AreGood (K.has known.now) paths.old.slots.items }
+    ensures good { IfOk result (λ good. good ≡ are_good_needs (K.has known.now) needs.now) }
+    ensures kept { OnOk result (AreGood (K.has known.now) paths.new.slots.items) }
 {
-    let mut next = after_space(split_at_byte(line, b':').1);
-    while let Some(paths) = next {
-        let (path, others) = split_at_space(paths);
-        if !is_known(buffer, known, path)? {
+    let mut rest = needs;
+    while !rest.is_empty() {
+        if rest[0] != b' ' {
             return Ok(false);
         }
-        next = others;
+        let (path, after) = up_to_space(&rest[1..]);
+        if !is_good(paths, buffer, known, path)? {
+            return Ok(false);
+        }
+        rest = after;
     }
     Ok(true)
+}
+
+/// Returns whether a text is the path of a known module.
+fn is_good<'a, K: Known>(
+    paths: &mut GoodPaths<'a>,
+    buffer: &mut Vec<u8>,
+    known: &K,
+    path: &'a [u8],
+) -> Result<bool, AllocError>
+    requires { AreGood (K.has known.now) paths.old.slots.items }
+    ensures good { IfOk result (λ good. good ≡ is_good_path (K.has known.now) path.now) }
+    ensures kept { OnOk result (AreGood (K.has known.now) paths.new.slots.items) }
+{
+    let slot = slot_of(path);
+    if paths.has(slot, path) {
+        return Ok(true);
+    }
+    if !is_line_path(path) || !is_known(buffer, known, path)? {
+        return Ok(false);
+    }
+    paths.put(slot, path);
+    Ok(true)
+}
+
+/// Returns the bytes before the first space of a text, and the rest, which begins with it.
+fn up_to_space(text: &[u8]) -> (&[u8], &[u8])
+    ensures before { result.0.now ≡ before_first (λ b. b == 32) text.now }
+    ensures rest { result.1.now ≡ drop (length result.0.now) text.now }
+{
+    match memchr(b' ', text) {
+        Some(place) => text.split_at(place),
+        None => (text, &text[text.len()..]),
+    }
 }
 
 /// Returns what follows the first space of a text, if there is one.

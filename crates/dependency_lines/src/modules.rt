@@ -1,17 +1,17 @@
 // The modules of modules.dep.bin, in the order of the tree.
 ghost use Rattle.std.specs.Prelude.{◌≡◌, ◌<◌, ◌⊎◌, Some, None, length, IfOk, IfErr, OnOk, option_map};
-ghost use Rattle.index_format.specs.Map.{KeyValues, values_of};
-ghost use Rattle.index_format.specs.Listing.{IsListing};
-ghost use Rattle.index_read.specs.Values.{shown_pairs};
+ghost use Rattle.std.specs.FinMap.{entries};
+ghost use Rattle.index_format.specs.Map.{KeyValues};
+ghost use Rattle.index_read.specs.Firsts.{firsts_of};
 ghost use Rattle.name_table.specs.NameTable.{place_of as place_in_table};
 ghost use Rattle.dependency_lines.specs.Modules.{bad_name, by_number, line_at, line_places, modules_of, name_at, path_at, place_of, places_of};
 ghost use Rattle.dependency_lines.specs.Tables.{shown, IsNamed};
 
 use crate::fault::LineFault;
 use crate::line::{Known, check_lines};
-use crate::pairs::first_pairs;
+use crate::listed::{Line, lines_of};
 use crate::places::{push_needed, push_place};
-use index_read::{Pair, Pairs};
+use index_read::FirstValues;
 use km_names::{Name, split_at_byte};
 use name_table::NameTable;
 use std::alloc::{AllocError, Global};
@@ -22,7 +22,7 @@ use std::marker::Model;
 /// dependency line.
 #[derive(Drop)]
 pub struct Modules<'a> {
-    pairs: Vec<&'a Pair>,
+    lines: Vec<Line<'a>>,
     names: NameTable<'a>,
 }
 
@@ -33,27 +33,26 @@ impl<'a> Model for Modules<'a> {
 
     ghost Value = { List KeyValue };
 
-    ghost view = { λ m. shown m.pairs.items };
+    ghost view = { λ m. shown m.lines.items };
 
-    ghost invariant = { λ m. IsNamed m.names (shown m.pairs.items) };
+    ghost invariant = { λ m. IsNamed m.names (shown m.lines.items) };
 }
 
 impl<'a> Modules<'a> {
-    /// Returns the modules of the index that these pairs list. Of a name with several values the
-    /// first one counts. modules.dep(5).
+    /// Returns the modules of the index that has these first values. modules.dep(5).
     ///
     /// # Errors
     ///
     /// `BadLine` exactly if a value isn't the dependency line of its module over names that the
     /// index has. Or `Memory`.
-    pub fn new(alloc: Global, pairs: &'a Pairs) -> Result<Modules<'a>, LineFault>
-        ensures modules { IfOk result (λ modules. (dep : KeyValues) → IsListing (values_of dep) (shown_pairs pairs.now) → modules ≡ modules_of dep) }
-        ensures passed { OnOk result ((dep : KeyValues) → IsListing (values_of dep) (shown_pairs pairs.now) → bad_name dep ≡ None) }
-        ensures err { IfErr result (λ fault. (fault ≡ LineFault.Memory) ⊎ ((dep : KeyValues) → IsListing (values_of dep) (shown_pairs pairs.now) → option_map LineFault.BadLine (bad_name dep) ≡ Some fault)) }
+    pub fn new(alloc: Global, values: &'a FirstValues<'a>) -> Result<Modules<'a>, LineFault>
+        ensures modules { IfOk result (λ modules. (dep : KeyValues) → values.now ≡ firsts_of (entries dep) → modules ≡ modules_of dep) }
+        ensures passed { OnOk result ((dep : KeyValues) → values.now ≡ firsts_of (entries dep) → bad_name dep ≡ None) }
+        ensures err { IfErr result (λ fault. (fault ≡ LineFault.Memory) ⊎ ((dep : KeyValues) → values.now ≡ firsts_of (entries dep) → option_map LineFault.BadLine (bad_name dep) ≡ Some fault)) }
     {
-        let firsts = first_pairs(alloc, pairs)?;
-        let modules = numbered(alloc, &firsts)?;
-        check_lines(alloc, &modules, &firsts)?;
+        let lines = lines_of(alloc, values)?;
+        let modules = numbered(alloc, &lines)?;
+        check_lines(alloc, &modules, &lines)?;
         Ok(modules)
     }
 
@@ -61,7 +60,7 @@ impl<'a> Modules<'a> {
     pub fn len(&self) -> usize
         ensures { result ≡ length self.now }
     {
-        self.pairs.len()
+        self.lines.len()
     }
 
     /// Returns the place of the module of this name, if there is one.
@@ -76,7 +75,7 @@ impl<'a> Modules<'a> {
         requires { place < length self.now }
         ensures { result.now ≡ name_at self.now place }
     {
-        self.pairs[place].key.as_bytes()
+        self.lines[place].name
     }
 
     /// Returns the dependency line of the module at a place.
@@ -84,7 +83,7 @@ impl<'a> Modules<'a> {
         requires { place < length self.now }
         ensures { result.now ≡ line_at self.now place }
     {
-        self.pairs[place].value.text.as_bytes()
+        self.lines[place].text
     }
 
     /// Returns the path of the module at a place, the first of its dependency line.
@@ -118,29 +117,29 @@ impl<'a> Modules<'a> {
     }
 }
 
-/// Returns the modules of pairs that have each name once.
-fn numbered<'a>(alloc: Global, pairs: &[&'a Pair]) -> Result<Modules<'a>, AllocError>
-    ensures { IfOk result (λ modules. modules ≡ by_number (shown pairs.now)) }
+/// Returns modules by their numbers.
+fn numbered<'a>(alloc: Global, lines: &[Line<'a>]) -> Result<Modules<'a>, AllocError>
+    ensures { IfOk result (λ modules. modules ≡ by_number (shown lines.now)) }
 {
-    let mut sorted = Vec::from_slice(alloc, pairs)?;
-    sorted.sort_by_key(|pair| pair.value.priority)?;
+    let mut sorted = Vec::from_slice(alloc, lines)?;
+    sorted.sort_by_key(|line| line.number)?;
     let names = table_of(alloc, &sorted)?;
     Ok(Modules {
-        pairs: sorted,
+        lines: sorted,
         names,
     })
 }
 
-/// Returns the table of the keys of pairs.
-fn table_of<'a>(alloc: Global, pairs: &[&'a Pair]) -> Result<NameTable<'a>, AllocError>
-    ensures { IfOk result (λ names. IsNamed names (shown pairs.now)) }
+/// Returns the table of the names of modules.
+fn table_of<'a>(alloc: Global, lines: &[Line<'a>]) -> Result<NameTable<'a>, AllocError>
+    ensures { IfOk result (λ names. IsNamed names (shown lines.now)) }
 {
-    if pairs.len() >= u32::MAX as usize {
+    if lines.len() >= u32::MAX as usize {
         return Err(AllocError);
     }
-    let mut names = NameTable::with_capacity(alloc, pairs.len())?;
-    for pair in pairs {
-        names.push(Some(pair.key.as_bytes()))?;
+    let mut names = NameTable::with_capacity(alloc, lines.len())?;
+    for line in lines {
+        names.push(Some(line.name))?;
     }
     Ok(names)
 }

@@ -1,6 +1,6 @@
 -- Where the paths of a dependency line end: at the first byte that parts paths or ends them.
-use Rattle.std.proofs.Common.{◌≡◌, ◌≢◌, ℕ, suc, ◌+◌, ◌<◌, Bool, true, false, cond, List, [], ◌∷◌, Some, None, length, take, drop, refl, sym, ap, ◌∙◌, arith, inl, inr}
-use Rattle.std.specs.Prelude.{◌&&◌, ◌||◌, ◌⊎◌, ◌==◌, not, slice_index}
+use Rattle.std.proofs.Common.{◌≡◌, ◌≢◌, ℕ, zero, suc, Option, get_or, ◌+◌, ◌<◌, Bool, true, false, cond, List, [], ◌∷◌, Some, None, length, take, drop, refl, sym, ap, ◌∙◌, arith, inl, inr}
+use Rattle.std.specs.Prelude.{◌&&◌, ◌||◌, ◌⊎◌, ◌==◌, is_some, not, slice_index}
 use Rattle.std.specs.List.{before_first, after_first, list_any, position_or_len, slice_split}
 use Rattle.std.proofs.Math.Bool.{and-true, and-false}
 use Rattle.std.proofs.lemmas.Bool.{true≢false, eqb-true, eq-eqb, false_from_ne_true}
@@ -170,3 +170,25 @@ module _ (line own after : List ℕ) (first : own ≡ before_first is_separator 
           ∙ ap (λ b. cond (b && are_needed (pieces_after line)) (Some (own_path line)) None) (path_clean (own_path line) none)
           ∙ ap (λ ys. cond (is_module_path ys && are_needed (pieces_after line)) (Some ys) None) path
           ∙ ap (λ ys. cond (is_module_path own && are_needed (slice_split (λ b. b == 32) ys)) (Some own) None) (sym (ap (drop 1) e))
+
+-- ---- whether there is a separator
+
+abbrev none_at : List ℕ → Type 0
+none_at text = (k : ℕ) → k < length text → is_separator (get_or text k 0) ≡ false
+
+no-separator : (text : List ℕ) → none_at text → list_any is_separator text ≡ false
+no-separator [] h = refl
+no-separator (x ∷ xs) h = λ i. h 0 (omega arith) i || no-separator xs (λ k l. h (suc k) (omega (arith, l))) i
+
+one-separator : (text : List ℕ) (k : ℕ) → k < length text → is_separator (get_or text k 0) ≡ true → list_any is_separator text ≡ true
+one-separator [] k l h = absurd (omega (arith, l))
+one-separator (x ∷ xs) zero l h = ap (λ b. b || list_any is_separator xs) h
+one-separator (x ∷ xs) (suc k) l h = ap (λ b. is_separator x || b) (one-separator xs k (omega (arith, l)) h) ∙ or-true (is_separator x)
+  where
+    or-true : (b : Bool) → b || true ≡ true
+    or-true true = refl
+    or-true false = refl
+
+pub separator-any : (text : List ℕ) (found : Option ℕ) → IsFirstByte (is_byte3 32 58 10) text found → is_some found ≡ list_any is_separator text
+separator-any text (Some k) h = sym (one-separator text k (omega (arith, h.0.high)) h.1)
+separator-any text None h = sym (no-separator text (λ k l. false_from_ne_true _ (h k (omega arith) l)))

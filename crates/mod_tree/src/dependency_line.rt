@@ -1,6 +1,6 @@
 ghost use Rattle.std.specs.Prelude.{◌≡◌, ◌==◌, drop, length, option_copied};
-ghost use Rattle.std.specs.List.{before_first, slice_split};
-ghost use Rattle.mod_tree.specs.DependencyLine.{is_separator as is_parting, are_needed, line_path as path_of_line};
+ghost use Rattle.std.specs.List.{before_first, list_any, slice_split};
+ghost use Rattle.mod_tree.specs.DependencyLine.{is_separator as is_parting, is_line_path as can_be_path, are_needed, line_path as path_of_line};
 
 use crate::tree::is_module_path;
 use memchr::memchr3;
@@ -22,6 +22,21 @@ pub fn line_path(line: &[u8]) -> Option<&[u8]>
     } else {
         None
     }
+}
+
+/// Returns whether a text can be a path of a dependency line: it is the path of a module, without
+/// spaces, `:` and line ends. modules.dep(5).
+pub fn is_line_path(path: &[u8]) -> bool
+    ensures { result ≡ can_be_path path.now }
+{
+    is_module_path(path) && !has_separator(path)
+}
+
+/// Returns whether a byte of a text separates paths of a line, or ends it.
+fn has_separator(text: &[u8]) -> bool
+    ensures { result ≡ list_any is_parting text.now }
+{
+    memchr3(b' ', b':', b'\n', text).is_some()
 }
 
 /// Returns the bytes before the first separator, and the rest, which begins with it.

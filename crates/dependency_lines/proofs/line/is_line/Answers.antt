@@ -1,38 +1,41 @@
-use Rattle.std.proofs.Common.{◌≡◌, true, false, ap, sym, ◌∙◌, subst}
+use Rattle.std.proofs.Common.{◌≡◌, ◌==◌, ◌∙◌, sym, ap, subst, true, false}
 use Rattle.std.specs.Prelude.{◌&&◌, IfOk}
-use Rattle.std.specs.List.{list_all}
+use Rattle.std.specs.List.{after_first, list_any}
 use Rattle.std.specs.Str.{bytes_eq}
+use Rattle.std.proofs.Math.Bool.{and-false}
 use Rattle.km_names.specs.Path.{module_name}
-use Rattle.mod_tree.specs.DependencyLine.{own_path}
-use Rattle.dependency_lines.specs.Modules.{needed_names}
-use Rattle.dependency_lines.proofs.Lines.{line-some, line-none}
+use Rattle.mod_tree.specs.DependencyLine.{is_line_path, own_path}
+use Rattle.dependency_lines.specs.GoodPaths.{are_good_needs}
+use Rattle.dependency_lines.proofs.Lines.{line-parts}
+use Rattle.dependency_lines.proofs.line.is_line.Goals.{then-not-is_front-via-then-not-is_front, then-not-is_front-via-else-not-is_front+in_ok-names_module+then-not-branch}
 use Rattle.dependency_lines.proofs.line.is_line.Goals as goal
 
-pub returns-then-not-branch : goal.returns-then-not-branch
-returns-then-not-branch g c =
+pub returns-then-not-is_front-clause-good : goal.returns-then-not-is_front-clause-good
+returns-then-not-is_front-clause-good g c =
+    let has = g.K.Known.has c.args.known.now in
     let line = c.args.line.now in
     let name = c.args.name.now in
-    let rest = list_all (g.K.Known.has c.args.known.now) (needed_names line) in
-    let w = line-some line c.in-Some.path.now c.in-Some.ensures in
-    let same : bytes_eq (module_name c.in-Some.path.now) c.args.name.now ≡ false = sym c.in_ok-names_module-in-Some.ensures ∙ c.if-not-branch.true in
-    sym (ap (λ b. b && (bytes_eq (module_name (own_path line)) name && rest)) w.0
-    ∙ ap (λ p. bytes_eq (module_name p) name && rest) (sym w.1)
-    ∙ ap (λ b. b && rest) same)
+    let before = c.split_at_byte.ensures.before in
+    let needs = are_good_needs has (after_first (λ b. b == 58) line) in
+    elim c.then-not-is_front.branch [
+      | then-not-is_front-via-then-not-is_front w ↦
+          let front : (list_any (λ b. b == 58) line && is_line_path (own_path line)) ≡ false = ap (λ p. list_any (λ b. b == 58) line && is_line_path p) (sym before) ∙ sym c.is_front.ensures ∙ w.if-not-is_front.true in
+          sym (line-parts has name line ∙ ap (λ b. b && (bytes_eq (module_name (own_path line)) name && needs)) front)
+      | then-not-is_front-via-else-not-is_front+in_ok-names_module+then-not-branch w ↦
+          let same : bytes_eq (module_name (own_path line)) name ≡ false = ap (λ p. bytes_eq (module_name p) name) (sym before) ∙ sym w.in_ok-names_module.ensures ∙ w.if-not-branch.true in
+          sym (line-parts has name line ∙ ap (λ b. (list_any (λ b. b == 58) line && is_line_path (own_path line)) && (b && needs)) same ∙ and-false (list_any (λ b. b == 58) line && is_line_path (own_path line)))
+    ]
 
-pub returns-else-not-branch : goal.returns-else-not-branch
-returns-else-not-branch g c =
+pub returns-clause-good : goal.returns-clause-good
+returns-clause-good g c =
+    let has = g.K.Known.has c.args.known.now in
     let line = c.args.line.now in
     let name = c.args.name.now in
-    let rest = list_all (g.K.Known.has c.args.known.now) (needed_names line) in
-    let w = line-some line c.in-Some.path.now c.in-Some.ensures in
-    let same : bytes_eq (module_name c.in-Some.path.now) c.args.name.now ≡ true = sym c.in_ok-names_module-in-Some.ensures ∙ c.if-not-branch.false in
-    subst (λ b. IfOk c.all_known.result (λ good. good ≡ b))
-    (sym (ap (λ b. b && (bytes_eq (module_name (own_path line)) name && rest)) w.0
-    ∙ ap (λ p. bytes_eq (module_name p) name && rest) (sym w.1)
-    ∙ ap (λ b. b && rest) same)) c.all_known.ensures
-
-pub returns-in-None : goal.returns-in-None
-returns-in-None g c =
-    let line = c.args.line.now in
-    let name = c.args.name.now in
-    sym (ap (λ b. b && (bytes_eq (module_name (own_path line)) name && list_all (g.K.Known.has c.args.known.now) (needed_names line))) (line-none line c.in-None.ensures))
+    let before = c.split_at_byte.ensures.before in
+    let needs = are_good_needs has (after_first (λ b. b == 58) line) in
+    let front : (list_any (λ b. b == 58) line && is_line_path (own_path line)) ≡ true = ap (λ p. list_any (λ b. b == 58) line && is_line_path p) (sym before) ∙ sym c.is_front.ensures ∙ c.if-not-is_front.false in
+    let same : bytes_eq (module_name (own_path line)) name ≡ true = ap (λ p. bytes_eq (module_name p) name) (sym before) ∙ sym c.in_ok-names_module.ensures ∙ c.if-not-branch.false in
+    subst (λ b. IfOk c.are_good.result (λ good. good ≡ b))
+    (ap (are_good_needs has) c.split_at_byte.ensures.after
+    ∙ sym (line-parts has name line ∙ (λ i. front i && (same i && needs))))
+    c.are_good.ensures.good

@@ -22,7 +22,7 @@ returns-in-Some c =
     (ap (λ n. is_line_of (has_value dep) n c.in-Some.line.now) c.as_bytes-in-Some.ensures
     ∙ ap (λ o. option_map_or test o false) (c.in-Some.ensures.held ∙ ap (λ n. text_of_first (values_of dep n)) c.as_bytes.ensures)
     ∙ sym (by-text test (values_of dep name)))
-    c.is_line.ensures
+    c.is_line.ensures.good
 
 pub returns-in-None : goal.returns-in-None
 returns-in-None c =
@@ -31,3 +31,6 @@ returns-in-None c =
     let test = is_line_of (has_value dep) name in
     ap (λ o. option_map_or test o false) (c.in-None.ensures.held ∙ ap (λ n. text_of_first (values_of dep n)) c.as_bytes.ensures)
     ∙ sym (by-text test (values_of dep name))
+
+pub is_line-requires : goal.is_line-requires
+is_line-requires c = c.without_slots-paths.ensures (has_value (contents c.args.indexes.now.dep.nodes))

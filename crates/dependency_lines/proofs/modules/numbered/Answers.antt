@@ -8,6 +8,6 @@ use Rattle.dependency_lines.proofs.modules.numbered.Goals as goal
 pub returns : goal.returns
 returns c =
     sorted-is c.in_ok-sorted.sorted.items c.sort_by_key.new.self.items
-    (c.in_ok-sort_by_key.ensures.sorted (λ p. p.now.value.priority) (always_returns_same _ _ _ (λ a r q k. search rules)))
-    (c.in_ok-sort_by_key.ensures.stable (λ p. p.now.value.priority) (always_returns_same _ _ _ (λ a r q k. search rules)))
-    ∙ ap (λ ps. by_number (shown ps)) c.in_ok-sorted.ensures.items
+    (c.in_ok-sort_by_key.ensures.sorted (λ l. l.number) (always_returns_same _ _ _ (λ a r q k. search rules)))
+    (c.in_ok-sort_by_key.ensures.stable (λ l. l.number) (always_returns_same _ _ _ (λ a r q k. search rules)))
+    ∙ ap (λ ls. by_number (shown ls)) c.in_ok-sorted.ensures.items

@@ -2,9 +2,9 @@ use Rattle.std.proofs.Common.{◌≡◌, take}
 use Rattle.dependency_lines.specs.Tables.{shown, IsNamed}
 use Rattle.dependency_lines.proofs.modules.table_of.Given as goal
 
-abbrev pub invariant-loop-pair : goal.invariant-loop-pair
-invariant-loop-pair l =
+abbrev pub invariant-loop-line : goal.invariant-loop-line
+invariant-loop-line l =
     record {
-      named : IsNamed l.names (shown (take l.pair-index l.pairs));
-      count : l.names.count ≡ l.pair-index;
+      named : IsNamed l.names (shown (take l.line-index l.lines));
+      count : l.names.count ≡ l.line-index;
     }

@@ -7,5 +7,5 @@ use Rattle.dependency_lines.proofs.modules.Modules.place.Goals as goal
 pub returns : goal.returns
 returns c =
     c.place_in.ensures
-    ∙ place-named c.self.inside.names (shown c.self.inside.pairs.items) c.args.name.now c.self.invariant
+    ∙ place-named c.self.inside.names (shown c.self.inside.lines.items) c.args.name.now c.self.invariant
     ∙ ap (λ ms. place_of ms c.args.name.now) c.self.view_is

@@ -1,0 +1,22 @@
+-- Paths of dependency lines that were found good.
+-- It belongs to the code: no public meaning rests on it.
+use Rattle.std.specs.Prelude.{◌≡◌, ℕ, ◌<◌, ◌&&◌, ◌==◌, Bool, true, List, length, map}
+use Rattle.std.specs.Borrow.{Bor}
+use Rattle.std.specs.List.{All, list_all, slice_split}
+use Rattle.km_names.specs.Path.{module_name}
+use Rattle.mod_tree.specs.DependencyLine.{is_line_path, are_needed, needed_paths}
+
+-- Whether a text is a path of a known module.
+abbrev pub is_good : (List ℕ → Bool) → List ℕ → Bool
+is_good has path = is_line_path path && has (module_name path)
+
+-- Those of some texts that aren't empty are good.
+abbrev pub AreGood : (List ℕ → Bool) → List (Bor (List ℕ)) → Type 0
+AreGood has paths = All (λ path. 0 < length path.now → is_good has path.now ≡ true) paths
+
+-- Whether what follows the `:` of a line is a sequence of paths of known modules, each after a
+-- space.
+abbrev pub are_good_needs : (List ℕ → Bool) → List ℕ → Bool
+are_good_needs has needs =
+    let pieces = slice_split (λ b. b == 32) needs in
+    are_needed pieces && list_all has (map module_name (needed_paths pieces))
