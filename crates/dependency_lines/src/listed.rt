@@ -16,7 +16,7 @@ pub(crate) struct Line<'a> {
 /// Lists the modules that values state, in their order.
 pub(crate) fn lines_of<'a>(
     alloc: Global,
-    values: &'a FirstValues<'a>,
+    values: &'a FirstValues<'_>,
 ) -> Result<Vec<Line<'a>>, AllocError>
     ensures { IfOk result (λ lines. shown lines.items ≡ values.now) }
 {

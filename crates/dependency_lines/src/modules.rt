@@ -45,7 +45,7 @@ impl<'a> Modules<'a> {
     ///
     /// `BadLine` exactly if a value isn't the dependency line of its module over names that the
     /// index has. Or `Memory`.
-    pub fn new(alloc: Global, values: &'a FirstValues<'a>) -> Result<Modules<'a>, LineFault>
+    pub fn new(alloc: Global, values: &'a FirstValues<'_>) -> Result<Modules<'a>, LineFault>
         ensures modules { IfOk result (λ modules. (dep : KeyValues) → values.now ≡ firsts_of (entries dep) → modules ≡ modules_of dep) }
         ensures passed { OnOk result ((dep : KeyValues) → values.now ≡ firsts_of (entries dep) → bad_name dep ≡ None) }
         ensures err { IfErr result (λ fault. (fault ≡ LineFault.Memory) ⊎ ((dep : KeyValues) → values.now ≡ firsts_of (entries dep) → option_map LineFault.BadLine (bad_name dep) ≡ Some fault)) }

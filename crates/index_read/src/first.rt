@@ -118,7 +118,7 @@ impl<'a> FirstValues<'a> {
     }
 
     /// Returns the text of the value at a place.
-    pub fn text(&self, place: usize) -> &'a [u8]
+    pub fn text(&self, place: usize) -> &[u8]
         requires { place < length self.now }
         ensures { (other : KeyValue) → result.now ≡ (slice_index_or self.now place other).1.1 }
     {

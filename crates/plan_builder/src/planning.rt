@@ -24,7 +24,7 @@ use crate::request::Request;
 use crate::step::PlanSteps;
 use crate::steps::all_steps;
 use dependency_lines::Modules;
-use index_read::plain;
+use index_read::first_values;
 use km_names::{Name, Names};
 use loaded_list::Loaded;
 use modprobe_conf::Rules;
@@ -75,8 +75,8 @@ pub fn plan(
     ensures closed { IfOk result (IsClosed (sources rules.now indexes.now unmet.now loaded.now request.now)) }
     ensures err { IfErr result (λ o. (o ≡ Obstacle.Memory) ⊎ (obstacle_of (sources rules.now indexes.now unmet.now loaded.now request.now) request.now ≡ Some o)) }
 {
-    let pairs = plain::all_pairs(alloc, &indexes.dep)?;
-    let modules = Modules::new(alloc, &pairs)?;
+    let values = first_values(alloc, &indexes.dep)?;
+    let modules = Modules::new(alloc, &values)?;
     planned_over(alloc, request, rules, indexes, unmet, loaded, &modules)
 }
 

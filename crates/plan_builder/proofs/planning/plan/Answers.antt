@@ -11,10 +11,10 @@ returns-in_err-modules-clause-err c =
     let request = c.args.request.now in
     let p = err_from_is_err_and c.from_residual-in_err-modules.result c.from_residual-in_err-modules.ensures.1 in
     rw (p.1, p.2)
-    (when-fault s request c.in_err-modules.field-0.0 (right (λ e. e (contents c.args.indexes.now.dep.nodes) c.in_ok-pairs.ensures) c.in_err-modules.ensures.err))
+    (when-fault s request c.in_err-modules.field-0.0 (right (λ e. e (contents c.args.indexes.now.dep.nodes) c.in_ok-values.ensures) c.in_err-modules.ensures.err))
 
 pub planned_over-requires-clause-modules : goal.planned_over-requires-clause-modules
-planned_over-requires-clause-modules c = c.in_ok-modules.ensures.modules (contents c.args.indexes.now.dep.nodes) c.in_ok-pairs.ensures
+planned_over-requires-clause-modules c = c.in_ok-modules.ensures.modules (contents c.args.indexes.now.dep.nodes) c.in_ok-values.ensures
 
 pub planned_over-requires-clause-sound : goal.planned_over-requires-clause-sound
-planned_over-requires-clause-sound c = c.in_ok-modules.ensures.passed (contents c.args.indexes.now.dep.nodes) c.in_ok-pairs.ensures
+planned_over-requires-clause-sound c = c.in_ok-modules.ensures.passed (contents c.args.indexes.now.dep.nodes) c.in_ok-values.ensures
