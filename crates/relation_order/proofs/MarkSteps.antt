@@ -1,7 +1,7 @@
 -- Marks, 64 in a word.
 use Rattle.std.proofs.Common.{◌≡◌, ℕ, zero, suc, ◌+◌, ◌*◌, ◌/◌, ◌%◌, ◌^◌, ◌<◌, ◌≤◌, Bool, true, false, cond, eqb, ltb, List, [], ◌∷◌, length, get_or, set, replicate, max, w64, sym, refl, ap, ◌∙◌, inl, inr, zero-add, arith}
 use Rattle.std.specs.Prelude.{◌||◌, ◌&&◌, ◌≢◌, filter, bit_or, count_ones, nat_eq}
-use Rattle.std.specs.Int.{bit_at}
+use Rattle.std.specs.Int.{bit_at, div_ceil}
 use Rattle.std.specs.Int.Count.{ones_step}
 use Rattle.std.specs.List.{sum_by, count_by, range_with_len, AllPairs, IsDistinct}
 use Rattle.std.specs.Cmp.{nat_eq_equiv}
@@ -23,6 +23,10 @@ use Rattle.relation_order.proofs.Saturation.{has-filter}
 -- two places in one word
 same-place : (x y : ℕ) → x / 64 ≡ y / 64 → x % 64 ≡ y % 64 → x ≡ y
 same-place x y q m = omega arith
+
+-- the word of an item is one of those that all items take
+pub low-word : (y n : ℕ) → y < n → y / 64 < div_ceil n 64
+low-word y n l = omega arith
 
 or-false : (b : Bool) → (b || false) ≡ b
 or-false true = refl

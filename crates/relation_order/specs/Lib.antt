@@ -4,6 +4,7 @@ pub mod Closures
 pub mod Components
 pub mod Cycle
 pub mod Distances
+pub mod Graphs
 pub mod Least
 pub mod Nearest
 pub mod Placing

@@ -7,12 +7,14 @@ ghost use Rattle.std.specs.Prelude.{slice_index};
 ghost use Rattle.std.specs.Global.{Vec};
 ghost use Rattle.std.proofs.Common.{replicate};
 ghost use Rattle.relation_order.specs.Sets.{Relation, goes, has, marked as marks_places};
+ghost use Rattle.relation_order.specs.Graphs.{members_of};
 ghost use Rattle.relation_order.specs.Search.{Inside};
 ghost use Rattle.relation_order.specs.Components.{Searching, SearchOf, EndsIn, Enters, KeepsMet};
 ghost use Rattle.relation_order.specs.Components.{DropsAbove, Finishes, state_of, is_new};
 ghost use Rattle.relation_order.specs.Components.{is_on_cycle, with_step, work};
 
 use crate::cycle::stands_in;
+use crate::graph::Graph;
 use crate::order::zeros;
 use std::alloc::{AllocError, Global};
 
@@ -60,18 +62,12 @@ impl CycleSearch {
     }
 
     /// Searches from a member, unless it was met before: all that are met are done then.
-    pub(crate) fn search_from(
-        &mut self,
-        lists: &[Vec<usize>],
-        members: &[bool],
-        start: usize,
-    ) -> Result<(), AllocError>
-        requires long { length members.now ≡ length lists.now }
-        requires inside { Inside (length lists.now) lists.now }
-        requires member { has (marks_places members.now) start ≡ true }
-        requires search { SearchOf lists.now members.now self.old [] }
+    pub(crate) fn search_from(&mut self, graph: &Graph<'_>, start: usize) -> Result<(), AllocError>
+        requires member { has (members_of graph.now) start ≡ true }
+        requires search { SearchOf graph.now.lists.now graph.now.members.now self.old [] }
         requires path { self.old.path.items ≡ [] }
-        ensures search { OnOk result (SearchOf lists.now members.now self.new []) }
+        ensures search { OnOk result
+            (SearchOf graph.now.lists.now graph.now.members.now self.new []) }
         ensures path { OnOk result (self.new.path.items ≡ []) }
         ensures met { OnOk result (is_new (state_of self.new.states.items start) ≡ false) }
         ensures kept { OnOk result (KeepsMet self.old.states.items self.new.states.items) }
@@ -80,27 +76,29 @@ impl CycleSearch {
             self.enter(start)?;
         }
         while let Some(at) = self.path.pop() {
-            self.step(lists, members, at)?;
+            self.step(graph, at)?;
         }
         Ok(())
     }
 
     // Looks at the next step of the item at a place, or leaves the item if it has no further step.
-    fn step(&mut self, lists: &[Vec<usize>], members: &[bool], at: usize) -> Result<(), AllocError>
-        requires long { length members.now ≡ length lists.now }
-        requires inside { Inside (length lists.now) lists.now }
-        requires search { SearchOf lists.now members.now self.old (self.old.path.items ++ at ∷ []) }
-        ensures search { OnOk result (SearchOf lists.now members.now self.new self.new.path.items) }
-        ensures work { OnOk result (work lists.now self.new ≤ work lists.now self.old) }
+    fn step(&mut self, graph: &Graph<'_>, at: usize) -> Result<(), AllocError>
+        requires search { SearchOf graph.now.lists.now graph.now.members.now self.old
+            (self.old.path.items ++ at ∷ []) }
+        ensures search { OnOk result (SearchOf graph.now.lists.now graph.now.members.now self.new
+            self.new.path.items) }
+        ensures work { OnOk result
+            (work graph.now.lists.now self.new ≤ work graph.now.lists.now self.old) }
         ensures kept { OnOk result (KeepsMet self.old.states.items self.new.states.items) }
     {
+        let lists = graph.lists;
         let item = self.stack[at];
         let targets = &lists[item];
         let next = self.looked[item];
         if next < targets.len() {
             self.path.push(at)?;
             self.looked[item] = next + 1;
-            self.look(members, at, targets[next])
+            self.look(graph.members, at, targets[next])
         } else {
             self.leave(lists, at);
             Ok(())

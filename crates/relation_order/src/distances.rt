@@ -3,11 +3,13 @@ ghost use Rattle.std.specs.Prelude.{◌≡◌, ◌≢◌, ◌<◌, ◌&&◌, ◌
 ghost use Rattle.std.specs.Prelude.{IfOk, OnOk};
 ghost use Rattle.std.specs.List.{list_any};
 ghost use Rattle.std.proofs.Common.{replicate};
-ghost use Rattle.relation_order.specs.Sets.{goes, has, marked as marks_places};
+ghost use Rattle.relation_order.specs.Sets.{goes, has};
+ghost use Rattle.relation_order.specs.Graphs.{goes_in, members_of};
 ghost use Rattle.relation_order.specs.Search.{Inside};
 ghost use Rattle.relation_order.specs.Nearest.{IsFar};
 ghost use Rattle.relation_order.specs.Rounds.{Finds};
 
+use crate::graph::Graph;
 use crate::order::{add_at, empty_lists};
 use crate::reach::marked;
 use std::alloc::{AllocError, Global};
@@ -16,20 +18,17 @@ use std::alloc::{AllocError, Global};
 /// If no steps lead there, the number is how many members there are.
 pub(crate) fn distances_to(
     alloc: Global,
-    lists: &[Vec<usize>],
-    members: &[bool],
+    graph: &Graph<'_>,
     goal: usize,
 ) -> Result<Vec<usize>, AllocError>
-    requires long { length members.now ≡ length lists.now }
-    requires inside { Inside (length lists.now) lists.now }
-    requires goal { has (marks_places members.now) goal ≡ true }
-    ensures long { IfOk result (λ far. length far.items ≡ length members.now) }
-    ensures far { IfOk result (λ far. IsFar (goes lists.now) (marks_places members.now) goal
-        far.items) }
+    requires goal { has (members_of graph.now) goal ≡ true }
+    ensures long { IfOk result (λ far. length far.items ≡ length graph.now.members.now) }
+    ensures far { IfOk result
+        (λ far. IsFar (goes_in graph.now) (members_of graph.now) goal far.items) }
 {
-    let all = marked(alloc, members)?;
-    let sources = reversed(alloc, lists, &all)?;
-    let mut far = filled(alloc, members.len(), all.len())?;
+    let all = marked(alloc, graph.members)?;
+    let sources = reversed(alloc, graph, &all)?;
+    let mut far = filled(alloc, graph.members.len(), all.len())?;
     far[goal] = 0;
     let mut last = Vec::new(alloc);
     last.push(goal)?;
@@ -42,18 +41,17 @@ pub(crate) fn distances_to(
 // Lists for each item the items among some that go to it.
 fn reversed(
     alloc: Global,
-    lists: &[Vec<usize>],
+    graph: &Graph<'_>,
     items: &[usize],
 ) -> Result<Vec<Vec<usize>>, AllocError>
-    requires inside { Inside (length lists.now) lists.now }
-    requires items { All (λ x. x < length lists.now) items.now }
-    ensures long { IfOk result (λ sources. length sources.items ≡ length lists.now) }
+    requires items { All (λ x. x < length graph.now.lists.now) items.now }
+    ensures long { IfOk result (λ sources. length sources.items ≡ length graph.now.lists.now) }
     ensures goes { IfOk result (λ sources. (y x : ℕ) → goes sources.items y x
-        ≡ (has items.now x && goes lists.now x y)) }
+        ≡ (has items.now x && goes_in graph.now x y)) }
 {
-    let mut sources = empty_lists(alloc, lists.len())?;
+    let mut sources = empty_lists(alloc, graph.lists.len())?;
     for x in items {
-        add_source(&mut sources, &lists[*x], *x)?;
+        add_source(&mut sources, &graph.lists[*x], *x)?;
     }
     Ok(sources)
 }

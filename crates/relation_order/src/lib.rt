@@ -14,6 +14,7 @@ mod closures;
 mod components;
 mod cycle;
 mod distances;
+mod graph;
 mod laws;
 mod order;
 mod placed;

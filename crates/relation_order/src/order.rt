@@ -2,6 +2,7 @@ ghost use Rattle.std.specs.Prelude.{◌≡◌, ◌||◌, ◌&&◌, ◌==◌, ◌
 ghost use Rattle.std.specs.Prelude.{true, false, length, take, All, IfOk, OnOk, slice_index};
 ghost use Rattle.std.specs.Prelude.{slice_index_or};
 ghost use Rattle.relation_order.specs.Sets.{goes, marked as marks_places, has};
+ghost use Rattle.relation_order.specs.Graphs.{goes_in, members_of};
 ghost use Rattle.relation_order.specs.Least.{least_order, with_next};
 ghost use Rattle.relation_order.specs.Search.{Inside};
 ghost use Rattle.relation_order.specs.Builder.{AllListed, Fits};
@@ -9,6 +10,7 @@ ghost use Rattle.std.specs.Global.{Vec};
 ghost use Rattle.std.proofs.Common.{replicate};
 ghost use Rattle.relation_order.specs.Placing.{Placing};
 
+use crate::graph::Graph;
 use crate::reach::{marked, unmarked};
 use std::alloc::{AllocError, Global};
 use std::collections::BTreeSet;
@@ -187,33 +189,28 @@ impl OrderBuilder {
             → Placing (goes lists.now) (marks_places members.now) self.new.order.items
             self.new.ready.keys (goes self.new.waits.items) []) }
     {
+        let graph = Graph { lists, members };
         for item in items {
-            self.place(lists, members, *item)?;
+            self.place(&graph, *item)?;
         }
         Ok(())
     }
 
     // Finds for an item whether it is ready or for which place it waits.
-    fn place(
-        &mut self,
-        lists: &[Vec<usize>],
-        members: &[bool],
-        item: usize,
-    ) -> Result<(), AllocError>
-        requires long { length members.now ≡ length lists.now }
-        requires inside { Inside (length members.now) lists.now }
-        requires within { item < length members.now }
-        requires fits { Fits lists.now members.now self.old }
-        ensures fits { OnOk result (Fits lists.now members.now self.new) }
+    fn place(&mut self, graph: &Graph<'_>, item: usize) -> Result<(), AllocError>
+        requires within { item < length graph.now.members.now }
+        requires fits { Fits graph.now.lists.now graph.now.members.now self.old }
+        ensures fits { OnOk result (Fits graph.now.lists.now graph.now.members.now self.new) }
         ensures order { OnOk result (self.new.order.items ≡ self.old.order.items) }
         ensures placing { OnOk result ((left : List ℕ)
-            → Placing (goes lists.now) (marks_places members.now) self.old.order.items
+            → Placing (goes_in graph.now) (members_of graph.now) self.old.order.items
             self.old.ready.keys (goes self.old.waits.items) (item ∷ left)
-            → Placing (goes lists.now) (marks_places members.now) self.new.order.items
+            → Placing (goes_in graph.now) (members_of graph.now) self.new.order.items
             self.new.ready.keys (goes self.new.waits.items) left) }
     {
+        let lists = graph.lists;
         let items = &lists[item];
-        let at = first_open(items, self.looked[item], members, &self.listed);
+        let at = first_open(items, self.looked[item], graph.members, &self.listed);
         self.looked[item] = at;
         if at < items.len() {
             add_at(&mut self.waits, items[at], item)?;

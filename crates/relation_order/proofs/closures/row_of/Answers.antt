@@ -1,12 +1,14 @@
-use Rattle.std.proofs.Common.{◌≡◌, ◌-◌, ◌<◌, ℕ, true, length, get_or, sym, ap, ◌∙◌, inl, inr, arith}
+use Rattle.std.proofs.Common.{◌≡◌, ◌-◌, ◌<◌, ℕ, true, length, get_or, refl, sym, ap, ◌∙◌, inl, inr, arith}
 use Rattle.std.proofs.lemmas.Bool.{true≢false, cases_eq, eqb-true}
 use Rattle.std.specs.Int.{div_ceil}
+use Rattle.std.specs.Global.{Vec}
 use Rattle.std.proofs.lemmas.List.{get_or_default, length-replicate}
 use Rattle.relation_order.specs.Sets.{goes, has}
 use Rattle.relation_order.specs.Rows.{has_mark, AreReached}
 use Rattle.relation_order.proofs.Lists.{goes-at, has-range, has-at}
-use Rattle.relation_order.proofs.PlaceSteps.{open-parts}
-use Rattle.relation_order.proofs.MarkSteps.{unmarked}
+use Rattle.relation_order.proofs.Finding.{listed-inside}
+use Rattle.relation_order.proofs.PlaceSteps.{open-parts, closed-listed}
+use Rattle.relation_order.proofs.MarkSteps.{unmarked, low-word}
 use Rattle.relation_order.proofs.ClosureSteps.{none-reached, row-grown, row-item, row-sound, row-closed, row-complete, row_at-at}
 use Rattle.relation_order.proofs.closures.row_of.Goals as goal
 
@@ -56,3 +58,47 @@ loop-at-init c =
       direct = λ p l m g. absurd (omega arith);
       closed = λ y z h m g. absurd (none y h);
     }
+
+pub row_with-requires : goal.row_with-requires
+row_with-requires c = rw c.deref.ensures.value (listed-inside c.args.lists.now c.args.x (length c.args.lists.now) c.index-lists-x-2.result c.requires.inside c.requires.place c.index-lists-x-2.is refl)
+
+pub bounds-rows-y : goal.bounds-rows-y
+bounds-rows-y c = let inside = c.requires.before (c.loop-at.at - 1) 0 (omega arith) in omega (arith, c.requires.rows, inside)
+
+pub add_row-requires-clause-long : goal.add_row-requires-clause-long
+add_row-requires-clause-long c =
+    let y = get_or c.args.before.now (c.loop-at.at - 1) 0 in
+    let inside = c.requires.before (c.loop-at.at - 1) 0 (omega arith) in
+    let other = c.requires.rows_long y c.index-rows-y.result (omega (arith, c.requires.rows, inside)) in
+    omega (arith, ap length c.deref-then-is_missing.ensures.value, ap (λ (row : Vec ℕ). length row.items) c.index-rows-y.is, other, c.loop-at.invariant.long)
+
+pub add_row-requires-clause-item : goal.add_row-requires-clause-item
+add_row-requires-clause-item c =
+    let inside = c.requires.before (c.loop-at.at - 1) 0 (omega arith) in
+    omega (arith, low-word (get_or c.args.before.now (c.loop-at.at - 1) 0) (length c.args.lists.now) inside, c.loop-at.invariant.long)
+
+pub loop-at-preserved : goal.loop-at-preserved
+loop-at-preserved c =
+    let lists = c.args.lists.now in
+    let before = c.args.before.now in
+    let at = c.loop-at.at - 1 in
+    let y = get_or before at 0 in
+    let here : goes c.args.lists.now c.args.x (get_or c.args.before.now (c.loop-at.at - 1) 0) ≡ true → has_mark c.loop-at.row.items (get_or c.args.before.now (c.loop-at.at - 1) 0) ≡ true =
+    λ g.
+    ap (λ ws. has_mark ws y) (sym c.deref-in-loop-at-2.ensures.value)
+    ∙ closed-listed _ _ (sym c.is_missing.ensures ∙ c.if-is_missing.false)
+    (ap (λ ws. has_mark ws y) c.deref-in-loop-at.ensures.value ∙ c.in_ok-direct.ensures y ∙ ap (λ ys. has ys y) c.deref.ensures.value ∙ sym (goes-at lists c.args.x y c.index-lists-x-2.result c.requires.place c.index-lists-x-2.is) ∙ g) in
+    record {
+      within = omega arith;
+      long = c.loop-at.invariant.long;
+      sound = c.loop-at.invariant.sound;
+      direct = λ p l h g.
+          elim (cases_eq p at) [
+            | inl same ↦ rw same (here (rw (sym same) g))
+            | inr ne ↦ c.loop-at.invariant.direct p (omega arith) h g
+          ];
+      closed = c.loop-at.invariant.closed;
+    }
+
+pub returns-clause-long : goal.returns-clause-long
+returns-clause-long c = omega (arith, c.loop-at.invariant.long)

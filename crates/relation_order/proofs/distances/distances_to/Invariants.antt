@@ -6,7 +6,7 @@ use Rattle.relation_order.proofs.distances.distances_to.Given as goal
 abbrev pub invariant-loop-round : goal.invariant-loop-round
 invariant-loop-round l =
     record {
-      long : length l.far.items ≡ length l.members;
-      table : Table (goes l.lists) (marked l.members) l.goal l.round l.far.items;
-      layer : Layer (marked l.members) l.round l.far.items l.last.items;
+      long : length l.far.items ≡ length l.graph.members.now;
+      table : Table (goes l.graph.lists.now) (marked l.graph.members.now) l.goal l.round l.far.items;
+      layer : Layer (marked l.graph.members.now) l.round l.far.items l.last.items;
     }

@@ -6,6 +6,6 @@ use Rattle.relation_order.proofs.distances.reversed.Given as goal
 abbrev pub invariant-loop-x : goal.invariant-loop-x
 invariant-loop-x l =
     record {
-      long : length l.sources.items ≡ length l.lists;
-      goes : (y x : ℕ) → goes l.sources.items y x ≡ (has (take l.x-index l.items) x && goes l.lists x y);
+      long : length l.sources.items ≡ length l.graph.lists.now;
+      goes : (y x : ℕ) → goes l.sources.items y x ≡ (has (take l.x-index l.items) x && goes l.graph.lists.now x y);
     }

@@ -5,10 +5,10 @@ use Rattle.relation_order.proofs.components.CycleSearch.search_from.Given as goa
 abbrev pub invariant-loop-at : goal.invariant-loop-at
 invariant-loop-at l =
     record {
-      search : SearchOf l.lists l.members l.self l.self.path.items;
+      search : SearchOf l.graph.lists.now l.graph.members.now l.self l.self.path.items;
       met : is_new (state_of l.self.states.items l.start) ≡ false;
       kept : KeepsMet l.fn.self.states.items l.self.states.items;
     }
 
 abbrev pub decreases-loop-at : goal.decreases-loop-at
-decreases-loop-at l = work l.lists l.self
+decreases-loop-at l = work l.graph.lists.now l.self
