@@ -23,7 +23,7 @@ use Rattle.dependency_lines.specs.Modules.{line_places, bad_among, bad_name, by_
 use Rattle.plan_builder.specs.Needs.{Sources, after, before, modules, unloaded}
 use Rattle.plan_builder.specs.Obstacles.{cycle_obstacle, is_unknown_kind, not_found, obstacle_of, plan_tests, is_unfound, is_unknown, all_names}
 use Rattle.plan_builder.specs.Sources.{sources}
-use Rattle.plan_builder.specs.Steps.{later, plan_steps, rule_options, spaced, step_of_kind, step_unless, steps_from, module_step}
+use Rattle.plan_builder.specs.Steps.{found_steps, later, plan_steps, rule_options, spaced, step_of_kind, step_unless, module_step}
 use Rattle.plan_builder.specs.declared.obstacle.Obstacle.{Obstacle}
 use Rattle.plan_builder.specs.declared.obstacle.Obstacle.TheVariants.{BadDepLine}
 use Rattle.plan_builder.specs.declared.request.Request.{Request}
@@ -68,7 +68,7 @@ later_by b u ms f =
 
 abbrev steps_by : List Rule → List ℕ → (ℕ → List ℕ) → List ℕ → List KeyValue → List PlanStep
 steps_by stated dep b u ms =
-    (kind_step stated dep ms ++ (map (step_by stated ms) (group (among b) u [] (places_of ms (codes "m" ∷ []))) ++ []))
+    ((kind_step stated dep ms ++ map (step_by stated ms) (group (among b) u [] (places_of ms (codes "m" ∷ [])))) ++ [])
     ++ map (step_by stated ms) (later_by b u ms found_itself)
 
 abbrev unknown_by : List Rule → List ℕ → List KeyValue → List ℕ → Bool
@@ -98,8 +98,8 @@ steps-so : (stated : List Rule) (loaded : List (List ℕ)) (dep : List ℕ) (b :
 unfolding plan_steps
 steps-so stated loaded dep b u ms p =
     let s = sources_by stated loaded dep in
-    ap (λ f. steps_from s request [] [] (f ∷ []) ++ map (module_step s request) (later s (f ∷ []))) p.itself
-    ∙ ap (λ post. (kind_step stated dep (modules s) ++ (map (step_by stated (modules s)) (group (among (before s)) (unloaded s) [] (places_of (modules s) (codes "m" ∷ []))) ++ [])) ++ map (step_by stated (modules s)) (drop (length (with_groups (among (before s)) (unloaded s) [] (places_of (modules s) (codes "m" ∷ []) ∷ []))) (plan (among (before s)) (unloaded s) post (places_of (modules s) (codes "m" ∷ []) ∷ [])))) p.is_after
+    ap (λ f. found_steps s request (f ∷ []) ++ map (module_step s request) (later s (f ∷ []))) p.itself
+    ∙ ap (λ post. ((kind_step stated dep (modules s) ++ map (step_by stated (modules s)) (group (among (before s)) (unloaded s) [] (places_of (modules s) (codes "m" ∷ [])))) ++ []) ++ map (step_by stated (modules s)) (drop (length (with_groups (among (before s)) (unloaded s) [] (places_of (modules s) (codes "m" ∷ []) ∷ []))) (plan (among (before s)) (unloaded s) post (places_of (modules s) (codes "m" ∷ []) ∷ [])))) p.is_after
     ∙ ap (λ b. steps_by stated dep b (unloaded s) (modules s)) p.is_before
     ∙ ap (λ u. steps_by stated dep b u (modules s)) p.is_unloaded
     ∙ ap (steps_by stated dep b u) p.are

@@ -14,5 +14,6 @@ pub mod Repeats
 pub mod SoftSteps
 pub mod StepLaws
 pub mod StepModules
+pub mod StepPlaces
 pub mod Texts
 pub mod Troubled

@@ -20,10 +20,11 @@ use Rattle.plan_builder.specs.declared.obstacle.Obstacle.TheVariants.{BadDepLine
 use Rattle.plan_builder.specs.Answers.{line_obstacle}
 use Rattle.plan_builder.specs.Needs.{Sources, modules, before, after, unloaded}
 use Rattle.plan_builder.specs.Members.{found_for, asked}
-use Rattle.plan_builder.specs.Steps.{module_step, steps_from, later, plan_steps}
+use Rattle.plan_builder.specs.Steps.{module_step, later, plan_steps}
 use Rattle.plan_builder.specs.Ends.{steps_by}
 use Rattle.plan_builder.specs.Obstacles.{is_unfound, is_unknown, all_names, not_found, plan_tests, obstacle_of}
 use Rattle.plan_builder.proofs.StepLaws.{steps-groups, plan-front}
+use Rattle.plan_builder.proofs.StepPlaces.{steps_from, plan-placed}
 
 module _ (s : Sources) (request : Request) where
   pub when-bad : (o : Obstacle) → option_map BadDepLine (bad_name s.maps.dep) ≡ Some o → obstacle_of s request ≡ Some o
@@ -64,9 +65,9 @@ module _ (s : Sources) (request : Request) where
           ∙ e
 
   pub steps-are : (fs : List Found) (p : GroupedOrder) → fs ≡ found_for s request → IsPlan (among (before s)) (unloaded s) (after s) (asked s fs) p → steps_by s request [] 0 fs p.ends.items p.order.items ≡ plan_steps s request
-  unfolding plan_steps
   steps-are fs p are is =
       let front = plan-front (among (before s)) (unloaded s) (after s) (asked s fs) in
       steps-groups s request [] [] fs p.ends.items p.order.items front.0 (is.order ∙ front.1) (is.ends_long ∙ length-map fs (λ (f : Found). places_of (modules s) f.names)) (λ k l. is.ends k (subst (λ n. k < n) (sym (length-map fs (λ (f : Found). places_of (modules s) f.names))) l))
       ∙ ap (λ xs. steps_from s request [] [] fs ++ map (module_step s request) xs) (sym (ap (drop (length (with_groups (among (before s)) (unloaded s) [] (asked s fs)))) front.1 ∙ drop-append_seam (with_groups (among (before s)) (unloaded s) [] (asked s fs)) front.0))
       ∙ ap (λ gs. steps_from s request [] [] gs ++ map (module_step s request) (later s gs)) are
+      ∙ sym (plan-placed s request)

@@ -17,8 +17,9 @@ use Rattle.name_lookup.specs.declared.found.Found.{Found}
 use Rattle.plan_builder.specs.declared.request.Request.{Request}
 use Rattle.plan_builder.specs.declared.step.PlanStep.{PlanStep}
 use Rattle.plan_builder.specs.Needs.{Sources, modules, before, unloaded}
-use Rattle.plan_builder.specs.Steps.{own_step, own_steps, module_step, steps_from}
+use Rattle.plan_builder.specs.Steps.{own_step, own_steps, module_step}
 use Rattle.plan_builder.specs.Ends.{steps_by, RisingEnds}
+use Rattle.plan_builder.proofs.StepPlaces.{steps_from}
 
 module _ (s : Sources) (request : Request) where
   -- what counts of earlier names is which they are

@@ -1,6 +1,6 @@
 -- The modules of a plan's steps are those of its order, and each step that loads a module has its
 -- own path.
-use Rattle.std.proofs.Common.{◌≡◌, ℕ, ◌<◌, Bool, true, false, cond, List, [], ◌∷◌, ◌++◌, length, map, drop, Option, Some, None, refl, sym, ap, ◌∙◌, append_assoc}
+use Rattle.std.proofs.Common.{◌≡◌, ℕ, ◌<◌, Bool, true, false, cond, List, [], ◌∷◌, ◌++◌, length, map, drop, Option, Some, None, refl, sym, ap, subst, ◌∙◌, append_assoc}
 use Rattle.std.specs.Prelude.{◌&&◌, All, is_some}
 use Rattle.std.proofs.lemmas.Bool.{or_left, or_right, eq-eqb}
 use Rattle.std.proofs.lemmas.List.{append-nil, map-append}
@@ -18,12 +18,13 @@ use Rattle.plan_builder.specs.declared.request.Request.{Request}
 use Rattle.dependency_lines.specs.Modules.{name_at, path_at, place_of, places_of}
 use Rattle.plan_builder.specs.Needs.{Sources, modules, before, after, unloaded}
 use Rattle.plan_builder.specs.Members.{found_for, asked, is_member, chosen_command, kind_unless}
-use Rattle.plan_builder.specs.Steps.{step_unless, module_step, options_of, step_of_kind, own_step, own_step_unless, own_steps, steps_from, later, plan_steps}
+use Rattle.plan_builder.specs.Steps.{step_unless, module_step, options_of, step_of_kind, own_step, own_step_unless, own_steps, later, plan_steps}
 use Rattle.plan_builder.specs.Closed.{step_module, step_modules, IsOwnPath, IsAtOwnPath}
 use Rattle.dependency_lines.proofs.Firsts.{has-modules}
 use Rattle.plan_builder.proofs.Inside.{has-append}
 use Rattle.dependency_lines.proofs.Keys.{has-own}
 use Rattle.plan_builder.proofs.StepLaws.{plan-front}
+use Rattle.plan_builder.proofs.StepPlaces.{steps_from, plan-placed}
 
 module _ (s : Sources) (request : Request) where
   -- ---- a member that is no module has no step of a module
@@ -178,20 +179,20 @@ module _ (s : Sources) (request : Request) where
       ∙ ap (λ xs. first_groups ++ xs) (sym (ap (drop (length first_groups)) front.1 ∙ drop-append_seam first_groups front.0))
 
   pub plan-names : Low order → step_modules s.maps.dep (plan_steps s request) ≡ map (name_at (modules s)) order
-  unfolding plan_steps
   plan-names low =
       let late = later s (found_for s request) in
       let all : (y : ℕ) → has (first_groups ++ later s (found_for s request)) y ≡ true → y < length (modules s) = λ y h. low y (ap (λ xs. has xs y) whole ∙ h) in
-      flat_map-append (step_module s.maps.dep) (steps_from s request [] [] (found_for s request)) (map (module_step s request) late)
+      ap (step_modules s.maps.dep) (plan-placed s request)
+      ∙ flat_map-append (step_module s.maps.dep) (steps_from s request [] [] (found_for s request)) (map (module_step s request) late)
       ∙ (λ i. from-names [] [] (found_for s request) (low-left first_groups late all) i ++ module-names late (low-right first_groups late all) i)
       ∙ sym (map-append (name_at (modules s)) first_groups late)
       ∙ ap (map (name_at (modules s))) (sym whole)
 
   pub plan-paths : ((x : ℕ) → x < length (modules s) → IsOwnPath s.maps.dep (name_at (modules s) x) (path_at (modules s) x)) → Low order → All (IsAtOwnPath s.maps.dep) (plan_steps s request)
-  unfolding plan_steps
   plan-paths own low =
       let late = later s (found_for s request) in
       let all : (y : ℕ) → has (first_groups ++ later s (found_for s request)) y ≡ true → y < length (modules s) = λ y h. low y (ap (λ xs. has xs y) whole ∙ h) in
-      All-append (IsAtOwnPath s.maps.dep) (steps_from s request [] [] (found_for s request)) (map (module_step s request) late)
+      subst (All (IsAtOwnPath s.maps.dep)) (sym (plan-placed s request))
+      (All-append (IsAtOwnPath s.maps.dep) (steps_from s request [] [] (found_for s request)) (map (module_step s request) late)
       (from-paths own [] [] (found_for s request) (low-left first_groups late all))
-      (module-paths own late (low-right first_groups late all))
+      (module-paths own late (low-right first_groups late all)))

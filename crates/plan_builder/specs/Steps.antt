@@ -1,12 +1,13 @@
 -- The steps of a plan. modprobe(8), modprobe.d(5).
-use Rattle.std.specs.Prelude.{ℕ, ◌==◌, ◌&&◌, not, List, [], ◌∷◌, ◌++◌, map, length, drop, Option, Some, None, if◌then◌else◌}
-use Rattle.std.specs.List.{flat_map}
+use Rattle.std.specs.Prelude.{ℕ, ◌==◌, ◌&&◌, not, List, [], ◌∷◌, ◌++◌, map, length, take, drop, slice_get, Option, Some, None, if◌then◌else◌}
+use Rattle.std.specs.List.{flat_map, range_with_len}
+use Rattle.std.specs.Option.{option_map_or}
 use Rattle.std.specs.Str.{bytes_eq}
 use Rattle.modprobe_conf.specs.declared.rule.Rule.{Rule}
 use Rattle.modprobe_conf.specs.declared.rule.Rule.TheVariants.{Options}
 use Rattle.name_table.specs.FirstSeen.{is_among}
 use Rattle.name_lookup.specs.declared.found.Found.{Found}
-use Rattle.plan_order.specs.Plan.{plan as plan_for, with_group, with_groups, group}
+use Rattle.plan_order.specs.Plan.{plan as plan_for, with_groups, group}
 use Rattle.plan_order.specs.Lists.{among}
 use Rattle.plan_builder.specs.declared.request.Request.{Request}
 use Rattle.plan_builder.specs.declared.step.PlanStep.{PlanStep}
@@ -14,6 +15,7 @@ use Rattle.plan_builder.specs.declared.step.PlanStep.TheVariants.{Insert, Instal
 use Rattle.dependency_lines.specs.Modules.{name_at, path_at, places_of}
 use Rattle.plan_builder.specs.Needs.{Sources, modules, before, after, unloaded}
 use Rattle.plan_builder.specs.Members.{found_for, asked, is_member, Kind, loadable, installed, inside, unknown, kind_of, chosen_command}
+use Rattle.plan_builder.specs.Obstacles.{all_names}
 
 -- Texts with a space between each and the next.
 abbrev pub spaced : List (List ℕ) → List ℕ
@@ -60,15 +62,24 @@ own_step_unless s request earlier name = if is_among earlier name then [] else o
 abbrev pub own_steps : Sources → Request → List (List ℕ) → List (List ℕ) → List PlanStep
 own_steps s request earlier names = flat_map (own_step_unless s request earlier) names
 
--- The steps of some requested names, after the names and modules of the names before them. Each has
--- the names found that are no modules, in the order they were found in, and then the modules of its
--- group.
-abbrev pub steps_from : Sources → Request → List (List ℕ) → List ℕ → List Found → List PlanStep
-steps_from s request earlier done [] = []
-steps_from s request earlier done (f ∷ more) =
-    own_steps s request earlier f.names
-    ++ (map (module_step s request) (group (among (before s)) (unloaded s) done (places_of (modules s) f.names))
-    ++ steps_from s request (earlier ++ f.names) (with_group (among (before s)) (unloaded s) done (places_of (modules s) f.names)) more)
+-- What is done before the group of the name at a place: the groups of the names before it.
+abbrev pub done_before : Sources → List Found → ℕ → List ℕ
+done_before s founds k = with_groups (among (before s)) (unloaded s) [] (take k (asked s founds))
+
+-- The steps of what is found at a place: those of the names that are no modules and aren't found
+-- before that place, in the order they were found in, and then those of the modules of its group.
+abbrev pub steps_of : Sources → Request → List Found → ℕ → Found → List PlanStep
+steps_of s request founds k f =
+    own_steps s request (all_names (take k founds)) f.names
+    ++ map (module_step s request) (group (among (before s)) (unloaded s) (done_before s founds k) (places_of (modules s) f.names))
+
+-- The steps of the requested name at a place.
+abbrev pub steps_at : Sources → Request → List Found → ℕ → List PlanStep
+steps_at s request founds k = option_map_or (steps_of s request founds k) (slice_get founds k) []
+
+-- The steps of the requested names, by what is found for each: place by place.
+abbrev pub found_steps : Sources → Request → List Found → List PlanStep
+found_steps s request founds = flat_map (steps_at s request founds) (range_with_len 0 (length founds))
 
 -- The modules that are planned after the groups of the requested names: what is asked for after
 -- other modules.
@@ -81,4 +92,4 @@ later s founds =
 -- of the plan.
 unfoldable pub plan_steps : Sources → Request → List PlanStep
 plan_steps s request =
-    steps_from s request [] [] (found_for s request) ++ map (module_step s request) (later s (found_for s request))
+    found_steps s request (found_for s request) ++ map (module_step s request) (later s (found_for s request))

@@ -64,48 +64,166 @@ fn push_text<'a>(texts: &mut Vec<&'a [u8]>, rule: &'a Rule, wanted: &[u8]) -> Re
     }
 }
 
-/// Returns the parameters that a module is loaded with.
-fn options_of(
+/// What the steps of a request are made from.
+#[derive(Drop)]
+struct Stepping<'a> {
     alloc: Global,
-    planner: &Planner<'_>,
-    request: &Request,
-    members: &NameSet<'_>,
-    name: &[u8],
-) -> Result<Blob, AllocError>
-    requires { (other : List ℕ) → is_among members.now other ≡ is_member (sources_of planner.now) request.now other }
-    ensures { IfOk result (λ options. options ≡ options_for (sources_of planner.now) request.now name.now) }
-{
-    let mut texts = rule_texts(alloc, planner.rules(), name)?;
-    if !request.options.is_empty() && members.contains(name) {
-        texts.push(request.options.as_bytes())?;
+    planner: &'a Planner<'a>,
+    request: &'a Request,
+    /// The names that the requested names are resolved to.
+    members: NameSet<'a>,
+    ghost are_members: { (name : List ℕ) → is_among members name
+        ≡ is_member (sources_of planner.now) request.now name },
+}
+
+impl Stepping<'_> {
+    /// Returns the parameters that a module is loaded with.
+    fn options_of(&self, name: &[u8]) -> Result<Blob, AllocError>
+        ensures { IfOk result (λ options. options
+            ≡ options_for (sources_of self.now.planner.now) self.now.request.now name.now) }
+    {
+        let mut texts = rule_texts(self.alloc, self.planner.rules(), name)?;
+        if !self.request.options.is_empty() && self.members.contains(name) {
+            texts.push(self.request.options.as_bytes())?;
+        }
+        spaced(self.alloc, &texts)
     }
-    spaced(alloc, &texts)
-}
 
-/// Returns whether commands are ignored for the module of this name.
-fn is_ignored(request: &Request, members: &NameSet<'_>, name: &[u8]) -> bool
-    ensures { result ≡ (request.now.ignore_install && is_among members.now name.now) }
-{
-    request.ignore_install && members.contains(name)
-}
+    /// Returns whether commands are ignored for the module of this name.
+    fn is_ignored(&self, name: &[u8]) -> bool
+        ensures { result ≡ (self.now.request.now.ignore_install
+            && is_member (sources_of self.now.planner.now) self.now.request.now name.now) }
+    {
+        self.request.ignore_install && self.members.contains(name)
+    }
 
-/// Makes the step of a module.
-fn module_step(
-    alloc: Global,
-    planner: &Planner<'_>,
-    request: &Request,
-    members: &NameSet<'_>,
-    place: usize,
-) -> Result<PlanStep, AllocError>
-    requires members { (other : List ℕ) → is_among members.now other ≡ is_member (sources_of planner.now) request.now other }
-    requires place { place < length (modules_in (sources_of planner.now)) }
-    ensures { IfOk result (λ step. step ≡ module_step_of (sources_of planner.now) request.now place) }
-{
-    let name = planner.modules().name(place);
-    let ignored = is_ignored(request, members, name);
-    match chosen_command(planner.rules(), ignored, name) {
-        Some(command) => command_step(alloc, name, command),
-        None => insert_step(alloc, planner, request, members, place),
+    /// Makes the step of a module.
+    fn module_step(&self, place: usize) -> Result<PlanStep, AllocError>
+        requires { place < length (modules_in (sources_of self.now.planner.now)) }
+        ensures { IfOk result (λ step. step
+            ≡ module_step_of (sources_of self.now.planner.now) self.now.request.now place) }
+    {
+        let name = self.planner.modules().name(place);
+        match chosen_command(self.planner.rules(), self.is_ignored(name), name) {
+            Some(command) => command_step(self.alloc, name, command),
+            None => self.insert_step(place),
+        }
+    }
+
+    /// Makes the step that loads a module.
+    fn insert_step(&self, place: usize) -> Result<PlanStep, AllocError>
+        requires { place < length (modules_in (sources_of self.now.planner.now)) }
+        ensures { IfOk result (λ step. step
+            ≡ PlanStep.Insert (name_at (modules_in (sources_of self.now.planner.now)) place)
+            (path_at (modules_in (sources_of self.now.planner.now)) place)
+            (options_for (sources_of self.now.planner.now) self.now.request.now
+            (name_at (modules_in (sources_of self.now.planner.now)) place))) }
+    {
+        let name = self.planner.modules().name(place);
+        Ok(PlanStep::Insert {
+            name: Name::from_slice(self.alloc, name)?,
+            path: PathText::from_slice(self.alloc, self.planner.modules().path(place))?,
+            options: self.options_of(name)?,
+        })
+    }
+
+    /// Adds the steps of some modules.
+    fn push_modules(&self, steps: &mut PlanSteps, places: &[usize]) -> Result<(), AllocError>
+        requires { All (λ y. y < length (modules_in (sources_of self.now.planner.now))) places.now }
+        ensures { OnOk result (steps.new ≡ steps.old
+            ++ map (module_step_of (sources_of self.now.planner.now) self.now.request.now)
+            places.now) }
+    {
+        for place in places {
+            steps.push(self.module_step(*place)?)?;
+        }
+        Ok(())
+    }
+
+    /// Adds the step of a member that is no module.
+    fn push_own_step(&self, steps: &mut PlanSteps, name: &[u8]) -> Result<(), AllocError>
+        ensures { OnOk result (steps.new ≡ steps.old
+            ++ own_step_of (sources_of self.now.planner.now) self.now.request.now name.now) }
+    {
+        if self.planner.modules().place(name).is_some() {
+            return Ok(());
+        }
+        let ignored = self.request.ignore_install;
+        if let Some(command) = chosen_command(self.planner.rules(), ignored, name) {
+            return steps.push(command_step(self.alloc, name, command)?);
+        }
+        if self.planner.is_builtin(name) {
+            return steps.push(PlanStep::Builtin {
+                name: Name::from_slice(self.alloc, name)?,
+            });
+        }
+        Ok(())
+    }
+
+    /// Adds the steps of those members of a list that are no modules and aren't among earlier
+    /// names.
+    fn push_own_steps(
+        &self,
+        steps: &mut PlanSteps,
+        earlier: &NameSet<'_>,
+        names: &Names,
+    ) -> Result<(), AllocError>
+        ensures { OnOk result (steps.new ≡ steps.old
+            ++ own_steps_of (sources_of self.now.planner.now) self.now.request.now earlier.now
+            names.now) }
+    {
+        for name in names.as_slice() {
+            self.push_unless(steps, earlier, name.as_bytes())?;
+        }
+        Ok(())
+    }
+
+    fn push_unless(
+        &self,
+        steps: &mut PlanSteps,
+        earlier: &NameSet<'_>,
+        name: &[u8],
+    ) -> Result<(), AllocError>
+        ensures { OnOk result (steps.new ≡ steps.old
+            ++ own_step_unless (sources_of self.now.planner.now) self.now.request.now earlier.now
+            name.now) }
+    {
+        if earlier.contains(name) {
+            return Ok(());
+        }
+        self.push_own_step(steps, name)
+    }
+
+    /// Adds the steps of requested names, whose groups end at some places of an order, and then the
+    /// steps of the rest of the order.
+    fn push_groups(
+        &self,
+        steps: &mut PlanSteps,
+        founds: &[Found],
+        plan: &GroupedOrder,
+    ) -> Result<(), AllocError>
+        requires long { length plan.now.ends.items ≡ length founds.now }
+        requires ends { RisingEnds plan.now.ends.items (length plan.now.order.items) }
+        requires order { All (λ y. y < length (modules_in (sources_of self.now.planner.now)))
+            plan.now.order.items }
+        ensures { OnOk result (steps.new ≡ steps.old
+            ++ steps_by (sources_of self.now.planner.now) self.now.request.now [] 0 founds.now
+            plan.now.ends.items plan.now.order.items) }
+    {
+        let mut earlier = NameSet::new(self.alloc);
+        let mut start = 0;
+        for k in 0..founds.len() {
+            let end = plan.ends[k];
+            let names = &founds[k].names;
+            let places = &plan.order[start..end];
+            self.push_own_steps(steps, &earlier, names)?;
+            self.push_modules(steps, places)?;
+            insert_all(&mut earlier, names)?;
+            start = end;
+        }
+        let places = &plan.order[start..];
+        self.push_modules(steps, places)?;
+        Ok(())
     }
 }
 
@@ -119,105 +237,6 @@ fn command_step(alloc: Global, name: &[u8], command: &[u8]) -> Result<PlanStep, 
     })
 }
 
-/// Makes the step that loads a module.
-fn insert_step(
-    alloc: Global,
-    planner: &Planner<'_>,
-    request: &Request,
-    members: &NameSet<'_>,
-    place: usize,
-) -> Result<PlanStep, AllocError>
-    requires members { (other : List ℕ) → is_among members.now other ≡ is_member (sources_of planner.now) request.now other }
-    requires place { place < length (modules_in (sources_of planner.now)) }
-    ensures { IfOk result (λ step. step ≡ PlanStep.Insert (name_at (modules_in (sources_of planner.now)) place) (path_at (modules_in (sources_of planner.now)) place) (options_for (sources_of planner.now) request.now (name_at (modules_in (sources_of planner.now)) place))) }
-{
-    let name = planner.modules().name(place);
-    Ok(PlanStep::Insert {
-        name: Name::from_slice(alloc, name)?,
-        path: PathText::from_slice(alloc, planner.modules().path(place))?,
-        options: options_of(alloc, planner, request, members, name)?,
-    })
-}
-
-/// Adds the steps of some modules.
-fn push_modules(
-    alloc: Global,
-    steps: &mut PlanSteps,
-    planner: &Planner<'_>,
-    request: &Request,
-    members: &NameSet<'_>,
-    places: &[usize],
-) -> Result<(), AllocError>
-    requires members { (other : List ℕ) → is_among members.now other ≡ is_member (sources_of planner.now) request.now other }
-    requires places { All (λ y. y < length (modules_in (sources_of planner.now))) places.now }
-    ensures { OnOk result (steps.new ≡ steps.old ++ map (module_step_of (sources_of planner.now) request.now) places.now) }
-{
-    for place in places {
-        steps.push(module_step(alloc, planner, request, members, *place)?)?;
-    }
-    Ok(())
-}
-
-/// Adds the step of a member that is no module.
-fn push_own_step(
-    alloc: Global,
-    steps: &mut PlanSteps,
-    planner: &Planner<'_>,
-    request: &Request,
-    name: &[u8],
-) -> Result<(), AllocError>
-    ensures { OnOk result (steps.new ≡ steps.old ++ own_step_of (sources_of planner.now) request.now name.now) }
-{
-    if planner.modules().place(name).is_some() {
-        return Ok(());
-    }
-    if let Some(command) = chosen_command(planner.rules(), request.ignore_install, name) {
-        return steps.push(PlanStep::Install {
-            name: Name::from_slice(alloc, name)?,
-            command: Blob::from_slice(alloc, command)?,
-        });
-    }
-    if planner.is_builtin(name) {
-        return steps.push(PlanStep::Builtin {
-            name: Name::from_slice(alloc, name)?,
-        });
-    }
-    Ok(())
-}
-
-/// Adds the steps of those members of a list that are no modules and aren't among earlier names.
-fn push_own_steps(
-    alloc: Global,
-    steps: &mut PlanSteps,
-    planner: &Planner<'_>,
-    request: &Request,
-    earlier: &NameSet<'_>,
-    names: &Names,
-) -> Result<(), AllocError>
-    ensures { OnOk result (steps.new ≡ steps.old ++ own_steps_of (sources_of planner.now) request.now earlier.now names.now) }
-{
-    for name in names.as_slice() {
-        push_unless(alloc, steps, planner, request, earlier, name.as_bytes())?;
-    }
-    Ok(())
-}
-
-fn push_unless(
-    alloc: Global,
-    steps: &mut PlanSteps,
-    planner: &Planner<'_>,
-    request: &Request,
-    earlier: &NameSet<'_>,
-    name: &[u8],
-) -> Result<(), AllocError>
-    ensures { OnOk result (steps.new ≡ steps.old ++ own_step_unless (sources_of planner.now) request.now earlier.now name.now) }
-{
-    if earlier.contains(name) {
-        return Ok(());
-    }
-    push_own_step(alloc, steps, planner, request, name)
-}
-
 /// Makes the steps of requested names, whose groups end at some places of an order, and then the
 /// steps of the rest of the order.
 pub(crate) fn all_steps(
@@ -229,45 +248,20 @@ pub(crate) fn all_steps(
 ) -> Result<PlanSteps, AllocError>
     requires long { length plan.now.ends.items ≡ length founds.now }
     requires ends { RisingEnds plan.now.ends.items (length plan.now.order.items) }
-    requires order { All (λ y. y < length (modules_in (sources_of planner.now))) plan.now.order.items }
+    requires order { All (λ y. y < length (modules_in (sources_of planner.now)))
+        plan.now.order.items }
     requires founds { founds.now ≡ found_for (sources_of planner.now) request.now }
-    ensures { IfOk result (λ steps. steps ≡ steps_by (sources_of planner.now) request.now [] 0 founds.now plan.now.ends.items plan.now.order.items) }
+    ensures { IfOk result (λ steps. steps ≡ steps_by (sources_of planner.now) request.now [] 0
+        founds.now plan.now.ends.items plan.now.order.items) }
 {
     let members = member_names(alloc, founds)?;
+    let stepping = Stepping {
+        alloc,
+        planner,
+        request,
+        members,
+    };
     let mut steps = PlanSteps::new(alloc);
-    push_groups(alloc, &mut steps, planner, request, &members, founds, plan)?;
+    stepping.push_groups(&mut steps, founds, plan)?;
     Ok(steps)
-}
-
-/// Adds the steps of requested names, whose groups end at some places of an order, and then the
-/// steps of the rest of the order.
-fn push_groups(
-    alloc: Global,
-    steps: &mut PlanSteps,
-    planner: &Planner<'_>,
-    request: &Request,
-    members: &NameSet<'_>,
-    founds: &[Found],
-    plan: &GroupedOrder,
-) -> Result<(), AllocError>
-    requires members { (other : List ℕ) → is_among members.now other ≡ is_member (sources_of planner.now) request.now other }
-    requires long { length plan.now.ends.items ≡ length founds.now }
-    requires ends { RisingEnds plan.now.ends.items (length plan.now.order.items) }
-    requires order { All (λ y. y < length (modules_in (sources_of planner.now))) plan.now.order.items }
-    ensures { OnOk result (steps.new ≡ steps.old ++ steps_by (sources_of planner.now) request.now [] 0 founds.now plan.now.ends.items plan.now.order.items) }
-{
-    let mut earlier = NameSet::new(alloc);
-    let mut start = 0;
-    for k in 0..founds.len() {
-        let end = plan.ends[k];
-        let names = &founds[k].names;
-        let places = &plan.order[start..end];
-        push_own_steps(alloc, steps, planner, request, &earlier, names)?;
-        push_modules(alloc, steps, planner, request, members, places)?;
-        insert_all(&mut earlier, names)?;
-        start = end;
-    }
-    let places = &plan.order[start..];
-    push_modules(alloc, steps, planner, request, members, places)?;
-    Ok(())
 }

@@ -7,12 +7,12 @@ use Rattle.plan_builder.specs.Planner.{sources_of}
 use Rattle.plan_builder.specs.Steps.{own_steps, module_step}
 use Rattle.plan_builder.specs.Ends.{steps_by}
 use Rattle.plan_builder.proofs.StepLaws.{steps-next, steps-past, rest-slice}
-use Rattle.plan_builder.proofs.steps.push_groups.Goals as goal
+use Rattle.plan_builder.proofs.steps.Stepping.push_groups.Goals as goal
 
 pub loop-k-preserved : goal.loop-k-preserved
 loop-k-preserved c =
-    let s = sources_of c.args.planner.now in
-    let request = c.args.request.now in
+    let s = sources_of c.args.self.now.planner.now in
+    let request = c.args.self.now.request.now in
     let o = c.loop-k in
     let ends = c.args.plan.now.ends.items in
     let order = c.args.plan.now.order.items in
@@ -33,8 +33,8 @@ loop-k-preserved c =
 
 pub returns : goal.returns
 returns c =
-    let s = sources_of c.args.planner.now in
-    let request = c.args.request.now in
+    let s = sources_of c.args.self.now.planner.now in
+    let request = c.args.self.now.request.now in
     let o = c.loop-k in
     let order = c.args.plan.now.order.items in
     c.in_ok-push_modules-2.ensures
