@@ -5,5 +5,6 @@ pub mod Firsts
 pub mod Keys
 pub mod Lines
 pub mod Named
+pub mod Placed
 pub mod Sorting
 pub mod Stems

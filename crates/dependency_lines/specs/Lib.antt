@@ -1,4 +1,5 @@
 pub mod GoodPaths
 pub mod Modules
+pub mod Places
 pub mod Spaces
 pub mod Tables

@@ -20,6 +20,7 @@ mod good_paths;
 mod line;
 mod listed;
 mod modules;
+mod order;
 mod path_name;
 mod places;
 

@@ -10,6 +10,7 @@ ghost use Rattle.dependency_lines.specs.Tables.{shown, IsNamed};
 use crate::fault::LineFault;
 use crate::line::{Known, check_lines};
 use crate::listed::{Line, lines_of};
+use crate::order::by_number as in_order;
 use crate::places::{push_needed, push_place};
 use index_read::FirstValues;
 use km_names::{Name, split_at_byte};
@@ -121,13 +122,9 @@ impl<'a> Modules<'a> {
 fn numbered<'a>(alloc: Global, lines: &[Line<'a>]) -> Result<Modules<'a>, AllocError>
     ensures { IfOk result (λ modules. modules ≡ by_number (shown lines.now)) }
 {
-    let mut sorted = Vec::from_slice(alloc, lines)?;
-    sorted.sort_by_key(|line| line.number)?;
-    let names = table_of(alloc, &sorted)?;
-    Ok(Modules {
-        lines: sorted,
-        names,
-    })
+    let lines = in_order(alloc, lines)?;
+    let names = table_of(alloc, &lines)?;
+    Ok(Modules { lines, names })
 }
 
 /// Returns the table of the names of modules.

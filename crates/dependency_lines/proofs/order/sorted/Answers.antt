@@ -3,7 +3,7 @@ use Rattle.std.proofs.lemmas.Fn.{always_returns_same}
 use Rattle.dependency_lines.specs.Modules.{by_number}
 use Rattle.dependency_lines.specs.Tables.{shown}
 use Rattle.dependency_lines.proofs.Sorting.{sorted-is}
-use Rattle.dependency_lines.proofs.modules.numbered.Goals as goal
+use Rattle.dependency_lines.proofs.order.sorted.Goals as goal
 
 pub returns : goal.returns
 returns c =
