@@ -1,4 +1,4 @@
-use Rattle.std.proofs.Common.{◌≤◌, length, arith}
+use Rattle.std.proofs.Common.{arith}
 use Rattle.std.proofs.lemmas.List.{get_or_read}
 use Rattle.dependency_lines.proofs.Placed.{placing-more}
 use Rattle.dependency_lines.proofs.order.places_by_number.Goals as goal
