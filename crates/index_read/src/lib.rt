@@ -11,7 +11,7 @@
 //! 268,435,456 they are out of memory.
 //!
 //! Each node that is read is a step on the ledger that the caller gives; the lookups of [`plain`]
-//! count nothing. The crate builds on `index_nodes`, which reads the nodes, on `glob_match` for the
+//! and [`first_values`] count nothing. The crate builds on `index_nodes`, which reads the nodes, on `glob_match` for the
 //! patterns, and on `km_names` for bytes and lists. `IndexFault`, `Place` and `Steps` come from
 //! `index_nodes`.
 #![tactic(auto)]
