@@ -15,7 +15,7 @@ use Rattle.glob_match.specs.Decision.Part.{Many, One}
 decides_least : (a b : ℕ) → Decides (nat_le a b) (a ≤ b)
 decides_least a b = grind (arith, nat_tests)
 
-decides_same : (a b : ℕ) → Decides (a == b) (a ≡ b)
+pub decides_same : (a b : ℕ) → Decides (a == b) (a ≡ b)
 decides_same a b = grind (arith, nat_tests)
 
 by_test : (t : Bool) {a b : Bool} {P Q : Type 0} → Decides a P → Decides b Q → Decides (cond t a b) (MatchBool t P Q)
@@ -154,7 +154,7 @@ some_end-after test (b ∷ skipped) rest e = rw (some_end-after test skipped res
     either true = refl
     either false = refl
 
-not_same : (a b : ℕ) → a ≢ b → (a == b) ≡ false
+pub not_same : (a b : ℕ) → a ≢ b → (a == b) ≡ false
 not_same a b e = grind (arith, nat_tests)
 
 taken : {pattern text : List ℕ} → Matches pattern text → Takes pattern text

@@ -2,3 +2,6 @@ pub mod DecisionLemmas
 pub mod Items
 pub mod Rules
 pub mod Tries
+pub mod WordLemmas
+pub mod ReachLemmas
+pub mod ReadLemmas

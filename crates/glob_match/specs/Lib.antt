@@ -1,3 +1,5 @@
 pub mod Front
 pub mod Pattern
 pub mod Decision
+pub mod Words
+pub mod Progress

@@ -5,7 +5,13 @@
 
 mod element;
 mod meeting;
+mod place;
+mod progress;
+mod reading;
 mod search;
 mod set;
+mod words;
 
+pub use place::{Pending, Place};
+pub use progress::Progress;
 pub use search::matches;

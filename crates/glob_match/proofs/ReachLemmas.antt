@@ -1,0 +1,169 @@
+-- What the parts of a pattern take of a text, with one part more at their end.
+use Rattle.std.proofs.Common.{◌≡◌, refl, sym, ap, ◌∙◌, ⊎_elim, ℕ, zero, suc, ◌<◌, ◌≤◌, Bool, true, false, ◌&&◌, ◌||◌, ◌==◌, nat_le, List, [], ◌∷◌, ◌++◌, length, take, slice_index, arith, length-append}
+use Rattle.std.proofs.lemmas.Bool.{and_parts, and_from, and_right, or_left, or_right, cases_lt, le-leb, lt-leb, false≢true}
+use Rattle.std.proofs.Math.Seq.{take-suc}
+use Rattle.std.proofs.lemmas.List.{take_all}
+use Rattle.glob_match.specs.Decision.{Part, parts_take, some_end}
+use Rattle.glob_match.specs.Decision.Part.{Many, One}
+use Rattle.glob_match.specs.Progress.{reaches}
+use Rattle.glob_match.proofs.DecisionLemmas.{not_same}
+use Rattle.glob_match.specs.Words.{moved, any_up_to}
+
+-- ---- one more part of one byte
+
+no_byte : (test : ℕ → Bool) (ps : List Part) → parts_take (ps ++ One test ∷ []) [] ≡ false
+no_byte test [] = refl
+no_byte test (Many ∷ ps) = no_byte test ps
+no_byte test (One t ∷ ps) = refl
+
+end_with_byte : (f g : List ℕ → Bool) (b : Bool) (c : ℕ) → f [] ≡ false → ((zs : List ℕ) → f (zs ++ c ∷ []) ≡ (g zs && b)) → (xs : List ℕ) → some_end f (xs ++ c ∷ []) ≡ (some_end g xs && b)
+end_with_byte f g b c none each [] =
+    (λ i. each [] i || none i) ∙ only (g [] && b)
+  where
+    only : (t : Bool) → (t || false) ≡ t
+    only true = refl
+    only false = refl
+end_with_byte f g b c none each (x ∷ xs) =
+    (λ i. each (x ∷ xs) i || end_with_byte f g b c none each xs i) ∙ split (g (x ∷ xs)) (some_end g xs) b
+  where
+    split : (s t b : Bool) → ((s && b) || (t && b)) ≡ ((s || t) && b)
+    split true true true = refl
+    split true true false = refl
+    split true false true = refl
+    split true false false = refl
+    split false t b = refl
+
+with_byte : (test : ℕ → Bool) (ps : List Part) (xs : List ℕ) (c : ℕ) → parts_take (ps ++ One test ∷ []) (xs ++ c ∷ []) ≡ (parts_take ps xs && test c)
+with_byte test [] [] c = only (test c)
+  where
+    only : (t : Bool) → (t && true) ≡ t
+    only true = refl
+    only false = refl
+with_byte test [] (x ∷ xs) c =
+    and_right (test x) (length (xs ++ c ∷ []) == 0) (not_same (length (xs ++ c ∷ [])) 0 (λ e. omega (arith, e, length-append xs (c ∷ []))))
+    ∙ ap (λ t. t && test c) (sym (not_same (length (x ∷ xs)) 0 (λ e. omega (arith, e))))
+with_byte test (Many ∷ ps) xs c = end_with_byte (parts_take (ps ++ One test ∷ [])) (parts_take ps) (test c) c (no_byte test ps) (λ zs. with_byte test ps zs c) xs
+with_byte test (One t ∷ ps) [] c = and_right (t c) _ (no_byte test ps)
+with_byte test (One t ∷ ps) (x ∷ xs) c = ap (λ b. t x && b) (with_byte test ps xs c) ∙ grouped (t x) (parts_take ps xs) (test c)
+  where
+    grouped : (a b c : Bool) → (a && (b && c)) ≡ ((a && b) && c)
+    grouped true b c = refl
+    grouped false b c = refl
+
+-- ---- one more part of any bytes
+
+run_alone : (ps : List Part) → parts_take (ps ++ Many ∷ []) [] ≡ parts_take ps []
+run_alone [] = refl
+run_alone (Many ∷ ps) = run_alone ps
+run_alone (One t ∷ ps) = refl
+
+all_ends : (xs : List ℕ) → some_end (parts_take []) xs ≡ true
+all_ends [] = refl
+all_ends (x ∷ xs) = or_right (parts_take [] (x ∷ xs)) _ (all_ends xs)
+
+end_with_run : (f g : List ℕ → Bool) (c : ℕ) → f [] ≡ g [] → ((zs : List ℕ) → f (zs ++ c ∷ []) ≡ (f zs || g (zs ++ c ∷ []))) → (xs : List ℕ) → some_end f (xs ++ c ∷ []) ≡ (some_end f xs || some_end g (xs ++ c ∷ []))
+end_with_run f g c same each [] =
+    (λ i. each [] i || f []) ∙ twice (f []) (g (c ∷ [])) ∙ ap (λ t. f [] || (g (c ∷ []) || t)) same
+  where
+    twice : (s t : Bool) → ((s || t) || s) ≡ (s || (t || s))
+    twice true t = refl
+    twice false t = refl
+end_with_run f g c same each (x ∷ xs) =
+    (λ i. each (x ∷ xs) i || end_with_run f g c same each xs i)
+    ∙ swap (f (x ∷ xs)) (g (x ∷ xs ++ c ∷ [])) (some_end f xs) (some_end g (xs ++ c ∷ []))
+  where
+    swap : (a b c d : Bool) → ((a || b) || (c || d)) ≡ ((a || c) || (b || d))
+    swap true b c d = refl
+    swap false true true d = refl
+    swap false true false d = refl
+    swap false false c d = refl
+
+with_run : (ps : List Part) (xs : List ℕ) (c : ℕ) → parts_take (ps ++ Many ∷ []) (xs ++ c ∷ []) ≡ (parts_take (ps ++ Many ∷ []) xs || parts_take ps (xs ++ c ∷ []))
+with_run [] xs c = all_ends (xs ++ c ∷ []) ∙ sym (or_left (some_end (parts_take []) xs) _ (all_ends xs))
+with_run (Many ∷ ps) xs c = end_with_run (parts_take (ps ++ Many ∷ [])) (parts_take ps) c (run_alone ps) (λ zs. with_run ps zs c) xs
+with_run (One t ∷ ps) [] c = ap (λ b. t c && b) (run_alone ps)
+with_run (One t ∷ ps) (x ∷ xs) c = ap (λ b. t x && b) (with_run ps xs c) ∙ shared (t x) (parts_take (ps ++ Many ∷ []) xs) (parts_take ps (xs ++ c ∷ []))
+  where
+    shared : (a b c : Bool) → (a && (b || c)) ≡ ((a && b) || (a && c))
+    shared true b c = refl
+    shared false b c = refl
+
+-- ---- the places that parts reach
+
+below_end : (n : ℕ) (text : List ℕ) → n ≤ length text → nat_le n (length text) ≡ true
+below_end n text le = le-leb n (length text) le
+
+past_end : (n : ℕ) (text : List ℕ) → length text < n → nat_le n (length text) ≡ false
+past_end n text lt = lt-leb n (length text) lt
+
+-- A part of one byte more.
+pub reaches-one : (test : ℕ → Bool) (ps : List Part) (text : List ℕ) (n : ℕ) → reaches (ps ++ One test ∷ []) text n ≡ (nat_le n (length text) && moved (reaches ps text) (λ m. test (slice_index text m)) n)
+reaches-one test ps text zero = ap (λ t. nat_le 0 (length text) && t) (no_byte test ps)
+reaches-one test ps text (suc n) =
+    ⊎_elim
+    (λ lt.
+    let here = below_end n text (omega (arith, lt)) in
+    ap (λ xs. nat_le (suc n) (length text) && parts_take (ps ++ One test ∷ []) xs) (take-suc text n 0 lt)
+    ∙ ap (λ t. nat_le (suc n) (length text) && t) (with_byte test ps (take n text) (slice_index text n))
+    ∙ ap (λ t. nat_le (suc n) (length text) && ((t && parts_take ps (take n text)) && test (slice_index text n))) (sym here))
+    (λ ge.
+    let out = past_end (suc n) text (omega (arith, ge)) in
+    ap (λ t. t && parts_take (ps ++ One test ∷ []) (take (suc n) text)) out ∙ ap (λ t. t && moved (reaches ps text) (λ m. test (slice_index text m)) (suc n)) (sym out))
+    (cases_lt n (length text))
+
+-- A part of any bytes more.
+pub reaches-run : (ps : List Part) (text : List ℕ) (n : ℕ) → reaches (ps ++ Many ∷ []) text n ≡ (nat_le n (length text) && any_up_to (reaches ps text) n)
+reaches-run ps text zero =
+    let here = below_end 0 text (omega arith) in
+    ap (λ t. nat_le 0 (length text) && t) (run_alone ps) ∙ ap (λ t. nat_le 0 (length text) && (t && parts_take ps [])) (sym here)
+reaches-run ps text (suc n) =
+    ⊎_elim
+    (λ lt.
+    let next = below_end (suc n) text lt in
+    let here = below_end n text (omega (arith, lt)) in
+    let both : parts_take (ps ++ Many ∷ []) (take (suc n) text) ≡ (parts_take (ps ++ Many ∷ []) (take n text) || parts_take ps (take (suc n) text)) =
+    ap (parts_take (ps ++ Many ∷ [])) (take-suc text n 0 lt) ∙ with_run ps (take n text) (slice_index text n) ∙ ap (λ xs. parts_take (ps ++ Many ∷ []) (take n text) || parts_take ps xs) (sym (take-suc text n 0 lt)) in
+    let before : parts_take (ps ++ Many ∷ []) (take n text) ≡ any_up_to (reaches ps text) n =
+    ap (λ t. t && parts_take (ps ++ Many ∷ []) (take n text)) (sym here) ∙ reaches-run ps text n ∙ ap (λ t. t && any_up_to (reaches ps text) n) here in
+    ap (λ t. nat_le (suc n) (length text) && t) both
+    ∙ (λ i. nat_le (suc n) (length text) && (before i || (sym next i && parts_take ps (take (suc n) text)))))
+    (λ ge.
+    let out = past_end (suc n) text (omega (arith, ge)) in
+    ap (λ t. t && parts_take (ps ++ Many ∷ []) (take (suc n) text)) out ∙ ap (λ t. t && any_up_to (reaches ps text) (suc n)) (sym out))
+    (cases_lt n (length text))
+
+-- All of the text.
+pub reaches-end : (ps : List Part) (text : List ℕ) → reaches ps text (length text) ≡ parts_take ps text
+reaches-end ps text =
+    ap (λ t. t && parts_take ps (take (length text) text)) (below_end (length text) text (omega arith)) ∙ ap (parts_take ps) (take_all (length text) text (omega arith))
+
+-- ---- parts that reach no place
+
+end_here : (f : List ℕ → Bool) (xs : List ℕ) → f xs ≡ true → some_end f xs ≡ true
+end_here f [] e = e
+end_here f (x ∷ xs) e = or_left (f (x ∷ xs)) (some_end f xs) e
+
+front_of_end : (f g : List ℕ → Bool) → ((xs : List ℕ) → f xs ≡ true → (n : ℕ) × (n ≤ length xs) × (g (take n xs) ≡ true)) → (xs : List ℕ) → some_end f xs ≡ true → (n : ℕ) × (n ≤ length xs) × (some_end g (take n xs) ≡ true)
+front_of_end f g each [] e = let h = each [] e in (h.0, h.1, end_here g (take h.0 []) h.2)
+front_of_end f g each (x ∷ xs) e =
+    elim (f (x ∷ xs)) as (λ t. f (x ∷ xs) ≡ t → (t || some_end f xs) ≡ true → (n : ℕ) × (n ≤ length (x ∷ xs)) × (some_end g (take n (x ∷ xs)) ≡ true)) [
+      | true ↦ λ is _. let h = each (x ∷ xs) is in (h.0, h.1, end_here g (take h.0 (x ∷ xs)) h.2)
+      | false ↦ λ _ later.
+          let h = front_of_end f g each xs later in
+          (suc h.0, omega (arith, h.1), or_right (g (x ∷ take h.0 xs)) (some_end g (take h.0 xs)) h.2)
+    ] refl e
+
+front_taken : (ps qs : List Part) (xs : List ℕ) → parts_take (ps ++ qs) xs ≡ true → (n : ℕ) × (n ≤ length xs) × (parts_take ps (take n xs) ≡ true)
+front_taken [] qs xs e = (0, omega arith, refl)
+front_taken (Many ∷ ps) qs xs e = front_of_end (parts_take (ps ++ qs)) (parts_take ps) (front_taken ps qs) xs e
+front_taken (One t ∷ ps) qs [] e = absurd (false≢true e)
+front_taken (One t ∷ ps) qs (x ∷ xs) e =
+    let both = and_parts (t x) _ e in
+    let h = front_taken ps qs xs both.1 in
+    (suc h.0, omega (arith, h.1), and_from (t x) _ both.0 h.2)
+
+-- Parts that reach no place take no text, whatever follows them.
+pub reaches-none : (ps qs : List Part) (text : List ℕ) → ((n : ℕ) → n ≤ length text → reaches ps text n ≡ false) → parts_take (ps ++ qs) text ≡ true → ⊥
+reaches-none ps qs text none e =
+    let h = front_taken ps qs text e in
+    false≢true (sym (none h.0 h.1) ∙ and_from (nat_le h.0 (length text)) _ (below_end h.0 text h.1) h.2)

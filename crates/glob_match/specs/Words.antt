@@ -1,0 +1,26 @@
+-- Sets of numbers as bits of words.
+-- It belongs to the code: no public meaning rests on it.
+use Rattle.std.specs.Prelude.{◌≡◌, ℕ, zero, suc, ◌+◌, ◌*◌, ◌<◌, ◌&&◌, ◌||◌, nat_le, Bool, false, List, length, slice_index, if◌then◌else◌}
+use Rattle.std.specs.Int.{bit_at}
+
+-- A test as a bit.
+abbrev pub bit : Bool → ℕ
+bit t = if t then 1 else 0
+
+-- Whether a byte is in a range.
+abbrev pub is_between : ℕ → ℕ → ℕ → Bool
+is_between low high byte = nat_le low byte && nat_le byte high
+
+-- The words have a bit for each number that passes the test, 64 in each word.
+abbrev pub HasBits : List ℕ → (ℕ → Bool) → Type 0
+HasBits words test = (k i : ℕ) → k < length words → i < 64 → bit_at (slice_index words k) i ≡ bit (test (64 * k + i))
+
+-- The numbers after those that pass both tests.
+abbrev pub moved : (ℕ → Bool) → (ℕ → Bool) → ℕ → Bool
+moved test list zero = false
+moved test list (suc n) = test n && list n
+
+-- Whether a number up to this one passes the test.
+abbrev pub any_up_to : (ℕ → Bool) → ℕ → Bool
+any_up_to test zero = test 0
+any_up_to test (suc n) = any_up_to test n || test (suc n)

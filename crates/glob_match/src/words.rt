@@ -1,0 +1,124 @@
+// Places of a text, as bits of words: the place n is the bit n % 64 of the word n / 64.
+ghost use Rattle.std.specs.Prelude.{◌≡◌, ℕ, ◌+◌, ◌*◌, ◌/◌, ◌<◌, ◌≤◌, ◌&&◌, ◌||◌, not, nat_le, Bool, false, length, map, slice_index, IsTrue};
+ghost use Rattle.std.specs.Int.{bit_at};
+ghost use Rattle.std.specs.Simd.Lanes.{mask_l};
+ghost use Rattle.glob_match.specs.Words.{bit, is_between, HasBits, moved, any_up_to};
+
+use std::simd::prelude::*;
+
+/// The bits of a word.
+pub(crate) const BITS: usize = 64;
+
+/// The highest bit of a word.
+const HIGHEST: u64 = 1 << 63;
+
+/// Returns which of the bytes are at least this one, with a bit for each.
+#[inline(always)]
+fn at_least(bytes: u8x64, low: u8) -> u64
+    ensures { result ≡ mask_l (map (λ byte. nat_le low byte) bytes) }
+{
+    bytes.simd_ge(u8x64::splat(low)).to_bitmask()
+}
+
+/// Returns which of the bytes are at most this one, with a bit for each.
+#[inline(always)]
+fn at_most(bytes: u8x64, high: u8) -> u64
+    ensures { result ≡ mask_l (map (λ byte. nat_le byte high) bytes) }
+{
+    bytes.simd_le(u8x64::splat(high)).to_bitmask()
+}
+
+/// Returns which of the first 64 bytes are in a range, with a bit for each.
+#[inline(always)]
+fn in_range(bytes: &[u8], low: u8, high: u8) -> u64
+    requires { BITS ≤ length bytes.now }
+    ensures { (i : ℕ) → i < BITS → bit_at result i ≡ bit (is_between low high (slice_index bytes.now i)) }
+{
+    let bytes = u8x64::from_slice(bytes);
+    at_least(bytes, low) & at_most(bytes, high)
+}
+
+/// Drops all places.
+pub(crate) fn clear(words: &mut [u64])
+    ensures { HasBits words.new (λ n. false) }
+{
+    for at in 0..words.len() {
+        words[at] = 0;
+    }
+}
+
+/// Adds the places of the bytes in a range.
+pub(crate) fn add_range(words: &mut [u64], bytes: &[u8], low: u8, high: u8)
+    requires { BITS * length words.old ≤ length bytes.now }
+    ensures { (test : ℕ → Bool) → HasBits words.old test → HasBits words.new (λ n. test n || is_between low high (slice_index bytes.now n)) }
+{
+    for at in 0..words.len() {
+        words[at] |= in_range(&bytes[at * BITS..], low, high);
+    }
+}
+
+/// Changes each place that is there to one that isn't, and the other way round.
+pub(crate) fn negate(words: &mut [u64])
+    ensures { (test : ℕ → Bool) → HasBits words.old test → HasBits words.new (λ n. not (test n)) }
+{
+    for at in 0..words.len() {
+        words[at] = !words[at];
+    }
+}
+
+/// Moves each place that is listed on by one, and drops the others.
+pub(crate) fn advance(words: &mut [u64], listed: &[u64])
+    requires { length words.old ≡ length listed.now }
+    ensures { (test list : ℕ → Bool) → HasBits words.old test → HasBits listed.now list → HasBits words.new (moved test list) }
+{
+    let mut carry = 0;
+    for at in 0..words.len() {
+        let hit = words[at] & listed[at];
+        words[at] = hit % HIGHEST * 2 + carry;
+        carry = hit / HIGHEST;
+    }
+}
+
+/// Adds all places after one that is there.
+pub(crate) fn fill(words: &mut [u64])
+    ensures { (test : ℕ → Bool) → HasBits words.old test → HasBits words.new (any_up_to test) }
+{
+    let mut found = false;
+    for at in 0..words.len() {
+        let word = words[at];
+        if found {
+            words[at] = u64::MAX;
+        } else if word != 0 {
+            words[at] = u64::MAX << word.trailing_zeros();
+            found = true;
+        }
+    }
+}
+
+/// Drops the places after this one, which the last word has.
+pub(crate) fn cut(words: &mut [u64], last: usize)
+    requires { last / 64 + 1 ≡ length words.old }
+    ensures { (test : ℕ → Bool) → HasBits words.old test → HasBits words.new (λ n. nat_le n last && test n) }
+{
+    words[last / BITS] &= u64::MAX >> (63 - last % BITS);
+}
+
+/// Returns whether there is no place.
+pub(crate) fn is_empty(words: &[u64]) -> bool
+    ensures { IsTrue result → HasBits words.now (λ n. false) }
+{
+    for at in 0..words.len() {
+        if words[at] != 0 {
+            return false;
+        }
+    }
+    true
+}
+
+/// Returns whether a place is there.
+pub(crate) fn has(words: &[u64], place: usize) -> bool
+    requires { place / 64 < length words.now }
+    ensures { (test : ℕ → Bool) → HasBits words.now test → result ≡ test place }
+{
+    words[place / BITS] >> (place % BITS) & 1 == 1
+}
