@@ -5,3 +5,4 @@ pub mod Tries
 pub mod WordLemmas
 pub mod ReachLemmas
 pub mod ReadLemmas
+pub mod StateLemmas

@@ -1,16 +1,16 @@
 -- A pattern that is read byte by byte.
-use Rattle.std.proofs.Common.{◌≡◌, ◌≢◌, refl, sym, ap, subst, ◌∙◌, ℕ, zero, suc, ◌+◌, ◌*◌, ◌/◌, ◌%◌, ◌<◌, ◌≤◌, Bool, true, false, ◌&&◌, ◌||◌, ◌==◌, nat_le, List, [], ◌∷◌, ◌++◌, length, take, slice_index, Option, Some, None, append_assoc, arith}
+use Rattle.std.proofs.Common.{◌≡◌, ◌≢◌, refl, sym, ap, subst, ◌∙◌, ℕ, zero, suc, ◌+◌, ◌*◌, ◌/◌, ◌%◌, ◌<◌, ◌≤◌, Bool, true, false, ◌&&◌, ◌||◌, ◌==◌, nat_le, List, [], ◌∷◌, ◌++◌, length, take, slice_index, Option, Some, None, append_assoc, arith, ⊎_elim, ◌-◌}
 use Rattle.std.specs.Option.{option_map, option_map_or}
 use Rattle.std.specs.Bool.{Decides}
 use Rattle.std.specs.Int.{bit_at}
-use Rattle.std.proofs.lemmas.Bool.{false≢true, le-leb, lt-leb, and_right}
+use Rattle.std.proofs.lemmas.Bool.{false≢true, le-leb, lt-leb, and_right, cases_lt}
 use Rattle.std.proofs.lemmas.Bool.Decides.{nat_tests}
 use Rattle.std.proofs.lemmas.Nat.Bits.{bit_at-suc, bit_at-zero}
 use Rattle.std.proofs.lemmas.List.{append-nil}
 use Rattle.glob_match.specs.Pattern.{Matches, star, question, bracket, closing, bang, dash}
 use Rattle.glob_match.specs.Decision.{Part, parts_from, parts_take, is_listed, is_in_set, is_match}
 use Rattle.glob_match.specs.Decision.Part.{Many, One}
-use Rattle.glob_match.specs.Words.{HasBits, is_between, moved, any_up_to, bit}
+use Rattle.glob_match.specs.Words.{HasBits, HasPlaces, is_between, moved, any_up_to, bit}
 use Rattle.glob_match.specs.Progress.{Stands, IsOpen, reaches, pending_items, flip}
 use Rattle.glob_match.specs.declared.place.Place.{Place}
 use Rattle.glob_match.specs.declared.place.Place.TheVariants.{Outside, Opened, Inside}
@@ -47,10 +47,21 @@ read_set pattern parts at next byte read step rest =
 pub same_bits : (words : List ℕ) (f g : ℕ → Bool) → ((n : ℕ) → f n ≡ g n) → HasBits words f → HasBits words g
 same_bits words f g same h k i lt low = h k i lt low ∙ ap bit (same (64 * k + i))
 
+same_places : (first : ℕ) (words : List ℕ) (f g : ℕ → Bool) → ((n : ℕ) → f n ≡ g n) → HasPlaces first words f → HasPlaces first words g
+same_places first words f g same h = record {
+  bits = same_bits words _ _ (λ n. same (first + n)) h.bits;
+  before = λ n lt. sym (same n) ∙ h.before n lt;
+  after = λ n le. sym (same n) ∙ h.after n le;
+}
+
+-- A byte that is listed was taken of the text.
+abbrev pub Taken : (text : List ℕ) (first : ℕ) (reached : List ℕ) (next : ℕ) (new : List ℕ) → (ℕ → Bool) → Type 0
+Taken text first reached next new list = (test : ℕ → Bool) → HasPlaces first reached test → HasPlaces next new (λ n. nat_le n (length text) && moved test list n)
+
 -- The words have the places that are reached by one part more, of one byte.
-one_places : (text : List ℕ) (parts : List Part) (test list : ℕ → Bool) (words : List ℕ) → ((n : ℕ) → list n ≡ test (slice_index text n)) → HasBits words (λ n. nat_le n (length text) && moved (reaches parts text) list n) → HasBits words (reaches (parts ++ One test ∷ []) text)
-one_places text parts test list words same h =
-    same_bits words _ _ (λ n. ap (λ t. nat_le n (length text) && t) (moved_same n) ∙ sym (reaches-one test parts text n)) h
+one_places : (text : List ℕ) (parts : List Part) (test list : ℕ → Bool) (first : ℕ) (words : List ℕ) → ((n : ℕ) → list n ≡ test (slice_index text n)) → HasPlaces first words (λ n. nat_le n (length text) && moved (reaches parts text) list n) → HasPlaces first words (reaches (parts ++ One test ∷ []) text)
+one_places text parts test list first words same h =
+    same_places first words _ _ (λ n. ap (λ t. nat_le n (length text) && t) (moved_same n) ∙ sym (reaches-one test parts text n)) h
   where
     moved_same : (n : ℕ) → moved (reaches parts text) list n ≡ moved (reaches parts text) (λ m. test (slice_index text m)) n
     moved_same zero = refl
@@ -58,20 +69,20 @@ one_places text parts test list words same h =
 
 -- ---- a byte outside of a set
 
-module _ (text pattern reached listed : List ℕ) (s : Stands text pattern Outside reached listed) where
+module _ (text pattern : List ℕ) (first : ℕ) (reached listed : List ℕ) (s : Stands text pattern Outside first reached listed) where
   outside : IsRead pattern s.parts None
   outside = subst (IsRead pattern s.parts) s.set s.read
 
-  pub star_read : (new others : List ℕ) → ((test : ℕ → Bool) → HasBits reached test → HasBits new (λ n. nat_le n (length text) && any_up_to test n)) → Stands text (pattern ++ star ∷ []) Outside new others
-  star_read new others more = record {
+  pub star_read : (next : ℕ) (new others : List ℕ) → ((test : ℕ → Bool) → HasPlaces first reached test → HasPlaces next new (λ n. nat_le n (length text) && any_up_to test n)) → Stands text (pattern ++ star ∷ []) Outside next new others
+  star_read next new others more = record {
     parts = s.parts ++ Many ∷ [];
     open_set = None;
     read = read_part pattern s.parts (Many ∷ []) None None star outside (λ rest. refl);
-    places = same_bits new _ _ (λ n. sym (reaches-run s.parts text n)) (more (reaches s.parts text) s.places);
+    places = same_places next new _ _ (λ n. sym (reaches-run s.parts text n)) (more (reaches s.parts text) s.places);
     set = refl;
   }
 
-  pub bracket_read : (others : List ℕ) → Stands text (pattern ++ bracket ∷ []) Opened reached others
+  pub bracket_read : (others : List ℕ) → Stands text (pattern ++ bracket ∷ []) Opened first reached others
   bracket_read others = record {
     parts = s.parts;
     open_set = Some [];
@@ -80,30 +91,31 @@ module _ (text pattern reached listed : List ℕ) (s : Stands text pattern Outsi
     set = refl;
   }
 
-  one_read : (byte : ℕ) (test list : ℕ → Bool) (new others : List ℕ) → ((rest : List ℕ) → parts_from None (byte ∷ rest) ≡ option_map (λ ps. (One test ∷ []) ++ ps) (parts_from None rest)) → ((n : ℕ) → list n ≡ test (slice_index text n)) → ((test : ℕ → Bool) → HasBits reached test → HasBits new (λ n. nat_le n (length text) && moved test list n)) → Stands text (pattern ++ byte ∷ []) Outside new others
-  one_read byte test list new others step same more = record {
+  one_read : (byte : ℕ) (test list : ℕ → Bool) (next : ℕ) (new others : List ℕ) → ((rest : List ℕ) → parts_from None (byte ∷ rest) ≡ option_map (λ ps. (One test ∷ []) ++ ps) (parts_from None rest)) → ((n : ℕ) → list n ≡ test (slice_index text n)) → Taken text first reached next new list → Stands text (pattern ++ byte ∷ []) Outside next new others
+  one_read byte test list next new others step same more = record {
     parts = s.parts ++ One test ∷ [];
     open_set = None;
     read = read_part pattern s.parts (One test ∷ []) None None byte outside step;
-    places = one_places text s.parts test list new same (more (reaches s.parts text) s.places);
+    places = one_places text s.parts test list next new same (more (reaches s.parts text) s.places);
     set = refl;
   }
 
-  pub question_read : (list : ℕ → Bool) (new others : List ℕ) → ((n : ℕ) → list n ≡ true) → ((test : ℕ → Bool) → HasBits reached test → HasBits new (λ n. nat_le n (length text) && moved test list n)) → Stands text (pattern ++ question ∷ []) Outside new others
-  question_read list new others all more = one_read question (λ _. true) list new others (λ rest. refl) all more
+  pub question_read : (list : ℕ → Bool) (next : ℕ) (new others : List ℕ) → ((n : ℕ) → list n ≡ true) → Taken text first reached next new list → Stands text (pattern ++ question ∷ []) Outside next new others
+  question_read list next new others all more = one_read question (λ _. true) list next new others (λ rest. refl) all more
 
-  pub byte_read : (byte : ℕ) (list : ℕ → Bool) (new others : List ℕ) → byte ≢ star → byte ≢ question → byte ≢ bracket → ((n : ℕ) → list n ≡ (slice_index text n == byte)) → ((test : ℕ → Bool) → HasBits reached test → HasBits new (λ n. nat_le n (length text) && moved test list n)) → Stands text (pattern ++ byte ∷ []) Outside new others
-  byte_read byte list new others a b c same more = one_read byte (λ x. x == byte) list new others (λ rest. rw (not_same byte star a, not_same byte question b, not_same byte bracket c) refl) same more
+  pub byte_read : (byte : ℕ) (list : ℕ → Bool) (next : ℕ) (new others : List ℕ) → byte ≢ star → byte ≢ question → byte ≢ bracket → ((n : ℕ) → list n ≡ (slice_index text n == byte)) → Taken text first reached next new list → Stands text (pattern ++ byte ∷ []) Outside next new others
+  byte_read byte list next new others a b c same more =
+      one_read byte (λ x. x == byte) list next new others (λ rest. rw (not_same byte star a, not_same byte question b, not_same byte bracket c) refl) same more
 
 -- ---- a byte of a set
 
 -- A set is closed, as a part of one byte.
-set_closed : (text pattern reached : List ℕ) (parts : List Part) (open_set : Option (List ℕ)) (items : List ℕ) (list : ℕ → Bool) (new others : List ℕ) → IsRead pattern parts open_set → open_set ≡ Some items → HasBits reached (reaches parts text) → ((n : ℕ) → list n ≡ is_in_set items (slice_index text n)) → ((test : ℕ → Bool) → HasBits reached test → HasBits new (λ n. nat_le n (length text) && moved test list n)) → Stands text (pattern ++ closing ∷ []) Outside new others
-set_closed text pattern reached parts open_set items list new others read is places same more = record {
+set_closed : (text pattern : List ℕ) (first : ℕ) (reached : List ℕ) (parts : List Part) (open_set : Option (List ℕ)) (items : List ℕ) (list : ℕ → Bool) (next : ℕ) (new others : List ℕ) → IsRead pattern parts open_set → open_set ≡ Some items → HasPlaces first reached (reaches parts text) → ((n : ℕ) → list n ≡ is_in_set items (slice_index text n)) → Taken text first reached next new list → Stands text (pattern ++ closing ∷ []) Outside next new others
+set_closed text pattern first reached parts open_set items list next new others read is places same more = record {
   parts = parts ++ One (is_in_set items) ∷ [];
   open_set = None;
   read = read_part pattern parts (One (is_in_set items) ∷ []) (Some items) None closing (subst (IsRead pattern parts) is read) (λ rest. refl);
-  places = one_places text parts (is_in_set items) list new same (more (reaches parts text) places);
+  places = one_places text parts (is_in_set items) list next new same (more (reaches parts text) places);
   set = refl;
 }
 
@@ -111,14 +123,14 @@ set_closed text pattern reached parts open_set items list new others read is pla
 item_step : (items : List ℕ) (byte : ℕ) → byte ≢ closing → (rest : List ℕ) → parts_from (Some items) (byte ∷ rest) ≡ parts_from (Some (items ++ byte ∷ [])) rest
 item_step items byte other rest = rw (not_same byte closing other) refl
 
-module _ (text pattern reached listed : List ℕ) (s : Stands text pattern Opened reached listed) where
+module _ (text pattern : List ℕ) (first : ℕ) (reached listed : List ℕ) (s : Stands text pattern Opened first reached listed) where
   opened : IsRead pattern s.parts (Some [])
   opened = subst (IsRead pattern s.parts) s.set s.read
 
-  pub empty_set : (list : ℕ → Bool) (new others : List ℕ) → ((n : ℕ) → list n ≡ false) → ((test : ℕ → Bool) → HasBits reached test → HasBits new (λ n. nat_le n (length text) && moved test list n)) → Stands text (pattern ++ closing ∷ []) Outside new others
-  empty_set list new others none more = set_closed text pattern reached s.parts s.open_set [] list new others s.read s.set s.places none more
+  pub empty_set : (list : ℕ → Bool) (next : ℕ) (new others : List ℕ) → ((n : ℕ) → list n ≡ false) → Taken text first reached next new list → Stands text (pattern ++ closing ∷ []) Outside next new others
+  empty_set list next new others none more = set_closed text pattern first reached s.parts s.open_set [] list next new others s.read s.set s.places none more
 
-  pub bang_read : (others : List ℕ) → HasBits others (λ n. false) → Stands text (pattern ++ bang ∷ []) (Inside true Nothing) reached others
+  pub bang_read : (others : List ℕ) → HasBits others (λ n. false) → Stands text (pattern ++ bang ∷ []) (Inside true Nothing) first reached others
   bang_read others none = record {
     parts = s.parts;
     open_set = Some (bang ∷ []);
@@ -127,7 +139,7 @@ module _ (text pattern reached listed : List ℕ) (s : Stands text pattern Opene
     set = (bang ∷ [], refl, record { test = λ _. false; tests = λ rest byte. refl; bits = none });
   }
 
-  pub first_read : (low : ℕ) (others : List ℕ) → low ≢ closing → low ≢ bang → HasBits others (λ n. false) → Stands text (pattern ++ low ∷ []) (Inside false (Low low)) reached others
+  pub first_read : (low : ℕ) (others : List ℕ) → low ≢ closing → low ≢ bang → HasBits others (λ n. false) → Stands text (pattern ++ low ∷ []) (Inside false (Low low)) first reached others
   first_read low others a b none = record {
     parts = s.parts;
     open_set = Some (low ∷ []);
@@ -136,8 +148,8 @@ module _ (text pattern reached listed : List ℕ) (s : Stands text pattern Opene
     set = (low ∷ [], refl, record { test = λ _. false; tests = λ rest byte. rw (not_same low bang b) refl; bits = none });
   }
 
-module _ (text pattern reached listed : List ℕ) (negated : Bool) (pending : Pending) (s : Stands text pattern (Inside negated pending) reached listed) where
-  pub items_read : (byte : ℕ) (next : Pending) (others : List ℕ) → byte ≢ closing → ((items : List ℕ) → IsOpen text negated (pending_items pending) items listed → IsOpen text negated (pending_items next) (items ++ byte ∷ []) others) → Stands text (pattern ++ byte ∷ []) (Inside negated next) reached others
+module _ (text pattern : List ℕ) (first : ℕ) (reached listed : List ℕ) (negated : Bool) (pending : Pending) (s : Stands text pattern (Inside negated pending) first reached listed) where
+  pub items_read : (byte : ℕ) (next : Pending) (others : List ℕ) → byte ≢ closing → ((items : List ℕ) → IsOpen text negated first (pending_items pending) items listed → IsOpen text negated first (pending_items next) (items ++ byte ∷ []) others) → Stands text (pattern ++ byte ∷ []) (Inside negated next) first reached others
   items_read byte next others other more =
       let items = s.set.0 in
       record {
@@ -148,20 +160,16 @@ module _ (text pattern reached listed : List ℕ) (negated : Bool) (pending : Pe
         set = (items ++ byte ∷ [], refl, more items s.set.2);
       }
 
-  -- The test of the set's items, with those pending.
-  whole : ℕ → Bool
-  whole byte = flip negated (s.set.2.test byte || is_listed (pending_items pending) byte)
-
-  pub set_read : (bytes new others : List ℕ) → ((n : ℕ) → slice_index bytes n ≡ slice_index text n) → ((test list : ℕ → Bool) → HasBits reached test → HasBits listed list → HasBits new (λ n. nat_le n (length text) && moved test (λ m. flip negated (list m || is_listed (pending_items pending) (slice_index bytes m))) n)) → Stands text (pattern ++ closing ∷ []) Outside new others
-  set_read bytes new others same more =
+  pub set_read : (bytes : List ℕ) (next : ℕ) (new others : List ℕ) → ((n : ℕ) → slice_index bytes n ≡ slice_index text n) → ((list : ℕ → Bool) → HasBits listed (λ n. list (first + n)) → Taken text first reached next new (λ m. flip negated (list m || is_listed (pending_items pending) (slice_index bytes m)))) → Stands text (pattern ++ closing ∷ []) Outside next new others
+  set_read bytes next new others same more =
       let o = s.set.2 in
-      set_closed text pattern reached s.parts s.open_set s.set.0 (λ m. flip negated (o.test (slice_index text m) || is_listed (pending_items pending) (slice_index bytes m))) new others s.read s.set.1 s.places
+      set_closed text pattern first reached s.parts s.open_set s.set.0 (λ m. flip negated (o.test (slice_index text m) || is_listed (pending_items pending) (slice_index bytes m))) next new others s.read s.set.1 s.places
       (λ n.
       ap (λ x. flip negated (o.test (slice_index text n) || is_listed (pending_items pending) x)) (same n)
       ∙ ap (λ xs. flip negated (o.test (slice_index text n) || is_listed xs (slice_index text n))) (sym (append-nil (pending_items pending)))
       ∙ sym (o.tests [] (slice_index text n))
       ∙ ap (λ xs. is_in_set xs (slice_index text n)) (append-nil s.set.0))
-      (λ test h. more test (λ m. o.test (slice_index text m)) h o.bits)
+      (more (λ m. o.test (slice_index text m)) o.bits)
 
 -- ---- the items of a set
 
@@ -172,9 +180,9 @@ listed_low : (low byte : ℕ) (rest : List ℕ) (x : ℕ) → byte ≢ dash → 
 listed_low low byte [] x other = refl
 listed_low low byte (y ∷ rest) x other = rw (not_same byte dash other) refl
 
-module _ (text bytes : List ℕ) (same : (n : ℕ) → slice_index bytes n ≡ slice_index text n) (negated : Bool) (items listed : List ℕ) where
+module _ (text bytes : List ℕ) (same : (n : ℕ) → slice_index bytes n ≡ slice_index text n) (negated : Bool) (first : ℕ) (items listed : List ℕ) where
   -- A byte that begins an item, or may end a range.
-  pub pend : (byte : ℕ) (before after : List ℕ) → after ≡ before ++ byte ∷ [] → IsOpen text negated before items listed → IsOpen text negated after (items ++ byte ∷ []) listed
+  pub pend : (byte : ℕ) (before after : List ℕ) → after ≡ before ++ byte ∷ [] → IsOpen text negated first before items listed → IsOpen text negated first after (items ++ byte ∷ []) listed
   pend byte before after is o = record {
     test = o.test;
     tests = λ rest x.
@@ -185,7 +193,7 @@ module _ (text bytes : List ℕ) (same : (n : ℕ) → slice_index bytes n ≡ s
   }
 
   -- An item that is decided by this byte.
-  decide : (byte low high : ℕ) (before after new : List ℕ) → ((rest : List ℕ) (x : ℕ) → is_listed (before ++ byte ∷ rest) x ≡ (is_between low high x || is_listed (after ++ rest) x)) → ((test : ℕ → Bool) → HasBits listed test → HasBits new (λ n. test n || is_between low high (slice_index bytes n))) → IsOpen text negated before items listed → IsOpen text negated after (items ++ byte ∷ []) new
+  decide : (byte low high : ℕ) (before after new : List ℕ) → ((rest : List ℕ) (x : ℕ) → is_listed (before ++ byte ∷ rest) x ≡ (is_between low high x || is_listed (after ++ rest) x)) → ((test : ℕ → Bool) → HasBits listed test → HasBits new (λ n. test n || is_between low high (slice_index bytes (first + n)))) → IsOpen text negated first before items listed → IsOpen text negated first after (items ++ byte ∷ []) new
   decide byte low high before after new step more o = record {
     test = λ x. o.test x || is_between low high x;
     tests = λ rest x.
@@ -193,18 +201,18 @@ module _ (text bytes : List ℕ) (same : (n : ℕ) → slice_index bytes n ≡ s
         ∙ o.tests (byte ∷ rest) x
         ∙ ap (λ t. flip negated (o.test x || t)) (step rest x)
         ∙ ap (flip negated) (sym (or_assoc (o.test x) (is_between low high x) (is_listed (after ++ rest) x)));
-    bits = same_bits new _ _ (λ n. ap (λ x. o.test (slice_index text n) || is_between low high x) (same n)) (more (λ n. o.test (slice_index text n)) o.bits);
+    bits = same_bits new _ _ (λ n. ap (λ x. o.test (slice_index text (first + n)) || is_between low high x) (same (first + n))) (more (λ n. o.test (slice_index text (first + n))) o.bits);
   }
     where
       or_assoc : (a b c : Bool) → ((a || b) || c) ≡ (a || (b || c))
       or_assoc true b c = refl
       or_assoc false b c = refl
 
-  pub low_decided : (low byte : ℕ) (new : List ℕ) → byte ≢ dash → ((test : ℕ → Bool) → HasBits listed test → HasBits new (λ n. test n || is_between low low (slice_index bytes n))) → IsOpen text negated (low ∷ []) items listed → IsOpen text negated (byte ∷ []) (items ++ byte ∷ []) new
+  pub low_decided : (low byte : ℕ) (new : List ℕ) → byte ≢ dash → ((test : ℕ → Bool) → HasBits listed test → HasBits new (λ n. test n || is_between low low (slice_index bytes (first + n)))) → IsOpen text negated first (low ∷ []) items listed → IsOpen text negated first (byte ∷ []) (items ++ byte ∷ []) new
   low_decided low byte new other more o =
       decide byte low low (low ∷ []) (byte ∷ []) new (λ rest x. listed_low low byte rest x other ∙ ap (λ t. t || is_listed (byte ∷ rest) x) (sym (same_between low x))) more o
 
-  pub range_decided : (low byte : ℕ) (new : List ℕ) → ((test : ℕ → Bool) → HasBits listed test → HasBits new (λ n. test n || is_between low byte (slice_index bytes n))) → IsOpen text negated (low ∷ dash ∷ []) items listed → IsOpen text negated [] (items ++ byte ∷ []) new
+  pub range_decided : (low byte : ℕ) (new : List ℕ) → ((test : ℕ → Bool) → HasBits listed test → HasBits new (λ n. test n || is_between low byte (slice_index bytes (first + n)))) → IsOpen text negated first (low ∷ dash ∷ []) items listed → IsOpen text negated first [] (items ++ byte ∷ []) new
   range_decided low byte new more o = decide byte low byte (low ∷ dash ∷ []) [] new (λ rest x. refl) more o
 
 -- ---- what was read
@@ -222,34 +230,42 @@ inside_match text pattern items parts read =
     ap (λ o. option_map_or (λ ps. parts_take ps text) o false) (ap (parts_from None) (sym (append-nil pattern)) ∙ read [])
 
 -- The pattern matches if its place is outside of a set, and the end of the text is reached.
-pub outside_decides : (text pattern reached listed : List ℕ) (answer : Bool) → Stands text pattern Outside reached listed → ((test : ℕ → Bool) → HasBits reached test → answer ≡ test (length text)) → Decides answer (Matches pattern text)
-outside_decides text pattern reached listed answer s is =
+pub outside_decides : (text pattern : List ℕ) (first : ℕ) (reached listed : List ℕ) (answer : Bool) → Stands text pattern Outside first reached listed → ((test : ℕ → Bool) → HasPlaces first reached test → answer ≡ test (length text)) → Decides answer (Matches pattern text)
+outside_decides text pattern first reached listed answer s is =
     let e : answer ≡ is_match pattern text = is (reaches s.parts text) s.places ∙ reaches-end s.parts text ∙ sym (outside_match text pattern s.parts (subst (IsRead pattern s.parts) s.set s.read)) in
     subst (λ t. Decides t (Matches pattern text)) (sym e) (decides pattern text)
 
-pub opened_never : (text pattern reached listed : List ℕ) → Stands text pattern Opened reached listed → ¬ Matches pattern text
-opened_never text pattern reached listed s m =
+pub opened_never : (text pattern : List ℕ) (first : ℕ) (reached listed : List ℕ) → Stands text pattern Opened first reached listed → ¬ Matches pattern text
+opened_never text pattern first reached listed s m =
     false≢true (sym (inside_match text pattern [] s.parts (subst (IsRead pattern s.parts) s.set s.read)) ∙ (decides pattern text).1 m)
 
-pub inside_never : (text pattern reached listed : List ℕ) (negated : Bool) (pending : Pending) → Stands text pattern (Inside negated pending) reached listed → ¬ Matches pattern text
-inside_never text pattern reached listed negated pending s m =
+pub inside_never : (text pattern : List ℕ) (first : ℕ) (reached listed : List ℕ) (negated : Bool) (pending : Pending) → Stands text pattern (Inside negated pending) first reached listed → ¬ Matches pattern text
+inside_never text pattern first reached listed negated pending s m =
     false≢true (sym (inside_match text pattern s.set.0 s.parts (subst (IsRead pattern s.parts) s.set.1 s.read)) ∙ (decides pattern text).1 m)
 
 -- No place is reached, so nothing that begins with the pattern matches.
-pub lost : (text pattern reached listed : List ℕ) (place : Place) → Stands text pattern place reached listed → HasBits reached (λ n. false) → length text / 64 + 1 ≡ length reached → (rest : List ℕ) → ¬ Matches (pattern ++ rest) text
+pub lost : (text pattern : List ℕ) (first : ℕ) (reached listed : List ℕ) (place : Place) → Stands text pattern place first reached listed → HasBits reached (λ n. false) → (rest : List ℕ) → ¬ Matches (pattern ++ rest) text
 unfolding is_match
-lost text pattern reached listed place s none size rest m =
+lost text pattern first reached listed place s none rest m =
     let e = ap (λ o. option_map_or (λ ps. parts_take ps text) o false) (s.read rest) in
     no_parts (parts_from s.open_set rest) (sym e ∙ (decides (pattern ++ rest) text).1 m)
   where
     never : (n : ℕ) → n ≤ length text → reaches s.parts text n ≡ false
     never n le =
-        let parts : 64 * (n / 64) + n % 64 ≡ n = omega arith in
-        let k = n / 64 in
-        let i = n % 64 in
-        let lt : k < length reached = omega (arith, le, size) in
+        ⊎_elim
+        (λ early. s.places.before n early)
+        (λ later.
+        ⊎_elim
+        (λ inside.
+        let k = (n - first) / 64 in
+        let i = (n - first) % 64 in
+        let at : first + (64 * k + i) ≡ n = omega (arith, later) in
+        let lt : k < length reached = omega (arith, inside, later) in
         let low : i < 64 = omega arith in
-        bit_once (reaches s.parts text n) false (ap (λ m. bit (reaches s.parts text m)) (sym parts) ∙ sym (s.places k i lt low) ∙ none k i lt low)
+        bit_once (reaches s.parts text n) false (ap (λ m. bit (reaches s.parts text m)) (sym at) ∙ sym (s.places.bits k i lt low) ∙ none k i lt low))
+        (λ past. s.places.after n past)
+        (cases_lt n (first + 64 * length reached)))
+        (cases_lt n first)
 
     no_parts : (o : Option (List Part)) → option_map_or (λ ps. parts_take ps text) (option_map (λ ps. s.parts ++ ps) o) false ≡ true → ⊥
     no_parts None e = false≢true e
@@ -257,19 +273,29 @@ lost text pattern reached listed place s none size rest m =
 
 -- ---- the beginning
 
-first_place : (text : List ℕ) → reaches [] text (64 * 0 + 0) ≡ true
-first_place text = let n : 0 ≡ 64 * 0 + 0 = omega arith in ap (reaches [] text) (sym n) ∙ ap (λ t. t && true) (le-leb 0 (length text) (omega arith))
-
 no_other : (text : List ℕ) (n : ℕ) → reaches [] text (suc n) ≡ false
 no_other [] n = ap (λ t. t && parts_take [] (take (suc n) [])) (lt-leb (suc n) 0 (omega arith))
 no_other (x ∷ text) n = and_right (nat_le (suc n) (length (x ∷ text))) _ (not_same (suc (length (take n text))) 0 (λ e. omega (arith, e)))
 
-pub begun : (text reached listed : List ℕ) → slice_index reached 0 ≡ 1 → ((k : ℕ) → 0 < k → slice_index reached k ≡ 0) → Stands text [] Outside reached listed
-begun text reached listed first others = record {
+begun_bits : (text reached : List ℕ) → reached ≡ 1 ∷ [] → HasBits reached (λ n. reaches [] text (0 + n))
+begun_bits text reached is zero zero lt low =
+    let none : 0 ≡ 0 + (64 * 0 + 0) = omega arith in
+    ap (λ ws. bit_at (slice_index ws 0) 0) is ∙ ap bit (sym (ap (λ t. t && true) (le-leb 0 (length text) (omega arith)))) ∙ ap (λ n. bit (reaches [] text n)) none
+begun_bits text reached is zero (suc i) lt low =
+    let n : suc i ≡ 0 + (64 * 0 + suc i) = omega arith in
+    ap (λ ws. bit_at (slice_index ws 0) (suc i)) is ∙ bit_at-suc 1 i ∙ bit_at-zero i ∙ ap bit (sym (no_other text i)) ∙ ap (λ n. bit (reaches [] text n)) n
+begun_bits text reached is (suc k) i lt low = let one = ap length is in absurd (omega (arith, lt, one))
+
+pub begun : (text reached listed : List ℕ) → reached ≡ 1 ∷ [] → Stands text [] Outside 0 reached listed
+begun text reached listed is = record {
   parts = [];
   open_set = None;
   read = λ rest. sym (map_same (parts_from None rest));
-  places = start;
+  places = record {
+    bits = begun_bits text reached is;
+    before = λ n lt. absurd (omega (arith, lt));
+    after = λ n le. let one = ap length is in later n (omega (arith, le, one));
+  };
   set = refl;
 }
   where
@@ -277,11 +303,6 @@ begun text reached listed first others = record {
     map_same None = refl
     map_same (Some ps) = refl
 
-    start : HasBits reached (reaches [] text)
-    start zero zero lt low = ap (λ w. bit_at w 0) first ∙ ap bit (sym (first_place text))
-    start zero (suc i) lt low =
-        let n : suc i ≡ 64 * 0 + suc i = omega arith in
-        ap (λ w. bit_at w (suc i)) first ∙ bit_at-suc 1 i ∙ bit_at-zero i ∙ ap bit (sym (no_other text i) ∙ ap (reaches [] text) n)
-    start (suc k) i lt low =
-        let n : suc (64 * k + 63 + i) ≡ 64 * suc k + i = omega arith in
-        ap (λ w. bit_at w i) (others (suc k) (omega arith)) ∙ bit_at-zero i ∙ ap bit (sym (no_other text (64 * k + 63 + i)) ∙ ap (reaches [] text) n)
+    later : (n : ℕ) → 0 < n → reaches [] text n ≡ false
+    later zero lt = absurd (omega (arith, lt))
+    later (suc n) lt = no_other text n

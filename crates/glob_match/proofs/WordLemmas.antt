@@ -1,14 +1,13 @@
 -- Loops that change words one by one, and the bits of words.
-use Rattle.std.proofs.Common.{leb, w8, cond, replicate, [], ◌∷◌, ◌≡◌, refl, sym, ap, subst, ◌∙◌, ⊎_elim, ℕ, zero, suc, ◌+◌, ◌-◌, ◌*◌, ◌/◌, ◌%◌, ◌^◌, ◌<◌, ◌≤◌, min, max, Bool, true, false, not, ◌&&◌, ◌||◌, nat_le, List, length, map, set, slice_index, arith}
-use Rattle.std.proofs.lemmas.Bool.{false_from_ne_true, cases_eq, cases_lt, or_left, or_right, or_from, leb-true, le-leb, lt-leb, true≢false}
-use Rattle.std.proofs.lemmas.List.{get_or-set_same, get_or-set_other, get_or-map, length-map}
+use Rattle.std.proofs.Common.{leb, w8, cond, replicate, [], ◌∷◌, ◌≡◌, refl, sym, ap, subst, ◌∙◌, ⊎_elim, ℕ, zero, suc, ◌+◌, ◌-◌, ◌*◌, ◌/◌, ◌%◌, ◌^◌, ◌<◌, ◌≤◌, min, max, Bool, true, false, not, ◌&&◌, ◌||◌, nat_le, List, length, map, take, set, slice_index, arith}
+use Rattle.std.proofs.lemmas.Bool.{false_from_ne_true, cases_eq, cases_lt, or_left, or_right, or_from, and_left, and_right, leb-true, le-leb, lt-leb, true≢false}
+use Rattle.std.proofs.lemmas.List.{get_or-set_same, get_or-set_other, get_or-map, length-map, get_or-take, length-take-le}
 use Rattle.std.proofs.lemmas.Simd.{bit_mask_l, get_or-chunk, length-chunk, tops_compared, mask_l-mod}
 use lib.Lanes.{chunk, mask_l, zip2, top}
-use Rattle.std.proofs.lemmas.Nat.Bits.{bit_at_lowest, bit_at-suc, bit_at-zero, bit_at_and, bit_at_cat_low, bit_at_ones, bit_at_ones_above, bit_at_mask_inside, bit_at_mask_below, ones_shr}
-use Rattle.std.proofs.lemmas.Nat.{and_le_l}
+use Rattle.std.proofs.lemmas.Nat.Bits.{bit_at-zero, bit_at_and, bit_at_ones, bit_at_ones_above, bit_at_mask_inside, bit_at_mask_below, ones_shr}
 use Rattle.std.specs.Int.{bit_at}
 use Rattle.std.specs.Int.Bits.{bit_and}
-use Rattle.glob_match.specs.Words.{bit, is_between, HasBits, moved, any_up_to}
+use Rattle.glob_match.specs.Words.{bit, is_between, HasBits, HasFront, HasPlaces, moved, any_up_to}
 
 -- ---- words that are changed one by one
 
@@ -53,20 +52,6 @@ bit_once true true e = refl
 bit_once false false e = refl
 bit_once true false e = absurd (omega (arith, e))
 bit_once false true e = absurd (omega (arith, e))
-
--- ---- a shift by one place
-
-pub low_moved : (hit carry : ℕ) → carry < 2 → bit_at (hit % 2 ^ 63 * 2 + carry) 0 ≡ carry
-low_moved hit carry few = omega (arith, bit_at_lowest (hit % 2 ^ 63 * 2 + carry))
-
-pub high_moved : (hit carry i : ℕ) → carry < 2 → i < 63 → bit_at (hit % 2 ^ 63 * 2 + carry) (suc i) ≡ bit_at hit i
-high_moved hit carry i few low =
-    let half : (hit % 2 ^ 63 * 2 + carry) / 2 ≡ hit % 2 ^ 63 = omega arith in
-    let parts : hit / 2 ^ 63 * 2 ^ 63 + hit % 2 ^ 63 ≡ hit = omega arith in
-    bit_at-suc (hit % 2 ^ 63 * 2 + carry) i ∙ ap (λ n. bit_at n i) half ∙ sym (bit_at_cat_low (hit / 2 ^ 63) 63 (hit % 2 ^ 63) i low) ∙ ap (λ n. bit_at n i) parts
-
-pub top_bit : (hit : ℕ) → hit < 2 ^ 64 → bit_at hit 63 ≡ hit / 2 ^ 63
-top_bit hit fits = omega arith
 
 -- ---- a comparison with one byte
 
@@ -129,45 +114,6 @@ still_below test (suc m) (suc n) le holds =
     (λ other. or_left (any_below test n) (test n) (still_below test (suc m) n (omega (arith, le, other)) holds))
     (cases_eq m n)
 
--- ---- words that are moved on
-
-abbrev pub hit_at : List ℕ → List ℕ → ℕ → ℕ
-hit_at words listed k = bit_and (slice_index words k) (slice_index listed k)
-
-abbrev pub carry_at : List ℕ → List ℕ → ℕ → ℕ
-carry_at words listed zero = 0
-carry_at words listed (suc k) = hit_at words listed k / 2 ^ 63
-
-abbrev pub shifted : ℕ → ℕ → ℕ
-shifted hit carry = hit % 2 ^ 63 * 2 + carry
-
-module _ (words listed : List ℕ) (test list : ℕ → Bool) (h : HasBits words test) (g : HasBits listed list) (same : length words ≡ length listed) (fits : (k : ℕ) → slice_index words k < 2 ^ 64) where
-  hit_fits : (k : ℕ) → hit_at words listed k < 2 ^ 64
-  hit_fits k = omega (arith, fits k, and_le_l (slice_index words k) (slice_index listed k))
-
-  carry_few : (k : ℕ) → carry_at words listed k < 2
-  carry_few zero = omega arith
-  carry_few (suc k) = omega (arith, hit_fits k)
-
-  hit_bits : (k i : ℕ) → k < length words → i < 64 → bit_at (hit_at words listed k) i ≡ bit (test (64 * k + i) && list (64 * k + i))
-  hit_bits k i lt low =
-      bit_at_and (slice_index words k) (slice_index listed k) i
-      ∙ (λ j. min (h k i lt low j) (g k i (omega (arith, lt, same)) low j))
-      ∙ bit_both (test (64 * k + i)) (list (64 * k + i))
-
-  carry_bits : (k : ℕ) → k < length words → carry_at words listed k ≡ bit (moved test list (64 * k + 0))
-  carry_bits zero lt = let none : 64 * 0 + 0 ≡ 0 = omega arith in ap (λ n. bit (moved test list n)) (sym none)
-  carry_bits (suc k) lt =
-      let at : suc (64 * k + 63) ≡ 64 * suc k + 0 = omega arith in
-      sym (top_bit (hit_at words listed k) (hit_fits k)) ∙ hit_bits k 63 (omega (arith, lt)) (omega arith) ∙ ap (λ n. bit (moved test list n)) at
-
-  pub moved_bits : (new : List ℕ) → ((k : ℕ) → k < length words → slice_index new k ≡ shifted (hit_at words listed k) (carry_at words listed k)) → (k i : ℕ) → k < length words → i < 64 → bit_at (slice_index new k) i ≡ bit (moved test list (64 * k + i))
-  moved_bits new e k zero lt low =
-      ap (λ w. bit_at w 0) (e k lt) ∙ low_moved (hit_at words listed k) (carry_at words listed k) (carry_few k) ∙ carry_bits k lt
-  moved_bits new e k (suc i) lt low =
-      let at : suc (64 * k + i) ≡ 64 * k + suc i = omega arith in
-      ap (λ w. bit_at w (suc i)) (e k lt) ∙ high_moved (hit_at words listed k) (carry_at words listed k) i (carry_few k) (omega (arith, low)) ∙ hit_bits k i lt (omega (arith, low)) ∙ ap (λ n. bit (moved test list n)) at
-
 -- ---- a word that is filled from its lowest place on
 
 module _ (test : ℕ → Bool) (words : List ℕ) (h : HasBits words test) (k : ℕ) (lt : k < length words) where
@@ -212,6 +158,13 @@ cut_mask r i small low =
     (λ past. bit_at_ones_above (r + 1) i past ∙ ap bit (sym (lt-leb i r (omega (arith, past)))))
     (cases_lt i (r + 1))
 
+pub same_order : (a b m n : ℕ) → (a ≤ b → m ≤ n) → (m ≤ n → a ≤ b) → nat_le a b ≡ nat_le m n
+same_order a b m n to back =
+    elim (nat_le a b) as (λ t. nat_le a b ≡ t → t ≡ nat_le m n) [
+      | true ↦ λ e. sym (le-leb m n (to (leb-true a b e)))
+      | false ↦ λ e. sym (false_from_ne_true (nat_le m n) (λ f. true≢false (sym (le-leb a b (back (leb-true m n f))) ∙ e)))
+    ] refl
+
 pub cut_bits : (words : List ℕ) (last : ℕ) (test : ℕ → Bool) → HasBits words test → last / 64 + 1 ≡ length words → (k i : ℕ) → k < length words → i < 64 → bit_at (slice_index (set words (last / 64) (bit_and (slice_index words (last / 64)) ((2 ^ 64 - 1) / 2 ^ (63 - last % 64)))) k) i ≡ bit (nat_le (64 * k + i) last && test (64 * k + i))
 cut_bits words last test h size k i lt low =
     let q = last / 64 in
@@ -239,9 +192,63 @@ cut_bits words last test h size k i lt low =
     bit_swapped false true = refl
     bit_swapped false false = refl
 
-    same_order : (a b m n : ℕ) → (a ≤ b → m ≤ n) → (m ≤ n → a ≤ b) → nat_le a b ≡ nat_le m n
-    same_order a b m n to back =
-        elim (nat_le a b) as (λ t. nat_le a b ≡ t → t ≡ nat_le m n) [
-          | true ↦ λ e. sym (le-leb m n (to (leb-true a b e)))
-          | false ↦ λ e. sym (false_from_ne_true (nat_le m n) (λ f. true≢false (sym (le-leb a b (back (leb-true m n f))) ∙ e)))
-        ] refl
+-- ---- places from a first one on
+
+taken_bits : (words : List ℕ) (m : ℕ) (test : ℕ → Bool) → m ≤ length words → HasBits words test → HasBits (take m words) test
+taken_bits words m test le h k i lt low =
+    let size = length-take-le m words le in
+    ap (λ w. bit_at w i) (get_or-take m words k 0 (omega (arith, lt, size))) ∙ h k i (omega (arith, lt, size, le)) low
+
+pub cut_places : (first size : ℕ) (words new : List ℕ) (test : ℕ → Bool) → first ≤ size → (size - first) / 64 < length words → length new ≡ (size - first) / 64 + 1 → ((t : ℕ → Bool) → HasBits (take ((size - first) / 64 + 1) words) t → HasBits new (λ n. nat_le n (size - first) && t n)) → HasFront first size words test → HasPlaces first new (λ n. nat_le n size && test n)
+cut_places first size words new test low short count more h = record {
+  bits = λ k i lt small.
+      more (λ n. test (first + n)) (taken_bits words ((size - first) / 64 + 1) (λ n. test (first + n)) (omega (arith, short)) h.bits) k i lt small
+      ∙ ap (λ t. bit (t && test (first + (64 * k + i)))) (same_order (64 * k + i) (size - first) (first + (64 * k + i)) size (λ le. omega (arith, le, low)) (λ le. omega (arith, le)));
+  before = λ n lt. and_right (nat_le n size) (test n) (h.before n lt);
+  after = λ n le. and_left (nat_le n size) (test n) (lt-leb n size (omega (arith, le, count, low)));
+}
+
+pub kept_places : (first : ℕ) (words kept : List ℕ) (test list : ℕ → Bool) → length kept ≡ length words → HasPlaces first words test → HasBits kept (λ n. test (first + n) && list (first + n)) → (size : ℕ) → HasFront (first + 1) size kept (moved test list)
+kept_places first words kept test list count h bits size = record {
+  bits = λ k i lt low.
+      let at : suc (first + (64 * k + i)) ≡ first + 1 + (64 * k + i) = omega arith in
+      bits k i lt low ∙ ap (λ n. bit (moved test list n)) at;
+  before = no_earlier;
+  after = λ n le _. no_later n le;
+}
+  where
+    no_earlier : (n : ℕ) → n < first + 1 → moved test list n ≡ false
+    no_earlier zero lt = refl
+    no_earlier (suc n) lt = and_left (test n) (list n) (h.before n (omega (arith, lt)))
+
+    no_later : (n : ℕ) → first + 1 + 64 * length kept ≤ n → moved test list n ≡ false
+    no_later zero le = refl
+    no_later (suc n) le = and_left (test n) (list n) (h.after n (omega (arith, le, count)))
+
+none_up_to : (test : ℕ → Bool) (first n : ℕ) → ((m : ℕ) → m < first → test m ≡ false) → n ≤ first → any_below test n ≡ false
+none_up_to test first zero none le = refl
+none_up_to test first (suc n) none le = or_from _ _ (none_up_to test first n none (omega (arith, le))) (none n (omega (arith, le)))
+
+shift_up : (test : ℕ → Bool) (first n : ℕ) → ((m : ℕ) → m < first → test m ≡ false) → any_up_to (λ m. test (first + m)) n ≡ any_up_to test (first + n)
+shift_up test first zero none =
+    let here : first ≡ first + 0 = omega arith in
+    ap test (sym here)
+    ∙ sym (up_to_below test first ∙ ap (λ t. t || test first) (none_up_to test first first none (omega arith)))
+    ∙ ap (any_up_to test) here
+shift_up test first (suc n) none =
+    let next : suc (first + n) ≡ first + suc n = omega arith in
+    ap (λ t. t || test (first + suc n)) (shift_up test first n none) ∙ ap (λ m. any_up_to test (first + n) || test m) (sym next) ∙ ap (any_up_to test) next
+
+pub filled_places : (first size : ℕ) (words longer filled : List ℕ) (test : ℕ → Bool) → first ≤ size → length longer ≡ (size - first) / 64 + 1 → length filled ≡ length longer → ((k : ℕ) → k < length longer → k < length words → slice_index longer k ≡ slice_index words k) → ((k : ℕ) → k < length longer → length words ≤ k → slice_index longer k ≡ 0) → ((t : ℕ → Bool) → HasBits longer t → HasBits filled (any_up_to t)) → HasPlaces first words test → HasFront first size filled (any_up_to test)
+filled_places first size words longer filled test low count same keep zeros more h = record {
+  bits = λ k i lt small. more (λ n. test (first + n)) bits_longer k i lt small ∙ ap bit (shift_up test first (64 * k + i) h.before);
+  before = λ n lt. up_to_below test n ∙ none_up_to test first (suc n) h.before lt;
+  after = λ n le within. absurd (omega (arith, le, within, count, same, low));
+}
+  where
+    bits_longer : HasBits longer (λ n. test (first + n))
+    bits_longer k i lt small =
+        ⊎_elim
+        (λ inside. ap (λ w. bit_at w i) (keep k lt inside) ∙ h.bits k i inside small)
+        (λ past. ap (λ w. bit_at w i) (zeros k lt past) ∙ bit_at-zero i ∙ ap bit (sym (h.after (first + (64 * k + i)) (omega (arith, past)))))
+        (cases_lt k (length words))

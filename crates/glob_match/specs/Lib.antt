@@ -2,4 +2,5 @@ pub mod Front
 pub mod Pattern
 pub mod Decision
 pub mod Words
+pub mod States
 pub mod Progress

@@ -1,15 +1,17 @@
 -- A pattern that is read byte by byte, and the places of a text that it reaches.
 -- It belongs to the code: no public meaning rests on it.
-use Rattle.std.specs.Prelude.{◌≡◌, ℕ, ◌+◌, ◌*◌, ◌/◌, ◌≤◌, ◌&&◌, ◌||◌, not, nat_le, Bool, List, [], ◌∷◌, ◌++◌, length, take, drop, slice_index, vec_len, Option, Some, None, if◌then◌else◌}
+use Rattle.std.specs.Prelude.{◌≡◌, ℕ, ◌+◌, ◌-◌, ◌/◌, ◌≤◌, ◌&&◌, ◌||◌, not, nat_le, Bool, List, [], ◌∷◌, ◌++◌, length, take, drop, slice_index, vec_len, Option, Some, None, if◌then◌else◌}
 use Rattle.std.specs.Option.{option_map}
 use Rattle.glob_match.specs.Pattern.{dash}
 use Rattle.glob_match.specs.Decision.{Part, parts_from, parts_take, is_listed, is_in_set}
-use Rattle.glob_match.specs.Words.{HasBits}
+use Rattle.glob_match.specs.Words.{HasBits, HasPlaces}
+use Rattle.glob_match.specs.States.{IsKept}
 use Rattle.glob_match.specs.declared.place.Place.{Place}
 use Rattle.glob_match.specs.declared.place.Place.TheVariants.{Outside, Opened, Inside}
 use Rattle.glob_match.specs.declared.place.Pending.{Pending}
 use Rattle.glob_match.specs.declared.place.Pending.TheVariants.{Nothing, Low, Dash}
 use Rattle.glob_match.specs.declared.progress.Progress.{Progress}
+use Rattle.glob_match.specs.declared.progress.Saved.{Saved}
 
 -- Whether the parts take the first bytes of the text, this many.
 abbrev pub reaches : List Part → List ℕ → ℕ → Bool
@@ -25,37 +27,37 @@ pending_items (Dash low) = low ∷ dash ∷ []
 abbrev pub flip : Bool → Bool → Bool
 flip negated t = if negated then not t else t
 
--- The items of an open set so far: which places of the text they list, and what is pending.
-pub record IsOpen (text : List ℕ) (negated : Bool) (pending items listed : List ℕ) : Type 0 where
+-- The items of an open set so far: which places of the text they list, from the first one on, and
+-- what is pending.
+pub record IsOpen (text : List ℕ) (negated : Bool) (first : ℕ) (pending items listed : List ℕ) : Type 0 where
   pub test : ℕ → Bool
   pub tests : (rest : List ℕ) (byte : ℕ) → is_in_set (items ++ rest) byte ≡ flip negated (test byte || is_listed (pending ++ rest) byte)
-  pub bits : HasBits listed (λ n. test (slice_index text n))
+  pub bits : HasBits listed (λ n. test (slice_index text (first + n)))
 
 -- The set that is open at a place of the pattern, by its items so far.
-abbrev pub IsAt : List ℕ → Place → Option (List ℕ) → List ℕ → Type 0
-IsAt text Outside open_set listed = open_set ≡ None
-IsAt text Opened open_set listed = open_set ≡ Some []
-IsAt text (Inside negated pending) open_set listed = (items : List ℕ) × (open_set ≡ Some items) × IsOpen text negated (pending_items pending) items listed
+abbrev pub IsAt : List ℕ → Place → Option (List ℕ) → ℕ → List ℕ → Type 0
+IsAt text Outside open_set first listed = open_set ≡ None
+IsAt text Opened open_set first listed = open_set ≡ Some []
+IsAt text (Inside negated pending) open_set first listed = (items : List ℕ) × (open_set ≡ Some items) × IsOpen text negated first (pending_items pending) items listed
 
 -- The pattern was read up to here: its parts, which places of the text they reach, and the set that
 -- is open.
-pub record Stands (text pattern : List ℕ) (place : Place) (reached listed : List ℕ) : Type 0 where
+pub record Stands (text pattern : List ℕ) (place : Place) (first : ℕ) (reached listed : List ℕ) : Type 0 where
   pub parts : List Part
   pub open_set : Option (List ℕ)
   pub read : (rest : List ℕ) → parts_from None (pattern ++ rest) ≡ option_map (λ ps. parts ++ ps) (parts_from open_set rest)
-  pub places : HasBits reached (reaches parts text)
-  pub set : IsAt text place open_set listed
+  pub places : HasPlaces first reached (reaches parts text)
+  pub set : IsAt text place open_set first listed
 
 -- The text as it is kept: its bytes, and zeros after them.
 pub record IsText (text bytes : List ℕ) (size : ℕ) : Type 0 where
   pub size_is : size ≡ length text
   pub same : (n : ℕ) → slice_index bytes n ≡ slice_index text n
 
--- The words have a bit for each place of the text and the one after it, and each bit has a byte.
-pub record IsSized (bytes : List ℕ) (size reached listed : ℕ) : Type 0 where
-  pub last : size / 64 + 1 ≡ reached
-  pub same : reached ≡ listed
-  pub padded : 64 * reached ≤ length bytes
+-- Each place that may be kept has a byte.
+pub record IsWhole (p : Progress) : Type 0 where
+  pub kept : IsKept p.size p.state
+  pub padded : p.size + 64 ≤ vec_len p.bytes
 
 -- The progress is over this text.
 abbrev pub IsOver : Progress → List ℕ → Type 0
@@ -63,19 +65,17 @@ IsOver p text = IsText text p.bytes.items p.size
 
 -- The progress has read this pattern.
 abbrev pub HasRead : Progress → List ℕ → List ℕ → Type 0
-HasRead p text pattern = Stands text pattern p.place p.reached.items p.listed.items
+HasRead p text pattern = Stands text pattern p.place p.state.first p.state.reached.items p.state.listed.items
 
--- The number of words that have a bit for each place of the text.
-abbrev pub words_of : Progress → ℕ
-words_of p = vec_len p.reached
-
--- The words of a progress that had read this pattern, of twice this many.
-pub record WasRead (count : ℕ) (text pattern : List ℕ) (place : Place) (words : List ℕ) : Type 0 where
-  pub size : length words ≡ count + count
-  pub stands : Stands text pattern place (take count words) (drop count words)
+-- A progress that was saved with these words had read this pattern.
+pub record WasRead (text pattern : List ℕ) (saved : Saved) (words : List ℕ) : Type 0 where
+  pub size : length words ≡ saved.count + saved.count
+  pub low : saved.first ≤ length text
+  pub few : saved.count ≤ (length text - saved.first) / 64 + 1
+  pub stands : Stands text pattern saved.place saved.first (take saved.count words) (drop saved.count words)
 
 -- The words of the progress were added at the end.
-pub record IsSaved (p : Progress) (place : Place) (old new : List ℕ) : Type 0 where
+pub record IsSaved (p : Progress) (saved : Saved) (old new : List ℕ) : Type 0 where
   pub words : List ℕ
   pub added : new ≡ old ++ words
-  pub read : (text pattern : List ℕ) → HasRead p text pattern → WasRead (words_of p) text pattern place words
+  pub read : (text pattern : List ℕ) → IsOver p text → HasRead p text pattern → WasRead text pattern saved words

@@ -1,6 +1,6 @@
 -- Sets of numbers as bits of words.
 -- It belongs to the code: no public meaning rests on it.
-use Rattle.std.specs.Prelude.{◌≡◌, ℕ, zero, suc, ◌+◌, ◌*◌, ◌<◌, ◌&&◌, ◌||◌, nat_le, Bool, false, List, length, slice_index, if◌then◌else◌}
+use Rattle.std.specs.Prelude.{◌≡◌, ℕ, zero, suc, ◌+◌, ◌*◌, ◌<◌, ◌≤◌, ◌&&◌, ◌||◌, nat_le, Bool, false, List, length, slice_index, if◌then◌else◌}
 use Rattle.std.specs.Int.{bit_at}
 
 -- A test as a bit.
@@ -24,3 +24,16 @@ moved test list (suc n) = test n && list n
 abbrev pub any_up_to : (ℕ → Bool) → ℕ → Bool
 any_up_to test zero = test 0
 any_up_to test (suc n) = any_up_to test n || test (suc n)
+
+-- The words have a bit for each number from the first one on that passes the test, and no other
+-- number passes it.
+pub record HasPlaces (first : ℕ) (words : List ℕ) (test : ℕ → Bool) : Type 0 where
+  pub bits : HasBits words (λ n. test (first + n))
+  pub before : (n : ℕ) → n < first → test n ≡ false
+  pub after : (n : ℕ) → first + 64 * length words ≤ n → test n ≡ false
+
+-- The same but for the numbers past a last one.
+pub record HasFront (first last : ℕ) (words : List ℕ) (test : ℕ → Bool) : Type 0 where
+  pub bits : HasBits words (λ n. test (first + n))
+  pub before : (n : ℕ) → n < first → test n ≡ false
+  pub after : (n : ℕ) → first + 64 * length words ≤ n → n ≤ last → test n ≡ false

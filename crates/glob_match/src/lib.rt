@@ -10,8 +10,8 @@ mod progress;
 mod reading;
 mod search;
 mod set;
+mod state;
 mod words;
 
-pub use place::{Pending, Place};
-pub use progress::Progress;
+pub use progress::{Progress, Saved};
 pub use search::matches;

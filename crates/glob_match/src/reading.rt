@@ -1,94 +1,85 @@
 // One byte of a pattern, by what it does to the places of a text that the pattern reaches.
-ghost use Rattle.std.specs.Prelude.{◌≡◌, ℕ, ◌+◌, ◌*◌, ◌/◌, ◌≤◌, ◌&&◌, ◌||◌, nat_le, Bool, List, [], ◌∷◌, ◌++◌, length, slice_index};
+ghost use Rattle.std.specs.Prelude.{◌≡◌, ℕ, ◌+◌, ◌≤◌, ◌&&◌, ◌||◌, nat_le, Bool, List, [], ◌∷◌, ◌++◌, length, slice_index, OnOk, IfOk};
 ghost use Rattle.glob_match.specs.Pattern.{closing};
 ghost use Rattle.glob_match.specs.Decision.{is_listed};
-ghost use Rattle.glob_match.specs.Words.{is_between, HasBits, moved};
-ghost use Rattle.glob_match.specs.Progress.{Stands, IsSized, IsText, IsOpen, pending_items};
+ghost use Rattle.glob_match.specs.Words.{is_between, HasBits, HasPlaces, moved};
+ghost use Rattle.glob_match.specs.States.{IsKept, SamePlaces};
+ghost use Rattle.glob_match.specs.Progress.{Stands, IsText, IsOpen, pending_items};
 ghost use Rattle.glob_match.specs.declared.place.Place.TheVariants.{Outside, Opened, Inside};
 
 use crate::place::{Pending, Place};
-use crate::words::{add_range, advance, clear, cut, fill, negate};
+use crate::state::State;
+use crate::words::BITS;
+use std::alloc::AllocError;
 
 /// Reads a byte of a pattern, and returns where the pattern ends after it.
 pub(crate) fn read(
     place: Place,
-    reached: &mut [u64],
-    listed: &mut [u64],
+    state: &mut State,
     bytes: &[u8],
     size: usize,
     byte: u8,
-) -> Place
-    requires { IsSized bytes.now size (length reached.old) (length listed.old) }
-    ensures { (text pattern : List ℕ) → IsText text bytes.now size → Stands text pattern place reached.old listed.old → Stands text (pattern ++ byte ∷ []) result reached.new listed.new }
+) -> Result<Place, AllocError>
+    requires kept { IsKept size state.old }
+    requires padded { size + BITS ≤ length bytes.now }
+    ensures kept { OnOk result (IsKept size state.new) }
+    ensures read { IfOk result (λ next. (text pattern : List ℕ) → IsText text bytes.now size → Stands text pattern place state.old.first state.old.reached.items state.old.listed.items → Stands text (pattern ++ byte ∷ []) next state.new.first state.new.reached.items state.new.listed.items) }
 {
     match place {
-        Place::Outside => read_outside(reached, listed, bytes, size, byte),
-        Place::Opened => read_opened(reached, listed, size, byte),
+        Place::Outside => read_outside(state, bytes, size, byte),
+        Place::Opened => Ok(read_opened(state, size, byte)),
         Place::Inside(negated, pending) => {
-            read_inside(reached, listed, bytes, size, negated, pending, byte)
+            Ok(read_inside(state, bytes, size, negated, pending, byte))
         }
     }
 }
 
-/// Takes a byte of the text that is listed.
-fn take_listed(reached: &mut [u64], listed: &[u64], size: usize)
-    requires last { size / 64 + 1 ≡ length reached.old }
-    requires same { length reached.old ≡ length listed.now }
-    ensures { (test list : ℕ → Bool) → HasBits reached.old test → HasBits listed.now list → HasBits reached.new (λ n. nat_le n size && moved test list n) }
-{
-    advance(reached, listed);
-    cut(reached, size);
-}
-
 /// Takes a byte of the text in a range.
-fn take_range(reached: &mut [u64], listed: &mut [u64], bytes: &[u8], size: usize, low: u8, high: u8)
-    requires { IsSized bytes.now size (length reached.old) (length listed.old) }
-    ensures { (test : ℕ → Bool) → HasBits reached.old test → HasBits reached.new (λ n. nat_le n size && moved test (λ m. is_between low high (slice_index bytes.now m)) n) }
+fn take_range(state: &mut State, bytes: &[u8], size: usize, low: u8, high: u8)
+    requires kept { IsKept size state.old }
+    requires padded { size + BITS ≤ length bytes.now }
+    ensures kept { IsKept size state.new }
+    ensures places { (test : ℕ → Bool) → HasPlaces state.old.first state.old.reached.items test → HasPlaces state.new.first state.new.reached.items (λ n. nat_le n size && moved test (λ m. is_between low high (slice_index bytes.now m)) n) }
 {
-    clear(listed);
-    add_range(listed, bytes, low, high);
-    take_listed(reached, listed, size);
+    state.unlist();
+    state.list(bytes, size, low, high);
+    state.take(size);
 }
 
 /// Reads a byte outside of a set.
-fn read_outside(
-    reached: &mut [u64],
-    listed: &mut [u64],
-    bytes: &[u8],
-    size: usize,
-    byte: u8,
-) -> Place
-    requires { IsSized bytes.now size (length reached.old) (length listed.old) }
-    ensures { (text pattern : List ℕ) → IsText text bytes.now size → Stands text pattern Outside reached.old listed.old → Stands text (pattern ++ byte ∷ []) result reached.new listed.new }
+fn read_outside(state: &mut State, bytes: &[u8], size: usize, byte: u8) -> Result<Place, AllocError>
+    requires kept { IsKept size state.old }
+    requires padded { size + BITS ≤ length bytes.now }
+    ensures kept { OnOk result (IsKept size state.new) }
+    ensures read { IfOk result (λ next. (text pattern : List ℕ) → IsText text bytes.now size → Stands text pattern Outside state.old.first state.old.reached.items state.old.listed.items → Stands text (pattern ++ byte ∷ []) next state.new.first state.new.reached.items state.new.listed.items) }
 {
     match byte {
         b'*' => {
-            fill(reached);
-            cut(reached, size);
-            Place::Outside
+            state.fill(size)?;
+            Ok(Place::Outside)
         }
         b'?' => {
-            take_range(reached, listed, bytes, size, 0, u8::MAX);
-            Place::Outside
+            take_range(state, bytes, size, 0, u8::MAX);
+            Ok(Place::Outside)
         }
-        b'[' => Place::Opened,
+        b'[' => Ok(Place::Opened),
         own => {
-            take_range(reached, listed, bytes, size, own, own);
-            Place::Outside
+            take_range(state, bytes, size, own, own);
+            Ok(Place::Outside)
         }
     }
 }
 
 /// Reads the first byte of a set.
-fn read_opened(reached: &mut [u64], listed: &mut [u64], size: usize, byte: u8) -> Place
-    requires last { size / 64 + 1 ≡ length reached.old }
-    requires same { length reached.old ≡ length listed.old }
-    ensures { (text pattern : List ℕ) → length text ≡ size → Stands text pattern Opened reached.old listed.old → Stands text (pattern ++ byte ∷ []) result reached.new listed.new }
+fn read_opened(state: &mut State, size: usize, byte: u8) -> Place
+    requires { IsKept size state.old }
+    ensures kept { IsKept size state.new }
+    ensures read { (text pattern : List ℕ) → length text ≡ size → Stands text pattern Opened state.old.first state.old.reached.items state.old.listed.items → Stands text (pattern ++ byte ∷ []) result state.new.first state.new.reached.items state.new.listed.items }
 {
-    clear(listed);
+    state.unlist();
     match byte {
         b']' => {
-            take_listed(reached, listed, size);
+            state.take(size);
             Place::Outside
         }
         b'!' => Place::Inside(true, Pending::Nothing),
@@ -96,25 +87,65 @@ fn read_opened(reached: &mut [u64], listed: &mut [u64], size: usize, byte: u8) -
     }
 }
 
+/// Reads a byte of a set after its first.
+fn read_inside(
+    state: &mut State,
+    bytes: &[u8],
+    size: usize,
+    negated: bool,
+    pending: Pending,
+    byte: u8,
+) -> Place
+    requires kept { IsKept size state.old }
+    requires padded { size + BITS ≤ length bytes.now }
+    ensures kept { IsKept size state.new }
+    ensures read { (text pattern : List ℕ) → IsText text bytes.now size → Stands text pattern (Inside negated pending) state.old.first state.old.reached.items state.old.listed.items → Stands text (pattern ++ byte ∷ []) result state.new.first state.new.reached.items state.new.listed.items }
+{
+    if byte == b']' {
+        close(state, bytes, size, negated, pending);
+        Place::Outside
+    } else {
+        Place::Inside(negated, add_item(state, bytes, size, pending, byte))
+    }
+}
+
+/// Reads the bracket that closes a set.
+fn close(state: &mut State, bytes: &[u8], size: usize, negated: bool, pending: Pending)
+    requires kept { IsKept size state.old }
+    requires padded { size + BITS ≤ length bytes.now }
+    ensures kept { IsKept size state.new }
+    ensures read { (text pattern : List ℕ) → IsText text bytes.now size → Stands text pattern (Inside negated pending) state.old.first state.old.reached.items state.old.listed.items → Stands text (pattern ++ closing ∷ []) Outside state.new.first state.new.reached.items state.new.listed.items }
+{
+    add_pending(state, bytes, size, pending);
+    if negated {
+        state.list_others();
+    }
+    state.take(size);
+}
+
 /// Adds what is pending, at the end of a set.
-fn add_pending(listed: &mut [u64], bytes: &[u8], pending: Pending)
-    requires { 64 * length listed.old ≤ length bytes.now }
-    ensures { (test : ℕ → Bool) → HasBits listed.old test → HasBits listed.new (λ n. test n || is_listed (pending_items pending) (slice_index bytes.now n)) }
+fn add_pending(state: &mut State, bytes: &[u8], size: usize, pending: Pending)
+    requires kept { IsKept size state.old }
+    requires padded { size + BITS ≤ length bytes.now }
+    ensures same { SamePlaces state.old state.new }
+    ensures listed { (test : ℕ → Bool) → HasBits state.old.listed.items test → HasBits state.new.listed.items (λ n. test n || is_listed (pending_items pending) (slice_index bytes.now (state.old.first + n))) }
 {
     match pending {
         Pending::Nothing => {}
-        Pending::Low(low) => add_range(listed, bytes, low, low),
+        Pending::Low(low) => state.list(bytes, size, low, low),
         Pending::Dash(low) => {
-            add_range(listed, bytes, low, low);
-            add_range(listed, bytes, b'-', b'-');
+            state.list(bytes, size, low, low);
+            state.list(bytes, size, b'-', b'-');
         }
     }
 }
 
 /// Reads one more item of a set, and returns what is pending after it.
-fn add_item(listed: &mut [u64], bytes: &[u8], pending: Pending, byte: u8) -> Pending
-    requires { 64 * length listed.old ≤ length bytes.now }
-    ensures { (text : List ℕ) (size : ℕ) (negated : Bool) (items : List ℕ) → IsText text bytes.now size → IsOpen text negated (pending_items pending) items listed.old → IsOpen text negated (pending_items result) (items ++ byte ∷ []) listed.new }
+fn add_item(state: &mut State, bytes: &[u8], size: usize, pending: Pending, byte: u8) -> Pending
+    requires kept { IsKept size state.old }
+    requires padded { size + BITS ≤ length bytes.now }
+    ensures same { SamePlaces state.old state.new }
+    ensures items { (text : List ℕ) (negated : Bool) (items : List ℕ) → IsText text bytes.now size → IsOpen text negated state.old.first (pending_items pending) items state.old.listed.items → IsOpen text negated state.old.first (pending_items result) (items ++ byte ∷ []) state.new.listed.items }
 {
     match pending {
         Pending::Nothing => Pending::Low(byte),
@@ -122,52 +153,12 @@ fn add_item(listed: &mut [u64], bytes: &[u8], pending: Pending, byte: u8) -> Pen
             if byte == b'-' {
                 return Pending::Dash(low);
             }
-            add_range(listed, bytes, low, low);
+            state.list(bytes, size, low, low);
             Pending::Low(byte)
         }
         Pending::Dash(low) => {
-            add_range(listed, bytes, low, byte);
+            state.list(bytes, size, low, byte);
             Pending::Nothing
         }
-    }
-}
-
-/// Reads the bracket that closes a set.
-fn close(
-    reached: &mut [u64],
-    listed: &mut [u64],
-    bytes: &[u8],
-    size: usize,
-    negated: bool,
-    pending: Pending,
-) -> Place
-    requires { IsSized bytes.now size (length reached.old) (length listed.old) }
-    ensures { (text pattern : List ℕ) → IsText text bytes.now size → Stands text pattern (Inside negated pending) reached.old listed.old → Stands text (pattern ++ closing ∷ []) result reached.new listed.new }
-{
-    add_pending(listed, bytes, pending);
-    if negated {
-        negate(listed);
-    }
-    take_listed(reached, listed, size);
-    Place::Outside
-}
-
-/// Reads a byte of a set after its first.
-fn read_inside(
-    reached: &mut [u64],
-    listed: &mut [u64],
-    bytes: &[u8],
-    size: usize,
-    negated: bool,
-    pending: Pending,
-    byte: u8,
-) -> Place
-    requires { IsSized bytes.now size (length reached.old) (length listed.old) }
-    ensures { (text pattern : List ℕ) → IsText text bytes.now size → Stands text pattern (Inside negated pending) reached.old listed.old → Stands text (pattern ++ byte ∷ []) result reached.new listed.new }
-{
-    if byte == b']' {
-        close(reached, listed, bytes, size, negated, pending)
-    } else {
-        Place::Inside(negated, add_item(listed, bytes, pending, byte))
     }
 }

@@ -1,16 +1,13 @@
-// Places of a text, as bits of words: the place n is the bit n % 64 of the word n / 64.
+// Sets of numbers, as bits of words: the number n is the bit n % 64 of the word n / 64.
 ghost use Rattle.std.specs.Prelude.{◌≡◌, ℕ, ◌+◌, ◌*◌, ◌/◌, ◌<◌, ◌≤◌, ◌&&◌, ◌||◌, not, nat_le, Bool, false, length, map, slice_index, IsTrue};
 ghost use Rattle.std.specs.Int.{bit_at};
 ghost use Rattle.std.specs.Simd.Lanes.{mask_l};
-ghost use Rattle.glob_match.specs.Words.{bit, is_between, HasBits, moved, any_up_to};
+ghost use Rattle.glob_match.specs.Words.{bit, is_between, HasBits, any_up_to};
 
 use std::simd::prelude::*;
 
 /// The bits of a word.
 pub(crate) const BITS: usize = 64;
-
-/// The highest bit of a word.
-const HIGHEST: u64 = 1 << 63;
 
 /// Returns which of the bytes are at least this one, with a bit for each.
 #[inline(always)]
@@ -66,16 +63,13 @@ pub(crate) fn negate(words: &mut [u64])
     }
 }
 
-/// Moves each place that is listed on by one, and drops the others.
-pub(crate) fn advance(words: &mut [u64], listed: &[u64])
+/// Keeps the places that are listed too.
+pub(crate) fn keep(words: &mut [u64], listed: &[u64])
     requires { length words.old ≡ length listed.now }
-    ensures { (test list : ℕ → Bool) → HasBits words.old test → HasBits listed.now list → HasBits words.new (moved test list) }
+    ensures { (test list : ℕ → Bool) → HasBits words.old test → HasBits listed.now list → HasBits words.new (λ n. test n && list n) }
 {
-    let mut carry = 0;
     for at in 0..words.len() {
-        let hit = words[at] & listed[at];
-        words[at] = hit % HIGHEST * 2 + carry;
-        carry = hit / HIGHEST;
+        words[at] &= listed[at];
     }
 }
 

@@ -1,6 +1,6 @@
-use Rattle.std.proofs.Common.{◌≡◌, refl, sym, ap, ◌∙◌, ◌||◌, ◌==◌, ℕ, Bool, true, false, slice_index}
+use Rattle.std.proofs.Common.{◌≡◌, refl, sym, ap, subst, ◌∙◌, ◌||◌, ◌==◌, ◌+◌, ℕ, Bool, true, false, slice_index}
 use Rattle.glob_match.specs.Pattern.{dash}
-use Rattle.glob_match.specs.Words.{is_between}
+use Rattle.glob_match.specs.Words.{HasBits, is_between}
 use Rattle.glob_match.proofs.ReadLemmas.{same_bits, same_between}
 use Rattle.glob_match.proofs.reading.add_pending.Goals as goal
 
@@ -21,15 +21,22 @@ two_more t low high x =
     grouped false false true = refl
     grouped false false false = refl
 
-pub returns-in-Nothing : goal.returns-in-Nothing
-returns-in-Nothing c test h = rw (c.in-Nothing.is) (same_bits _ _ _ (λ n. sym (last_or (test n))) h)
+pub returns-in-Nothing-clause-listed : goal.returns-in-Nothing-clause-listed
+returns-in-Nothing-clause-listed c test h = rw (c.in-Nothing.is) (same_bits _ _ _ (λ n. sym (last_or (test n))) h)
 
-pub returns-in-Low : goal.returns-in-Low
-returns-in-Low c test h =
-    rw (c.in-Low.is) (same_bits _ _ _ (λ n. one_more (test n) c.in-Low.low (slice_index c.args.bytes.now n)) (c.add_range.ensures test h))
+pub returns-in-Low-clause-listed : goal.returns-in-Low-clause-listed
+returns-in-Low-clause-listed c test h =
+    let first = c.args.state.now.first in
+    rw (c.in-Low.is)
+    (same_bits _ _ _ (λ n. one_more (test n) c.in-Low.low (slice_index c.args.bytes.now (first + n))) (c.list.ensures.listed test h))
 
-pub returns-in-Dash : goal.returns-in-Dash
-returns-in-Dash c test h =
+pub returns-in-Dash-clause-listed : goal.returns-in-Dash-clause-listed
+returns-in-Dash-clause-listed c test h =
+    let first = c.args.state.now.first in
+    let bytes = c.args.bytes.now in
     let low = c.in-Dash.low in
+    let once = c.list-in-Dash.ensures in
+    let twice = c.list-in-Dash-2.ensures.listed (λ n. test n || is_between low low (slice_index bytes (first + n))) (once.listed test h) in
     rw (c.in-Dash.is)
-    (same_bits _ _ _ (λ n. two_more (test n) low dash (slice_index c.args.bytes.now n)) (c.add_range-in-Dash-2.ensures (λ n. test n || is_between low low (slice_index c.args.bytes.now n)) (c.add_range-in-Dash.ensures test h)))
+    (same_bits _ _ _ (λ n. two_more (test n) low dash (slice_index bytes (first + n)))
+    (subst (λ f. HasBits c.list-in-Dash-2.new.self.listed.items (λ n. (test n || is_between low low (slice_index bytes (first + n))) || is_between dash dash (slice_index bytes (f + n)))) once.same.first twice))
