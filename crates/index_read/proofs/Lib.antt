@@ -5,7 +5,7 @@ pub mod ListingLemmas
 pub mod CountLemmas
 pub mod RoundLemmas
 pub mod PlaceValues
-pub mod FrontLemmas
+pub mod SearchLemmas
 pub mod MatchLemmas
 pub mod SortLemmas
 pub mod SelectLemmas

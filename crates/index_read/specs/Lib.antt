@@ -1,7 +1,7 @@
 pub mod Values
 pub mod Keys
 pub mod Walks
-pub mod Fronts
+pub mod Searches
 pub mod Contents
 pub mod Lookups
 pub mod Firsts

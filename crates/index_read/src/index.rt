@@ -12,9 +12,9 @@ ghost use Rattle.index_format.specs.Listing.{IsListing};
 ghost use Rattle.index_read.specs.Contents.{contents, values_matching, wild_values};
 ghost use Rattle.index_read.specs.Values.{shown, shown_pairs, IsWild, IsMatching};
 
-use crate::front::{agreed_length, is_wanted, may_match};
 use crate::reach::reach;
 use crate::room::Room;
+use crate::search::Search;
 use crate::value::{Pairs, Value, Values, push_pairs, push_values};
 use crate::walk::KeyWalk;
 use index_nodes::{IndexFault, Nodes, Place, Steps};
@@ -150,19 +150,13 @@ impl Index {
     {
         let mut found = Vec::new(alloc);
         let mut room = Room::new();
-        let mut matched = Room::new();
-        let (mut walk, root) = KeyWalk::start(alloc, &self.nodes, steps)?;
-        let mut agreed = 0;
-        let mut next = Some(root);
+        let (mut search, first) = Search::start(alloc, &self.nodes, text, steps)?;
+        let mut next = first;
         while let Some(node) = next {
-            let key = walk.key.as_slice();
-            agreed = agreed_length(key, text, agreed.min(walk.kept));
-            if !may_match(key, agreed) {
-                walk.skip_below(&self.nodes);
-            } else if is_wanted(&self.nodes, &node, key, text, agreed, &mut matched)? {
+            if search.is_match() {
                 push_values(alloc, &self.nodes, &node, &mut found, &mut room)?;
             }
-            next = walk.next(&self.nodes, steps)?;
+            next = search.next(&self.nodes, steps)?;
         }
         Ok(found)
     }

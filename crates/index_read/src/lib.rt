@@ -17,11 +17,11 @@
 #![tactic(auto)]
 
 mod first;
-mod front;
 mod index;
 pub mod plain;
 mod reach;
 mod room;
+mod search;
 mod value;
 mod walk;
 

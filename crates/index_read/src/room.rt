@@ -5,6 +5,9 @@ use std::alloc::AllocError;
 /// prefixes that it goes over, and the keys that it matches. It is four times the greatest file.
 const ROOM: usize = 4 * FILE_LIMIT;
 
+/// How many words a search over the keys may go over.
+const WORDS: usize = 1 << 29;
+
 /// How many bytes may still be taken. Nodes may overlap, and the keys of a chain of nodes begin
 /// alike, so that a small file may have a map of any size. So what is kept or gone over is counted
 /// before it is.
@@ -17,6 +20,11 @@ impl Room {
     /// Makes the room for a lookup in all keys.
     pub(crate) fn new() -> Room {
         Room { left: ROOM }
+    }
+
+    /// Makes the room for the bytes of keys that are matched.
+    pub(crate) fn of_keys() -> Room {
+        Room { left: WORDS }
     }
 
     /// Makes the room for the values of one key. There are no more of these than the file has.

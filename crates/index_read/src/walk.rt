@@ -3,7 +3,7 @@ ghost use Rattle.index_format.specs.Check.{index_fault};
 ghost use Rattle.index_format.specs.Node.{prefix};
 ghost use Rattle.index_nodes.specs.Fields.{link_of, IsNodeOf};
 ghost use Rattle.index_read.specs.Keys.{all_items};
-ghost use Rattle.index_read.specs.Walks.{left, left_after, IsWalking, IsAtNode, GoesOn, LeavesOut, after_byte, level_of};
+ghost use Rattle.index_read.specs.Walks.{left, left_after, IsWalking, GoesOn, after_byte, level_of};
 
 use crate::room::Room;
 use index_nodes::{Node, Nodes, Steps};
@@ -25,8 +25,6 @@ pub(crate) struct KeyWalk {
     /// The key of the node that the walk reached last.
     pub(crate) key: Vec<u8>,
     pub(crate) levels: Vec<Level>,
-    /// How many bytes of the key are the same as of the key before.
-    pub(crate) kept: usize,
     /// For the prefixes of the nodes to come.
     pub(crate) room: Room,
 }
@@ -42,8 +40,6 @@ impl KeyWalk {
         ensures still { IfOk result (λ r. all_items nodes.now ≡ (r.0.key.items, link_of r.1) ∷ left nodes.now r.0) }
         ensures node { IfOk result (λ r. IsNodeOf nodes.now r.1) }
         ensures walking { IfOk result (λ r. IsWalking nodes.now r.0) }
-        ensures at_node { IfOk result (λ r. IsAtNode r.0) }
-        ensures kept { IfOk result (λ r. r.0.kept ≡ 0) }
         ensures accepted { index_fault nodes.now ≡ None }
     {
         let node = nodes.node(&nodes.root(), steps);
@@ -57,7 +53,6 @@ impl KeyWalk {
         let walk = KeyWalk {
             key,
             levels,
-            kept: 0,
             room: Room::new(),
         };
         Ok((walk, node))
@@ -75,11 +70,9 @@ impl KeyWalk {
         requires byte { byte ≤ 127 }
         ensures key { OnOk result (self.new.key.items ≡ (take level.now.key_length self.old.key.items ++ byte ∷ []) ++ prefix nodes.now (link_of node.now)) }
         ensures levels { OnOk result (self.new.levels.items ≡ (self.old.levels.items ++ after_byte level.now byte ∷ []) ++ level_of node.now (length self.new.key.items) ∷ []) }
-        ensures kept { OnOk result (self.new.kept ≡ level.now.key_length) }
     {
         let prefix = nodes.prefix(node);
         self.room.take(prefix.len())?;
-        self.kept = level.key_length;
         self.key.truncate(level.key_length);
         self.key.push(byte)?;
         self.key.extend_from_slice(prefix)?;
@@ -116,15 +109,5 @@ impl KeyWalk {
             return Ok(Some(node));
         }
         Ok(None)
-    }
-
-    /// Leaves out the nodes below the one that the walk reached.
-    pub(crate) fn skip_below(&mut self, nodes: &Nodes)
-        requires walking { IsWalking nodes.now self.old }
-        requires at_node { IsAtNode self.old }
-        requires accepted { index_fault nodes.now ≡ None }
-        ensures { LeavesOut nodes.now self.old self.new }
-    {
-        let _ = self.levels.pop();
     }
 }

@@ -3,8 +3,8 @@ use Rattle.std.proofs.lemmas.Result.{err_from_is_err_and}
 use Rattle.index_format.specs.Node.{prefix}
 use Rattle.index_nodes.specs.Fields.{link_of}
 use Rattle.index_read.specs.Keys.{items_left, AreLevels}
-use Rattle.index_read.specs.Walks.{left_after, level_of, after_byte}
-use Rattle.index_read.proofs.KeyLemmas.{levels-pop, nothing_left, still_levels, comes_left, comes_levels, same_front, new_size}
+use Rattle.index_read.specs.Walks.{left_after}
+use Rattle.index_read.proofs.KeyLemmas.{levels-pop, nothing_left, still_levels, comes_left, comes_levels}
 use Rattle.index_read.proofs.walk.KeyWalk.next.Goals as goal
 
 pub next_child-requires : goal.next_child-requires
@@ -65,7 +65,6 @@ returns-in-Some-clause-goes_on g c =
     let e = c.in-Some-next_child.ensures in
     let name : link_of c.node-node.result ≡ c.in-Some-next_child.at = search rules in
     let are = subst (AreLevels b (length key)) c.in-Some.ensures.items w.are in
-    let size = new_size b c.requires.accepted key ps l are byte at n new e.some e.from e.first e.top name c.node-node.ensures.node c.in_ok-enter.ensures.key in
     record {
       still =
           sym w.still
@@ -76,17 +75,6 @@ returns-in-Some-clause-goes_on g c =
       walking =
           subst (AreLevels b (length new)) (sym c.in_ok-enter.ensures.levels)
           (comes_levels b c.requires.accepted key ps l are byte at n new e.some e.from e.first e.top name c.node-node.ensures.node c.in_ok-enter.ensures.key);
-      at_node = record {
-        before = ps ++ after_byte l byte ∷ [];
-        level = level_of n (length new);
-        levels = c.in_ok-enter.ensures.levels;
-        key = refl;
-      };
-      kept = omega (arith, size, c.in_ok-enter.ensures.kept);
-      same =
-          (λ i. take (c.in_ok-enter.ensures.kept i) new)
-          ∙ same_front b c.requires.accepted key ps l are byte at n new e.some e.from e.first e.top name c.node-node.ensures.node c.in_ok-enter.ensures.key
-          ∙ (λ i. take (sym c.in_ok-enter.ensures.kept i) (w.same i));
     }
 
 pub returns-in-Some-clause-cost : goal.returns-in-Some-clause-cost
