@@ -1,9 +1,9 @@
 -- The steps of requested names, one name after another.
-use Rattle.std.proofs.Common.{◌≡◌, ℕ, ◌+◌, List, [], ◌∷◌, ◌++◌, length, map, refl, sym, ap, ◌∙◌, append_assoc, arith}
+use Rattle.std.proofs.Common.{◌≡◌, ℕ, ◌+◌, List, [], ◌∷◌, ◌++◌, length, take, map, refl, sym, ap, ◌∙◌, append_assoc, arith}
 use Rattle.std.specs.Prelude.{slice_get, Some}
 use Rattle.std.specs.List.{flat_map, range_with_len}
 use Rattle.std.specs.Option.{option_map_or}
-use Rattle.std.proofs.lemmas.List.{append-nil, length-append, map-append, take-map}
+use Rattle.std.proofs.lemmas.List.{append-nil, length-append, map-append}
 use Rattle.std.proofs.lemmas.List.Sums.{fold-append}
 use Rattle.std.proofs.lemmas.Grind.{flat_map-append}
 use Rattle.std.proofs.Math.Seq.{take-append_seam}
@@ -16,7 +16,7 @@ use Rattle.plan_builder.specs.declared.step.PlanStep.{PlanStep}
 use Rattle.plan_builder.specs.Needs.{Sources, modules, before, unloaded}
 use Rattle.plan_builder.specs.Members.{found_for, asked}
 use Rattle.plan_builder.specs.Obstacles.{all_names}
-use Rattle.plan_builder.specs.Steps.{own_steps, module_step, done_before, steps_of, steps_at, found_steps, later, plan_steps}
+use Rattle.plan_builder.specs.Steps.{own_steps, module_step, done_after, steps_of, steps_at, found_steps, later, plan_steps}
 
 -- The steps of some requested names, after the names and modules of the names before them. No public
 -- meaning rests on it.
@@ -33,41 +33,31 @@ at-middle [] f back = refl
 at-middle (g ∷ front) f back = at-middle front f back
 
 module _ (s : Sources) (request : Request) where
-  abbrev done : List Found → List ℕ
-  done fs = with_groups (among (before s)) (unloaded s) [] (asked s fs)
-
-  -- what is done before what stands in the middle
-  done-front : (front back : List Found) → done_before s (front ++ back) (length front) ≡ done front
-  done-front front back =
-      ap (with_groups (among (before s)) (unloaded s) []) (take-map (λ (f : Found). places_of (modules s) f.names) (length front) (front ++ back))
-      ∙ ap done (take-append_seam front back)
-
   -- one more name
   names-more : (front : List Found) (f : Found) → all_names (front ++ f ∷ []) ≡ all_names front ++ f.names
   names-more front f =
       flat_map-append (λ (g : Found). g.names) front (f ∷ []) ∙ ap (λ ns. all_names front ++ ns) (append-nil f.names)
 
-  done-more : (front : List Found) (f : Found) → done (front ++ f ∷ []) ≡ with_group (among (before s)) (unloaded s) (done front) (places_of (modules s) f.names)
+  done-more : (front : List Found) (f : Found) → done_after s (front ++ f ∷ []) ≡ with_group (among (before s)) (unloaded s) (done_after s front) (places_of (modules s) f.names)
   done-more front f =
       ap (with_groups (among (before s)) (unloaded s) []) (map-append (λ (g : Found). places_of (modules s) g.names) front (f ∷ []))
       ∙ fold-append (with_group (among (before s)) (unloaded s)) [] (asked s front) (places_of (modules s) f.names ∷ [])
 
-  placed-after : (front back : List Found) → flat_map (steps_at s request (front ++ back)) (range_with_len (length front) (length back)) ≡ steps_from s request (all_names front) (done front) back
+  placed-after : (front back : List Found) → flat_map (steps_at s request (front ++ back)) (range_with_len (length front) (length back)) ≡ steps_from s request (all_names front) (done_after s front) back
   placed-after front [] = refl
   placed-after front (f ∷ fs) =
       let own = own_steps s request (all_names front) f.names in
-      let here = map (module_step s request) (group (among (before s)) (unloaded s) (done front) (places_of (modules s) f.names)) in
-      let first : steps_at s request (front ++ f ∷ fs) (length front) ≡ own_steps s request (all_names front) f.names ++ map (module_step s request) (group (among (before s)) (unloaded s) (done front) (places_of (modules s) f.names)) =
-      ap (λ o. option_map_or (steps_of s request (front ++ f ∷ fs) (length front)) o []) (at-middle front f fs)
-      ∙ (λ i. own_steps s request (all_names (take-append_seam front (f ∷ fs) i)) f.names
-      ++ map (module_step s request) (group (among (before s)) (unloaded s) (done-front front (f ∷ fs) i) (places_of (modules s) f.names))) in
+      let here = map (module_step s request) (group (among (before s)) (unloaded s) (done_after s front) (places_of (modules s) f.names)) in
+      let first : steps_at s request (front ++ f ∷ fs) (length front) ≡ own_steps s request (all_names front) f.names ++ map (module_step s request) (group (among (before s)) (unloaded s) (done_after s front) (places_of (modules s) f.names)) =
+      ap (λ o. option_map_or (steps_of s request (take (length front) (front ++ f ∷ fs))) o []) (at-middle front f fs)
+      ∙ ap (λ earlier. steps_of s request earlier f) (take-append_seam front (f ∷ fs)) in
       let next : length front + 1 ≡ length (front ++ f ∷ []) = omega (arith, length-append front (f ∷ [])) in
-      let rest : flat_map (steps_at s request (front ++ f ∷ fs)) (range_with_len (length front + 1) (length fs)) ≡ steps_from s request (all_names front ++ f.names) (with_group (among (before s)) (unloaded s) (done front) (places_of (modules s) f.names)) fs =
+      let rest : flat_map (steps_at s request (front ++ f ∷ fs)) (range_with_len (length front + 1) (length fs)) ≡ steps_from s request (all_names front ++ f.names) (with_group (among (before s)) (unloaded s) (done_after s front) (places_of (modules s) f.names)) fs =
       (λ i. flat_map (steps_at s request (sym (append_assoc front (f ∷ []) fs) i)) (range_with_len (next i) (length fs)))
       ∙ placed-after (front ++ f ∷ []) fs
       ∙ (λ i. steps_from s request (names-more front f i) (done-more front f i) fs) in
       (λ i. first i ++ rest i)
-      ∙ append_assoc own here (steps_from s request (all_names front ++ f.names) (with_group (among (before s)) (unloaded s) (done front) (places_of (modules s) f.names)) fs)
+      ∙ append_assoc own here (steps_from s request (all_names front ++ f.names) (with_group (among (before s)) (unloaded s) (done_after s front) (places_of (modules s) f.names)) fs)
 
   pub steps-placed : (fs : List Found) → found_steps s request fs ≡ steps_from s request [] [] fs
   steps-placed fs = placed-after [] fs

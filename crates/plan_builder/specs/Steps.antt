@@ -62,22 +62,23 @@ own_step_unless s request earlier name = if is_among earlier name then [] else o
 abbrev pub own_steps : Sources → Request → List (List ℕ) → List (List ℕ) → List PlanStep
 own_steps s request earlier names = flat_map (own_step_unless s request earlier) names
 
--- What is done before the group of the name at a place: the groups of the names before it.
-abbrev pub done_before : Sources → List Found → ℕ → List ℕ
-done_before s founds k = with_groups (among (before s)) (unloaded s) [] (take k (asked s founds))
+-- What is done after the groups of some names, by what is found for each.
+abbrev pub done_after : Sources → List Found → List ℕ
+done_after s founds = with_groups (among (before s)) (unloaded s) [] (asked s founds)
 
--- The steps of what is found at a place: those of the names that are no modules and aren't found
--- before that place, in the order they were found in, and then those of the modules of its group.
-abbrev pub steps_of : Sources → Request → List Found → ℕ → Found → List PlanStep
-steps_of s request founds k f =
-    own_steps s request (all_names (take k founds)) f.names
-    ++ map (module_step s request) (group (among (before s)) (unloaded s) (done_before s founds k) (places_of (modules s) f.names))
+-- The steps of a name after earlier ones, by what is found for each: those of its names that are no
+-- modules and aren't found earlier, in the order they were found in, and then those of the modules
+-- of its group.
+abbrev pub steps_of : Sources → Request → List Found → Found → List PlanStep
+steps_of s request earlier f =
+    own_steps s request (all_names earlier) f.names
+    ++ map (module_step s request) (group (among (before s)) (unloaded s) (done_after s earlier) (places_of (modules s) f.names))
 
--- The steps of the requested name at a place.
+-- The steps of the name at a place.
 abbrev pub steps_at : Sources → Request → List Found → ℕ → List PlanStep
-steps_at s request founds k = option_map_or (steps_of s request founds k) (slice_get founds k) []
+steps_at s request founds k = option_map_or (steps_of s request (take k founds)) (slice_get founds k) []
 
--- The steps of the requested names, by what is found for each: place by place.
+-- The steps of some names: name by name, in their order.
 abbrev pub found_steps : Sources → Request → List Found → List PlanStep
 found_steps s request founds = flat_map (steps_at s request founds) (range_with_len 0 (length founds))
 
@@ -85,8 +86,7 @@ found_steps s request founds = flat_map (steps_at s request founds) (range_with_
 -- other modules.
 abbrev pub later : Sources → List Found → List ℕ
 later s founds =
-    drop (length (with_groups (among (before s)) (unloaded s) [] (asked s founds)))
-    (plan_for (among (before s)) (unloaded s) (after s) (asked s founds))
+    drop (length (done_after s founds)) (plan_for (among (before s)) (unloaded s) (after s) (asked s founds))
 
 -- The plan: the steps of the requested names, and then the steps of what is asked for after modules
 -- of the plan.
