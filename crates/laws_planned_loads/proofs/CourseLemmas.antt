@@ -53,7 +53,8 @@ use Rattle.laws_indexed_folder.proofs.FolderLemmas.{folders-bind}
 use Rattle.laws_indexed_folder.proofs.IndexedLemmas.{folders-read}
 use Rattle.laws_indexed_folder.proofs.NamedLemmas.{lines-are-of-tree}
 use Rattle.laws_indexed_folder.proofs.StepLemmas.{plans-closed}
-use Rattle.stages_files.specs.IndexFile.{first_text, text_of_first}
+use Rattle.index_read.specs.Lookups.{text_of_first}
+use Rattle.stages_files.specs.IndexFile.{first_text}
 use Rattle.stages_files.specs.KernelModules.{path_listed}
 use Rattle.stages_loads.specs.Modules.{module_at}
 use Rattle.stages_known.specs.declared.known.Known.{Known}

@@ -31,7 +31,8 @@ use Rattle.plan_builder.specs.Closed.{IsAtOwnPath, IsOwnPath}
 use Rattle.dependency_lines.specs.Modules.{bad_name, first_values, is_line_of, is_well_formed}
 use Rattle.dependency_lines.proofs.Finds.{option-none}
 use Rattle.dependency_lines.proofs.Firsts.{find-map-firsts}
-use Rattle.stages_files.specs.IndexFile.{first_text, text_of_first}
+use Rattle.index_read.specs.Lookups.{text_of_first}
+use Rattle.stages_files.specs.IndexFile.{first_text}
 use Rattle.stages_files.specs.KernelModules.{path_listed}
 use Rattle.km_course.specs.Course.{each_from}
 use Rattle.model_loader.specs.Machine.{Machine}

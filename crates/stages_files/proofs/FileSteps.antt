@@ -1,6 +1,6 @@
 -- The stages of files that are read and checked.
-use Rattle.std.proofs.Common.{◌≡◌, ℕ, List, [], ◌∷◌, refl, sym, ap, ◌∙◌, arith, inl, inr}
-use Rattle.std.specs.Prelude.{Option, Some, None, ◌⊎◌, slice_get}
+use Rattle.std.proofs.Common.{◌≡◌, ℕ, List, refl, sym, ap, ◌∙◌, inl, inr}
+use Rattle.std.specs.Prelude.{Option, Some, None, ◌⊎◌}
 use Rattle.elf_sections.specs.declared.fault.SectionFault.{SectionFault}
 use Rattle.elf_sections.specs.declared.fault.SectionFault.TheVariants as faults
 use Rattle.elf_sections.specs.FaultText.{section_fault_text}
@@ -10,8 +10,6 @@ use Rattle.km_course.specs.declared.end.End.TheVariants.{Refused}
 use Rattle.km_course.specs.declared.refusal.Refusal.TheVariants.{BadModule, BadIndex}
 use Rattle.km_course.specs.Course.{Stage, given, gives}
 use Rattle.km_course.specs.Course.Outcome.{value, end}
-use Rattle.std.proofs.lemmas.Option.{slice_get_past, slice_get-get_or}
-use Rattle.index_format.specs.Map.{Value}
 use Rattle.index_format.specs.Check.{Fault, index_fault}
 use Rattle.index_nodes.specs.declared.fault.IndexFault.{IndexFault}
 use Rattle.index_nodes.specs.declared.fault.IndexFault.TheVariants as told
@@ -19,7 +17,7 @@ use Rattle.index_nodes.specs.Faults.{IsFirstFault, index_fault_text}
 use Rattle.index_read.specs.declared.index.Index.{Index}
 use Rattle.stages_files.specs.declared.kernel_modules.KernelModules.{KernelModules}
 use Rattle.stages_files.specs.ModuleFile.{sections_outcome}
-use Rattle.stages_files.specs.IndexFile.{index_of, index_outcome, text_of_first}
+use Rattle.stages_files.specs.IndexFile.{index_of, index_outcome}
 
 -- the stage after a module was read
 abbrev pub checked : List ℕ → List ℕ → Stage FileSections
@@ -51,13 +49,6 @@ adopted_fault file bytes text o told.BadVersion first wanting is = ap (index_out
 adopted_fault file bytes text o (told.BadNode offset) first wanting is = ap (index_outcome file bytes) first ∙ ap (λ t. end (Refused (BadIndex file t))) (sym is)
 adopted_fault file bytes text o (told.Revisited offset) first wanting is = ap (index_outcome file bytes) first ∙ ap (λ t. end (Refused (BadIndex file t))) (sym is)
 adopted_fault file bytes text o told.Memory first wanting is = absurd (wanting refl)
-
--- the text of the value at the first place
-pub first-is : (values : List Value) (found : Value) (text : List ℕ) → slice_get values 0 ≡ Some found → text ≡ found.1 → Some text ≡ text_of_first values
-first-is [] found text h e = cc (slice_get_past {X = Value} [] 0 (omega arith))
-first-is (first ∷ others) found text h e =
-    let same : Some first ≡ Some found = sym (slice_get-get_or (first ∷ others) 0 first (omega arith)) ∙ h in
-    cc
 
 -- the stage after the index of a folder was read
 abbrev pub listed : List ℕ → Index → Stage KernelModules

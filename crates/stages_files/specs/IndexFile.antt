@@ -1,7 +1,6 @@
 -- An index as the commands read it: its file, and the first value of a key. kmod's index format
 -- 2.1.
-use Rattle.std.specs.Prelude.{ℕ, List, [], ◌∷◌, Option, Some, None}
-use Rattle.index_format.specs.Map.{Value}
+use Rattle.std.specs.Prelude.{ℕ, List, Option, Some, None}
 use Rattle.index_format.specs.Node.{root}
 use Rattle.index_format.specs.Walk.{at}
 use Rattle.index_format.specs.Check.{Fault, BadMagic as NoMagic, BadVersion as NoVersion, BadNode as NodeFault, Revisited as SecondVisit, index_fault}
@@ -9,6 +8,7 @@ use Rattle.index_nodes.specs.declared.fault.IndexFault.{IndexFault}
 use Rattle.index_nodes.specs.declared.fault.IndexFault.TheVariants.{BadMagic, BadVersion, BadNode, Revisited}
 use Rattle.index_nodes.specs.Faults.{index_fault_text}
 use Rattle.index_read.specs.declared.index.Index.{Index}
+use Rattle.index_read.specs.Lookups.{text_of_first}
 use Rattle.km_course.specs.Course.{Outcome, Stage, ◌>>=◌, given, reads}
 use Rattle.km_course.specs.Course.Outcome.{value, end}
 use Rattle.km_course.specs.declared.end.End.TheVariants.{Refused}
@@ -35,11 +35,6 @@ abbrev pub reads_index : List ℕ → Stage Index
 reads_index file = do
   bytes ← reads file
   given (index_outcome file bytes (index_fault bytes))
-
--- The text of the first of some values.
-abbrev pub text_of_first : List Value → Option (List ℕ)
-text_of_first [] = None
-text_of_first (first ∷ others) = Some first.1
 
 -- The text of the first value that an index has for a key.
 unfoldable pub first_text : List ℕ → List ℕ → Option (List ℕ)

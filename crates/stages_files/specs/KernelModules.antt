@@ -26,10 +26,10 @@ abbrev pub path_listed : Index → List ℕ → Option (List ℕ)
 path_listed index name = option_and_then line_path (first_text index.nodes name)
 
 -- The outcome of this path in the folder. If there is none, the name is not found.
-abbrev pub listed_outcome : List ℕ → List ℕ → Option (List ℕ) → Outcome (List ℕ)
-listed_outcome folder name None = end (Refused (NotFound name))
-listed_outcome folder name (Some path) = value (path_below folder path)
+abbrev pub found_outcome : List ℕ → List ℕ → Option (List ℕ) → Outcome (List ℕ)
+found_outcome folder name None = end (Refused (NotFound name))
+found_outcome folder name (Some path) = value (path_below folder path)
 
 -- The whole path of the module of this name.
 abbrev pub path_outcome : KernelModules → List ℕ → Outcome (List ℕ)
-path_outcome modules name = listed_outcome modules.folder name (path_listed modules.index name)
+path_outcome modules name = found_outcome modules.folder name (path_listed modules.index name)

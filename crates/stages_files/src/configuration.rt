@@ -4,9 +4,7 @@ ghost use Rattle.std.specs.BTreeMap as tree;
 ghost use Rattle.std.specs.FinMap as fin;
 ghost use Rattle.km_names.specs.Limit.{file_limit};
 ghost use Rattle.km_outside.specs.Contents.{by_bytes};
-ghost use Rattle.km_outside.specs.OutSeen.{OutSeen};
-ghost use Rattle.km_course.specs.World.{world};
-ghost use Rattle.km_course.specs.Follows.{Follows};
+ghost use Rattle.km_course.specs.FollowsOn.{FollowsOnFiles};
 ghost use Rattle.stages_files.specs.Configuration.{roots as roots_in_order, folder_name as folder_name_of, with_names, paths_of, entries_in_bytes, lists_folder, lists_folders, reads_file, reads_files, reads_given, reads_listed, reads_configuration, stop_of};
 
 use km_course::{Refusal, Stop, list_conf_needed, list_conf_optional, read_needed};
@@ -46,8 +44,8 @@ pub fn read_configuration<F: Reads>(
     config: Option<PathText>,
     files: &mut F,
 ) -> Result<ConfFiles, Stop>
-    ensures follows { (out err : OutSeen) → Follows (λ x. x) (reads_configuration tool config)
-        (world (F.seen files.old) out err) (world (F.seen files.new) out err) result }
+    ensures follows { FollowsOnFiles (reads_configuration tool config)
+        F.seen files.old files.new result }
     ensures limit { IfOk result (λ read. All (λ file. length file.bytes ≤ file_limit) read) }
 {
     match config {
@@ -103,8 +101,7 @@ fn folder_name(tool: Tool) -> &'static [u8]
 
 /// Reads the files of the configuration at the path, which is a file or a folder.
 fn read_given<F: Reads>(alloc: Global, path: PathText, files: &mut F) -> Result<ConfFiles, Stop>
-    ensures follows { (out err : OutSeen) → Follows (λ x. x) (reads_given path)
-        (world (F.seen files.old) out err) (world (F.seen files.new) out err) result }
+    ensures follows { FollowsOnFiles (reads_given path) F.seen files.old files.new result }
     ensures limit { IfOk result (λ read. All (λ file. length file.bytes ≤ file_limit) read) }
 {
     if path.as_bytes().ends_with(b".conf") {
@@ -143,8 +140,8 @@ fn list_folders<F: Reads>(
     roots: &[PathText],
     files: &mut F,
 ) -> Result<Items<ListedFolder>, Stop>
-    ensures { (out err : OutSeen) → Follows (λ x. x) (lists_folders (folder_name_of tool) roots.now)
-        (world (F.seen files.old) out err) (world (F.seen files.new) out err) result }
+    ensures { FollowsOnFiles (lists_folders (folder_name_of tool) roots.now)
+        F.seen files.old files.new result }
 {
     let name = folder_name(tool);
     let mut listed = Items::new(alloc);
@@ -162,8 +159,8 @@ fn with_folder<F: Reads>(
     name: &[u8],
     files: &mut F,
 ) -> Result<Items<ListedFolder>, Stop>
-    ensures { (out err : OutSeen) → Follows (λ x. x) (lists_folder name.now listed root.now)
-        (world (F.seen files.old) out err) (world (F.seen files.new) out err) result }
+    ensures { FollowsOnFiles (lists_folder name.now listed root.now)
+        F.seen files.old files.new result }
 {
     let path = join(alloc, root, name)?;
     let names = list_conf_optional(alloc, files, &path)?;
@@ -177,8 +174,7 @@ fn read_listed<F: Reads>(
     folders: &Items<ListedFolder>,
     files: &mut F,
 ) -> Result<ConfFiles, Stop>
-    ensures follows { (out err : OutSeen) → Follows (λ x. x) (reads_listed folders.now)
-        (world (F.seen files.old) out err) (world (F.seen files.new) out err) result }
+    ensures follows { FollowsOnFiles (reads_listed folders.now) F.seen files.old files.new result }
     ensures limit { IfOk result (λ read. All (λ file. length file.bytes ≤ file_limit) read) }
 {
     let paths = chosen_paths(alloc, folders.as_slice())?;
@@ -237,8 +233,7 @@ fn in_order(alloc: Global, found: BTreeMap<Vec<u8>, PathText>) -> Result<Paths, 
 
 /// Reads the files at the paths, one after the other.
 fn read_files<F: Reads>(alloc: Global, paths: &[PathText], files: &mut F) -> Result<ConfFiles, Stop>
-    ensures follows { (out err : OutSeen) → Follows (λ x. x) (reads_files paths.now)
-        (world (F.seen files.old) out err) (world (F.seen files.new) out err) result }
+    ensures follows { FollowsOnFiles (reads_files paths.now) F.seen files.old files.new result }
     ensures limit { IfOk result (λ read. All (λ file. length file.bytes ≤ file_limit) read) }
 {
     let mut read = ConfFiles::new(alloc);
@@ -256,8 +251,7 @@ fn with_file<F: Reads>(
     files: &mut F,
 ) -> Result<ConfFiles, Stop>
     requires { All (λ file. length file.bytes ≤ file_limit) read }
-    ensures follows { (out err : OutSeen) → Follows (λ x. x) (reads_file read path.now)
-        (world (F.seen files.old) out err) (world (F.seen files.new) out err) result }
+    ensures follows { FollowsOnFiles (reads_file read path.now) F.seen files.old files.new result }
     ensures limit { IfOk result (λ more. All (λ file. length file.bytes ≤ file_limit) more) }
 {
     let bytes = read_needed(alloc, files, path)?;

@@ -1,12 +1,11 @@
 ghost use Rattle.std.specs.Prelude.{◌≡◌, IfOk, option_copied};
 ghost use Rattle.km_names.specs.Path.{underscored};
-ghost use Rattle.km_outside.specs.OutSeen.{OutSeen};
-ghost use Rattle.km_course.specs.World.{world};
-ghost use Rattle.km_course.specs.Follows.{Answers, Follows};
+ghost use Rattle.km_course.specs.FollowsOn.{FollowsOnFiles, Returns};
 ghost use Rattle.stages_files.specs.KernelModules.{modules_folder, path_listed, path_outcome, reads_modules};
 
-use crate::index_file::{first_text, read_index};
+use crate::index_file::read_index;
 use index_read::Index;
+use index_read::plain::first_text;
 use km_course::{Refusal, Stop};
 use km_names::{Name, PathText, join, underscored};
 use km_outside::Reads;
@@ -41,8 +40,7 @@ pub fn read_modules<F: Reads>(
     folder: PathText,
     files: &mut F,
 ) -> Result<KernelModules, Stop>
-    ensures { (out err : OutSeen) → Follows (λ x. x) (reads_modules folder)
-        (world (F.seen files.old) out err) (world (F.seen files.new) out err) result }
+    ensures { FollowsOnFiles (reads_modules folder) F.seen files.old files.new result }
 {
     let file = join(alloc, &folder, b"modules.dep.bin")?;
     let index = read_index(alloc, file, files)?;
@@ -52,7 +50,7 @@ pub fn read_modules<F: Reads>(
 /// Returns the path of the module of this name, with each `-` replaced by `_`. A name that isn't
 /// listed, or whose value is no dependency line, is not found.
 pub fn path_of_name(alloc: Global, modules: &KernelModules, name: &[u8]) -> Result<PathText, Stop>
-    ensures { Answers (λ x. x) (path_outcome modules.now (underscored name.now)) result }
+    ensures { Returns (path_outcome modules.now (underscored name.now)) result }
 {
     let name = underscored(alloc, name)?;
     match path_listed(&modules.index, name.as_bytes()) {
@@ -63,6 +61,7 @@ pub fn path_of_name(alloc: Global, modules: &KernelModules, name: &[u8]) -> Resu
 
 /// Returns the path in the folder of the module of this name, by its dependency line. The result is
 /// `None` if the name isn't listed, or its value is no dependency line. modules.dep(5).
+#[tactic(auto, unfolding(crate::specs::IndexFile::first_text))]
 pub fn path_listed<'a>(index: &'a Index, name: &[u8]) -> Option<&'a [u8]>
     ensures { option_copied result ≡ path_listed index.now name.now }
 {

@@ -1,8 +1,7 @@
 ghost use Rattle.std.specs.Prelude.{◌≡◌, ◌≤◌, length};
 ghost use Rattle.km_names.specs.Limit.{file_limit};
-ghost use Rattle.km_outside.specs.OutSeen.{OutSeen};
-ghost use Rattle.km_course.specs.World.{world};
-ghost use Rattle.km_course.specs.Follows.{Answers, Follows};
+ghost use Rattle.km_course.specs.Follows.{Answers};
+ghost use Rattle.km_course.specs.FollowsOn.{FollowsOnFilesAs};
 ghost use Rattle.provider_rel.specs.KernelTable.{exports_of_map, exports_of_symvers};
 ghost use Rattle.stages_files.specs.KernelTable.{reads_kernel, reads_map, reads_symvers, table_of, table_outcome, table_stop};
 
@@ -20,8 +19,8 @@ pub fn read_kernel<F: Reads>(
     symvers: Option<PathText>,
     files: &mut F,
 ) -> Result<Kernel, Stop>
-    ensures { (out err : OutSeen) → Follows table_of (reads_kernel map symvers)
-        (world (F.seen files.old) out err) (world (F.seen files.new) out err) result }
+    ensures { FollowsOnFilesAs table_of (reads_kernel map symvers)
+        F.seen files.old files.new result }
 {
     match map {
         Some(file) => read_map(alloc, file, files),
@@ -35,8 +34,7 @@ pub fn read_kernel<F: Reads>(
 /// Reads the table of the System.map at the path, which is required. A line that isn't understood
 /// is refused.
 pub fn read_map<F: Reads>(alloc: Global, file: PathText, files: &mut F) -> Result<Kernel, Stop>
-    ensures { (out err : OutSeen) → Follows table_of (reads_map file)
-        (world (F.seen files.old) out err) (world (F.seen files.new) out err) result }
+    ensures { FollowsOnFilesAs table_of (reads_map file) F.seen files.old files.new result }
 {
     let bytes = read_needed(alloc, files, &file)?;
     map_table(alloc, bytes, file)
@@ -45,8 +43,7 @@ pub fn read_map<F: Reads>(alloc: Global, file: PathText, files: &mut F) -> Resul
 /// Reads the table of the Module.symvers at the path, which is required. A line that isn't
 /// understood is refused.
 pub fn read_symvers<F: Reads>(alloc: Global, file: PathText, files: &mut F) -> Result<Kernel, Stop>
-    ensures { (out err : OutSeen) → Follows table_of (reads_symvers file)
-        (world (F.seen files.old) out err) (world (F.seen files.new) out err) result }
+    ensures { FollowsOnFilesAs table_of (reads_symvers file) F.seen files.old files.new result }
 {
     let bytes = read_needed(alloc, files, &file)?;
     symvers_table(alloc, bytes, file)

@@ -14,7 +14,7 @@ mod kernel_table;
 mod module_file;
 
 pub use configuration::{ListedFolder, Tool, read_configuration, stop_of_fault};
-pub use index_file::{first_text, read_index};
+pub use index_file::read_index;
 pub use kernel_modules::{KernelModules, modules_folder, path_listed, path_of_name, read_modules};
 pub use kernel_table::{read_kernel, read_map, read_symvers, stop_of_table};
 pub use module_file::read_sections;

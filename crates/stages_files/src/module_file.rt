@@ -1,6 +1,4 @@
-ghost use Rattle.km_outside.specs.OutSeen.{OutSeen};
-ghost use Rattle.km_course.specs.World.{world};
-ghost use Rattle.km_course.specs.Follows.{Answers, Follows};
+ghost use Rattle.km_course.specs.FollowsOn.{FollowsOnFiles, Returns};
 ghost use Rattle.elf_sections.specs.Shape.{shape_fault};
 ghost use Rattle.stages_files.specs.ModuleFile.{reads_sections, sections_outcome};
 
@@ -16,8 +14,7 @@ pub fn read_sections<F: Reads>(
     path: PathText,
     files: &mut F,
 ) -> Result<Sections, Stop>
-    ensures { (out err : OutSeen) → Follows (λ x. x) (reads_sections path)
-        (world (F.seen files.old) out err) (world (F.seen files.new) out err) result }
+    ensures { FollowsOnFiles (reads_sections path) F.seen files.old files.new result }
 {
     if is_compressed(&path) {
         return Err(Stop::from(Refusal::Compressed { path }));
@@ -28,13 +25,19 @@ pub fn read_sections<F: Reads>(
 
 /// Returns the sections of a module's bytes, or the refusal of the module at the path.
 fn check_sections(alloc: Global, bytes: Blob, path: PathText) -> Result<Sections, Stop>
-    ensures { Answers (λ x. x) (sections_outcome path bytes (shape_fault bytes)) result }
+    ensures { Returns (sections_outcome path bytes (shape_fault bytes)) result }
 {
     match Sections::read(alloc, bytes) {
         Ok(sections) => Ok(sections),
         Err(fault) => match fault {
             SectionFault::Memory => Err(Stop::Memory),
-            _ => {
+            SectionFault::NotElf
+            | SectionFault::Truncated { .. }
+            | SectionFault::WrongClass
+            | SectionFault::WrongMachine
+            | SectionFault::NotRelocatable
+            | SectionFault::BadSection { .. }
+            | SectionFault::BadString { .. } => {
                 let text = fault.text(alloc)?;
                 Err(Stop::from(Refusal::BadModule { path, text }))
             }
