@@ -1,7 +1,5 @@
 ghost use Rattle.std.specs.Prelude.{◌≡◌, ◌++◌, IfOk, OnOk, map};
-ghost use Rattle.km_outside.specs.OutSeen.{OutSeen};
-ghost use Rattle.km_course.specs.World.{world};
-ghost use Rattle.km_course.specs.Follows.{Answers, Follows};
+ghost use Rattle.km_course.specs.FollowsOn.{FollowsOnFilesAndOut, Returns};
 ghost use Rattle.name_table.specs.FirstSeen.{first_seen};
 ghost use Rattle.index_read.specs.Values.{shown};
 ghost use Rattle.command_builtin_alias.specs.BuiltinAlias.{builtin_alias_course, found_outcome, lines_of_names, shows_names};
@@ -23,8 +21,8 @@ pub fn builtin_alias<F: Reads, O: Out>(
     files: &mut F,
     out: &mut O,
 ) -> Result<(), Stop>
-    ensures { (err : OutSeen) → Follows (λ x. x) (builtin_alias_course words.now)
-        (world (F.seen files.old) (O.seen out.old) err) (world (F.seen files.new) (O.seen out.new) err) result }
+    ensures { FollowsOnFilesAndOut (builtin_alias_course words.now)
+        F.seen files.old files.new O.seen out.old out.new result }
 {
     match read_builtin_alias(alloc, words)? {
         Some(asked) => show_names(alloc, asked, files, out),
@@ -39,8 +37,8 @@ fn show_names<F: Reads, O: Out>(
     files: &mut F,
     out: &mut O,
 ) -> Result<(), Stop>
-    ensures { (err : OutSeen) → Follows (λ x. x) (shows_names asked)
-        (world (F.seen files.old) (O.seen out.old) err) (world (F.seen files.new) (O.seen out.new) err) result }
+    ensures { FollowsOnFilesAndOut (shows_names asked)
+        F.seen files.old files.new O.seen out.old out.new result }
 {
     let folder = modules_folder(alloc, &asked.dirname, &asked.version)?;
     let file = join(alloc, &folder, b"modules.builtin.alias.bin")?;
@@ -51,7 +49,7 @@ fn show_names<F: Reads, O: Out>(
 
 /// Returns the lines of the modules that a name stands for, unless it stands for none.
 fn found_text(alloc: Global, index: &Index, name: &Name) -> Result<Blob, Stop>
-    ensures { Answers (λ x. x) (found_outcome index.now name.now) result }
+    ensures { Returns (found_outcome index.now name.now) result }
 {
     match normal_alias(alloc, name.as_bytes())? {
         Some(normal) => {

@@ -1,7 +1,5 @@
 ghost use Rattle.std.specs.Prelude.{⊤};
-ghost use Rattle.km_outside.specs.OutSeen.{OutSeen};
-ghost use Rattle.km_course.specs.World.{world};
-ghost use Rattle.km_course.specs.Follows.{Answers, Follows};
+ghost use Rattle.km_course.specs.FollowsOn.{FollowsOnFiles, FollowsOnFilesAndOut, Returns};
 ghost use Rattle.command_modinfo.specs.Modinfo.{modinfo_course, path_asked, reads_source, shows, shows_asked, shows_each, shows_word};
 
 use crate::module_info::module_text;
@@ -29,8 +27,8 @@ pub fn modinfo<F: Reads, O: Out>(
     files: &mut F,
     out: &mut O,
 ) -> Result<(), Stop>
-    ensures { (err : OutSeen) → Follows (λ x. x) (modinfo_course words.now)
-        (world (F.seen files.old) (O.seen out.old) err) (world (F.seen files.new) (O.seen out.new) err) result }
+    ensures { FollowsOnFilesAndOut (modinfo_course words.now)
+        F.seen files.old files.new O.seen out.old out.new result }
 {
     match read_modinfo(alloc, words)? {
         Some(asked) => show_asked(alloc, asked, files, out),
@@ -45,8 +43,8 @@ fn show_asked<F: Reads, O: Out>(
     files: &mut F,
     out: &mut O,
 ) -> Result<(), Stop>
-    ensures { (err : OutSeen) → Follows (λ x. x) (shows_asked asked)
-        (world (F.seen files.old) (O.seen out.old) err) (world (F.seen files.new) (O.seen out.new) err) result }
+    ensures { FollowsOnFilesAndOut (shows_asked asked)
+        F.seen files.old files.new O.seen out.old out.new result }
 {
     let ModinfoWords {
         field,
@@ -68,8 +66,7 @@ fn read_source<F: Reads>(
     root: &PathText,
     files: &mut F,
 ) -> Result<Source, Stop>
-    ensures { (out err : OutSeen) → Follows (λ x. x) (reads_source version root.now)
-        (world (F.seen files.old) out err) (world (F.seen files.new) out err) result }
+    ensures { FollowsOnFiles (reads_source version root.now) F.seen files.old files.new result }
 {
     match version {
         None => Ok(Source::Paths),
@@ -89,8 +86,8 @@ fn show_each<F: Reads, O: Out>(
     files: &mut F,
     out: &mut O,
 ) -> Result<(), Stop>
-    ensures { (err : OutSeen) → Follows (λ x. x) (shows_each source.now options.now words.now)
-        (world (F.seen files.old) (O.seen out.old) err) (world (F.seen files.new) (O.seen out.new) err) result }
+    ensures { FollowsOnFilesAndOut (shows_each source.now options.now words.now)
+        F.seen files.old files.new O.seen out.old out.new result }
 {
     for word in words {
         show_word(alloc, source, options, word, files, out)?;
@@ -107,8 +104,8 @@ fn show_word<F: Reads, O: Out>(
     files: &mut F,
     out: &mut O,
 ) -> Result<(), Stop>
-    ensures { (err : OutSeen) → Follows (λ x. x) (shows_word source.now options.now word.now)
-        (world (F.seen files.old) (O.seen out.old) err) (world (F.seen files.new) (O.seen out.new) err) result }
+    ensures { FollowsOnFilesAndOut (shows_word source.now options.now word.now)
+        F.seen files.old files.new O.seen out.old out.new result }
 {
     let path = path_asked(alloc, source, word)?;
     show_module(alloc, path, options, files, out)
@@ -116,7 +113,7 @@ fn show_word<F: Reads, O: Out>(
 
 /// Returns the path of the module of a word.
 fn path_asked(alloc: Global, source: &Source, word: &Name) -> Result<PathText, Stop>
-    ensures { Answers (λ x. x) (path_asked source.now word.now) result }
+    ensures { Returns (path_asked source.now word.now) result }
 {
     match source {
         Source::Paths => Ok(PathText::from_slice(alloc, word.as_bytes())?),
@@ -132,8 +129,8 @@ fn show_module<F: Reads, O: Out>(
     files: &mut F,
     out: &mut O,
 ) -> Result<(), Stop>
-    ensures { (err : OutSeen) → Follows (λ x. x) (shows path options.now)
-        (world (F.seen files.old) (O.seen out.old) err) (world (F.seen files.new) (O.seen out.new) err) result }
+    ensures { FollowsOnFilesAndOut (shows path options.now)
+        F.seen files.old files.new O.seen out.old out.new result }
 {
     // The read takes the path, and the text shows it.
     let named = PathText::from_slice(alloc, path.as_bytes())?;

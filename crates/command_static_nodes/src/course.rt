@@ -1,8 +1,6 @@
 ghost use Rattle.std.specs.Prelude.{◌≤◌, length};
 ghost use Rattle.km_names.specs.Limit.{file_limit};
-ghost use Rattle.km_outside.specs.OutSeen.{OutSeen};
-ghost use Rattle.km_course.specs.World.{world};
-ghost use Rattle.km_course.specs.Follows.{Answers, Follows};
+ghost use Rattle.km_course.specs.FollowsOn.{FollowsOnFiles, FollowsOnFilesAndOut, Returns};
 ghost use Rattle.devname_nodes.specs.File.{read_of};
 ghost use Rattle.stages_files.specs.Configuration.{stated_outcome};
 ghost use Rattle.command_static_nodes.specs.StaticNodes.{reads_nodes, shows_nodes, static_nodes_course};
@@ -23,8 +21,8 @@ pub fn static_nodes<F: Reads, O: Out>(
     files: &mut F,
     out: &mut O,
 ) -> Result<(), Stop>
-    ensures { (err : OutSeen) → Follows (λ x. x) (static_nodes_course words.now)
-        (world (F.seen files.old) (O.seen out.old) err) (world (F.seen files.new) (O.seen out.new) err) result }
+    ensures { FollowsOnFilesAndOut (static_nodes_course words.now)
+        F.seen files.old files.new O.seen out.old out.new result }
 {
     match read_static_nodes(alloc, words)? {
         Some(asked) => show_nodes(alloc, asked, files, out),
@@ -39,8 +37,8 @@ fn show_nodes<F: Reads, O: Out>(
     files: &mut F,
     out: &mut O,
 ) -> Result<(), Stop>
-    ensures { (err : OutSeen) → Follows (λ x. x) (shows_nodes asked)
-        (world (F.seen files.old) (O.seen out.old) err) (world (F.seen files.new) (O.seen out.new) err) result }
+    ensures { FollowsOnFilesAndOut (shows_nodes asked)
+        F.seen files.old files.new O.seen out.old out.new result }
 {
     let folder = modules_folder(alloc, &asked.dirname, &asked.version)?;
     let file = join(alloc, &folder, b"modules.devname")?;
@@ -51,8 +49,7 @@ fn show_nodes<F: Reads, O: Out>(
 
 /// Reads the nodes of the modules.devname at the path, which is required.
 fn read_list<F: Reads>(alloc: Global, file: &PathText, files: &mut F) -> Result<NodeList, Stop>
-    ensures { (out err : OutSeen) → Follows (λ x. x) (reads_nodes file.now)
-        (world (F.seen files.old) out err) (world (F.seen files.new) out err) result }
+    ensures { FollowsOnFiles (reads_nodes file.now) F.seen files.old files.new result }
 {
     let bytes = read_needed(alloc, files, file)?;
     nodes_in(alloc, file, bytes.as_bytes())
@@ -61,7 +58,7 @@ fn read_list<F: Reads>(alloc: Global, file: &PathText, files: &mut F) -> Result<
 /// Returns the nodes that a modules.devname states.
 fn nodes_in(alloc: Global, file: &PathText, bytes: &[u8]) -> Result<NodeList, Stop>
     requires { length bytes.now ≤ file_limit }
-    ensures { Answers (λ x. x) (stated_outcome (read_of file.now bytes.now)) result }
+    ensures { Returns (stated_outcome (read_of file.now bytes.now)) result }
 {
     match read_nodes(alloc, file, bytes) {
         Ok(nodes) => Ok(nodes),

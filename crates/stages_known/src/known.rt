@@ -1,9 +1,7 @@
 // What modprobe knows before it looks a name up.
 ghost use Rattle.std.specs.Prelude.{◌≡◌, ◌≤◌, ◌∷◌, ◌++◌, [], length, All, IfOk};
 ghost use Rattle.km_names.specs.Limit.{file_limit};
-ghost use Rattle.km_outside.specs.OutSeen.{OutSeen};
-ghost use Rattle.km_course.specs.World.{world};
-ghost use Rattle.km_course.specs.Follows.{Answers, Follows};
+ghost use Rattle.km_course.specs.FollowsOn.{FollowsOnFiles, Returns};
 ghost use Rattle.modprobe_conf.specs.Rules.{rules_of};
 ghost use Rattle.unmet_file.specs.Unmet.{unmet_of};
 ghost use Rattle.stages_files.specs.Configuration.{stated_outcome};
@@ -43,8 +41,8 @@ pub fn read_known<F: Reads>(
     loaded: Option<PathText>,
     files: &mut F,
 ) -> Result<Known, Stop>
-    ensures { (out err : OutSeen) → Follows (λ x. x) (reads_known config folder.now loaded)
-        (world (F.seen files.old) out err) (world (F.seen files.new) out err) result }
+    ensures { FollowsOnFiles (reads_known config folder.now loaded)
+        F.seen files.old files.new result }
 {
     let configuration = read_configuration(alloc, Tool::Modprobe, config, files)?;
     rules_in(alloc, &configuration)?;
@@ -55,7 +53,7 @@ pub fn read_known<F: Reads>(
 /// Returns the rules that configuration files state.
 fn rules_in(alloc: Global, files: &ConfFiles) -> Result<Rules, Stop>
     requires { All (λ file. length file.bytes ≤ file_limit) files.now }
-    ensures { Answers (λ x. x) (stated_outcome (rules_of files.now)) result }
+    ensures { Returns (stated_outcome (rules_of files.now)) result }
 {
     match parse(alloc, files) {
         Ok(rules) => Ok(rules),
@@ -65,8 +63,7 @@ fn rules_in(alloc: Global, files: &ConfFiles) -> Result<Rules, Stop>
 
 /// Reads the four index files of a folder, each checked before the next is read.
 fn read_indexes<F: Reads>(alloc: Global, folder: &PathText, files: &mut F) -> Result<Indexes, Stop>
-    ensures { (out err : OutSeen) → Follows (λ x. x) (reads_indexes folder.now)
-        (world (F.seen files.old) out err) (world (F.seen files.new) out err) result }
+    ensures { FollowsOnFiles (reads_indexes folder.now) F.seen files.old files.new result }
 {
     let dep = read_index_in(alloc, folder, b"modules.dep.bin", files)?;
     let alias = read_index_in(alloc, folder, b"modules.alias.bin", files)?;
@@ -87,8 +84,8 @@ fn read_index_in<F: Reads>(
     name: &[u8],
     files: &mut F,
 ) -> Result<Index, Stop>
-    ensures { (out err : OutSeen) → Follows (λ x. x) (reads_index_in folder.now name.now)
-        (world (F.seen files.old) out err) (world (F.seen files.new) out err) result }
+    ensures { FollowsOnFiles (reads_index_in folder.now name.now)
+        F.seen files.old files.new result }
 {
     let path = join(alloc, folder, name)?;
     read_index(alloc, path, files)
@@ -104,8 +101,8 @@ fn read_lists<F: Reads>(
     files: &mut F,
 ) -> Result<Known, Stop>
     requires { All (λ file. length file.bytes ≤ file_limit) configuration }
-    ensures { (out err : OutSeen) → Follows (λ x. x) (reads_lists configuration folder.now indexes loaded)
-        (world (F.seen files.old) out err) (world (F.seen files.new) out err) result }
+    ensures { FollowsOnFiles (reads_lists configuration folder.now indexes loaded)
+        F.seen files.old files.new result }
 {
     let rules = read_rules(alloc, configuration, folder, files)?;
     let unmet = read_unmet(alloc, folder, files)?;
@@ -126,8 +123,8 @@ fn read_rules<F: Reads>(
     files: &mut F,
 ) -> Result<Rules, Stop>
     requires { All (λ file. length file.bytes ≤ file_limit) configuration }
-    ensures { (out err : OutSeen) → Follows (λ x. x) (reads_rules configuration folder.now)
-        (world (F.seen files.old) out err) (world (F.seen files.new) out err) result }
+    ensures { FollowsOnFiles (reads_rules configuration folder.now)
+        F.seen files.old files.new result }
 {
     let path = join(alloc, folder, b"modules.softdep")?;
     let softdep = read_optional(alloc, files, &path)?;
@@ -148,8 +145,7 @@ fn with_file(mut files: ConfFiles, path: PathText, bytes: Blob) -> Result<ConfFi
 
 /// Reads the lines of the folder's modules.unmet.
 fn read_unmet<F: Reads>(alloc: Global, folder: &PathText, files: &mut F) -> Result<Unmet, Stop>
-    ensures { (out err : OutSeen) → Follows (λ x. x) (reads_unmet folder.now)
-        (world (F.seen files.old) out err) (world (F.seen files.new) out err) result }
+    ensures { FollowsOnFiles (reads_unmet folder.now) F.seen files.old files.new result }
 {
     let path = join(alloc, folder, b"modules.unmet")?;
     let bytes = read_optional(alloc, files, &path)?;
@@ -159,7 +155,7 @@ fn read_unmet<F: Reads>(alloc: Global, folder: &PathText, files: &mut F) -> Resu
 /// Returns the lines that a modules.unmet states.
 fn unmet_in(alloc: Global, file: &PathText, bytes: &[u8]) -> Result<Unmet, Stop>
     requires { length bytes.now ≤ file_limit }
-    ensures { Answers (λ x. x) (stated_outcome (unmet_of file.now bytes.now)) result }
+    ensures { Returns (stated_outcome (unmet_of file.now bytes.now)) result }
 {
     match Unmet::read(alloc, file, bytes) {
         Ok(unmet) => Ok(unmet),
@@ -173,8 +169,7 @@ fn read_loaded<F: Reads>(
     path: Option<PathText>,
     files: &mut F,
 ) -> Result<Loaded, Stop>
-    ensures { (out err : OutSeen) → Follows (λ x. x) (reads_loaded path)
-        (world (F.seen files.old) out err) (world (F.seen files.new) out err) result }
+    ensures { FollowsOnFiles (reads_loaded path) F.seen files.old files.new result }
 {
     match path {
         Some(path) => {

@@ -1,6 +1,6 @@
 // What the names of a request stand for.
 ghost use Rattle.std.specs.Prelude.{◌≡◌, ◌++◌, IfOk, OnOk};
-ghost use Rattle.km_course.specs.Follows.{Answers};
+ghost use Rattle.km_course.specs.FollowsOn.{Returns};
 ghost use Rattle.km_course.specs.declared.end.End.TheVariants.{Refused};
 ghost use Rattle.km_course.specs.declared.refusal.Refusal.TheVariants.{NotFound};
 ghost use Rattle.km_course.specs.declared.stop.Stop.TheVariants.{Ended};
@@ -21,7 +21,7 @@ pub fn names_found(
     use_blacklist: bool,
     names: &[Name],
 ) -> Result<Names, Stop>
-    ensures { Answers (λ x. x) (names_outcome known.now use_blacklist names.now) result }
+    ensures { Returns (names_outcome known.now use_blacklist names.now) result }
 {
     let lookup = Lookup::new(alloc, &known.rules, &known.indexes)?;
     names_by(alloc, &lookup, use_blacklist, names)
@@ -35,7 +35,7 @@ fn names_by(
     names: &[Name],
 ) -> Result<Names, Stop>
     ensures { (known : Known) → known.rules ≡ lookup.now.rules → known.indexes ≡ lookup.now.indexes
-        → Answers (λ x. x) (names_outcome known use_blacklist names.now) result }
+        → Returns (names_outcome known use_blacklist names.now) result }
 {
     let mut all = Names::new(alloc);
     for name in names {
