@@ -9,9 +9,9 @@ use Rattle.modprobe_conf.specs.declared.rule.Rule.{Rule}
 use Rattle.module_facts.specs.declared.module.Module.{Module}
 use Rattle.provider_rel.specs.declared.kernel.Kernel.{Kernel}
 use Rattle.model_loader.specs.declared.fault.LoadFault.{LoadFault}
-use Rattle.model_loader.specs.declared.fault.MachineFault.{MachineFault}
+use Rattle.provider_rel.specs.declared.kernel.KernelExport.{KernelExport}
 use Rattle.model_loader.specs.declared.region.Region.{Region}
-use Rattle.model_loader.specs.Machine.{Machine, kernel_fault, new_machine}
+use Rattle.model_loader.specs.Machine.{Machine, new_machine}
 use Rattle.model_loader.specs.Step.{step}
 use Rattle.model_loader.specs.Use.{name_at}
 use Rattle.model_unload.specs.Unload.{unload_all}
@@ -29,7 +29,7 @@ use Rattle.stages_loads.specs.declared.load.Cause.TheVariants.{Listed}
 use Rattle.stages_loads.specs.Listed.{listed_outcome, loads_listed_at}
 use Rattle.stages_loads.specs.Loads.{load_outcome}
 use Rattle.stages_loads.specs.Modules.{reads_module}
-use Rattle.stages_loads.specs.Tables.{kernel_with, machine_outcome, reads_addressed, reads_machine}
+use Rattle.stages_loads.specs.Tables.{kernel_with, machine_outcome, reads_addressed, reads_machine, unplaced}
 use Rattle.stages_loads.proofs.ListedSteps.{listed_found, listed_read}
 use Rattle.stages_loads.proofs.TableSteps.{made}
 use Rattle.command_remove.specs.Listed.{takes_listed_one, well_formed_path}
@@ -54,16 +54,16 @@ same-value x y is = cc
 
 -- ---- the machine of the listed modules
 
-machine-made : (table : Table) (region : Region) (fault : Option MachineFault) (machine : Machine) → value machine ≡ machine_outcome table region fault → (kernel : Kernel) × (machine ≡ new_machine kernel region)
+machine-made : (table : Table) (region : Region) (left : Option KernelExport) (machine : Machine) → value machine ≡ machine_outcome table region left → (kernel : Kernel) × (machine ≡ new_machine kernel region)
 unfolding machine_outcome
 machine-made table region None machine is = (kernel_with table, same-value machine (new_machine (kernel_with table) region) is)
-machine-made table region (Some fault) machine is = absurd (no-value machine _ is)
+machine-made table region (Some e) machine is = absurd (no-value machine _ is)
 
 -- a machine that is made of tables is new
 pub new-made : (map : List ℕ) (symvers : Option (List ℕ)) (region : Region) (machine : Machine) → (reads_machine map symvers region).possible (value machine) → (kernel : Kernel) × (machine ≡ new_machine kernel region)
 new-made map symvers region machine h =
     let a = came-of (reads_addressed map symvers) (made region) machine h in
-    machine-made a.0 region (kernel_fault a.0.exports) machine (came-given (machine_outcome a.0 region (kernel_fault a.0.exports)) machine a.2)
+    machine-made a.0 region (unplaced a.0.exports) machine (came-given (machine_outcome a.0 region (unplaced a.0.exports)) machine a.2)
 
 stepped : (name : List ℕ) (r : Result Machine LoadFault) (after : Machine) → value after ≡ load_outcome Listed name r → r ≡ Ok after
 unfolding load_outcome

@@ -12,10 +12,9 @@ use Rattle.provider_rel.specs.declared.kernel.KernelExport.{KernelExport}
 use Rattle.provider_rel.specs.Faces.{kernel_of}
 use Rattle.provider_rel.specs.KernelTable.{exports_of_map, exports_of_symvers, exports_with_addresses}
 use Rattle.model_loader.specs.declared.region.Region.{Region}
-use Rattle.model_loader.specs.declared.fault.MachineFault.{MachineFault}
-use Rattle.model_loader.specs.Machine.{Machine, kernel_fault, new_machine}
+use Rattle.model_loader.specs.Machine.{Machine, new_machine}
 use Rattle.stages_files.specs.KernelTable.{Table, reads_kernel, reads_map, reads_symvers, table_of, table_outcome}
-use Rattle.stages_loads.specs.Tables.{addressed_outcome, kernel_with, machine_outcome, reads_addressed, reads_machine}
+use Rattle.stages_loads.specs.Tables.{addressed_outcome, kernel_with, machine_outcome, reads_addressed, reads_machine, unplaced}
 use Rattle.stages_loads.proofs.KernelLemmas.{addressed-apart, kernel_with-exports}
 use Rattle.stages_loads.proofs.TableSteps.{both_added, both_read, both_understood, kernel_with-same, made}
 use Rattle.laws_closed_plans.proofs.AddressLemmas.{addresses-are-unseen}
@@ -68,17 +67,17 @@ was-addressed file exported (Err fault) table came = cc
 same-machine : (a b : Machine) → ◌≡◌ {A = Outcome Machine} (value a) (value b) → a ≡ b
 same-machine a b is = cc
 
-was-machine : (table : Table) (region : Region) (fault : Option MachineFault) (addressed : Kernel) → machine_outcome table region fault ≡ value (new_machine addressed region) → kernel_with table ≡ addressed
+was-machine : (table : Table) (region : Region) (left : Option KernelExport) (addressed : Kernel) → machine_outcome table region left ≡ value (new_machine addressed region) → kernel_with table ≡ addressed
 unfolding machine_outcome
 was-machine table region None addressed came =
     ap (λ (m : Machine). m.kernel) (same-machine (new_machine (kernel_with table) region) (new_machine addressed region) came)
-was-machine table region (Some fault) addressed came = cc
+was-machine table region (Some e) addressed came = cc
 
 -- the table with addresses whose kernel is that of the machine
 machine-came : (files : Contents) (map : List ℕ) (symvers : Option (List ℕ)) (region : Region) (addressed : Kernel) → ((reads_machine map symvers region).run files).outcome ≡ value (new_machine addressed region) → (table : Table) × (((reads_addressed map symvers).run files).outcome ≡ value table) × (kernel_with table ≡ addressed)
 machine-came files map symvers region addressed came =
     let h = reads-on (reads_addressed map symvers) (made region) files (new_machine addressed region) (only-addressed map symvers) came in
-    (h.0, h.1, was-machine h.0 region (kernel_fault h.0.exports) addressed (given-came (machine_outcome h.0 region (kernel_fault h.0.exports)) (new_machine addressed region) files h.2))
+    (h.0, h.1, was-machine h.0 region (unplaced h.0.exports) addressed (given-came (machine_outcome h.0 region (unplaced h.0.exports)) (new_machine addressed region) files h.2))
 
 -- a table to which addresses were added
 pub record HasAdded (files : Contents) (symvers : List ℕ) (table : Table) : Type 0 where

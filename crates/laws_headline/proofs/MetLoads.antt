@@ -18,7 +18,6 @@ use Rattle.depmod_core.specs.Files.{content}
 use Rattle.depmod_core.specs.declared.file.OutputFile.TheVariants.{Dep, DepBin, Alias, AliasBin, Softdep, Symbols, SymbolsBin, BuiltinBin, Unmet}
 use Rattle.depmod_core.specs.declared.files.OutputFiles.{OutputFiles}
 use Rattle.model_loader.specs.declared.region.Region.{Region}
-use Rattle.model_loader.specs.Machine.{kernel_fault}
 use Rattle.model_loader.specs.Regions.{IsRegion}
 use Rattle.name_lookup.specs.declared.indexes.Indexes.{Indexes}
 use Rattle.plan_builder.specs.Steps.{plan_steps}
@@ -27,7 +26,7 @@ use Rattle.stages_files.specs.declared.configuration.Tool.TheVariants.{Modprobe}
 use Rattle.stages_files.specs.IndexFile.{index_of, index_outcome}
 use Rattle.stages_files.specs.KernelTable.{reads_map, table_outcome}
 use Rattle.stages_loads.specs.Listed.{loads_listed}
-use Rattle.stages_loads.specs.Tables.{kernel_with, machine_outcome, reads_machine}
+use Rattle.stages_loads.specs.Tables.{kernel_with, machine_outcome, reads_machine, unplaced}
 use Rattle.stages_known.specs.declared.known.Known.{Known}
 use Rattle.stages_known.specs.Known.{reads_index_in, reads_indexes, reads_known, reads_loaded, reads_rules, reads_unmet}
 use Rattle.stages_loads.specs.Region.{region-by, region_at}
@@ -231,16 +230,16 @@ map-read =
     ∙ given-is (table_outcome map_path (exports_of_map [])) left
     ∙ mapped
 
-machine-so : machine_outcome bare_table whole (kernel_fault []) ≡ value (start pages_of_region)
+machine-so : machine_outcome bare_table whole (unplaced []) ≡ value (start pages_of_region)
 unfolding machine_outcome
 machine-so = refl
 
 made-machine : ((reads_machine map_path None whole).run left).outcome ≡ value (start pages_of_region)
 made-machine =
-    on-value left (reads_map map_path) (λ table. given (machine_outcome table whole (kernel_fault table.exports))) bare_table
+    on-value left (reads_map map_path) (λ table. given (machine_outcome table whole (unplaced table.exports))) bare_table
     (reads-then (reads map_path) (λ bytes. given (table_outcome map_path (exports_of_map bytes))) (reads-file (end (NoFile map_path)) map_path) (λ bytes. reads-given _))
     map-read
-    ∙ given-is (machine_outcome bare_table whole (kernel_fault [])) left
+    ∙ given-is (machine_outcome bare_table whole (unplaced [])) left
     ∙ machine-so
 
 has-machine : HasMachine left load_asked kernel whole

@@ -16,7 +16,7 @@ use Rattle.km_course.specs.Course.{Outcome, Stage, ◌>>=◌, each_from, ends, g
 use Rattle.km_course.specs.Course.Outcome.{value, end}
 use Rattle.km_course.specs.declared.end.End.{End}
 use Rattle.km_course.specs.declared.end.End.TheVariants.{NoFile, NotUnderstood, Refused}
-use Rattle.km_course.specs.declared.refusal.Refusal.TheVariants.{BadLine, BadModule, Compressed, InstallChosen, KernelWithoutAddress, InnerOutputFull, ListedNotFound, ListedRefused, LoadRefused, NotFound, ParamsRefused, InUse, RemoveChosen}
+use Rattle.km_course.specs.declared.refusal.Refusal.TheVariants.{BadLine, BadModule, Compressed, InstallChosen, KernelWithoutAddress, ListedNotFound, ListedRefused, LoadRefused, NotFound, ParamsRefused, InUse, RemoveChosen}
 use Rattle.km_course.specs.declared.refusal.Refusal.TheVariants.{Obstacle as Unplanned}
 use Rattle.index_read.specs.Contents.{contents}
 use Rattle.index_read.specs.declared.index.Index.{Index}
@@ -35,11 +35,9 @@ use Rattle.provider_rel.specs.declared.kernel.KernelExport.{KernelExport}
 use Rattle.provider_rel.specs.Faces.{kernel_of}
 use Rattle.provider_rel.specs.KernelTable.{exports_of_map, exports_of_symvers, exports_with_addresses}
 use Rattle.model_loader.specs.declared.fault.LoadFault.{LoadFault}
-use Rattle.model_loader.specs.declared.fault.MachineFault.{MachineFault}
-use Rattle.model_loader.specs.declared.fault.MachineFault.TheVariants as machine_faults
 use Rattle.model_loader.specs.declared.region.Region.{Region}
 use Rattle.model_loader.specs.FaultText.{load_fault_text}
-use Rattle.model_loader.specs.Machine.{Machine, kernel_fault}
+use Rattle.model_loader.specs.Machine.{Machine}
 use Rattle.model_loader.specs.Step.{step}
 use Rattle.model_loader.specs.Use.{name_at}
 use Rattle.name_lookup.specs.declared.indexes.Indexes.{Indexes}
@@ -74,7 +72,7 @@ use Rattle.stages_loads.specs.declared.load.Insertion.{Insertion}
 use Rattle.stages_loads.specs.declared.shown.Images.{Images}
 use Rattle.stages_loads.specs.Loads.{ShownImage, entered, finished_params, load_outcome, loads, loads_all, loads_one, machine_image, params_image, params_outcome, params_unless, puts_image, shows_image, shows_load, shows_params}
 use Rattle.stages_loads.specs.Modules.{file_outcome, module_outcome, reads_module}
-use Rattle.stages_loads.specs.Tables.{addressed_outcome, machine_outcome, reads_addressed, reads_machine}
+use Rattle.stages_loads.specs.Tables.{addressed_outcome, machine_outcome, reads_addressed, reads_machine, unplaced}
 use Rattle.stages_loads.proofs.ListedSteps.{listed_found, listed_read}
 use Rattle.stages_loads.proofs.LoadSteps.{finished_shown, line_said, one_loaded, one_read, one_shown, params_shown}
 use Rattle.stages_loads.proofs.ModuleSteps.{checked}
@@ -180,18 +178,16 @@ module _ (held : Contents) (asked : ModprobeWords) where
       ends-then Other (reads_symvers symvers) (both_added map bytes) (other-symvers symvers (λ number. named symvers number refl)) (λ exported.
       ends-given Other (addressed_outcome map exported.known (exports_with_addresses bytes exported.exports)) (other-addressed_table map exported.known (exports_with_addresses bytes exported.exports) own))))
 
-  other-made : (table : Table) (region : Region) (fault : Option MachineFault) (e : End) → machine_outcome table region fault ≡ end e → Other e
+  other-made : (table : Table) (region : Region) (left : Option KernelExport) (e : End) → machine_outcome table region left ≡ end e → Other e
   unfolding machine_outcome
   other-made table region None e is = absurd (no-end _ e is)
-  other-made table region (Some (machine_faults.KernelWithoutAddress name)) e is =
-      so-ends Other (Refused (KernelWithoutAddress name)) e tt is
-  other-made table region (Some machine_faults.Memory) e is = so-ends Other (Refused InnerOutputFull) e tt is
+  other-made table region (Some export) e is = so-ends Other (Refused (KernelWithoutAddress export.name)) e tt is
 
   other-machine : (map : List ℕ) (region : Region) → asked.system_map ≡ Some map → EndsIn Other (reads_machine map asked.symvers region)
   other-machine map region mapped =
       ends-then Other (reads_addressed map asked.symvers) (made region)
       (other-addressed map asked.symvers (λ number. of_map mapped) (λ file number named. of_symvers named))
-      (λ table. ends-given Other (machine_outcome table region (kernel_fault table.exports)) (other-made table region (kernel_fault table.exports)))
+      (λ table. ends-given Other (machine_outcome table region (unplaced table.exports)) (other-made table region (unplaced table.exports)))
 
   -- ---- loads
 

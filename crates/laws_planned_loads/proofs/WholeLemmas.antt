@@ -12,7 +12,7 @@ use Rattle.km_course.specs.declared.end.End.TheVariants.{NoFile}
 use Rattle.provider_rel.specs.declared.kernel.Kernel.{Kernel}
 use Rattle.provider_rel.specs.KernelTable.{exports_of_map}
 use Rattle.model_loader.specs.declared.region.Region.{Region}
-use Rattle.model_loader.specs.Machine.{Machine, kernel_fault, new_machine}
+use Rattle.model_loader.specs.Machine.{Machine, new_machine}
 use Rattle.plan_builder.specs.declared.step.PlanStep.{PlanStep}
 use Rattle.stages_files.specs.KernelModules.{modules_folder}
 use Rattle.stages_files.specs.KernelTable.{reads_map, reads_symvers, table_outcome}
@@ -21,7 +21,7 @@ use Rattle.stages_loads.specs.Listed.{loads_listed}
 use Rattle.stages_loads.specs.declared.load.Insertion.{Insertion}
 use Rattle.stages_loads.specs.declared.shown.Images.{Images}
 use Rattle.stages_loads.specs.Loads.{loads_all}
-use Rattle.stages_loads.specs.Tables.{machine_outcome, reads_addressed, reads_machine}
+use Rattle.stages_loads.specs.Tables.{machine_outcome, reads_addressed, reads_machine, unplaced}
 use Rattle.stages_loads.proofs.TableSteps.{both_added, both_read, both_understood, made}
 use Rattle.stages_known.specs.declared.known.Known.{Known}
 use Rattle.stages_known.specs.Known.{reads_known}
@@ -53,7 +53,7 @@ only-addressed map (Some symvers) =
 
 pub only-machine : (map : List ℕ) (symvers : Option (List ℕ)) (region : Region) → OnlyReads (reads_machine map symvers region)
 only-machine map symvers region =
-    reads-then (reads_addressed map symvers) (made region) (only-addressed map symvers) (λ table. reads-given (machine_outcome table region (kernel_fault table.exports)))
+    reads-then (reads_addressed map symvers) (made region) (only-addressed map symvers) (λ table. reads-given (machine_outcome table region (unplaced table.exports)))
 
 -- ---- the end of the course
 

@@ -10,7 +10,7 @@ use Rattle.km_course.specs.World.{World}
 use Rattle.km_course.specs.Follows.{Follows}
 use Rattle.km_course.proofs.Steps.{LeadsTo, leads-end}
 use Rattle.stages_loads.specs.declared.load.Cause.TheVariants.{Listed}
-use Rattle.stages_loads.specs.Listed.{loads_listed, loads_listed_one}
+use Rattle.stages_loads.specs.Listed.{loads_listed}
 use Rattle.stages_loads.specs.Loads.{loads}
 use Rattle.stages_loads.specs.Modules.{reads_module}
 

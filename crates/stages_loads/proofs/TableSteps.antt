@@ -1,7 +1,7 @@
 -- The stages of the machine that a kernel's tables make.
 use Rattle.std.proofs.Common.{◌≡◌, ℕ, suc, ◌<◌, Bool, true, false, not, List, [], ◌∷◌, length, get_or, cond, refl, sym, ap, subst, ◌∙◌, arith, inl, inr}
 use Rattle.std.proofs.Props.{props}
-use Rattle.std.specs.Prelude.{Option, Some, None, Result, Ok, Err, ◌⊎◌, filter}
+use Rattle.std.specs.Prelude.{Option, Some, None, option_map, Result, Ok, Err, ◌⊎◌, filter}
 use Rattle.std.specs.Str.{bytes_eq}
 use Rattle.provider_rel.specs.declared.fault.KernelFault.{KernelFault}
 use Rattle.provider_rel.specs.declared.fault.KernelFault.TheVariants.{BadKernelLine, Memory}
@@ -12,7 +12,7 @@ use Rattle.provider_rel.proofs.NameSteps.{bytes-same}
 use Rattle.model_loader.specs.declared.region.Region.{Region}
 use Rattle.model_loader.specs.declared.fault.MachineFault.{MachineFault}
 use Rattle.model_loader.specs.declared.fault.MachineFault.TheVariants as faults
-use Rattle.model_loader.specs.Machine.{Machine, new_machine, kernel_fault}
+use Rattle.model_loader.specs.Machine.{Machine, new_machine}
 use Rattle.km_course.specs.Course.{Stage, ◌>>=◌, given}
 use Rattle.km_course.specs.Course.Outcome.{value, end}
 use Rattle.km_course.specs.Follows.{Answers}
@@ -20,7 +20,7 @@ use Rattle.km_course.specs.declared.end.End.TheVariants.{Refused}
 use Rattle.km_course.specs.declared.refusal.Refusal.TheVariants.{KernelWithoutAddress}
 use Rattle.km_course.specs.declared.stop.Stop.{Stop}
 use Rattle.stages_files.specs.KernelTable.{Table, table_of, table_outcome, table_stop, reads_symvers}
-use Rattle.stages_loads.specs.Tables.{addressed_outcome, kernel_with, machine_outcome}
+use Rattle.stages_loads.specs.Tables.{addressed_outcome, kernel_with, machine_outcome, unplaced}
 
 -- the stage after the Module.symvers was read
 abbrev pub both_added : List ℕ → List ℕ → Table → Stage Table
@@ -36,7 +36,7 @@ both_read map symvers bytes = given (table_outcome map (exports_of_map bytes)) >
 
 -- the stage after the tables were read
 abbrev pub made : Region → Table → Stage Machine
-made region table = given (machine_outcome table region (kernel_fault table.exports))
+made region table = given (machine_outcome table region (unplaced table.exports))
 
 -- a kernel with addresses
 pub addressed : (file : List ℕ) (known : Bool) (stated : Result (List KernelExport) KernelFault) (kernel : Kernel) → kernel.known ≡ known → stated ≡ Ok kernel.exports → addressed_outcome file known stated ≡ value (table_of kernel)
@@ -85,17 +85,25 @@ kernel_with-same kernel = by_exports _ kernel.exports (firsts-same kernel.export
     by_exports : (a b : List KernelExport) → a ≡ b → (s : IsTable a) (t : IsTable b) → with_exports a s ≡ with_exports b t
     by_exports a b is s t = subst (λ es. (u : IsTable es) → with_exports a s ≡ with_exports es u) is (λ u. ap (with_exports a) (IsTable-prop a s u)) t
 
+-- what the fault of a kernel is made of
+abbrev without_address : KernelExport → MachineFault
+without_address e = faults.KernelWithoutAddress e.name
+
 -- the machine of a kernel whose exports have addresses
-pub made_ok : (kernel : Kernel) (region : Region) (fault : Option MachineFault) (machine : Machine) → fault ≡ None → machine ≡ new_machine kernel region → machine_outcome (table_of kernel) region fault ≡ value machine
+pub made_ok : (kernel : Kernel) (region : Region) (left : Option KernelExport) (machine : Machine) → option_map without_address left ≡ None → machine ≡ new_machine kernel region → machine_outcome (table_of kernel) region left ≡ value machine
 unfolding machine_outcome
-made_ok kernel region fault machine none is =
-    ap (machine_outcome (table_of kernel) region) none ∙ ap (λ k. value (new_machine k region)) (kernel_with-same kernel) ∙ ap value (sym is)
+made_ok kernel region None machine none is = ap (λ k. value (new_machine k region)) (kernel_with-same kernel) ∙ ap value (sym is)
+made_ok kernel region (Some e) machine none is = absurd (cc)
 
 -- the first export that has none refuses it
-pub made_not : (table : Table) (region : Region) (fault : Option MachineFault) (found : MachineFault) (name : List ℕ) → found ≡ faults.KernelWithoutAddress name → (found ≡ faults.Memory) ⊎ (fault ≡ Some found) → machine_outcome table region fault ≡ end (Refused (KernelWithoutAddress name))
+pub made_not : (table : Table) (region : Region) (left : Option KernelExport) (found : MachineFault) (name : List ℕ) → found ≡ faults.KernelWithoutAddress name → (found ≡ faults.Memory) ⊎ (option_map without_address left ≡ Some found) → machine_outcome table region left ≡ end (Refused (KernelWithoutAddress name))
 unfolding machine_outcome
-made_not table region fault found name is (inl m) = absurd (differ (sym is ∙ m))
+made_not table region left found name is (inl m) = absurd (differ (sym is ∙ m))
   where
     differ : faults.KernelWithoutAddress name ≡ faults.Memory → ⊥
     differ e = cc
-made_not table region fault found name is (inr f) = ap (machine_outcome table region) (f ∙ ap Some is)
+made_not table region None found name is (inr f) = absurd (cc)
+made_not table region (Some e) found name is (inr f) = ap (λ n. end (Refused (KernelWithoutAddress n))) same
+  where
+    same : e.name ≡ name
+    same = cc

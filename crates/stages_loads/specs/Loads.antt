@@ -1,8 +1,7 @@
 -- Loads into a machine, each with the lines that are printed of it. modprobe(8).
-use Rattle.std.specs.Prelude.{◌≡◌, ℕ, ◌<◌, ◌-◌, List, [], ◌∷◌, length, map, find, slice_get, ◌++◌, codes, Option, Some, None, Result, Ok, Err, ⊤}
+use Rattle.std.specs.Prelude.{◌≡◌, ℕ, ◌<◌, ◌-◌, List, [], ◌∷◌, length, map, slice_get, ◌++◌, codes, Option, Some, None, Result, Ok, Err, ⊤}
 use Rattle.std.specs.Fmt.{decimal}
 use Rattle.std.specs.Int.{w64, to_be_bytes}
-use Rattle.std.specs.Str.{bytes_eq}
 use Rattle.hex.specs.Hex.{encode_lower}
 use Rattle.sha2.specs.Sha256.{sha256}
 use Rattle.km_names.specs.Path.{path_below}
@@ -138,8 +137,7 @@ loads_all folder images machine inserts = each_from (loads_one folder images) ma
 abbrev pub paths_of : List Insertion → List (List ℕ)
 paths_of inserts = map (λ (one : Insertion). one.path) inserts
 
--- The entry that was made last, which is the only one of its name.
+-- The entry that was made last.
 pub record IsNewest (machine : Machine) (e : Entry) : Type 0 where
   pub some : 0 < length machine.entries
   pub last : slice_get machine.entries (length machine.entries - 1) ≡ Some e
-  pub alone : find (λ other. bytes_eq other.loaded.name e.loaded.name) machine.entries ≡ Some e

@@ -1,6 +1,6 @@
 -- The machine that a kernel's tables make: its exports at their addresses, and no module. nm(1);
 -- the kernel's Documentation/kbuild/modules.rst, "Module.symvers".
-use Rattle.std.specs.Prelude.{◌≡◌, ℕ, true, not, Bool, List, [], ◌∷◌, AllPairs, filter, Option, Some, None, Result, Ok, Err}
+use Rattle.std.specs.Prelude.{◌≡◌, ℕ, true, not, Bool, List, [], ◌∷◌, AllPairs, filter, find, Option, is_none, Some, None, Result, Ok, Err}
 use Rattle.std.specs.Str.{bytes_eq}
 use Rattle.std.proofs.Common.{get_or, ap, sym, ◌∙◌, arith}
 use Rattle.std.proofs.lemmas.Bool.{false≢true}
@@ -12,14 +12,11 @@ use Rattle.provider_rel.specs.declared.kernel.KernelExport.{KernelExport}
 use Rattle.provider_rel.specs.KernelTable.{first_of_each, exports_of_map, exports_with_addresses}
 use Rattle.provider_rel.proofs.NameSteps.{bytes-refl}
 use Rattle.model_loader.specs.declared.region.Region.{Region}
-use Rattle.model_loader.specs.declared.fault.MachineFault.{MachineFault}
-use Rattle.model_loader.specs.declared.fault.MachineFault.TheVariants as faults
-use Rattle.model_loader.specs.Machine.{Machine, new_machine, kernel_fault}
+use Rattle.model_loader.specs.Machine.{Machine, new_machine}
 use Rattle.km_course.specs.Course.{Outcome, Stage, ◌>>=◌, given, reads}
 use Rattle.km_course.specs.Course.Outcome.{value, end}
 use Rattle.km_course.specs.declared.end.End.TheVariants.{Refused}
-use Rattle.km_course.specs.declared.refusal.Refusal.{Refusal}
-use Rattle.km_course.specs.declared.refusal.Refusal.TheVariants.{KernelWithoutAddress, InnerOutputFull}
+use Rattle.km_course.specs.declared.refusal.Refusal.TheVariants.{KernelWithoutAddress}
 use Rattle.stages_files.specs.KernelTable.{Table, line_refusal, table_outcome, reads_map, reads_symvers}
 
 -- a name that passes as another isn't this one
@@ -46,17 +43,15 @@ kernel_with table = record {
   table = record { distinct = firsts-apart table.exports };
 }
 
--- the refusal of a kernel whose export of this name has no address; no kernel results in out of
--- memory
-abbrev pub machine_refusal : MachineFault → Refusal
-machine_refusal (faults.KernelWithoutAddress name) = KernelWithoutAddress name
-machine_refusal faults.Memory = InnerOutputFull
+-- The first export without an address.
+abbrev pub unplaced : List KernelExport → Option KernelExport
+unplaced exports = find (λ e. is_none e.address) exports
 
 -- What a table with this first export without an address results in: the machine of its kernel,
 -- with no module, or the refusal of that export.
-unfoldable pub machine_outcome : Table → Region → Option MachineFault → Outcome Machine
+unfoldable pub machine_outcome : Table → Region → Option KernelExport → Outcome Machine
 machine_outcome table region None = value (new_machine (kernel_with table) region)
-machine_outcome table region (Some fault) = end (Refused (machine_refusal fault))
+machine_outcome table region (Some e) = end (Refused (KernelWithoutAddress e.name))
 
 -- What a file that states these addresses of exports results in: the table with them, or the
 -- refusal of its first line that isn't understood.
@@ -79,4 +74,4 @@ reads_addressed map (Some symvers) = do
 abbrev pub reads_machine : List ℕ → Option (List ℕ) → Region → Stage Machine
 reads_machine map symvers region = do
   table ← reads_addressed map symvers
-  given (machine_outcome table region (kernel_fault table.exports))
+  given (machine_outcome table region (unplaced table.exports))

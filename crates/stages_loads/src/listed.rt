@@ -1,8 +1,6 @@
 // The modules that are listed as loaded.
 ghost use Rattle.std.specs.Prelude.{option_copied};
-ghost use Rattle.km_outside.specs.OutSeen.{OutSeen};
-ghost use Rattle.km_course.specs.World.{world};
-ghost use Rattle.km_course.specs.Follows.{Answers, Follows};
+ghost use Rattle.km_course.specs.FollowsOn.{FollowsOnFiles, Returns};
 ghost use Rattle.stages_loads.specs.Listed.{listed_outcome, loads_listed, loads_listed_at, loads_listed_one};
 ghost use Rattle.stages_loads.specs.Read.{loads_listed_file};
 
@@ -28,8 +26,8 @@ pub fn load_listed<F: Reads>(
     names: &[Name],
     files: &mut F,
 ) -> Result<Machine, Stop>
-    ensures { (out err : OutSeen) → Follows (λ x. x) (loads_listed folder.now index.now machine names.now)
-        (world (F.seen files.old) out err) (world (F.seen files.new) out err) result }
+    ensures { FollowsOnFiles (loads_listed folder.now index.now machine names.now)
+        F.seen files.old files.new result }
 {
     let mut left = names.len();
     while left > 0 {
@@ -48,8 +46,8 @@ fn load_listed_one<F: Reads>(
     name: &Name,
     files: &mut F,
 ) -> Result<Machine, Stop>
-    ensures { (out err : OutSeen) → Follows (λ x. x) (loads_listed_one folder.now index.now machine name.now)
-        (world (F.seen files.old) out err) (world (F.seen files.new) out err) result }
+    ensures { FollowsOnFiles (loads_listed_one folder.now index.now machine name.now)
+        F.seen files.old files.new result }
 {
     let found = path_listed(index, name.as_bytes());
     load_listed_at(alloc, folder, machine, name, found, files)
@@ -66,8 +64,9 @@ pub fn load_listed_at<F: Reads>(
     found: Option<&[u8]>,
     files: &mut F,
 ) -> Result<Machine, Stop>
-    ensures { (out err : OutSeen) → Follows (λ x. x) (loads_listed_at folder.now machine name.now (option_copied found.entry))
-        (world (F.seen files.old) out err) (world (F.seen files.new) out err) result }
+    ensures { FollowsOnFiles
+        (loads_listed_at folder.now machine name.now (option_copied found.entry))
+        F.seen files.old files.new result }
 {
     let path = path_of_listed(alloc, name, found)?;
     load_listed_file(alloc, folder, machine, &path, files)
@@ -81,8 +80,8 @@ fn load_listed_file<F: Reads>(
     path: &PathText,
     files: &mut F,
 ) -> Result<Machine, Stop>
-    ensures { (out err : OutSeen) → Follows (λ x. x) (loads_listed_file folder.now machine path.now)
-        (world (F.seen files.old) out err) (world (F.seen files.new) out err) result }
+    ensures { FollowsOnFiles (loads_listed_file folder.now machine path.now)
+        F.seen files.old files.new result }
 {
     let module = read_module_in(alloc, folder, path, files)?;
     let after = load(alloc, Cause::Listed, machine, &module);
@@ -92,7 +91,7 @@ fn load_listed_file<F: Reads>(
 
 /// Returns the path in the folder of the listed module of a name, or its refusal.
 fn path_of_listed(alloc: Global, name: &Name, found: Option<&[u8]>) -> Result<PathText, Stop>
-    ensures { Answers (λ x. x) (listed_outcome name.now (option_copied found.entry)) result }
+    ensures { Returns (listed_outcome name.now (option_copied found.entry)) result }
 {
     match found {
         Some(path) => Ok(PathText::from_slice(alloc, path)?),

@@ -1,8 +1,6 @@
 // Loads of the modules of a plan.
 ghost use Rattle.std.specs.Prelude.{◌≡◌, Err, IfOk};
-ghost use Rattle.km_outside.specs.OutSeen.{OutSeen};
-ghost use Rattle.km_course.specs.World.{world};
-ghost use Rattle.km_course.specs.Follows.{Answers, Follows};
+ghost use Rattle.km_course.specs.FollowsOn.{FollowsOnFilesAndOut, Returns};
 ghost use Rattle.model_loader.specs.FaultText.{load_fault_text};
 ghost use Rattle.model_loader.specs.Step.{step};
 ghost use Rattle.stages_loads.specs.Loads.{load_outcome, load_refusal, loads_all, loads_one};
@@ -51,8 +49,8 @@ pub fn load_all<F: Writes, O: Out>(
     files: &mut F,
     out: &mut O,
 ) -> Result<Machine, Stop>
-    ensures { (err : OutSeen) → Follows (λ x. x) (loads_all folder.now images.now machine inserts.now)
-        (world (F.seen files.old) (O.seen out.old) err) (world (F.seen files.new) (O.seen out.new) err) result }
+    ensures { FollowsOnFilesAndOut (loads_all folder.now images.now machine inserts.now)
+        F.seen files.old files.new O.seen out.old out.new result }
 {
     for insert in inserts {
         machine = load_one(alloc, folder, images, machine, insert, files, out)?;
@@ -70,8 +68,8 @@ fn load_one<F: Writes, O: Out>(
     files: &mut F,
     out: &mut O,
 ) -> Result<Machine, Stop>
-    ensures { (err : OutSeen) → Follows (λ x. x) (loads_one folder.now images.now machine insert.now)
-        (world (F.seen files.old) (O.seen out.old) err) (world (F.seen files.new) (O.seen out.new) err) result }
+    ensures { FollowsOnFilesAndOut (loads_one folder.now images.now machine insert.now)
+        F.seen files.old files.new O.seen out.old out.new result }
 {
     let module = read_module_in(alloc, folder, &insert.path, files)?;
     let options = &insert.options;
@@ -90,8 +88,8 @@ fn load_read<F: Writes, O: Out>(
     files: &mut F,
     out: &mut O,
 ) -> Result<Machine, Stop>
-    ensures { (err : OutSeen) → Follows (λ x. x) (loads_read images.now options.now machine «module».now)
-        (world (F.seen files.old) (O.seen out.old) err) (world (F.seen files.new) (O.seen out.new) err) result }
+    ensures { FollowsOnFilesAndOut (loads_read images.now options.now machine «module».now)
+        F.seen files.old files.new O.seen out.old out.new result }
 {
     let after = load(alloc, Cause::Planned, machine, module)?;
     show_load(alloc, images, &after, module, options, files, out)?;
@@ -105,7 +103,7 @@ pub(crate) fn load(
     mut machine: Machine,
     module: &Module,
 ) -> Result<Machine, Stop>
-    ensures { Answers (λ x. x) (load_outcome cause «module».now.facts.name (step machine «module».now)) result }
+    ensures { Returns (load_outcome cause «module».now.facts.name (step machine «module».now)) result }
 {
     match machine.load(module) {
         Ok(_) => Ok(machine),
@@ -120,11 +118,18 @@ pub(crate) fn load(
 /// Returns the stop for a load that is refused for this fault.
 fn load_stop(alloc: Global, cause: Cause, name: &Name, fault: &LoadFault) -> Stop
     ensures memory { fault.now ≡ LoadFault.Memory → result ≡ Stop.Memory }
-    ensures refused { Answers (λ x. x) (load_outcome cause name.now (Err fault.now)) (Err result) }
+    ensures refused { Returns (load_outcome cause name.now (Err fault.now)) (Err result) }
 {
     match fault {
         LoadFault::Memory => Stop::Memory,
-        _ => match refused(alloc, cause, name, fault) {
+        LoadFault::AlreadyLoaded
+        | LoadFault::MissingSymbol { .. }
+        | LoadFault::GplOnly { .. }
+        | LoadFault::VersionDiffers { .. }
+        | LoadFault::NotImported { .. }
+        | LoadFault::ExportTaken { .. }
+        | LoadFault::RegionFull { .. }
+        | LoadFault::Overflow { .. } => match refused(alloc, cause, name, fault) {
             Ok(refusal) => Stop::from(refusal),
             Err(_) => Stop::Memory,
         },

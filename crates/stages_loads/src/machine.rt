@@ -1,13 +1,11 @@
 // The machine that a kernel's tables make.
 ghost use Rattle.std.specs.Prelude.{◌≤◌, Some, length};
 ghost use Rattle.km_names.specs.Limit.{file_limit};
-ghost use Rattle.km_outside.specs.OutSeen.{OutSeen};
-ghost use Rattle.km_course.specs.World.{world};
-ghost use Rattle.km_course.specs.Follows.{Answers, Follows};
+ghost use Rattle.km_course.specs.Follows.{Answers};
+ghost use Rattle.km_course.specs.FollowsOn.{FollowsOnFiles, FollowsOnFilesAs, Returns};
 ghost use Rattle.provider_rel.specs.KernelTable.{exports_of_map, exports_with_addresses};
-ghost use Rattle.model_loader.specs.Machine.{kernel_fault};
 ghost use Rattle.stages_files.specs.KernelTable.{table_of, table_outcome};
-ghost use Rattle.stages_loads.specs.Tables.{addressed_outcome, machine_outcome, reads_addressed, reads_machine};
+ghost use Rattle.stages_loads.specs.Tables.{addressed_outcome, machine_outcome, reads_addressed, reads_machine, unplaced};
 
 use km_course::{Refusal, Stop, read_needed};
 use km_names::{Blob, PathText};
@@ -28,8 +26,8 @@ pub fn read_machine<F: Reads>(
     region: Region,
     files: &mut F,
 ) -> Result<Machine, Stop>
-    ensures { (out err : OutSeen) → Follows (λ x. x) (reads_machine system_map symvers region)
-        (world (F.seen files.old) out err) (world (F.seen files.new) out err) result }
+    ensures { FollowsOnFiles (reads_machine system_map symvers region)
+        F.seen files.old files.new result }
 {
     let kernel = read_addressed(alloc, system_map, symvers, files)?;
     make_machine(alloc, kernel, region)
@@ -42,8 +40,8 @@ fn read_addressed<F: Reads>(
     symvers: Option<PathText>,
     files: &mut F,
 ) -> Result<Kernel, Stop>
-    ensures { (out err : OutSeen) → Follows table_of (reads_addressed system_map symvers)
-        (world (F.seen files.old) out err) (world (F.seen files.new) out err) result }
+    ensures { FollowsOnFilesAs table_of (reads_addressed system_map symvers)
+        F.seen files.old files.new result }
 {
     match symvers {
         None => read_map(alloc, system_map, files),
@@ -59,8 +57,8 @@ fn read_both<F: Reads>(
     symvers: PathText,
     files: &mut F,
 ) -> Result<Kernel, Stop>
-    ensures { (out err : OutSeen) → Follows table_of (reads_addressed system_map (Some symvers))
-        (world (F.seen files.old) out err) (world (F.seen files.new) out err) result }
+    ensures { FollowsOnFilesAs table_of (reads_addressed system_map (Some symvers))
+        F.seen files.old files.new result }
 {
     let bytes = read_needed(alloc, files, &system_map)?;
     check_map(alloc, &system_map, &bytes)?;
@@ -96,7 +94,7 @@ fn with_addresses(mut kernel: Kernel, file: PathText, bytes: &Blob) -> Result<Ke
 
 /// Returns the machine of the kernel, or the refusal of its first export without an address.
 fn make_machine(alloc: Global, kernel: Kernel, region: Region) -> Result<Machine, Stop>
-    ensures { Answers (λ x. x) (machine_outcome (table_of kernel) region (kernel_fault kernel.exports)) result }
+    ensures { Returns (machine_outcome (table_of kernel) region (unplaced kernel.exports)) result }
 {
     match Machine::new(alloc, kernel, region) {
         Ok(machine) => Ok(machine),

@@ -1,9 +1,7 @@
 // The modules that are to be loaded.
 ghost use Rattle.std.specs.Prelude.{◌≤◌, length};
 ghost use Rattle.km_names.specs.Limit.{file_limit};
-ghost use Rattle.km_outside.specs.OutSeen.{OutSeen};
-ghost use Rattle.km_course.specs.World.{world};
-ghost use Rattle.km_course.specs.Follows.{Answers, Follows};
+ghost use Rattle.km_course.specs.FollowsOn.{FollowsOnFiles, Returns};
 ghost use Rattle.stages_loads.specs.Modules.{file_outcome, reads_module};
 
 use km_course::{Refusal, Stop, read_needed};
@@ -20,8 +18,7 @@ pub(crate) fn read_module_in<F: Reads>(
     path: &PathText,
     files: &mut F,
 ) -> Result<Module, Stop>
-    ensures { (out err : OutSeen) → Follows (λ x. x) (reads_module folder.now path.now)
-        (world (F.seen files.old) out err) (world (F.seen files.new) out err) result }
+    ensures { FollowsOnFiles (reads_module folder.now path.now) F.seen files.old files.new result }
 {
     let file = join(alloc, folder, path.as_bytes())?;
     if is_compressed(path) {
@@ -34,13 +31,20 @@ pub(crate) fn read_module_in<F: Reads>(
 /// Returns the module of these bytes at a path of the tree, or the refusal of the file.
 fn check_module(alloc: Global, file: PathText, path: &PathText, bytes: Blob) -> Result<Module, Stop>
     requires { length bytes ≤ file_limit }
-    ensures { Answers (λ x. x) (file_outcome file path.now bytes) result }
+    ensures { Returns (file_outcome file path.now bytes) result }
 {
     match read_module(alloc, path, bytes) {
         Ok(module) => Ok(module),
         Err(fault) => match fault {
             ModuleFault::Memory => Err(Stop::Memory),
-            _ => {
+            ModuleFault::Compressed
+            | ModuleFault::Object(_)
+            | ModuleFault::NameTooLong
+            | ModuleFault::BadName
+            | ModuleFault::ExportTwice { .. }
+            | ModuleFault::ExportUndefined { .. }
+            | ModuleFault::BadVersions
+            | ModuleFault::BadNamespace { .. } => {
                 let text = fault.text(alloc)?;
                 Err(Stop::from(Refusal::BadModule { path: file, text }))
             }

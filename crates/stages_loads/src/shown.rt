@@ -1,9 +1,7 @@
 // What follows a load: its images are put, and their lines are written.
 ghost use Rattle.std.specs.Prelude.{◌≡◌, ◌++◌, codes, length, IfOk, option_copied};
 ghost use Rattle.km_names.specs.Path.{path_below};
-ghost use Rattle.km_outside.specs.OutSeen.{OutSeen};
-ghost use Rattle.km_course.specs.World.{world};
-ghost use Rattle.km_course.specs.Follows.{Answers, Follows};
+ghost use Rattle.km_course.specs.FollowsOn.{FollowsOnFiles, FollowsOnFilesAndOut, Returns};
 ghost use Rattle.image_layout.specs.Offsets.{image_size};
 ghost use Rattle.model_loader.specs.declared.entry.Entry.{Entry};
 ghost use Rattle.stages_loads.specs.Loads.{IsNewest, entry_line, params_line, params_outcome, puts_image, shows_image, shows_load, shows_params};
@@ -38,13 +36,14 @@ pub(crate) fn show_load<F: Writes, O: Out>(
     out: &mut O,
 ) -> Result<(), Stop>
     requires { (e : Entry) × IsNewest machine.now e × (length e.image ≡ image_size «module».now.object.sections) }
-    ensures { (e : Entry) → IsNewest machine.now e → (err : OutSeen) → Follows (λ x. x) (shows_load images.now «module».now options.now e)
-        (world (F.seen files.old) (O.seen out.old) err) (world (F.seen files.new) (O.seen out.new) err) result }
+    ensures { (e : Entry) → IsNewest machine.now e →
+        FollowsOnFilesAndOut (shows_load images.now «module».now options.now e)
+        F.seen files.old files.new O.seen out.old out.new result }
 {
     let last = machine.module_count() - 1;
     let loaded = machine.module_at(last);
     let name = loaded.name.as_bytes();
-    let image = machine.image(name).unwrap();
+    let image = machine.image_at(last);
     let line = entry_line(alloc, b"loaded", loaded, image)?;
     let folder = images.folder.as_ref();
     show_image(alloc, folder, name, image, &line, files, out)?;
@@ -67,8 +66,9 @@ fn show_params<F: Writes, O: Out>(
     out: &mut O,
 ) -> Result<(), Stop>
     requires { length image.now ≡ image_size «module».now.object.sections }
-    ensures { (err : OutSeen) → Follows (λ x. x) (shows_params (option_copied folder.entry) «module».now options.now loaded.now image.now)
-        (world (F.seen files.old) (O.seen out.old) err) (world (F.seen files.new) (O.seen out.new) err) result }
+    ensures { FollowsOnFilesAndOut
+        (shows_params (option_copied folder.entry) «module».now options.now loaded.now image.now)
+        F.seen files.old files.new O.seen out.old out.new result }
 {
     let params = params_in(alloc, module, options, loaded, image)?;
     let name = params_name(alloc, &loaded.name)?;
@@ -93,13 +93,16 @@ fn params_in(
     image: &[u8],
 ) -> Result<Params, Stop>
     requires { length image.now ≡ image_size «module».now.object.sections }
-    ensures { Answers (λ x. x) (params_outcome «module».now options.now loaded.now image.now) result }
+    ensures { Returns (params_outcome «module».now options.now loaded.now image.now) result }
 {
     match apply_params(alloc, module, loaded.base, image, options.as_bytes()) {
         Ok(params) => Ok(params),
         Err(fault) => match fault {
             ParamFault::Memory => Err(Stop::Memory),
-            _ => {
+            ParamFault::BadParamTable { .. }
+            | ParamFault::UnknownParamType { .. }
+            | ParamFault::BadValue { .. }
+            | ParamFault::BadParamPlace { .. } => {
                 let text = fault.text(alloc)?;
                 let name = Name::from_slice(alloc, loaded.name.as_bytes())?;
                 Err(Stop::from(Refusal::ParamsRefused { name, text }))
@@ -137,8 +140,9 @@ fn show_image<F: Writes, O: Out>(
     files: &mut F,
     out: &mut O,
 ) -> Result<(), Stop>
-    ensures { (err : OutSeen) → Follows (λ x. x) (shows_image (option_copied folder.entry) (record { name = name.now; image = image.now; line = line.now }))
-        (world (F.seen files.old) (O.seen out.old) err) (world (F.seen files.new) (O.seen out.new) err) result }
+    ensures { FollowsOnFilesAndOut
+        (shows_image (option_copied folder.entry) (record { name = name.now; image = image.now; line = line.now }))
+        F.seen files.old files.new O.seen out.old out.new result }
 {
     put_image(alloc, folder, name, image, files)?;
     say(out, line.as_bytes())
@@ -152,8 +156,8 @@ fn put_image<F: Writes>(
     image: &[u8],
     files: &mut F,
 ) -> Result<(), Stop>
-    ensures { (out err : OutSeen) → Follows (λ x. x) (puts_image (option_copied folder.entry) name.now image.now)
-        (world (F.seen files.old) out err) (world (F.seen files.new) out err) result }
+    ensures { FollowsOnFiles (puts_image (option_copied folder.entry) name.now image.now)
+        F.seen files.old files.new result }
 {
     match folder {
         None => Ok(()),

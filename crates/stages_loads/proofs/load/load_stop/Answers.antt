@@ -1,4 +1,4 @@
-use Rattle.std.proofs.Common.{subst, sym}
+use Rattle.std.proofs.Common.{subst, sym, arith}
 use Rattle.std.specs.Prelude.{Err}
 use Rattle.model_loader.specs.Machine.{Machine}
 use Rattle.km_course.specs.Follows.{Answers}
@@ -11,7 +11,7 @@ returns-in-Ok c =
     let cause = c.args.cause in
     let name = c.args.name.now in
     let fault = c.args.fault.now in record {
-      memory = λ ran_out. absurd (c.in_default.not-Memory ran_out);
+      memory = λ ran_out. let is = c.in-AlreadyLoaded.is in absurd (grind arith);
       refused =
           subst (λ stop. Answers (λ (x : Machine). x) (load_outcome cause name (Err fault)) (Err stop)) (sym c.from.ensures)
           (refused_as cause name fault c.in-Ok.refusal c.in-Ok.ensures);

@@ -1,4 +1,4 @@
-use Rattle.std.proofs.Common.{refl, sym, subst}
+use Rattle.std.proofs.Common.{refl, sym, subst, arith}
 use Rattle.std.specs.Prelude.{Err}
 use Rattle.module_facts.specs.declared.module.Module.{Module}
 use Rattle.km_course.specs.Follows.{Answers}
@@ -10,8 +10,8 @@ pub returns-in-Ok : goal.returns-in-Ok
 returns-in-Ok c =
     checked_ok c.args.file c.args.path.now c.args.bytes c.in-Ok.module _ refl c.in-Ok.ensures.object c.in-Ok.ensures.facts c.in-Ok.ensures.passed
 
-pub returns-in_ok-text-in_default : goal.returns-in_ok-text-in_default
-returns-in_ok-text-in_default c =
+pub returns-in_ok-text-in-Compressed : goal.returns-in_ok-text-in-Compressed
+returns-in_ok-text-in-Compressed c =
     let path = c.args.path.now in
     subst (λ stop. Answers (λ (x : Module). x) (file_outcome c.args.file path c.args.bytes) (Err stop)) (sym c.from.ensures)
-    (checked_not c.args.file path c.args.bytes c.in_ok-text-in_default.text _ refl c.in-Err.fault c.in-Err.ensures.fault c.in_default.not-Memory c.in_ok-text-in_default.ensures)
+    (checked_not c.args.file path c.args.bytes c.in_ok-text-in-Compressed.text _ refl c.in-Err.fault c.in-Err.ensures.fault (λ ran_out. let is = c.in-Compressed.is in grind arith) c.in_ok-text-in-Compressed.ensures)

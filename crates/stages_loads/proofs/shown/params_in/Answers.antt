@@ -1,4 +1,4 @@
-use Rattle.std.proofs.Common.{◌≡◌, sym, subst, ◌∙◌}
+use Rattle.std.proofs.Common.{◌≡◌, sym, subst, ◌∙◌, arith}
 use Rattle.std.specs.Prelude.{Err}
 use Rattle.param_apply.specs.declared.apply.Params.{Params}
 use Rattle.km_course.specs.Course.Outcome.{value, end}
@@ -19,6 +19,6 @@ pub returns : goal.returns
 returns c =
     let m = c.args.module.now in
     subst (λ stop. Answers (λ (x : Params). x) (params_outcome m c.args.options.now c.args.loaded.now c.args.image.now) (Err stop)) (sym c.from.ensures)
-    (subst (λ options. params_outcome m options c.args.loaded.now c.args.image.now ≡ end (Refused (ParamsRefused c.in_ok-name-in_default.name c.in_ok-text-in_default.text))) c.as_bytes.ensures
-    (params_not m c.as_bytes.result.now c.args.loaded.now c.args.image.now c.in_ok-name-in_default.name c.in_ok-text-in_default.text c.in-Err.fault c.in-Err.ensures.fault c.in_default.not-Memory c.in_ok-text-in_default.ensures
-    (c.in_ok-name-in_default.ensures ∙ c.as_bytes-in_default.ensures)))
+    (subst (λ options. params_outcome m options c.args.loaded.now c.args.image.now ≡ end (Refused (ParamsRefused c.in_ok-name-in-BadParamTable.name c.in_ok-text-in-BadParamTable.text))) c.as_bytes.ensures
+    (params_not m c.as_bytes.result.now c.args.loaded.now c.args.image.now c.in_ok-name-in-BadParamTable.name c.in_ok-text-in-BadParamTable.text c.in-Err.fault c.in-Err.ensures.fault (λ ran_out. let is = c.in-BadParamTable.is in grind arith) c.in_ok-text-in-BadParamTable.ensures
+    (c.in_ok-name-in-BadParamTable.ensures ∙ c.as_bytes-in-BadParamTable.ensures)))

@@ -1,4 +1,3 @@
-use Rattle.std.proofs.Common.{sym, ap}
 use Rattle.std.proofs.lemmas.Result.{err_from_is_err_and}
 use Rattle.km_course.specs.Course.{says}
 use Rattle.km_course.proofs.Steps.{next, exits}

@@ -1,10 +1,10 @@
-use Rattle.std.proofs.Common.{ap, ◌∙◌}
+use Rattle.std.proofs.Common.{◌∙◌}
 use Rattle.std.specs.Prelude.{option_copied, Ok, Err}
 use Rattle.std.proofs.lemmas.Result.{err_from_is_err_and}
 use Rattle.param_apply.specs.declared.apply.Params.{Params}
 use Rattle.km_course.proofs.Steps.{next, exits, wants, answered}
 use Rattle.km_course.proofs.Following.{along}
-use Rattle.stages_loads.specs.Loads.{params_line, params_outcome, shows_image}
+use Rattle.stages_loads.specs.Loads.{params_outcome, shows_image}
 use Rattle.stages_loads.proofs.LoadSteps.{finished_shown, same-shown}
 use Rattle.stages_loads.proofs.shown.show_params.Goals as goal
 
