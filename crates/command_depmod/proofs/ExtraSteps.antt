@@ -11,7 +11,8 @@ use Rattle.km_course.specs.declared.stop.Stop.{Stop}
 use Rattle.km_course.specs.declared.stop.Stop.TheVariants.{Memory}
 use Rattle.command_depmod.specs.declared.files.DepmodFile.TheVariants.{BuiltinAliasBin, Devname}
 use Rattle.command_depmod.specs.declared.files.ExtraFiles.{ExtraFiles}
-use Rattle.command_depmod.specs.Extra.{extra_files, extra_outcome, extra_refusal, refused_stop, size_refusal, unless_refused}
+use Rattle.command_depmod.specs.Extra.{extra_files, extra_outcome, extra_refusal, refused_stop, size_refusal}
+use Rattle.command_depmod.specs.Refused.{unless_refused}
 
 -- the stage after modules.builtin.modinfo was read
 abbrev pub info_given : List ℕ → Stage (Option (List ℕ))

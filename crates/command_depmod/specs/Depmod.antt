@@ -12,7 +12,7 @@ use Rattle.command_depmod.specs.declared.course.Wanted.{Wanted}
 use Rattle.command_depmod.specs.Search.{reads_search}
 use Rattle.command_depmod.specs.Tree.{reads_tree}
 use Rattle.command_depmod.specs.Modules.{reads_modules_facts}
-use Rattle.command_depmod.specs.Relation.{Tree, relation_outcome}
+use Rattle.command_depmod.specs.Relation.{KernelTree, relation_outcome}
 use Rattle.command_depmod.specs.Outputs.{makes_files, hands_out}
 use Rattle.command_depmod.specs.Warnings.{warns_unmet}
 
@@ -26,7 +26,7 @@ target_of_request asked = modules_folder asked.outdir asked.version
 
 -- The tree in a folder, with its relation. The configuration is read, the tree is chosen, and the
 -- kernel's table is read. Each module of the tree is read and checked, and then they are related.
-abbrev pub reads_related : List ℕ → Option (List ℕ) → Option (List ℕ) → Option (List ℕ) → Stage Tree
+abbrev pub reads_related : List ℕ → Option (List ℕ) → Option (List ℕ) → Option (List ℕ) → Stage KernelTree
 reads_related folder config map symvers = do
   search ← reads_search config
   paths ← reads_tree folder search
@@ -39,12 +39,12 @@ abbrev pub wanted_of : DepmodWords → Wanted
 wanted_of asked = record { dry_run = asked.dry_run; errsyms = asked.errsyms; extra = asked.extra; versions = is_some asked.symvers }
 
 -- The warnings of a tree, if they are asked for.
-abbrev pub warns_of_tree : Wanted → Tree → Stage ⊤
+abbrev pub warns_of_tree : Wanted → KernelTree → Stage ⊤
 warns_of_tree wanted tree = warns_unmet wanted.errsyms wanted.versions (unmet (modules_of tree.facts) tree.kernel)
 
 -- The course of a tree in a folder that was read. Its files are made, and only then is anything
 -- written: first the warnings, and then the files into the target.
-abbrev pub indexes_tree : Wanted → List ℕ → List ℕ → Tree → Stage ⊤
+abbrev pub indexes_tree : Wanted → List ℕ → List ℕ → KernelTree → Stage ⊤
 indexes_tree wanted folder target tree = do
   made ← makes_files wanted.extra folder tree
   warned ← warns_of_tree wanted tree

@@ -1,6 +1,6 @@
 -- The two files of `depmod --extra`: the index of the aliases of built-in modules, and the device
 -- nodes of modules. The option is this project's own; kmod's depmod always makes both.
-use Rattle.std.specs.Prelude.{ℕ, nat_lt, Bool, List, [], ◌∷◌, length, codes, Option, Some, None, option_map, if◌then◌else◌}
+use Rattle.std.specs.Prelude.{ℕ, nat_lt, Bool, List, [], ◌∷◌, length, codes, Option, Some, None, option_map}
 use Rattle.km_names.specs.First.{first}
 use Rattle.km_names.specs.Limit.{file_limit}
 use Rattle.km_names.specs.Path.{path_below}
@@ -10,7 +10,6 @@ use Rattle.builtin_index.specs.Aliases.{alias_map}
 use Rattle.devname_nodes.specs.File.{nodes_text}
 use Rattle.devname_nodes.specs.Nodes.{nodes_of}
 use Rattle.km_course.specs.Course.{Outcome, Stage, ◌>>=◌, gives, reads_any, when◌then◌else◌}
-use Rattle.km_course.specs.Course.Outcome.{value, end}
 use Rattle.km_course.specs.declared.end.End.TheVariants.{Refused}
 use Rattle.km_course.specs.declared.refusal.Refusal.{Refusal}
 use Rattle.km_course.specs.declared.refusal.Refusal.TheVariants.{OutputTooLarge}
@@ -20,6 +19,7 @@ use Rattle.command_depmod.specs.declared.files.DepmodFile.{DepmodFile}
 use Rattle.command_depmod.specs.declared.files.DepmodFile.TheVariants.{BuiltinAliasBin, Devname}
 use Rattle.command_depmod.specs.declared.files.ExtraFiles.{ExtraFiles}
 use Rattle.command_depmod.specs.Files.{file_name}
+use Rattle.command_depmod.specs.Refused.{refused_if, unless_refused}
 
 -- The modules.builtin.modinfo in a folder, if it is asked for. It counts as empty if it is missing.
 abbrev pub reads_info : Bool → List ℕ → Stage (Option (List ℕ))
@@ -34,7 +34,7 @@ extra_files tree info = record { builtin_alias_bin = file (alias_map info); devn
 
 -- The refusal of a file of this many bytes, by its bare name: it is too large.
 abbrev pub size_refusal : DepmodFile → List ℕ → Option Refusal
-size_refusal which bytes = if nat_lt file_limit (length bytes) then Some (OutputTooLarge (file_name which)) else None
+size_refusal which bytes = refused_if (nat_lt file_limit (length bytes)) (OutputTooLarge (file_name which))
 
 -- The two files, if modules.builtin.modinfo was read.
 abbrev pub extra_made : List Facts → Option (List ℕ) → Option ExtraFiles
@@ -45,11 +45,6 @@ abbrev pub extra_refusal : Option ExtraFiles → Option Refusal
 extra_refusal None = None
 extra_refusal (Some extra) =
     first (size_refusal BuiltinAliasBin extra.builtin_alias_bin ∷ size_refusal Devname extra.devname ∷ [])
-
--- what files result in, unless they are refused
-abbrev pub unless_refused : Option Refusal → Option ExtraFiles → Outcome (Option ExtraFiles)
-unless_refused None made = value made
-unless_refused (Some refusal) made = end (Refused refusal)
 
 -- What the modules of a tree result in, if modules.builtin.modinfo was read: the two files, or a
 -- refusal. Otherwise there are no such files.

@@ -1,3 +1,4 @@
+pub mod Refused
 pub mod Search
 pub mod Tree
 pub mod Modules

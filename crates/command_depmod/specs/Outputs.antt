@@ -1,40 +1,34 @@
 -- The files that `depmod` makes, and what it does with them. depmod(8), modules.dep(5).
-use Rattle.std.specs.Prelude.{ℕ, Bool, List, codes, Result, Ok, Err, ⊤}
+use Rattle.std.specs.Prelude.{ℕ, Bool, false, List, map, codes, Option, None, ⊤}
+use Rattle.km_names.specs.First.{first}
 use Rattle.km_names.specs.Path.{path_below}
-use Rattle.depmod_core.specs.declared.fault.OutputFault.{OutputFault}
-use Rattle.depmod_core.specs.declared.fault.OutputFault.TheVariants as faults
 use Rattle.depmod_core.specs.declared.files.OutputFiles.{OutputFiles}
-use Rattle.depmod_core.specs.Files.{outputs_of}
+use Rattle.depmod_core.specs.Files.{files}
 use Rattle.km_course.specs.Course.{Outcome, Stage, ◌>>=◌, given, gives, reads_any, puts, says_any, each_from, when◌then◌else◌}
-use Rattle.km_course.specs.Course.Outcome.{value, end}
-use Rattle.km_course.specs.declared.end.End.TheVariants.{Refused}
 use Rattle.km_course.specs.declared.refusal.Refusal.{Refusal}
-use Rattle.km_course.specs.declared.refusal.Refusal.TheVariants.{OutputTooLarge, InnerOutputFull}
 use Rattle.command_depmod.specs.declared.files.DepmodFile.{DepmodFile}
 use Rattle.command_depmod.specs.declared.files.DepmodFiles.{DepmodFiles}
-use Rattle.command_depmod.specs.Extra.{extra_outcome, reads_info}
+use Rattle.command_depmod.specs.Extra.{extra_outcome, reads_info, size_refusal}
 use Rattle.command_depmod.specs.Files.{all_files, content, file_name, text_files}
-use Rattle.command_depmod.specs.Relation.{Tree}
+use Rattle.command_depmod.specs.Refused.{unless_refused}
+use Rattle.command_depmod.specs.Relation.{KernelTree}
 
--- what a fault of the files refuses; no files result in out of memory
-abbrev pub output_refusal : OutputFault → Refusal
-output_refusal (faults.OutputTooLarge file length) = OutputTooLarge file
-output_refusal faults.Memory = InnerOutputFull
+-- The refusal of the first of the nine files that is too large.
+abbrev pub usual_refusal : OutputFiles → Option Refusal
+usual_refusal made = first (map (λ file. size_refusal file (content (record { usual = made; extra = None }) file)) (all_files false))
 
--- What a tree results in that has these files: they, or the refusal of the first that is too large,
--- by its bare name.
-unfoldable pub outputs_outcome : Result OutputFiles OutputFault → Outcome OutputFiles
-outputs_outcome (Ok made) = value made
-outputs_outcome (Err fault) = end (Refused (output_refusal fault))
+-- What a tree results in that has these nine files: they, or a refusal.
+unfoldable pub outputs_outcome : OutputFiles → Outcome OutputFiles
+outputs_outcome made = unless_refused (usual_refusal made) made
 
 -- The files of a tree whose modules are in the folder. Its modules.builtin is read, which counts as
 -- empty if it is missing, and with `--extra` its modules.builtin.modinfo. Then the nine files are
 -- checked, and then the two others.
-abbrev pub makes_files : Bool → List ℕ → Tree → Stage DepmodFiles
+abbrev pub makes_files : Bool → List ℕ → KernelTree → Stage DepmodFiles
 makes_files extra folder tree = do
   builtin ← reads_any (path_below folder (codes "modules.builtin"))
   info ← reads_info extra folder
-  usual ← given (outputs_outcome (outputs_of tree.facts tree.kernel builtin))
+  usual ← given (outputs_outcome (files tree.facts tree.kernel builtin))
   added ← given (extra_outcome tree.facts info)
   gives (record { usual = usual; extra = added })
 

@@ -1,11 +1,10 @@
 // The course of depmod.
-ghost use Rattle.std.specs.Prelude.{IfOk, ⊤};
-ghost use Rattle.km_outside.specs.FilesSeen.{FilesSeen};
-ghost use Rattle.km_outside.specs.OutSeen.{OutSeen};
+ghost use Rattle.std.specs.Prelude.{◌≡◌, IfOk, ⊤};
 ghost use Rattle.km_course.specs.World.{world};
 ghost use Rattle.km_course.specs.Follows.{Follows};
+ghost use Rattle.km_course.specs.FollowsOn.{FollowsOnErr, FollowsOnFilesAs};
 ghost use Rattle.command_depmod.specs.Related.{IsRelated, seen_tree};
-ghost use Rattle.command_depmod.specs.Depmod.{depmod_course, indexes, indexes_tree, reads_related, warns_of_tree};
+ghost use Rattle.command_depmod.specs.Depmod.{depmod_course, indexes, indexes_tree, modules_of_request, reads_related, target_of_request, warns_of_tree};
 
 use crate::modules::read_modules_facts;
 use crate::outputs::{hand_out, make_files};
@@ -18,7 +17,7 @@ use km_names::{PathText, Word};
 use km_outside::{Files, Out};
 use kmod_words::{DepmodWords, read_depmod};
 use stages_files::{modules_folder, read_kernel};
-use std::alloc::Global;
+use std::alloc::{AllocError, Global};
 
 /// What is asked for besides the index itself.
 #[derive(Clone, Copy)]
@@ -63,27 +62,41 @@ fn index<F: Files, O: Out, E: Out>(
         (world (F.seen files.old) (O.seen out.old) (E.seen err.old))
         (world (F.seen files.new) (O.seen out.new) (E.seen err.new)) result }
 {
-    let DepmodWords {
-        dry_run,
-        errsyms,
-        extra,
-        basedir,
-        outdir,
-        config,
-        filesyms,
-        symvers,
-        version,
-    } = asked;
     let wanted = Wanted {
-        dry_run,
-        errsyms,
-        extra,
-        versions: symvers.is_some(),
+        dry_run: asked.dry_run,
+        errsyms: asked.errsyms,
+        extra: asked.extra,
+        versions: asked.symvers.is_some(),
     };
-    let folder = modules_folder(alloc, &basedir, &version)?;
-    let target = modules_folder(alloc, &outdir, &version)?;
-    let tree = read_related(alloc, &folder, config, filesyms, symvers, files)?;
-    index_tree(alloc, wanted, &folder, &target, &tree, files, out, err)
+    let folders = folders_of(alloc, &asked)?;
+    let tree = read_asked(alloc, asked, &folders.source, files)?;
+    index_tree(
+        alloc,
+        wanted,
+        &folders.source,
+        &folders.target,
+        &tree,
+        files,
+        out,
+        err,
+    )
+}
+
+/// The folder of the modules, and the one into which the files are put.
+#[derive(Drop)]
+struct Folders {
+    source: PathText,
+    target: PathText,
+}
+
+/// Returns the folders that are asked for.
+fn folders_of(alloc: Global, asked: &DepmodWords) -> Result<Folders, AllocError>
+    ensures source { IfOk result (λ folders. folders.source ≡ modules_of_request asked.now) }
+    ensures target { IfOk result (λ folders. folders.target ≡ target_of_request asked.now) }
+{
+    let source = modules_folder(alloc, &asked.basedir, &asked.version)?;
+    let target = modules_folder(alloc, &asked.outdir, &asked.version)?;
+    Ok(Folders { source, target })
 }
 
 /// Indexes a tree whose modules are in the folder, into the target. Its files are made first, and
@@ -124,11 +137,32 @@ fn warn_of_tree<E: Out>(
     err: &mut E,
 ) -> Result<(), Stop>
     requires { IsRelated tree.now }
-    ensures { (files : FilesSeen) (out : OutSeen) → Follows (λ x. x) (warns_of_tree wanted (seen_tree tree.now))
-        (world files out (E.seen err.old)) (world files out (E.seen err.new)) result }
+    ensures { FollowsOnErr (warns_of_tree wanted (seen_tree tree.now))
+        E.seen err.old err.new result }
 {
     let obstacles = tree.relation.obstacles().as_slice();
     warn_unmet(alloc, wanted.errsyms, wanted.versions, obstacles, err)
+}
+
+/// Reads the tree in the folder as asked, with its relation.
+fn read_asked<F: Files>(
+    alloc: Global,
+    asked: DepmodWords,
+    folder: &PathText,
+    files: &mut F,
+) -> Result<RelatedTree, Stop>
+    ensures follows { FollowsOnFilesAs seen_tree
+        (reads_related folder.now asked.config asked.filesyms asked.symvers)
+        F.seen files.old files.new result }
+    ensures related { IfOk result (λ tree. IsRelated tree) }
+{
+    let DepmodWords {
+        config,
+        filesyms,
+        symvers,
+        ..
+    } = asked;
+    read_related(alloc, folder, config, filesyms, symvers, files)
 }
 
 /// Reads the tree in the folder, with its relation.
@@ -140,8 +174,8 @@ fn read_related<F: Files>(
     symvers: Option<PathText>,
     files: &mut F,
 ) -> Result<RelatedTree, Stop>
-    ensures follows { (out err : OutSeen) → Follows seen_tree (reads_related folder.now config map symvers)
-        (world (F.seen files.old) out err) (world (F.seen files.new) out err) result }
+    ensures follows { FollowsOnFilesAs seen_tree (reads_related folder.now config map symvers)
+        F.seen files.old files.new result }
     ensures related { IfOk result (λ tree. IsRelated tree) }
 {
     let search = read_search(alloc, config, files)?;

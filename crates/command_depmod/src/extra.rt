@@ -1,9 +1,7 @@
 // The two files that `--extra` adds.
 ghost use Rattle.std.specs.Prelude.{◌≡◌, ◌≤◌, ◌⊎◌, Some, None, option_map, IfOk, IfErr, IfSome, OnOk, length};
 ghost use Rattle.km_names.specs.Limit.{file_limit};
-ghost use Rattle.km_outside.specs.OutSeen.{OutSeen};
-ghost use Rattle.km_course.specs.World.{world};
-ghost use Rattle.km_course.specs.Follows.{Answers, Follows};
+ghost use Rattle.km_course.specs.FollowsOn.{FollowsOnFiles, Returns};
 ghost use Rattle.index_format.specs.File.{file as index_file};
 ghost use Rattle.builtin_index.specs.Aliases.{alias_map};
 ghost use Rattle.devname_nodes.specs.File.{nodes_text as text_of_nodes};
@@ -29,8 +27,8 @@ pub(crate) fn read_info<F: Reads>(
     folder: &PathText,
     files: &mut F,
 ) -> Result<Option<Blob>, Stop>
-    ensures follows { (out err : OutSeen) → Follows (λ x. x) (reads_info extra folder.now)
-        (world (F.seen files.old) out err) (world (F.seen files.new) out err) result }
+    ensures follows { FollowsOnFiles (reads_info extra folder.now)
+        F.seen files.old files.new result }
     ensures limit { IfOk result (λ info. IfSome info (λ bytes. length bytes ≤ file_limit)) }
 {
     if !extra {
@@ -49,7 +47,7 @@ pub(crate) fn make_extra(
     info: Option<Blob>,
 ) -> Result<Option<ExtraFiles>, Stop>
     requires { IfSome info (λ bytes. length bytes ≤ file_limit) }
-    ensures { Answers (λ x. x) (extra_outcome tree.now info) result }
+    ensures { Returns (extra_outcome tree.now info) result }
 {
     let Some(info) = info else {
         return Ok(None);

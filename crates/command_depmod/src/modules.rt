@@ -1,9 +1,7 @@
 // The modules of a tree, each read and checked at its turn.
 ghost use Rattle.std.specs.Prelude.{◌≤◌, length, IfOk};
 ghost use Rattle.km_names.specs.Limit.{file_limit};
-ghost use Rattle.km_outside.specs.OutSeen.{OutSeen};
-ghost use Rattle.km_course.specs.World.{world};
-ghost use Rattle.km_course.specs.Follows.{Answers, Follows};
+ghost use Rattle.km_course.specs.FollowsOn.{FollowsOnFiles, Returns};
 ghost use Rattle.command_depmod.specs.Tree.{AreTreePaths};
 ghost use Rattle.module_facts.specs.Faults.{fact_fault};
 ghost use Rattle.provider_rel.specs.Tree.{IsTree};
@@ -25,8 +23,8 @@ pub(crate) fn read_modules_facts<F: Reads>(
     files: &mut F,
 ) -> Result<TreeFacts, Stop>
     requires { AreTreePaths paths.now }
-    ensures follows { (out err : OutSeen) → Follows (λ x. x) (reads_modules_facts folder.now paths.now)
-        (world (F.seen files.old) out err) (world (F.seen files.new) out err) result }
+    ensures follows { FollowsOnFiles (reads_modules_facts folder.now paths.now)
+        F.seen files.old files.new result }
     ensures tree { IfOk result (λ tree. IsTree tree) }
 {
     let mut tree = TreeFacts::new(alloc);
@@ -47,8 +45,8 @@ fn read_facts<F: Reads>(
     files: &mut F,
     buffer: &mut FileBuffer,
 ) -> Result<Facts, Stop>
-    ensures follows { (out err : OutSeen) → Follows (λ x. x) (reads_facts folder.now path.now)
-        (world (F.seen files.old) out err) (world (F.seen files.new) out err) result }
+    ensures follows { FollowsOnFiles (reads_facts folder.now path.now)
+        F.seen files.old files.new result }
     ensures facts { IfOk result (λ facts. AreFactsAt path.now facts) }
 {
     if is_compressed(path) {
@@ -63,14 +61,21 @@ fn read_facts<F: Reads>(
 /// Returns the facts of the module of these bytes at a path of the tree, or its refusal.
 fn check_facts(alloc: Global, path: &PathText, bytes: &[u8]) -> Result<Facts, Stop>
     requires { length bytes.now ≤ file_limit }
-    ensures answers { Answers (λ x. x) (facts_outcome path.now bytes.now (fact_fault path.now bytes.now)) result }
+    ensures answers { Returns (facts_outcome path.now bytes.now (fact_fault path.now bytes.now)) result }
     ensures facts { IfOk result (λ facts. AreFactsAt path.now facts) }
 {
     match module_facts::read_facts(alloc, path, bytes) {
         Ok(facts) => Ok(facts),
         Err(fault) => match fault {
             ModuleFault::Memory => Err(Stop::Memory),
-            _ => {
+            ModuleFault::Compressed
+            | ModuleFault::Object(_)
+            | ModuleFault::NameTooLong
+            | ModuleFault::BadName
+            | ModuleFault::ExportTwice { .. }
+            | ModuleFault::ExportUndefined { .. }
+            | ModuleFault::BadVersions
+            | ModuleFault::BadNamespace { .. } => {
                 let text = fault.text(alloc)?;
                 let path = PathText::from_slice(alloc, path.as_bytes())?;
                 Err(Stop::from(Refusal::BadModule { path, text }))

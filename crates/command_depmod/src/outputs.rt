@@ -1,9 +1,6 @@
 // The files that depmod makes, and where they are written.
-ghost use Rattle.km_outside.specs.FilesSeen.{FilesSeen};
-ghost use Rattle.km_outside.specs.OutSeen.{OutSeen};
-ghost use Rattle.km_course.specs.World.{world};
-ghost use Rattle.km_course.specs.Follows.{Answers, Follows};
-ghost use Rattle.depmod_core.specs.Files.{outputs_of};
+ghost use Rattle.km_course.specs.FollowsOn.{FollowsOnFiles, FollowsOnFilesAndOut, FollowsOnOut, Returns};
+ghost use Rattle.depmod_core.specs.Files.{files as files_of};
 ghost use Rattle.provider_rel.specs.Faces.{kernel_of};
 ghost use Rattle.command_depmod.specs.Related.{IsRelated, seen_tree};
 ghost use Rattle.command_depmod.specs.Files.{all_files, text_files};
@@ -53,8 +50,8 @@ pub(crate) fn make_files<F: Reads>(
     files: &mut F,
 ) -> Result<DepmodFiles, Stop>
     requires { IsRelated tree.now }
-    ensures { (out err : OutSeen) → Follows (λ x. x) (makes_files extra folder.now (seen_tree tree.now))
-        (world (F.seen files.old) out err) (world (F.seen files.new) out err) result }
+    ensures { FollowsOnFiles (makes_files extra folder.now (seen_tree tree.now))
+        F.seen files.old files.new result }
 {
     let file = join(alloc, folder, b"modules.builtin")?;
     let builtin = read_optional(alloc, files, &file)?;
@@ -68,7 +65,7 @@ pub(crate) fn make_files<F: Reads>(
 /// too large.
 fn check_outputs(alloc: Global, tree: &RelatedTree, builtin: &Blob) -> Result<OutputFiles, Stop>
     requires { IsRelated tree.now }
-    ensures { Answers (λ x. x) (outputs_outcome (outputs_of tree.now.facts (kernel_of tree.now.kernel) builtin.now)) result }
+    ensures { Returns (outputs_outcome (files_of tree.now.facts (kernel_of tree.now.kernel) builtin.now)) result }
 {
     match outputs(alloc, &tree.relation, &tree.facts, builtin.as_bytes()) {
         Ok(made) => Ok(made),
@@ -89,8 +86,8 @@ pub(crate) fn hand_out<F: Writes, O: Out>(
     files: &mut F,
     out: &mut O,
 ) -> Result<(), Stop>
-    ensures { (err : OutSeen) → Follows (λ x. x) (hands_out extra dry_run folder.now made.now)
-        (world (F.seen files.old) (O.seen out.old) err) (world (F.seen files.new) (O.seen out.new) err) result }
+    ensures { FollowsOnFilesAndOut (hands_out extra dry_run folder.now made.now)
+        F.seen files.old files.new O.seen out.old out.new result }
 {
     if dry_run {
         return say_texts(extra, made, out);
@@ -100,8 +97,7 @@ pub(crate) fn hand_out<F: Writes, O: Out>(
 
 /// Writes the text files to the output.
 fn say_texts<O: Out>(extra: bool, made: &DepmodFiles, out: &mut O) -> Result<(), Stop>
-    ensures { (files : FilesSeen) (err : OutSeen) → Follows (λ x. x) (says_each made.now (text_files extra))
-        (world files (O.seen out.old) err) (world files (O.seen out.new) err) result }
+    ensures { FollowsOnOut (says_each made.now (text_files extra)) O.seen out.old out.new result }
 {
     if extra {
         return say_each(made, &TEXT_FILES, out);
@@ -117,8 +113,8 @@ fn put_all<F: Writes>(
     made: &DepmodFiles,
     files: &mut F,
 ) -> Result<(), Stop>
-    ensures { (out err : OutSeen) → Follows (λ x. x) (puts_each folder.now made.now (all_files extra))
-        (world (F.seen files.old) out err) (world (F.seen files.new) out err) result }
+    ensures { FollowsOnFiles (puts_each folder.now made.now (all_files extra))
+        F.seen files.old files.new result }
 {
     if extra {
         return put_each(alloc, folder, made, &ALL_FILES, files);
@@ -128,8 +124,7 @@ fn put_all<F: Writes>(
 
 /// Writes some of the files to the output, one after the other.
 fn say_each<O: Out>(made: &DepmodFiles, which: &[DepmodFile], out: &mut O) -> Result<(), Stop>
-    ensures { (files : FilesSeen) (err : OutSeen) → Follows (λ x. x) (says_each made.now which.now)
-        (world files (O.seen out.old) err) (world files (O.seen out.new) err) result }
+    ensures { FollowsOnOut (says_each made.now which.now) O.seen out.old out.new result }
 {
     for file in which {
         say_file(made, *file, out)?;
@@ -139,8 +134,7 @@ fn say_each<O: Out>(made: &DepmodFiles, which: &[DepmodFile], out: &mut O) -> Re
 
 /// Writes a file to the output, if it has any bytes.
 fn say_file<O: Out>(made: &DepmodFiles, file: DepmodFile, out: &mut O) -> Result<(), Stop>
-    ensures { (files : FilesSeen) (err : OutSeen) → Follows (λ x. x) (says_file made.now file)
-        (world files (O.seen out.old) err) (world files (O.seen out.new) err) result }
+    ensures { FollowsOnOut (says_file made.now file) O.seen out.old out.new result }
 {
     say_any(out, made.content(file))
 }
@@ -153,8 +147,8 @@ fn put_each<F: Writes>(
     which: &[DepmodFile],
     files: &mut F,
 ) -> Result<(), Stop>
-    ensures { (out err : OutSeen) → Follows (λ x. x) (puts_each folder.now made.now which.now)
-        (world (F.seen files.old) out err) (world (F.seen files.new) out err) result }
+    ensures { FollowsOnFiles (puts_each folder.now made.now which.now)
+        F.seen files.old files.new result }
 {
     for file in which {
         put_file(alloc, folder, made, *file, files)?;
@@ -170,8 +164,8 @@ fn put_file<F: Writes>(
     file: DepmodFile,
     files: &mut F,
 ) -> Result<(), Stop>
-    ensures { (out err : OutSeen) → Follows (λ x. x) (puts_file folder.now made.now file)
-        (world (F.seen files.old) out err) (world (F.seen files.new) out err) result }
+    ensures { FollowsOnFiles (puts_file folder.now made.now file)
+        F.seen files.old files.new result }
 {
     let path = join(alloc, folder, file.name())?;
     put(alloc, files, path, made.content(file))

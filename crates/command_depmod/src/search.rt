@@ -1,9 +1,7 @@
 // The search list of the configuration.
 ghost use Rattle.std.specs.Prelude.{◌≤◌, length, All};
 ghost use Rattle.km_names.specs.Limit.{file_limit};
-ghost use Rattle.km_outside.specs.OutSeen.{OutSeen};
-ghost use Rattle.km_course.specs.World.{world};
-ghost use Rattle.km_course.specs.Follows.{Answers, Follows};
+ghost use Rattle.km_course.specs.FollowsOn.{FollowsOnFiles, Returns};
 ghost use Rattle.mod_tree.specs.Search.{search_of};
 ghost use Rattle.stages_files.specs.Configuration.{stated_outcome};
 ghost use Rattle.command_depmod.specs.Search.{reads_search};
@@ -21,8 +19,7 @@ pub(crate) fn read_search<F: Reads>(
     config: Option<PathText>,
     files: &mut F,
 ) -> Result<Search, Stop>
-    ensures { (out err : OutSeen) → Follows (λ x. x) (reads_search config)
-        (world (F.seen files.old) out err) (world (F.seen files.new) out err) result }
+    ensures { FollowsOnFiles (reads_search config) F.seen files.old files.new result }
 {
     let read = read_configuration(alloc, Tool::Depmod, config, files)?;
     parse(alloc, &read)
@@ -31,7 +28,7 @@ pub(crate) fn read_search<F: Reads>(
 /// Returns the search list of the files, or the refusal of the first line that isn't understood.
 fn parse(alloc: Global, files: &ConfFiles) -> Result<Search, Stop>
     requires { All (λ file. length file.bytes ≤ file_limit) files.now }
-    ensures { Answers (λ x. x) (stated_outcome (search_of files.now)) result }
+    ensures { Returns (stated_outcome (search_of files.now)) result }
 {
     match parse_search(alloc, files) {
         Ok(search) => Ok(search),

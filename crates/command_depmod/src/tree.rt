@@ -1,9 +1,6 @@
 // The tree in a folder of modules.
 ghost use Rattle.std.specs.Prelude.{◌≡◌, IfOk};
-ghost use Rattle.km_outside.specs.OutSeen.{OutSeen};
-ghost use Rattle.km_course.specs.World.{world};
-ghost use Rattle.km_course.specs.Follows.{Answers, Follows};
-ghost use Rattle.mod_tree.specs.Tree.{tree_of};
+ghost use Rattle.km_course.specs.FollowsOn.{FollowsOnFiles, Returns};
 ghost use Rattle.command_depmod.specs.Tree.{AreTreePaths, reads_tree, tree_outcome, tree_stop};
 
 use km_course::{Refusal, Stop, list_tree_needed, read_optional};
@@ -19,8 +16,8 @@ pub(crate) fn read_tree<F: Files>(
     search: &Search,
     files: &mut F,
 ) -> Result<Tree, Stop>
-    ensures follows { (out err : OutSeen) → Follows (λ x. x) (reads_tree folder.now search.now)
-        (world (F.seen files.old) out err) (world (F.seen files.new) out err) result }
+    ensures follows { FollowsOnFiles (reads_tree folder.now search.now)
+        F.seen files.old files.new result }
     ensures paths { IfOk result (λ tree. AreTreePaths tree) }
 {
     let listed = list_tree_needed(alloc, files, folder)?;
@@ -31,7 +28,7 @@ pub(crate) fn read_tree<F: Files>(
 
 /// Returns the tree of the listed paths, for what modules.order has.
 fn choose_tree(alloc: Global, listed: &Paths, order: &Blob, search: &Search) -> Result<Tree, Stop>
-    ensures answers { Answers (λ x. x) (tree_outcome (tree_of listed.now order.now search.now)) result }
+    ensures answers { Returns (tree_outcome listed.now order.now search.now) result }
     ensures paths { IfOk result (λ tree. AreTreePaths tree) }
 {
     match choose(alloc, listed, order.as_bytes(), search) {

@@ -1,9 +1,6 @@
 // The warnings of `-e`.
 ghost use Rattle.std.specs.Prelude.{◌≡◌, ◌++◌, codes, IfOk};
-ghost use Rattle.km_outside.specs.FilesSeen.{FilesSeen};
-ghost use Rattle.km_outside.specs.OutSeen.{OutSeen};
-ghost use Rattle.km_course.specs.World.{world};
-ghost use Rattle.km_course.specs.Follows.{Follows};
+ghost use Rattle.km_course.specs.FollowsOn.{FollowsOnErr};
 ghost use Rattle.km_course.specs.Lines.{line as line_of};
 ghost use Rattle.command_depmod.specs.Warnings.{warning_line, warns_any, warns_each, warns_unmet};
 
@@ -22,8 +19,8 @@ pub(crate) fn warn_unmet<E: Out>(
     obstacles: &[Unbound],
     err: &mut E,
 ) -> Result<(), Stop>
-    ensures { (files : FilesSeen) (out : OutSeen) → Follows (λ x. x) (warns_unmet errsyms versions obstacles.now)
-        (world files out (E.seen err.old)) (world files out (E.seen err.new)) result }
+    ensures { FollowsOnErr (warns_unmet errsyms versions obstacles.now)
+        E.seen err.old err.new result }
 {
     if errsyms {
         return warn_each(alloc, versions, obstacles, err);
@@ -38,8 +35,7 @@ fn warn_each<E: Out>(
     obstacles: &[Unbound],
     err: &mut E,
 ) -> Result<(), Stop>
-    ensures { (files : FilesSeen) (out : OutSeen) → Follows (λ x. x) (warns_each versions obstacles.now)
-        (world files out (E.seen err.old)) (world files out (E.seen err.new)) result }
+    ensures { FollowsOnErr (warns_each versions obstacles.now) E.seen err.old err.new result }
 {
     for obstacle in obstacles {
         warn_of(alloc, versions, obstacle, err)?;
@@ -54,8 +50,8 @@ fn warn_of<E: Out>(
     obstacle: &Unbound,
     err: &mut E,
 ) -> Result<(), Stop>
-    ensures { (files : FilesSeen) (out : OutSeen) → Follows (λ x. x) (warns_any (warning_line versions obstacle.now))
-        (world files out (E.seen err.old)) (world files out (E.seen err.new)) result }
+    ensures { FollowsOnErr (warns_any (warning_line versions obstacle.now))
+        E.seen err.old err.new result }
 {
     match warning(alloc, versions, obstacle)? {
         Some(text) => warn(err, text.as_bytes()),
@@ -82,7 +78,7 @@ fn warning(alloc: Global, versions: bool, obstacle: &Unbound) -> Result<Option<B
             let text = line(alloc, path, b" disagrees about version of symbol ", symbol)?;
             Ok(Some(text))
         }
-        _ => Ok(None),
+        Unbound::Gpl { .. } | Unbound::Namespace { .. } | Unbound::Double { .. } => Ok(None),
     }
 }
 

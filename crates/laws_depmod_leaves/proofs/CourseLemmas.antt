@@ -2,7 +2,6 @@
 use Rattle.std.proofs.Common.{◌≡◌, ◌∙◌, ℕ, Bool, true, false, List, [], ◌∷◌, ◌++◌, flat_map, None, refl, sym, ap, subst, append_assoc, append-nil, inl, inr}
 use Rattle.std.specs.Prelude.{Option, Some, ◌⊎◌, codes, is_some, if◌then◌else◌, ⊤}
 use Rattle.km_names.specs.Path.{path_below}
-use Rattle.km_names.specs.Statements.{unless_fault}
 use Rattle.km_outside.specs.Contents.{Contents}
 use Rattle.km_course.specs.Course.{Act, Outcome, Run, Stage, after, continued, ◌>>=◌, act_with, each_from, given, gives, puts, reads_any, says_any}
 use Rattle.km_course.specs.Course.Act.{put, warn}
@@ -16,21 +15,21 @@ use Rattle.symbol_binding.specs.Unmet.{unmet}
 use Rattle.symbol_binding.specs.declared.unbound.Unbound.{Unbound}
 use Rattle.provider_rel.specs.Faces.{modules_of}
 use Rattle.provider_rel.specs.Relation.{relation_fault}
-use Rattle.depmod_core.specs.declared.fault.OutputFault.{OutputFault}
 use Rattle.depmod_core.specs.declared.files.OutputFiles.{OutputFiles}
-use Rattle.depmod_core.specs.Files.{files, output_fault, outputs_of}
+use Rattle.depmod_core.specs.Files.{files, output_fault}
 use Rattle.stages_files.specs.KernelTable.{Table, seen_kernel}
 use Rattle.command_depmod.specs.Depmod.{indexes, indexes_tree, modules_of_request, reads_related, target_of_request, wanted_of, warns_of_tree}
 use Rattle.command_depmod.specs.declared.files.DepmodFile.{DepmodFile}
 use Rattle.command_depmod.specs.declared.files.DepmodFiles.{DepmodFiles}
-use Rattle.command_depmod.specs.Extra.{extra_made, extra_outcome, extra_refusal, reads_info, unless_refused}
+use Rattle.command_depmod.specs.Extra.{extra_made, extra_outcome, extra_refusal, reads_info}
+use Rattle.command_depmod.specs.Refused.{unless_refused}
 use Rattle.command_depmod.specs.Files.{all_files, content, file_name, text_files}
-use Rattle.command_depmod.specs.Outputs.{hands_out, makes_files, output_refusal, outputs_outcome, puts_each, says_each}
-use Rattle.command_depmod.specs.Relation.{Tree}
+use Rattle.command_depmod.specs.Outputs.{hands_out, makes_files, outputs_outcome, puts_each, says_each, usual_refusal}
+use Rattle.command_depmod.specs.Relation.{KernelTree}
 use Rattle.command_depmod.specs.Warnings.{warning_line, warns_any, warns_each, warns_unmet}
 use Rattle.command_depmod.proofs.IndexSteps.{indexed, made, warned as warned_then}
 use Rattle.command_depmod.proofs.ExtraSteps.{info_given}
-use Rattle.command_depmod.proofs.OutputSteps.{all_made, builtin_read, info_read, say_others, usual_made}
+use Rattle.command_depmod.proofs.OutputSteps.{all_made, builtin_read, info_read, no-fault, say_others, usual_made}
 use Rattle.command_depmod.proofs.WarningSteps.{warns_others}
 use Rattle.laws_indexed_folder.proofs.StandingLemmas.{files-stand}
 use Rattle.laws_planned_loads.specs.Acts.{said}
@@ -119,7 +118,7 @@ abbrev FilesCome : Contents → DepmodWords → List Facts → Table → Outcome
 FilesCome held asked tree table (value fs) = AreMade held asked tree table fs
 FilesCome held asked tree table (end e) = IsEnded held asked e
 
-abbrev tree_over : List Facts → Table → Tree
+abbrev tree_over : List Facts → Table → KernelTree
 tree_over tree table = record { facts = tree; kernel = seen_kernel table }
 
 only-info : (extra : Bool) (folder : List ℕ) → OnlyReads (reads_info extra folder)
@@ -144,14 +143,14 @@ module _ (held : Contents) (asked : DepmodWords) (tree : List Facts) (table : Ta
   unfolding extra_outcome
   after_usual small = by_extra small (extra_refusal (extra_made tree info)) refl
 
-  by_size : (o : Option OutputFault) → output_fault nine ≡ o → FilesCome held asked tree table ((given (outputs_outcome (unless_fault o nine)) >>= usual_made (tree_over tree table) info).run held).outcome
-  unfolding outputs_outcome given ◌>>=◌ continued
-  by_size None small = after_usual small
-  by_size (Some fault) large = too_large seen read related there informed fault large
+  by_size : (o : Option Refusal) → usual_refusal nine ≡ o → FilesCome held asked tree table ((given (unless_refused o nine) >>= usual_made (tree_over tree table) info).run held).outcome
+  unfolding given ◌>>=◌ continued
+  by_size None small = after_usual (no-fault nine small)
+  by_size (Some refusal) large = too_large seen read related there informed refusal large
 
   files-sized : FilesCome held asked tree table ((info_read (tree_over tree table) builtin info).run held).outcome
-  unfolding outputs_of
-  files-sized = by_size (output_fault nine) refl
+  unfolding outputs_outcome
+  files-sized = by_size (usual_refusal nine) refl
 
 files-come : (held : Contents) (asked : DepmodWords) (tree : List Facts) (table : Table) → IsRead held asked tree table → relation_fault (modules_of tree) (seen_kernel table) ≡ None → FilesCome held asked tree table ((makes_files asked.extra (modules_of_request asked) (tree_over tree table)).run held).outcome
 files-come held asked tree table read related =
@@ -165,12 +164,12 @@ files-come held asked tree table read related =
     (λ e ended. no_info tree table read related builtin there e ended)
     (λ info informed. files-sized held asked tree table read related builtin there info informed))
 
-only-made : (extra : Bool) (folder : List ℕ) (tree : Tree) → OnlyReads (makes_files extra folder tree)
+only-made : (extra : Bool) (folder : List ℕ) (tree : KernelTree) → OnlyReads (makes_files extra folder tree)
 only-made extra folder tree =
     let path = path_below folder (codes "modules.builtin") in
     reads-then (reads_any path) (builtin_read extra folder tree) (reads-file (value []) path) (λ builtin.
     reads-then (reads_info extra folder) (info_read tree builtin) (only-info extra folder) (λ info.
-    reads-then (given (outputs_outcome (outputs_of tree.facts tree.kernel builtin))) (usual_made tree info) (reads-given _) (λ usual.
+    reads-then (given (outputs_outcome (files tree.facts tree.kernel builtin))) (usual_made tree info) (reads-given _) (λ usual.
     reads-then (given (extra_outcome tree.facts info)) (all_made usual) (reads-given _) (λ added. reads-given _))))
 
 -- ---- the course

@@ -13,7 +13,8 @@ use Rattle.km_course.specs.Course.{Outcome, Stage, after, continued, ◌>>=◌, 
 use Rattle.km_course.specs.Course.Outcome.{value, end}
 use Rattle.km_course.specs.declared.end.End.{End}
 use Rattle.km_course.specs.declared.end.End.TheVariants.{NoFile, Refused}
-use Rattle.km_course.specs.declared.refusal.Refusal.TheVariants.{Compressed}
+use Rattle.km_course.specs.declared.refusal.Refusal.{Refusal}
+use Rattle.km_course.specs.declared.refusal.Refusal.TheVariants.{Compressed, Cycle, TooManyDependencies, TooManyDoubles}
 use Rattle.kmod_words.specs.declared.depmod.DepmodWords.{DepmodWords}
 use Rattle.elf_object.specs.Object.{file_object, object_fault}
 use Rattle.elf_sections.specs.Shape.{fault_if}
@@ -26,16 +27,13 @@ use Rattle.module_facts.specs.Facts.{facts_of, object_facts}
 use Rattle.module_facts.specs.Faults.{fact_fault, facts_tests, module_tests}
 use Rattle.module_facts.proofs.SoundLemmas.{IsSound-passed}
 use Rattle.mod_tree.specs.Tree.{is_module_path, tree_of}
-use Rattle.mod_tree.specs.declared.tree.TreeFault.{TreeFault}
 use Rattle.symbol_binding.specs.Symbols.{Kernel as SeenKernel, Module}
 use Rattle.symbol_binding.specs.Unmet.{doubles}
 use Rattle.provider_rel.specs.declared.fault.KernelFault.{KernelFault}
-use Rattle.provider_rel.specs.declared.fault.RelationFault.{RelationFault}
-use Rattle.provider_rel.specs.declared.fault.RelationFault.TheVariants.{Cycle}
 use Rattle.provider_rel.specs.declared.kernel.KernelExport.{KernelExport}
 use Rattle.provider_rel.specs.Faces.{module_of, modules_of}
 use Rattle.provider_rel.specs.KernelTable.{IsTable, exports_of_map, exports_of_symvers}
-use Rattle.provider_rel.specs.Relation.{cycle_fault, dependencies, deps_fault, doubles_fault, name_at, relation_fault, uses_at}
+use Rattle.provider_rel.specs.Relation.{dependencies, deps_fault, doubles_fault, name_at, relation_fault, uses_at}
 use Rattle.provider_rel.specs.Tree.{IsTree}
 use Rattle.stages_files.specs.KernelTable.{Table, reads_kernel, seen_kernel, table_of, table_outcome, unknown_table}
 use Rattle.stages_files.specs.declared.configuration.Tool.TheVariants.{Depmod}
@@ -46,13 +44,15 @@ use Rattle.stages_loads.proofs.KernelLemmas.{kernel_with-exports, map-apart, sym
 use Rattle.command_depmod.specs.Tree.{AreTreePaths, reads_tree, tree_outcome}
 use Rattle.command_depmod.specs.Search.{reads_search}
 use Rattle.command_depmod.specs.Modules.{AreFactsAt, adds_facts, facts_outcome, reads_facts, reads_modules_facts}
-use Rattle.command_depmod.specs.Relation.{Tree, relation_outcome, relation_refusal, tree_unless}
+use Rattle.command_depmod.specs.Refused.{unless_refused}
+use Rattle.command_depmod.specs.Relation.{KernelTree, cycle_refusal, relation_outcome, relation_refusal}
 use Rattle.command_depmod.specs.Depmod.{modules_of_request, reads_related}
 use Rattle.command_depmod.proofs.IndexSteps.{related, with_kernel, with_paths, with_search}
 use Rattle.command_depmod.proofs.ModuleSteps.{AreFactsOf, added, checked, facts-at, facts-tree, the_others}
+use Rattle.command_depmod.proofs.RelationSteps.{no-fault}
 use Rattle.command_depmod.proofs.SearchSteps.{understood}
 use Rattle.command_depmod.proofs.TreeLaw.{tree-kinds, tree-paths}
-use Rattle.command_depmod.proofs.TreeSteps.{listed, ordered}
+use Rattle.command_depmod.proofs.TreeSteps.{listed, ordered, was-chosen}
 use Rattle.laws_closed_plans.specs.Members.{Member}
 use Rattle.laws_closed_plans.proofs.ListLemmas.{first-none}
 use Rattle.laws_indexed_folder.specs.Indexed.{HasFile, IsModuleFile}
@@ -145,16 +145,11 @@ table-same table apart =
 
 -- ---- the paths
 
-was-chosen : (o : Result (List (List ℕ)) TreeFault) (paths : List (List ℕ)) → tree_outcome o ≡ value paths → o ≡ Ok paths
-unfolding tree_outcome
-was-chosen (Ok others) paths came = cc
-was-chosen (Err fault) paths came = cc
-
 pub paths-came : (files : Contents) (folder : List ℕ) (search paths : List (List ℕ)) → ((reads_tree folder search).run files).outcome ≡ value paths → AreTreePaths paths × All (λ p. is_module_path p ≡ true) paths
 paths-came files folder words paths came =
     let a = goes-on _ (listed folder words) files paths came in
     let b = goes-on _ (ordered words a.mid) _ paths a.rest in
-    let made : tree_of a.mid b.mid words ≡ Ok paths = was-chosen (tree_of a.mid b.mid words) paths (given-came (tree_outcome (tree_of a.mid b.mid words)) paths _ b.rest) in
+    let made : tree_of a.mid b.mid words ≡ Ok paths = was-chosen a.mid b.mid words paths (given-came (tree_outcome a.mid b.mid words) paths _ b.rest) in
     (tree-paths a.mid b.mid words paths made, tree-kinds a.mid b.mid words paths made)
 
 -- ---- a module
@@ -310,44 +305,44 @@ valid-tree held folder paths tree known v =
 -- ---- the relation
 
 -- a tree was read, and has a relation
-pub record IsRelated (held : Contents) (asked : DepmodWords) (made : Tree) : Type 0 where
+pub record IsRelated (held : Contents) (asked : DepmodWords) (made : KernelTree) : Type 0 where
   pub tree : List Facts
   pub table : Table
   pub is : record { facts = tree; kernel = seen_kernel table } ≡ made
   pub read : IsRead held asked tree table
   pub related : relation_fault (modules_of tree) (seen_kernel table) ≡ None
 
-abbrev pub RelatedCome : Contents → DepmodWords → Outcome Tree → Type 0
+abbrev pub RelatedCome : Contents → DepmodWords → Outcome KernelTree → Type 0
 RelatedCome held asked (value made) = IsRelated held asked made
 RelatedCome held asked (end e) = IsEnded held asked e
 
--- a cycle is the first fault
-cycle-first : (tree : List Module) (kernel : SeenKernel) (i : ℕ) (is : List ℕ) → cycle (uses_at tree kernel) (below (length tree)) ≡ i ∷ is → relation_fault tree kernel ≡ Some (Cycle (map (name_at tree) (i ∷ is)))
-unfolding relation_fault
+-- a cycle is what refuses it first
+cycle-first : (tree : List Module) (kernel : SeenKernel) (i : ℕ) (is : List ℕ) → cycle (uses_at tree kernel) (below (length tree)) ≡ i ∷ is → relation_refusal tree kernel ≡ Some (Cycle (map (name_at tree) (i ∷ is)))
 cycle-first tree kernel i is found =
-    let others = deps_fault (sum_by length (dependencies tree kernel)) ∷ doubles_fault (length (doubles kernel tree)) ∷ [] in
-    ap (λ places. first (cycle_fault tree places ∷ others)) found
+    let deps : Option Refusal = option_map (λ _. TooManyDependencies) (deps_fault (sum_by length (dependencies tree kernel))) in
+    let pairs : Option Refusal = option_map (λ _. TooManyDoubles) (doubles_fault (length (doubles kernel tree))) in
+    ap (λ places. first (cycle_refusal tree places ∷ deps ∷ pairs ∷ [])) found
 
-same-fault : (a b : RelationFault) → Some a ≡ Some b → a ≡ b
-same-fault a b is = cc
+same-refusal : (a b : Refusal) → Some a ≡ Some b → a ≡ b
+same-refusal a b is = cc
 
-fault-ends : (held : Contents) (asked : DepmodWords) (tree : List Facts) (table : Table) → IsRead held asked tree table → (fault : RelationFault) → relation_fault (modules_of tree) (seen_kernel table) ≡ Some fault → (places : List ℕ) → cycle_in tree table ≡ places → IsEnded held asked (Refused (relation_refusal fault))
-fault-ends held asked tree table read fault failed [] none = too_many tree table read none fault failed
-fault-ends held asked tree table read fault failed (i ∷ is) found =
+refusal-ends : (held : Contents) (asked : DepmodWords) (tree : List Facts) (table : Table) → IsRead held asked tree table → (refusal : Refusal) → relation_refusal (modules_of tree) (seen_kernel table) ≡ Some refusal → (places : List ℕ) → cycle_in tree table ≡ places → IsEnded held asked (Refused refusal)
+refusal-ends held asked tree table read refusal failed [] none = too_many tree table read none refusal failed
+refusal-ends held asked tree table read refusal failed (i ∷ is) found =
     let ms = modules_of tree in
     let kernel = seen_kernel table in
     let here : cycle (uses_at ms kernel) (below (length ms)) ≡ i ∷ is =
     ap (λ n. cycle (uses_at ms kernel) (below n)) (length-map tree module_of) ∙ found in
-    let named : Cycle (map (name_at ms) (i ∷ is)) ≡ fault = same-fault _ fault (sym (cycle-first ms kernel i is here) ∙ failed) in
-    subst (λ f. IsEnded held asked (Refused (relation_refusal f))) named (has_cycle tree table read i is found)
+    let named : Cycle (map (name_at ms) (i ∷ is)) ≡ refusal = same-refusal _ refusal (sym (cycle-first ms kernel i is here) ∙ failed) in
+    subst (λ r. IsEnded held asked (Refused r)) named (has_cycle tree table read i is found)
 
-relation-comes : (held : Contents) (asked : DepmodWords) (tree : List Facts) (table : Table) → IsRead held asked tree table → (o : Option RelationFault) → relation_fault (modules_of tree) (seen_kernel table) ≡ o → RelatedCome held asked (tree_unless (record { facts = tree; kernel = seen_kernel table }) o)
-relation-comes held asked tree table read None passed = record { tree = tree; table = table; is = refl; read = read; related = passed }
-relation-comes held asked tree table read (Some fault) failed = fault-ends held asked tree table read fault failed (cycle_in tree table) refl
+relation-comes : (held : Contents) (asked : DepmodWords) (tree : List Facts) (table : Table) → IsRead held asked tree table → (o : Option Refusal) → relation_refusal (modules_of tree) (seen_kernel table) ≡ o → RelatedCome held asked (unless_refused o (record { facts = tree; kernel = seen_kernel table }))
+relation-comes held asked tree table read None passed = record { tree = tree; table = table; is = refl; read = read; related = no-fault (modules_of tree) (seen_kernel table) passed }
+relation-comes held asked tree table read (Some refusal) failed = refusal-ends held asked tree table read refusal failed (cycle_in tree table) refl
 
 outcome-comes : (held : Contents) (asked : DepmodWords) (tree : List Facts) (table : Table) → IsRead held asked tree table → RelatedCome held asked (relation_outcome (record { facts = tree; kernel = seen_kernel table }))
 unfolding relation_outcome
-outcome-comes held asked tree table read = relation-comes held asked tree table read (relation_fault (modules_of tree) (seen_kernel table)) refl
+outcome-comes held asked tree table read = relation-comes held asked tree table read (relation_refusal (modules_of tree) (seen_kernel table)) refl
 
 -- after the tree and the kernel's table were read
 modules-related : (held : Contents) (asked : DepmodWords) (search paths : List (List ℕ)) (table : Table) → ((reads_search asked.config).run held).outcome ≡ value search → ((reads_tree (modules_of_request asked) search).run held).outcome ≡ value paths → ((reads_kernel asked.filesyms asked.symvers).run held).outcome ≡ value table → RelatedCome held asked ((with_kernel (modules_of_request asked) paths table).run held).outcome

@@ -20,10 +20,8 @@ use Rattle.module_facts.specs.declared.facts.Facts.{Facts}
 use Rattle.module_facts.specs.declared.fault.ModuleFault.{ModuleFault}
 use Rattle.module_facts.specs.Faults.{fact_fault}
 use Rattle.module_facts.specs.FaultText.{module_fault_text}
-use Rattle.provider_rel.specs.declared.fault.RelationFault.{RelationFault}
 use Rattle.provider_rel.specs.Faces.{modules_of}
 use Rattle.provider_rel.specs.Relation.{name_at, relation_fault, uses_at}
-use Rattle.depmod_core.specs.declared.fault.OutputFault.{OutputFault}
 use Rattle.depmod_core.specs.declared.files.OutputFiles.{OutputFiles}
 use Rattle.depmod_core.specs.Files.{StandFor, files, output_fault}
 use Rattle.stages_files.specs.KernelTable.{Table, reads_kernel, seen_kernel}
@@ -31,7 +29,7 @@ use Rattle.command_depmod.specs.declared.files.DepmodFiles.{DepmodFiles}
 use Rattle.command_depmod.specs.declared.files.ExtraFiles.{ExtraFiles}
 use Rattle.command_depmod.specs.Depmod.{modules_of_request}
 use Rattle.command_depmod.specs.Extra.{extra_files, extra_made, extra_refusal, reads_info}
-use Rattle.command_depmod.specs.Outputs.{output_refusal}
+use Rattle.command_depmod.specs.Outputs.{usual_refusal}
 use Rattle.command_depmod.specs.Relation.{relation_refusal}
 use Rattle.command_depmod.specs.Search.{reads_search}
 use Rattle.command_depmod.specs.Tree.{reads_tree}
@@ -134,13 +132,13 @@ pub data IsEnded (held : Contents) (asked : DepmodWords) : End → Type 0 where
   -- a cycle, if all modules are valid
   has_cycle : (tree : List Facts) (table : Table) → IsRead held asked tree table → (i : ℕ) (is : List ℕ) → cycle_in tree table ≡ i ∷ is → IsEnded held asked (Refused (Cycle (map (name_at (modules_of tree)) (i ∷ is))))
   -- if there is none, a limit of dependencies or of double lines
-  too_many : (tree : List Facts) (table : Table) → IsRead held asked tree table → cycle_in tree table ≡ [] → (fault : RelationFault) → relation_fault (modules_of tree) (seen_kernel table) ≡ Some fault → IsEnded held asked (Refused (relation_refusal fault))
+  too_many : (tree : List Facts) (table : Table) → IsRead held asked tree table → cycle_in tree table ≡ [] → (refusal : Refusal) → relation_refusal (modules_of tree) (seen_kernel table) ≡ Some refusal → IsEnded held asked (Refused refusal)
   -- modules.builtin
   no_builtin : (tree : List Facts) (table : Table) → IsRead held asked tree table → relation_fault (modules_of tree) (seen_kernel table) ≡ None → (e : End) → built_in held asked ≡ end e → IsEnded held asked e
   -- modules.builtin.modinfo
   no_info : (tree : List Facts) (table : Table) → IsRead held asked tree table → relation_fault (modules_of tree) (seen_kernel table) ≡ None → (builtin : List ℕ) → built_in held asked ≡ value builtin → (e : End) → built_in_info held asked ≡ end e → IsEnded held asked e
   -- the first of the nine files that is too large
-  too_large : (i : IndexedTree) → IsRead held asked i.tree i.table → relation_fault (modules_of i.tree) (seen_kernel i.table) ≡ None → built_in held asked ≡ value i.builtin → built_in_info held asked ≡ value i.info → (fault : OutputFault) → output_fault (files_of i) ≡ Some fault → IsEnded held asked (Refused (output_refusal fault))
+  too_large : (i : IndexedTree) → IsRead held asked i.tree i.table → relation_fault (modules_of i.tree) (seen_kernel i.table) ≡ None → built_in held asked ≡ value i.builtin → built_in_info held asked ≡ value i.info → (refusal : Refusal) → usual_refusal (files_of i) ≡ Some refusal → IsEnded held asked (Refused refusal)
   -- if none of them is, the first of the two others
   extra_too_large : (i : IndexedTree) → IsRead held asked i.tree i.table → relation_fault (modules_of i.tree) (seen_kernel i.table) ≡ None → built_in held asked ≡ value i.builtin → built_in_info held asked ≡ value i.info → output_fault (files_of i) ≡ None → (refusal : Refusal) → extra_refusal (extra_made i.tree i.info) ≡ Some refusal → IsEnded held asked (Refused refusal)
 

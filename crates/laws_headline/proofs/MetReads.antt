@@ -17,6 +17,7 @@ use Rattle.stages_files.specs.KernelTable.{reads_kernel, table_outcome}
 use Rattle.stages_files.specs.declared.configuration.Tool.TheVariants.{Depmod}
 use Rattle.command_depmod.specs.Search.{reads_search}
 use Rattle.command_depmod.specs.Tree.{reads_tree, tree_outcome}
+use Rattle.command_depmod.proofs.TreeSteps.{chosen_ok}
 use Rattle.laws_planned_loads.proofs.RunLemmas.{reads-file, reads-names, run-read}
 use Rattle.laws_planned_loads.proofs.KnownLemmas.{only-configuration}
 use Rattle.laws_headline.specs.Objects.{folder_found, found, giver_file, taker_file}
@@ -71,7 +72,7 @@ tree-is = rw (counted, ordered) refl
 
 -- the stages after the folder was listed, and after modules.order was read
 abbrev after_order : List (List ℕ) → List ℕ → Stage (List (List ℕ))
-after_order listed order = given (tree_outcome (tree_of listed order words_of_search))
+after_order listed order = given (tree_outcome listed order words_of_search)
 
 abbrev after_listing : List (List ℕ) → Stage (List (List ℕ))
 after_listing listed = reads_any (path_below folder_found (codes "modules.order")) >>= λ order. after_order listed order
@@ -85,13 +86,12 @@ no-order =
     ∙ ap (read_outcome (value []) order_path) (found-get order_path)
 
 pub chosen : ((reads_tree folder_found words_of_search).run found).outcome ≡ value two_paths
-unfolding tree_outcome
 chosen =
     on-value found (lists_tree folder_found) after_listing two_paths (reads-names (end (NoFile folder_found)) is_path folder_found)
     (lists-so found found_paths (end (NoFile folder_found)) is_path folder_found found-paths)
     ∙ on-value found (reads_any order_path) (after_order two_paths) [] (reads-file (value []) order_path) no-order
-    ∙ given-is (tree_outcome (tree_of two_paths [] words_of_search)) found
-    ∙ ap tree_outcome tree-is
+    ∙ given-is (tree_outcome two_paths [] words_of_search) found
+    ∙ chosen_ok two_paths [] words_of_search two_paths tree-is
 
 -- ---- the kernel's table, and modules.builtin
 

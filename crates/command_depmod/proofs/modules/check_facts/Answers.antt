@@ -1,4 +1,4 @@
-use Rattle.std.proofs.Common.{sym, subst, ◌∙◌}
+use Rattle.std.proofs.Common.{sym, subst, ◌∙◌, arith}
 use Rattle.std.specs.Prelude.{Err}
 use Rattle.elf_object.specs.Object.{file_object}
 use Rattle.module_facts.specs.declared.facts.Facts.{Facts}
@@ -18,4 +18,4 @@ pub returns-clause-answers : goal.returns-clause-answers
 returns-clause-answers c =
     let at = c.args.path.now in
     subst (λ stop. Answers (λ (x : Facts). x) (facts_outcome at c.args.bytes.now (fact_fault at c.args.bytes.now)) (Err stop)) (sym c.from.ensures)
-    (checked_not at c.args.bytes.now c.in_ok-text-in_default.text c.in_ok-path-in_default.path _ c.in-Err.fault c.in-Err.ensures.fault c.in_default.not-Memory c.in_ok-text-in_default.ensures (c.in_ok-path-in_default.ensures ∙ c.as_bytes.ensures))
+    (checked_not at c.args.bytes.now c.in_ok-text-in-Compressed.text c.in_ok-path-in-Compressed.path _ c.in-Err.fault c.in-Err.ensures.fault (λ ran_out. let is = c.in-Compressed.is in grind arith) c.in_ok-text-in-Compressed.ensures (c.in_ok-path-in-Compressed.ensures ∙ c.as_bytes.ensures))

@@ -1,6 +1,5 @@
 use Rattle.std.proofs.Common.{ℕ, List}
 use Rattle.std.proofs.lemmas.Result.{err_from_is_err_and}
-use Rattle.mod_tree.specs.Tree.{tree_of}
 use Rattle.km_course.specs.Course.{◌>>=◌, reads_any}
 use Rattle.km_course.proofs.Steps.{next, exits, wants, answered}
 use Rattle.command_depmod.specs.Tree.{tree_outcome}
@@ -36,4 +35,4 @@ returns-clause-follows g c = λ out err.
     next later (c.in_ok-listed.ensures out err)
     (along (λ file. reads_any file >>= last) _ _ c.in_ok-order_file.ensures
     (next last (c.in_ok-order.ensures.follows out err)
-    (answered (λ (x : List (List ℕ)). x) (tree_outcome (tree_of c.in_ok-listed.listed c.in_ok-order.order c.args.search.now)) _ c.choose_tree.result c.choose_tree.ensures.answers)))
+    (answered (λ (x : List (List ℕ)). x) (tree_outcome c.in_ok-listed.listed c.in_ok-order.order c.args.search.now) _ c.choose_tree.result c.choose_tree.ensures.answers)))
