@@ -1,8 +1,6 @@
 // What a command that plans has to know first.
 ghost use Rattle.std.specs.Prelude.{◌≡◌, IfOk};
-ghost use Rattle.km_outside.specs.OutSeen.{OutSeen};
-ghost use Rattle.km_course.specs.World.{world};
-ghost use Rattle.km_course.specs.Follows.{Follows};
+ghost use Rattle.km_course.specs.FollowsOn.{FollowsOnFiles, FollowsOnFilesAs};
 ghost use Rattle.plan_builder.specs.Steps.{spaced};
 ghost use Rattle.stages_files.specs.KernelModules.{modules_folder};
 ghost use Rattle.stages_known.specs.Known.{reads_known};
@@ -37,9 +35,9 @@ pub(crate) fn read_basis<F: Reads>(
 ) -> Result<Basis, Stop>
     ensures folder { IfOk result (λ basis. basis.folder ≡ modules_folder asked.dirname asked.version) }
     ensures request { IfOk result (λ basis. basis.request ≡ request_of asked) }
-    ensures known { (out err : OutSeen) → Follows (λ basis. basis.known)
+    ensures known { FollowsOnFilesAs (λ basis. basis.known)
         (reads_known asked.config (modules_folder asked.dirname asked.version) asked.loaded)
-        (world (F.seen files.old) out err) (world (F.seen files.new) out err) result }
+        F.seen files.old files.new result }
 {
     let folder = modules_folder(alloc, &asked.dirname, &asked.version)?;
     let request = request_of(alloc, &asked)?;
@@ -58,8 +56,8 @@ fn known_below<F: Reads>(
     folder: &PathText,
     files: &mut F,
 ) -> Result<Known, Stop>
-    ensures { (out err : OutSeen) → Follows (λ x. x) (reads_known asked.config folder.now asked.loaded)
-        (world (F.seen files.old) out err) (world (F.seen files.new) out err) result }
+    ensures { FollowsOnFiles (reads_known asked.config folder.now asked.loaded)
+        F.seen files.old files.new result }
 {
     let ModprobeWords { config, loaded, .. } = asked;
     read_known(alloc, config, folder, loaded, files)

@@ -1,7 +1,5 @@
 ghost use Rattle.std.specs.Prelude.{⊤};
-ghost use Rattle.km_outside.specs.OutSeen.{OutSeen};
-ghost use Rattle.km_course.specs.World.{world};
-ghost use Rattle.km_course.specs.Follows.{Follows};
+ghost use Rattle.km_course.specs.FollowsOn.{FollowsOnFilesAndOut};
 ghost use Rattle.command_modprobe.specs.Modprobe.{modprobe_course, modprobe_in_mode};
 
 use crate::load::load_plan;
@@ -21,8 +19,8 @@ pub fn modprobe<F: Writes, O: Out>(
     files: &mut F,
     out: &mut O,
 ) -> Result<(), Stop>
-    ensures { (err : OutSeen) → Follows (λ x. x) (modprobe_course words.now)
-        (world (F.seen files.old) (O.seen out.old) err) (world (F.seen files.new) (O.seen out.new) err) result }
+    ensures { FollowsOnFilesAndOut (modprobe_course words.now)
+        F.seen files.old files.new O.seen out.old out.new result }
 {
     match read_modprobe(alloc, words)? {
         Some(asked) => in_mode(alloc, asked.mode, asked, files, out),
@@ -38,8 +36,8 @@ fn in_mode<F: Writes, O: Out>(
     files: &mut F,
     out: &mut O,
 ) -> Result<(), Stop>
-    ensures { (err : OutSeen) → Follows (λ x. x) (modprobe_in_mode mode asked)
-        (world (F.seen files.old) (O.seen out.old) err) (world (F.seen files.new) (O.seen out.new) err) result }
+    ensures { FollowsOnFilesAndOut (modprobe_in_mode mode asked)
+        F.seen files.old files.new O.seen out.old out.new result }
 {
     match mode {
         Mode::ResolveAlias => resolve_alias(alloc, asked, files, out),

@@ -1,8 +1,6 @@
 // Plans that are loaded.
 ghost use Rattle.std.specs.Prelude.{◌≡◌, ◌⊎◌, ◌++◌, OnOk, IfErr, None, Some, option_map};
-ghost use Rattle.km_outside.specs.OutSeen.{OutSeen};
-ghost use Rattle.km_course.specs.World.{world};
-ghost use Rattle.km_course.specs.Follows.{Answers, Follows};
+ghost use Rattle.km_course.specs.FollowsOn.{FollowsOnFilesAndOut, Returns};
 ghost use Rattle.command_modprobe.specs.Loaded.{command_owner, inserted, inserts_outcome, install_stop, loads_into, loads_plan, loads_request, loads_steps};
 ghost use Rattle.command_modprobe.specs.Parts.{loads_known};
 
@@ -25,8 +23,8 @@ pub(crate) fn load_plan<F: Writes, O: Out>(
     files: &mut F,
     out: &mut O,
 ) -> Result<(), Stop>
-    ensures { (err : OutSeen) → Follows (λ x. x) (loads_plan asked)
-        (world (F.seen files.old) (O.seen out.old) err) (world (F.seen files.new) (O.seen out.new) err) result }
+    ensures { FollowsOnFilesAndOut (loads_plan asked)
+        F.seen files.old files.new O.seen out.old out.new result }
 {
     match region_at(asked.region_base, asked.region_size) {
         Some(region) => load_into(alloc, asked, region, files, out),
@@ -42,8 +40,8 @@ fn load_into<F: Writes, O: Out>(
     files: &mut F,
     out: &mut O,
 ) -> Result<(), Stop>
-    ensures { (err : OutSeen) → Follows (λ x. x) (loads_into asked asked.system_map (Some region))
-        (world (F.seen files.old) (O.seen out.old) err) (world (F.seen files.new) (O.seen out.new) err) result }
+    ensures { FollowsOnFilesAndOut (loads_into asked asked.system_map (Some region))
+        F.seen files.old files.new O.seen out.old out.new result }
 {
     match asked.system_map.take() {
         Some(system_map) => load_from(alloc, asked, system_map, region, files, out),
@@ -60,8 +58,8 @@ fn load_from<F: Writes, O: Out>(
     files: &mut F,
     out: &mut O,
 ) -> Result<(), Stop>
-    ensures { (err : OutSeen) → Follows (λ x. x) (loads_into asked (Some system_map) (Some region))
-        (world (F.seen files.old) (O.seen out.old) err) (world (F.seen files.new) (O.seen out.new) err) result }
+    ensures { FollowsOnFilesAndOut (loads_into asked (Some system_map) (Some region))
+        F.seen files.old files.new O.seen out.old out.new result }
 {
     let symvers = asked.symvers.take();
     let images = Images {
@@ -85,9 +83,9 @@ fn load_known<F: Writes, O: Out>(
     files: &mut F,
     out: &mut O,
 ) -> Result<(), Stop>
-    ensures { (err : OutSeen) → Follows (λ x. x)
+    ensures { FollowsOnFilesAndOut
         (loads_known basis.now.folder images.now basis.now.request system_map symvers region basis.now.known)
-        (world (F.seen files.old) (O.seen out.old) err) (world (F.seen files.new) (O.seen out.new) err) result }
+        F.seen files.old files.new O.seen out.old out.new result }
 {
     let machine = read_machine(alloc, system_map, symvers, region, files)?;
     load_request(alloc, images, basis, machine, files, out)
@@ -102,9 +100,9 @@ fn load_request<F: Writes, O: Out>(
     files: &mut F,
     out: &mut O,
 ) -> Result<(), Stop>
-    ensures { (err : OutSeen) → Follows (λ x. x)
+    ensures { FollowsOnFilesAndOut
         (loads_request basis.now.folder images.now basis.now.request basis.now.known machine)
-        (world (F.seen files.old) (O.seen out.old) err) (world (F.seen files.new) (O.seen out.new) err) result }
+        F.seen files.old files.new O.seen out.old out.new result }
 {
     let steps = plan_in(alloc, Mode::Load, &basis.known, &basis.request)?;
     let inserts = inserts_of(alloc, &steps)?;
@@ -122,9 +120,9 @@ fn load_steps<F: Writes, O: Out>(
     files: &mut F,
     out: &mut O,
 ) -> Result<(), Stop>
-    ensures { (err : OutSeen) → Follows (λ x. x)
+    ensures { FollowsOnFilesAndOut
         (loads_steps basis.now.folder images.now basis.now.known machine steps.now inserts.now)
-        (world (F.seen files.old) (O.seen out.old) err) (world (F.seen files.new) (O.seen out.new) err) result }
+        F.seen files.old files.new O.seen out.old out.new result }
 {
     let listed = load_listed(
         alloc,
@@ -149,7 +147,7 @@ fn load_steps<F: Writes, O: Out>(
 
 /// Returns the modules that a plan loads, or the refusal of its first step that runs a command.
 fn inserts_of(alloc: Global, steps: &PlanSteps) -> Result<Insertions, Stop>
-    ensures { Answers (λ x. x) (inserts_outcome steps.now) result }
+    ensures { Returns (inserts_outcome steps.now) result }
 {
     let mut inserts = Insertions::new(alloc);
     for step in steps.as_slice() {

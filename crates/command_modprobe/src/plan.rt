@@ -1,10 +1,7 @@
 // The plan of what is asked for, and its lines.
 ghost use Rattle.std.specs.Prelude.{◌≡◌, ◌∷◌, ◌++◌, ◌⊎◌, [], IfOk, OnOk};
-ghost use Rattle.km_outside.specs.FilesSeen.{FilesSeen};
-ghost use Rattle.km_outside.specs.OutSeen.{OutSeen};
 ghost use Rattle.km_course.specs.Course.{says_any};
-ghost use Rattle.km_course.specs.World.{world};
-ghost use Rattle.km_course.specs.Follows.{Answers, Follows};
+ghost use Rattle.km_course.specs.FollowsOn.{FollowsOnFilesAndOut, FollowsOnOut, Returns};
 ghost use Rattle.km_course.specs.declared.end.End.TheVariants.{Refused};
 ghost use Rattle.km_course.specs.declared.refusal.Refusal.TheVariants.{Obstacle as Unplanned};
 ghost use Rattle.km_course.specs.declared.stop.Stop.TheVariants.{Ended, Memory};
@@ -31,8 +28,8 @@ pub(crate) fn show_plan<F: Reads, O: Out>(
     files: &mut F,
     out: &mut O,
 ) -> Result<(), Stop>
-    ensures { (err : OutSeen) → Follows (λ x. x) (shows_plan asked)
-        (world (F.seen files.old) (O.seen out.old) err) (world (F.seen files.new) (O.seen out.new) err) result }
+    ensures { FollowsOnFilesAndOut (shows_plan asked)
+        F.seen files.old files.new O.seen out.old out.new result }
 {
     let mode = asked.mode;
     let basis = read_basis(alloc, asked, files)?;
@@ -41,9 +38,8 @@ pub(crate) fn show_plan<F: Reads, O: Out>(
 
 /// Prints the plan of a request in a mode.
 fn print_plan<O: Out>(alloc: Global, mode: Mode, basis: &Basis, out: &mut O) -> Result<(), Stop>
-    ensures { (files : FilesSeen) (err : OutSeen) → Follows (λ x. x)
-        (prints_plan basis.now.folder basis.now.request mode basis.now.known)
-        (world files (O.seen out.old) err) (world files (O.seen out.new) err) result }
+    ensures { FollowsOnOut (prints_plan basis.now.folder basis.now.request mode basis.now.known)
+        O.seen out.old out.new result }
 {
     let steps = plan_in(alloc, mode, &basis.known, &basis.request)?;
     say_plan(alloc, &basis.folder, &steps, out)
@@ -56,11 +52,13 @@ pub(crate) fn plan_in(
     known: &Known,
     request: &Request,
 ) -> Result<PlanSteps, Stop>
-    ensures { Answers (λ x. x) (plan_outcome known.now (loaded_in mode known.now.loaded) request.now) result }
+    ensures { Returns (plan_outcome known.now (loaded_in mode known.now.loaded) request.now) result }
 {
     match mode {
         Mode::ShowDepends => plan_with(alloc, known, &Loaded::new(alloc), request),
-        _ => plan_with(alloc, known, &known.loaded, request),
+        Mode::ResolveAlias | Mode::Load | Mode::DryRun | Mode::Remove { .. } => {
+            plan_with(alloc, known, &known.loaded, request)
+        }
     }
 }
 
@@ -71,7 +69,7 @@ fn plan_with(
     loaded: &Loaded,
     request: &Request,
 ) -> Result<PlanSteps, Stop>
-    ensures { Answers (λ x. x) (plan_outcome known.now loaded.now request.now) result }
+    ensures { Returns (plan_outcome known.now loaded.now request.now) result }
 {
     match plan(
         alloc,
@@ -106,8 +104,8 @@ pub(crate) fn say_plan<O: Out>(
     steps: &PlanSteps,
     out: &mut O,
 ) -> Result<(), Stop>
-    ensures { (files : FilesSeen) (err : OutSeen) → Follows (λ x. x) (says_any (plan_lines folder.now steps.now))
-        (world files (O.seen out.old) err) (world files (O.seen out.new) err) result }
+    ensures { FollowsOnOut (says_any (plan_lines folder.now steps.now))
+        O.seen out.old out.new result }
 {
     let text = plan_text(alloc, folder, steps)?;
     say_any(out, text.as_bytes())

@@ -1,10 +1,7 @@
 // What names stand for: `modprobe -R`.
 ghost use Rattle.std.specs.Prelude.{◌≡◌, ⊤, IfOk};
-ghost use Rattle.km_outside.specs.FilesSeen.{FilesSeen};
-ghost use Rattle.km_outside.specs.OutSeen.{OutSeen};
 ghost use Rattle.km_course.specs.Course.{says_any};
-ghost use Rattle.km_course.specs.World.{world};
-ghost use Rattle.km_course.specs.Follows.{Follows};
+ghost use Rattle.km_course.specs.FollowsOn.{FollowsOnFilesAndOut, FollowsOnOut};
 ghost use Rattle.command_modprobe.specs.Parts.{prints_names};
 ghost use Rattle.command_modprobe.specs.Resolved.{lines_of_names, resolves_alias};
 
@@ -25,8 +22,8 @@ pub(crate) fn resolve_alias<F: Reads, O: Out>(
     files: &mut F,
     out: &mut O,
 ) -> Result<(), Stop>
-    ensures { (err : OutSeen) → Follows (λ x. x) (resolves_alias asked)
-        (world (F.seen files.old) (O.seen out.old) err) (world (F.seen files.new) (O.seen out.new) err) result }
+    ensures { FollowsOnFilesAndOut (resolves_alias asked)
+        F.seen files.old files.new O.seen out.old out.new result }
 {
     let basis = read_basis(alloc, asked, files)?;
     print_names(alloc, &basis.known, &basis.request, out)
@@ -39,8 +36,7 @@ fn print_names<O: Out>(
     request: &Request,
     out: &mut O,
 ) -> Result<(), Stop>
-    ensures { (files : FilesSeen) (err : OutSeen) → Follows (λ x. x) (prints_names request.now known.now)
-        (world files (O.seen out.old) err) (world files (O.seen out.new) err) result }
+    ensures { FollowsOnOut (prints_names request.now known.now) O.seen out.old out.new result }
 {
     let names = names_found(
         alloc,
@@ -53,8 +49,7 @@ fn print_names<O: Out>(
 
 /// Prints a line for each name.
 fn say_names<O: Out>(alloc: Global, names: &Names, out: &mut O) -> Result<(), Stop>
-    ensures { (files : FilesSeen) (err : OutSeen) → Follows (λ x. x) (says_any (lines_of_names names.now))
-        (world files (O.seen out.old) err) (world files (O.seen out.new) err) result }
+    ensures { FollowsOnOut (says_any (lines_of_names names.now)) O.seen out.old out.new result }
 {
     let text = lines_of_names(alloc, names)?;
     say_any(out, text.as_bytes())

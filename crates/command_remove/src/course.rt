@@ -1,8 +1,5 @@
 ghost use Rattle.std.specs.Prelude.{◌≡◌, List, length};
-ghost use Rattle.km_outside.specs.FilesSeen.{FilesSeen};
-ghost use Rattle.km_outside.specs.OutSeen.{OutSeen};
-ghost use Rattle.km_course.specs.World.{world};
-ghost use Rattle.km_course.specs.Follows.{Follows};
+ghost use Rattle.km_course.specs.FollowsOn.{FollowsOnFilesAndOut, FollowsOnOut};
 ghost use Rattle.module_facts.specs.declared.module.Module.{Module};
 ghost use Rattle.provider_rel.specs.declared.kernel.Kernel.{Kernel};
 ghost use Rattle.model_loader.specs.declared.region.Region.{Region as Placing};
@@ -50,8 +47,8 @@ pub fn remove<F: Reads, O: Out>(
     files: &mut F,
     out: &mut O,
 ) -> Result<(), Stop>
-    ensures { (err : OutSeen) → Follows (λ x. x) (removes dry_run asked)
-        (world (F.seen files.old) (O.seen out.old) err) (world (F.seen files.new) (O.seen out.new) err) result }
+    ensures { FollowsOnFilesAndOut (removes dry_run asked)
+        F.seen files.old files.new O.seen out.old out.new result }
 {
     match region_at(asked.region_base, asked.region_size) {
         Some(region) => remove_from(alloc, dry_run, asked, region, files, out),
@@ -68,8 +65,8 @@ fn remove_from<F: Reads, O: Out>(
     files: &mut F,
     out: &mut O,
 ) -> Result<(), Stop>
-    ensures { (err : OutSeen) → Follows (λ x. x) (removes_from dry_run asked asked.system_map (Some region))
-        (world (F.seen files.old) (O.seen out.old) err) (world (F.seen files.new) (O.seen out.new) err) result }
+    ensures { FollowsOnFilesAndOut (removes_from dry_run asked asked.system_map (Some region))
+        F.seen files.old files.new O.seen out.old out.new result }
 {
     let folder = modules_folder(alloc, &asked.dirname, &asked.version)?;
     let ModprobeWords {
@@ -116,8 +113,9 @@ fn remove_over<F: Reads, O: Out>(
     files: &mut F,
     out: &mut O,
 ) -> Result<(), Stop>
-    ensures { (err : OutSeen) → Follows (λ x. x) (removes_over folder.now removal.now sources sources.system_map region)
-        (world (F.seen files.old) (O.seen out.old) err) (world (F.seen files.new) (O.seen out.new) err) result }
+    ensures { FollowsOnFilesAndOut
+        (removes_over folder.now removal.now sources sources.system_map region)
+        F.seen files.old files.new O.seen out.old out.new result }
 {
     let Sources {
         config,
@@ -148,8 +146,9 @@ fn remove_known<F: Reads, O: Out>(
     files: &mut F,
     out: &mut O,
 ) -> Result<(), Stop>
-    ensures { (err : OutSeen) → Follows (λ x. x) (removes_known folder.now removal.now known.now system_map symvers region)
-        (world (F.seen files.old) (O.seen out.old) err) (world (F.seen files.new) (O.seen out.new) err) result }
+    ensures { FollowsOnFilesAndOut
+        (removes_known folder.now removal.now known.now system_map symvers region)
+        F.seen files.old files.new O.seen out.old out.new result }
 {
     let machine = read_machine(alloc, system_map, symvers, region, files)?;
     remove_listed(alloc, folder, removal, known, machine, files, out)
@@ -166,8 +165,8 @@ fn remove_listed<F: Reads, O: Out>(
     out: &mut O,
 ) -> Result<(), Stop>
     requires { (kernel : Kernel) × (region : Placing) × (machine ≡ new_machine kernel region) }
-    ensures { (err : OutSeen) → Follows (λ x. x) (removes_listed folder.now removal.now known.now machine)
-        (world (F.seen files.old) (O.seen out.old) err) (world (F.seen files.new) (O.seen out.new) err) result }
+    ensures { FollowsOnFilesAndOut (removes_listed folder.now removal.now known.now machine)
+        F.seen files.old files.new O.seen out.old out.new result }
 {
     let mut listed = take_listed(
         alloc,
@@ -189,8 +188,8 @@ fn remove_names<O: Out>(
     out: &mut O,
 ) -> Result<(), Stop>
     requires { (kernel : Kernel) × (region : Placing) × (ms : List Module) × IsLoaded kernel region ms listed.old }
-    ensures { (files : FilesSeen) (err : OutSeen) → Follows (λ x. x) (removes_names removal.now known.now listed.old)
-        (world files (O.seen out.old) err) (world files (O.seen out.new) err) result }
+    ensures { FollowsOnOut (removes_names removal.now known.now listed.old)
+        O.seen out.old out.new result }
 {
     let names = names_found(
         alloc,
@@ -211,8 +210,8 @@ fn carry_out<O: Out>(
     out: &mut O,
 ) -> Result<(), Stop>
     requires { CanBeTakenOut machine.old (length machine.old.entries) steps.now }
-    ensures { (files : FilesSeen) (err : OutSeen) → Follows (λ x. x) (carries_out dry_run machine.old steps.now)
-        (world files (O.seen out.old) err) (world files (O.seen out.new) err) result }
+    ensures { FollowsOnOut (carries_out dry_run machine.old steps.now)
+        O.seen out.old out.new result }
 {
     check_chosen(alloc, dry_run, steps)?;
     let text = step_lines(alloc, steps)?;

@@ -1,8 +1,6 @@
 // The modules that are listed as loaded.
 ghost use Rattle.std.specs.Prelude.{◌≡◌, IfOk, option_copied};
-ghost use Rattle.km_outside.specs.OutSeen.{OutSeen};
-ghost use Rattle.km_course.specs.World.{world};
-ghost use Rattle.km_course.specs.Follows.{Follows};
+ghost use Rattle.km_course.specs.FollowsOn.{FollowsOnFiles};
 ghost use Rattle.command_remove.specs.Listed.{takes_listed, takes_listed_one, well_formed_path};
 
 use km_course::Stop;
@@ -26,8 +24,8 @@ pub(crate) fn take_listed<F: Reads>(
     names: &[Name],
     files: &mut F,
 ) -> Result<Machine, Stop>
-    ensures { (out err : OutSeen) → Follows (λ x. x) (takes_listed folder.now indexes.now machine names.now)
-        (world (F.seen files.old) out err) (world (F.seen files.new) out err) result }
+    ensures { FollowsOnFiles (takes_listed folder.now indexes.now machine names.now)
+        F.seen files.old files.new result }
 {
     let mut left = names.len();
     while left > 0 {
@@ -46,8 +44,8 @@ fn take_listed_one<F: Reads>(
     name: &Name,
     files: &mut F,
 ) -> Result<Machine, Stop>
-    ensures { (out err : OutSeen) → Follows (λ x. x) (takes_listed_one folder.now indexes.now machine name.now)
-        (world (F.seen files.old) out err) (world (F.seen files.new) out err) result }
+    ensures { FollowsOnFiles (takes_listed_one folder.now indexes.now machine name.now)
+        F.seen files.old files.new result }
 {
     let found = well_formed_path(alloc, indexes, name)?;
     load_listed_at(alloc, folder, machine, name, found, files)

@@ -1,6 +1,6 @@
 // The steps of a removal.
 ghost use Rattle.std.specs.Prelude.{◌≡◌, option_map};
-ghost use Rattle.km_course.specs.Follows.{Answers};
+ghost use Rattle.km_course.specs.FollowsOn.{Returns};
 ghost use Rattle.command_remove.specs.Remove.{chosen_outcome, command_owner, first_owner, steps_outcome};
 
 use km_course::{Refusal, Stop};
@@ -19,7 +19,7 @@ pub(crate) fn steps_in(
     rules: &Rules,
     machine: &Machine,
 ) -> Result<RemovePlan, Stop>
-    ensures { Answers (λ x. x) (steps_outcome machine.now rules.now ignore_remove names.now) result }
+    ensures { Returns (steps_outcome machine.now rules.now ignore_remove names.now) result }
 {
     match plan_removal(alloc, names, ignore_remove, rules, machine) {
         Ok(steps) => Ok(steps),
@@ -32,7 +32,7 @@ pub(crate) fn steps_in(
 
 /// Refuses the first step that runs a command, unless steps are only printed.
 pub(crate) fn check_chosen(alloc: Global, dry_run: bool, steps: &RemovePlan) -> Result<(), Stop>
-    ensures { Answers (λ x. x) (chosen_outcome dry_run steps.now) result }
+    ensures { Returns (chosen_outcome dry_run steps.now) result }
 {
     if dry_run {
         return Ok(());

@@ -1,9 +1,6 @@
 // Modules that are taken out of the machine.
 ghost use Rattle.std.specs.Prelude.{◌≡◌, ℕ, IfOk, Ok, Some, length, ⊤};
-ghost use Rattle.km_outside.specs.FilesSeen.{FilesSeen};
-ghost use Rattle.km_outside.specs.OutSeen.{OutSeen};
-ghost use Rattle.km_course.specs.World.{world};
-ghost use Rattle.km_course.specs.Follows.{Follows};
+ghost use Rattle.km_course.specs.FollowsOn.{FollowsOnOut, FollowsOnOutAs};
 ghost use Rattle.km_course.specs.Course.{each_from};
 ghost use Rattle.model_unload.specs.Below.{IsUnusedBelow};
 ghost use Rattle.model_unload.specs.Unload.{place_of, unloaded};
@@ -29,8 +26,8 @@ pub(crate) fn unload_unless<O: Out>(
     out: &mut O,
 ) -> Result<(), Stop>
     requires { CanBeTakenOut machine.old (length machine.old.entries) steps.now }
-    ensures { (files : FilesSeen) (err : OutSeen) → Follows (λ x. x) (unloads_unless dry_run machine.old steps.now)
-        (world files (O.seen out.old) err) (world files (O.seen out.new) err) result }
+    ensures { FollowsOnOut (unloads_unless dry_run machine.old steps.now)
+        O.seen out.old out.new result }
 {
     if dry_run {
         return Ok(());
@@ -46,8 +43,7 @@ fn unload_and_list<O: Out>(
     out: &mut O,
 ) -> Result<(), Stop>
     requires { CanBeTakenOut machine.old (length machine.old.entries) steps.now }
-    ensures { (files : FilesSeen) (err : OutSeen) → Follows (λ x. x) (unloads_all machine.old steps.now)
-        (world files (O.seen out.old) err) (world files (O.seen out.new) err) result }
+    ensures { FollowsOnOut (unloads_all machine.old steps.now) O.seen out.old out.new result }
 {
     unload_steps(alloc, machine, steps, out)?;
     let text = left_lines(alloc, machine)?;
@@ -63,8 +59,9 @@ fn unload_steps<O: Out>(
     out: &mut O,
 ) -> Result<(), Stop>
     requires { CanBeTakenOut machine.old (length machine.old.entries) steps.now }
-    ensures { (files : FilesSeen) (err : OutSeen) → Follows (λ (done : ⊤). machine.new) (each_from unloads_one machine.old steps.now)
-        (world files (O.seen out.old) err) (world files (O.seen out.new) err) result }
+    ensures { FollowsOnOutAs
+        (λ (done : ⊤). machine.new) (each_from unloads_one machine.old steps.now)
+        O.seen out.old out.new result }
 {
     let mut end = machine.module_count();
     for step in steps.as_slice() {
@@ -83,8 +80,8 @@ fn unload_one<O: Out>(
     out: &mut O,
 ) -> Result<usize, Stop>
     requires { IsUnusedBelow machine.old end (step_name step.now) }
-    ensures follows { (files : FilesSeen) (err : OutSeen) → Follows (λ (place : ℕ). machine.new) (unloads_one machine.old step.now)
-        (world files (O.seen out.old) err) (world files (O.seen out.new) err) result }
+    ensures follows { FollowsOnOutAs (λ (place : ℕ). machine.new) (unloads_one machine.old step.now)
+        O.seen out.old out.new result }
     ensures after { unloaded machine.old (step_name step.now) ≡ Ok machine.new }
     ensures place { IfOk result (λ place. place_of machine.old (step_name step.now) ≡ Some place) }
 {
