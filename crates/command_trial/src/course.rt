@@ -1,9 +1,6 @@
 // The course of trial.
 ghost use Rattle.std.specs.Prelude.{◌≤◌};
-ghost use Rattle.km_outside.specs.FilesSeen.{FilesSeen};
-ghost use Rattle.km_outside.specs.OutSeen.{OutSeen};
-ghost use Rattle.km_course.specs.World.{world};
-ghost use Rattle.km_course.specs.Follows.{Follows};
+ghost use Rattle.km_course.specs.FollowsOn.{FollowsOnOut};
 ghost use Rattle.command_trial.specs.Trial.{trial_course, tries};
 
 use crate::inside::{index_made, load_made};
@@ -18,8 +15,7 @@ use tree_gen::generate;
 /// Does what the words after `trial` ask for. It makes a tree in memory, indexes it and loads its
 /// modules there, and reports the outcome. No file outside is read or written.
 pub fn trial<O: Out>(alloc: Global, words: &[Word], out: &mut O) -> Result<(), Stop>
-    ensures { (files : FilesSeen) (err : OutSeen) → Follows (λ x. x) (trial_course words.now)
-        (world files (O.seen out.old) err) (world files (O.seen out.new) err) result }
+    ensures { FollowsOnOut (trial_course words.now) O.seen out.old out.new result }
 {
     match read_trial(alloc, words)? {
         Some(asked) => try_made(alloc, asked, out),
@@ -30,8 +26,7 @@ pub fn trial<O: Out>(alloc: Global, words: &[Word], out: &mut O) -> Result<(), S
 /// Makes the tree that is asked for, tries it, and reports the outcome.
 fn try_made<O: Out>(alloc: Global, asked: TrialWords, out: &mut O) -> Result<(), Stop>
     requires { (1 ≤ asked.count) × (asked.count ≤ 2000) }
-    ensures { (files : FilesSeen) (err : OutSeen) → Follows (λ x. x) (tries asked)
-        (world files (O.seen out.old) err) (world files (O.seen out.new) err) result }
+    ensures { FollowsOnOut (tries asked) O.seen out.old out.new result }
 {
     let TrialWords { seed, count } = asked;
     let mut files = generate(alloc, seed, count)?;

@@ -1,14 +1,20 @@
 // What a trial reports.
-ghost use Rattle.std.specs.Prelude.{◌≡◌, ◌++◌, IfOk, OnOk};
+ghost use Rattle.std.specs.Prelude.{◌≡◌, ◌++◌, IfOk, List, OnOk, ℕ};
 ghost use Rattle.std.specs.Fmt.{decimal};
+ghost use Rattle.sha2.specs.Hashers.{Holds256};
 ghost use Rattle.sha2.specs.Sha256.{sha256};
-ghost use Rattle.command_trial.specs.Summary.{bytes_at as bytes_of_path, dependencies_left, image_path as path_of_image, images_of, stated, summary as summary_of};
+ghost use Rattle.km_outside.specs.Contents.{rest_after};
+ghost use Rattle.command_trial.specs.Summary.{bytes_at as bytes_of_path, dependencies_left, image_path as path_of_image, images_of, loaded, rest_if_any, stated, summary as summary_of};
 
-use crate::lines::{dependencies, rests_of_lines};
-use km_names::{Blob, PathText, join, split_word};
+use crate::lines::{count_lines, count_paths};
+use crate::words::IMAGES;
+use km_names::{Blob, PathText, first_line, join, split_word};
 use km_outside::MemFiles;
 use sha2::{Digest, Sha256};
 use std::alloc::{AllocError, Global};
+
+/// What a line of a loaded module begins with.
+const LOADED: &[u8] = b"loaded ";
 
 /// Returns the bytes of the file at the path, or none if nothing is there.
 fn bytes_at<'a>(files: &'a MemFiles, path: &PathText) -> &'a [u8]
@@ -23,8 +29,7 @@ pub(crate) fn count_dependencies(alloc: Global, files: &MemFiles) -> Result<usiz
     ensures { IfOk result (λ count. count ≡ dependencies_left files.now.contents) }
 {
     let path = PathText::from_slice(alloc, b"/t/lib/modules/trial/modules.dep")?;
-    let paths = dependencies(alloc, bytes_at(files, &path))?;
-    Ok(paths.len())
+    count_paths(alloc, bytes_at(files, &path))
 }
 
 /// Returns the path of the image of a module, by what follows `loaded ` in its line.
@@ -32,22 +37,42 @@ fn image_path(alloc: Global, rest: &[u8]) -> Result<PathText, AllocError>
     ensures { IfOk result (λ path. path ≡ path_of_image rest.now) }
 {
     let (name, _) = split_word(rest);
-    let folder = PathText::from_slice(alloc, b"/t/img")?;
+    let folder = PathText::from_slice(alloc, IMAGES.as_bytes())?;
     let mut file = Blob::from_slice(alloc, name)?;
     file.extend(b".img")?;
     join(alloc, &folder, file.as_bytes())
 }
 
-/// Returns the digest of all images, one after the other.
-fn digest_of_images(alloc: Global, files: &MemFiles, rests: &[Blob]) -> Result<[u8; 32], AllocError>
-    ensures { IfOk result (λ digest. digest ≡ sha256 (images_of files.now.contents rests.now)) }
+/// Returns the digest of the images, one after the other, of the modules that an output of modprobe
+/// says were loaded.
+fn digest_of_images(alloc: Global, files: &MemFiles, output: &[u8]) -> Result<[u8; 32], AllocError>
+    ensures { IfOk result (λ digest. digest ≡ sha256 (images_of files.now.contents (loaded output.now))) }
 {
     let mut hasher = Sha256::new();
-    for rest in rests {
-        let path = image_path(alloc, rest.as_bytes())?;
-        hasher.update(bytes_at(files, &path));
+    let mut left = output;
+    while !left.is_empty() {
+        let (line, next) = first_line(left);
+        add_image(alloc, &mut hasher, files, line)?;
+        left = next;
     }
     Ok(hasher.finalize())
+}
+
+/// Adds the image of the module to a digest, if the line says that one was loaded.
+fn add_image(
+    alloc: Global,
+    hasher: &mut Sha256,
+    files: &MemFiles,
+    line: &[u8],
+) -> Result<(), AllocError>
+    ensures { OnOk result ((before : List ℕ) → Holds256 hasher.old before
+        → Holds256 hasher.new (before ++ images_of files.now.contents (rest_if_any (rest_after LOADED.now line.now)))) }
+{
+    if let Some(rest) = line.strip_prefix(LOADED) {
+        let path = image_path(alloc, rest)?;
+        hasher.update(bytes_at(files, &path));
+    }
+    Ok(())
 }
 
 /// Puts a line that states a value at the end.
@@ -80,14 +105,17 @@ pub(crate) fn summary(
 ) -> Result<Blob, AllocError>
     ensures { IfOk result (λ text. text ≡ summary_of modules dependencies (record { files = files.now.contents; out = output.now })) }
 {
-    let planned = rests_of_lines(alloc, output, b"insmod ")?.len();
-    let loaded = rests_of_lines(alloc, output, b"loaded ")?;
-    let digest = digest_of_images(alloc, files, loaded.as_slice())?;
+    let digest = digest_of_images(alloc, files, output)?;
     let mut text = Blob::new(alloc);
     push_count(alloc, &mut text, b"modules", modules as usize)?;
     push_count(alloc, &mut text, b"dependencies", dependencies)?;
-    push_count(alloc, &mut text, b"planned", planned)?;
-    push_count(alloc, &mut text, b"loaded", loaded.len())?;
+    push_count(
+        alloc,
+        &mut text,
+        b"planned",
+        count_lines(output, b"insmod "),
+    )?;
+    push_count(alloc, &mut text, b"loaded", count_lines(output, LOADED))?;
     push_stated(
         &mut text,
         b"images",

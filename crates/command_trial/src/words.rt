@@ -5,23 +5,27 @@ ghost use Rattle.command_trial.specs.Words.{depmod_words as words_of_depmod, mod
 
 use km_names::{List, Word};
 use std::alloc::{AllocError, Global};
+use tree_gen::{ROOT, SYMVERS_PATH, SYSTEM_MAP_PATH, VERSION};
+
+/// The folder into which the modprobe inside puts images.
+pub(crate) const IMAGES: &str = "/t/img";
 
 /// The words for the depmod that indexes the made tree.
-const DEPMOD: [&str; 5] = ["-b", "/t", "-E", "/t/Module.symvers", "trial"];
+const DEPMOD: [&str; 5] = ["-b", ROOT, "-E", SYMVERS_PATH, VERSION];
 
 /// The options for the modprobe that loads its modules.
 const MODPROBE: [&str; 11] = [
     "-a",
     "-d",
-    "/t",
+    ROOT,
     "-S",
-    "trial",
+    VERSION,
     "--system-map",
-    "/t/System.map",
+    SYSTEM_MAP_PATH,
     "--symvers",
-    "/t/Module.symvers",
+    SYMVERS_PATH,
     "--image",
-    "/t/img",
+    IMAGES,
 ];
 
 /// Returns the words for the depmod that indexes the made tree.

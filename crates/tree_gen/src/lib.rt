@@ -17,5 +17,5 @@ pub use sheet_object::{
     SheetPlace, SheetPlaces, SheetSpace, SheetSpaces, SheetVersion, SheetVersions, is_sheet,
     object, object_more, param_object,
 };
-pub use trial::generate;
+pub use trial::{ROOT, SYMVERS_PATH, SYSTEM_MAP_PATH, VERSION, generate};
 pub use worked::{draws_of_small_seeds, draws_stand_before};

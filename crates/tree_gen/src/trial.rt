@@ -8,6 +8,18 @@ use km_outside::MemFiles;
 use sheet_object::object;
 use std::alloc::{AllocError, Global};
 
+/// The root of the made tree.
+pub const ROOT: &str = "/t";
+
+/// The version of the kernel whose modules are made.
+pub const VERSION: &str = "trial";
+
+/// The path of the kernel's `Module.symvers`.
+pub const SYMVERS_PATH: &str = "/t/Module.symvers";
+
+/// The path of the kernel's `System.map`.
+pub const SYSTEM_MAP_PATH: &str = "/t/System.map";
+
 /// The kernel's exports, as `Module.symvers` lists them.
 const SYMVERS: &[u8] = b"0x11111111\tprintk\tvmlinux\tEXPORT_SYMBOL\n";
 
@@ -42,15 +54,15 @@ fn module_file(alloc: Global, number: u32, draws: &mut Draws) -> Result<Blob, Al
 fn kernel_files(alloc: Global) -> Result<MemFiles, AllocError>
     ensures { IfOk result (λ files. files ≡ unused kernel_contents) }
 {
-    let symvers = PathText::from_slice(alloc, b"/t/Module.symvers")?;
-    let system_map = PathText::from_slice(alloc, b"/t/System.map")?;
+    let symvers = PathText::from_slice(alloc, SYMVERS_PATH.as_bytes())?;
+    let system_map = PathText::from_slice(alloc, SYSTEM_MAP_PATH.as_bytes())?;
     let mut files = MemFiles::new(alloc);
     files.put(&symvers, SYMVERS)?;
     files.put(&system_map, SYSTEM_MAP)?;
     Ok(files)
 }
 
-/// Makes the tree of a trial, below `/t`: the kernel's `Module.symvers` and `System.map`, and
+/// Makes the tree of a trial, below its root: the kernel's `Module.symvers` and `System.map`, and
 /// `count` modules of the kernel `trial`, 1 to 2000. Each module needs the kernel's `printk`. Each
 /// except the first also needs the symbols of one or two modules before it, which are drawn from
 /// the seed. No call of the files fails. The only error is out of memory.
