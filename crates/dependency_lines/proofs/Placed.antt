@@ -138,12 +138,13 @@ at-more lines placed places i e inside long each = λ k d l. go k d l (cases_lt 
         let b = each k d before in
         (b.0, get_or_append_left placed (x ∷ []) d k (omega (arith, before, long)) ∙ b.1)
     go k d l (inr last) =
-        let here : k ≡ i = omega (arith, l, last) in
-        (omega (arith, ap (λ n. get_or places n 0) here, inside),
-        ap (λ n. get_or (placed ++ x ∷ []) n d) (here ∙ sym long)
-        ∙ get_or-append_seam placed x [] d
-        ∙ get_or_default lines (get_or places i 0) e d inside
-        ∙ ap (λ n. get_or lines (get_or places n 0) d) (sym here))
+        let here : k ≡ i = omega (arith, l, last) in (
+          omega (arith, ap (λ n. get_or places n 0) here, inside),
+          ap (λ n. get_or (placed ++ x ∷ []) n d) (here ∙ sym long)
+              ∙ get_or-append_seam placed x [] d
+              ∙ get_or_default lines (get_or places i 0) e d inside
+              ∙ ap (λ n. get_or lines (get_or places n 0) d) (sym here),
+        )
 
 pub length-more : (before after : List Line) (x : Line) (i : ℕ) → after ≡ before ++ x ∷ [] → length before ≡ i → length after ≡ i + 1
 length-more before after x i is long = omega (arith, ap length is, length-append before (x ∷ []), long)

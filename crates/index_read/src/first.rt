@@ -74,7 +74,8 @@ impl<'a> FirstValues<'a> {
     }
 
     /// Puts the key of a node with its first value behind the others, if it has one and there is
-    /// room.
+    /// room. Many keys may lead to one node, so the text counts though it isn't copied: its end is
+    /// looked for each time.
     fn push_node(
         &mut self,
         nodes: &'a Nodes,
@@ -88,9 +89,11 @@ impl<'a> FirstValues<'a> {
         let Some(place) = nodes.first_value(node) else {
             return Ok(());
         };
+        let text = nodes.text(&place);
         room.take(size_of::<FirstValue<'_>>())?;
         room.take(key.len())?;
-        self.push(key, place.priority(), nodes.text(&place))
+        room.take(text.len())?;
+        self.push(key, place.priority(), text)
     }
 
     /// Returns how many keys there are.
@@ -131,8 +134,8 @@ impl<'a> FirstValues<'a> {
 ///
 /// # Errors
 ///
-/// Out of memory, also if the list would take more than 268,435,456 bytes without its texts, or if
-/// the prefixes of nodes that overlap have more together.
+/// Out of memory, also if the list with its texts has more than 268,435,456 bytes, or if the
+/// prefixes of nodes that overlap have more together.
 pub fn first_values(alloc: Global, index: &Index) -> Result<FirstValues<'_>, AllocError>
     ensures { IfOk result (λ found. found ≡ firsts_of (entries (contents index.now.nodes))) }
 {
