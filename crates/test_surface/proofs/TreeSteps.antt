@@ -1,5 +1,5 @@
 -- Trees of two modules, and lists of few items.
-use Rattle.std.proofs.Common.{◌≡◌, ◌∷◌, ◌++◌, [], List, ℕ, length, All, AllPairs, subst, sym, ap, ◌∙◌, arith}
+use Rattle.std.proofs.Common.{◌≡◌, ◌∷◌, [], List, ℕ, length, All, AllPairs, subst, sym, arith}
 use Rattle.std.proofs.lemmas.List.Elements.{All-nil, All-cons, All-push}
 use Rattle.std.proofs.lemmas.List.Quantifiers.{all_pairs_push}
 use Rattle.module_facts.specs.declared.facts.Facts.{Facts}
@@ -10,12 +10,8 @@ pub one-pair : {X : Type 0} (R : X → X → Type 0) (x : X) → AllPairs R (x �
 one-pair R x i j d before within = absurd (omega arith)
 
 -- what holds of the only member of a list
-pub alone : {A : Type 0} (P : A → Type 0) (xs ys : List A) (x : A) → xs ≡ [] → ys ≡ xs ++ x ∷ [] → P x → All P ys
-alone P xs ys x empty is one = subst (All P) (sym (is ∙ ap (λ l. l ++ x ∷ []) empty)) (All-cons P x [] one (All-nil P))
-
--- a list of two that were put into an empty one
-pub of-two : {A : Type 0} (none one two : List A) (x y : A) → none ≡ [] → one ≡ none ++ x ∷ [] → two ≡ one ++ y ∷ [] → two ≡ x ∷ y ∷ []
-of-two none one two x y empty first second = second ∙ ap (λ l. l ++ y ∷ []) (first ∙ ap (λ l. l ++ x ∷ []) empty)
+pub alone : {A : Type 0} (P : A → Type 0) (xs : List A) (x : A) → xs ≡ x ∷ [] → P x → All P xs
+alone P xs x is one = subst (All P) (sym is) (All-cons P x [] one (All-nil P))
 
 -- two modules of different names
 pub two-modules : (tree : List Facts) (a b : Facts) → IsTreeModule a → IsTreeModule b → (a.name ≡ b.name → ⊥) → tree ≡ a ∷ b ∷ [] → IsTree tree

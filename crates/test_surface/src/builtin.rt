@@ -1,6 +1,6 @@
 //! The fields of built-in modules, and the map of their aliases.
 
-use crate::same::{holds, same, same_length};
+use crate::same::{holds, same, shown};
 use builtin_index::{builtin_aliases, builtin_fields};
 use index_write::encode;
 use std::alloc::Global;
@@ -13,13 +13,12 @@ static TTY: &[u8] = b"tty.alias=tty-*\0tty.license=GPL\0";
 static TTY_INDEX: &[u8] =
     b"\xb0\x07\xf4\x57\0\x02\0\x01\x20\0\0\x1dty_*\0\0\0\0\x01\0\0\0\0tty\0tt\xc0\0\0\x0c";
 
+/// Its fields.
+static FIELDS: &str =
+    r#"Ok(List { elements: [BuiltinField { module: "tty", key: "alias", value: "tty-*" }, BuiltinField { module: "tty", key: "license", value: "GPL" }] })"#;
+
 fn fields_are_read(rt: &impl Abort, alloc: Global) {
-    let list = builtin_fields(alloc, TTY).expect(rt, "fields");
-    same_length(rt, list.len(), 2);
-    let field = list.get(1).expect(rt, "a field");
-    same(rt, field.module.as_bytes(), b"tty");
-    same(rt, field.key.as_bytes(), b"license");
-    same(rt, field.value.as_bytes(), b"GPL");
+    shown(rt, alloc, builtin_fields(alloc, TTY), FIELDS);
 }
 
 fn aliases_are_indexed(rt: &impl Abort, alloc: Global) {

@@ -1,13 +1,13 @@
 //! Patterns, and index files: written, read node by node, and looked up.
 ghost use Rattle.std.specs.Prelude.{◌≡◌, ◌<◌};
 
-use crate::same::{holds, same};
+use crate::same::{holds, same, shown};
 use glob_match::matches;
 use index_nodes::{IndexFault, Nodes};
 use index_read::{Index, Pairs, Steps, Values};
 use index_write::{KeyMap, encode};
 use km_names::Blob;
-use std::alloc::Global;
+use std::alloc::{AllocError, Global};
 use std::marker::Brand;
 use std::process::Abort;
 use std::sync::ledger::{Blank, Ledger};
@@ -26,33 +26,36 @@ pub(crate) static FIVE_KEYS: &[u8] = b"\xb0\x07\xf4\x57\0\x02\0\x01\x20\0\0\x5e\
     \0\0\0\0\0\0\0\0\0\0\0\0\0\0\0\0\0\0\0\0\0\0\0\0\xe0\0\0\x44";
 
 /// Patterns and texts, and whether they match.
-static PATTERNS: [(&str, &str, bool); 8] = [
-    ("*", "", true),
-    ("a[b", "a[b", false),
-    ("[]x", "x", false),
-    ("[!]", "x", true),
-    ("[a-]", "-", true),
-    ("[c-a]", "b", false),
-    ("*a*b", "xaab", true),
-    ("?", "", false),
+static PATTERNS: [(&[u8], &[u8], bool); 8] = [
+    (b"*", b"", true),
+    (b"a[b", b"a[b", false),
+    (b"[]x", b"x", false),
+    (b"[!]", b"x", true),
+    (b"[a-]", b"-", true),
+    (b"[c-a]", b"b", false),
+    (b"*a*b", b"xaab", true),
+    (b"?", b"", false),
 ];
 
 fn patterns_match_texts(rt: &impl Abort) {
     for (pattern, text, want) in &PATTERNS {
-        let got = matches(pattern.as_bytes(), text.as_bytes());
-        assert_eq!(rt; got, *want, "{pattern}");
+        holds(rt, matches(pattern, text) == *want);
     }
 }
 
+/// Puts a key with its text into a map.
+fn add(rt: &impl Abort, map: &mut KeyMap, key: &[u8], place: u32, text: &[u8]) {
+    holds(rt, is_key(key));
+    holds(rt, is_text(text));
+    map.add(key, place, text).expect(rt, "added");
+}
+
 /// Returns the file of some keys with their texts, each with its place as the priority.
-pub(crate) fn file_of(rt: &impl Abort, alloc: Global, pairs: &[(&str, &str)]) -> Blob {
+pub(crate) fn file_of(rt: &impl Abort, alloc: Global, pairs: &[(&[u8], &[u8])]) -> Blob {
     let mut map = KeyMap::new(alloc);
     let mut place = 0;
     for (key, text) in pairs {
-        holds(rt, is_key(key.as_bytes()));
-        holds(rt, is_text(text.as_bytes()));
-        map.add(key.as_bytes(), place, text.as_bytes())
-            .expect(rt, "added");
+        add(rt, &mut map, key, place, text);
         place = place.wrapping_add(1);
     }
     encode(alloc, &map).expect(rt, "a file")
@@ -62,12 +65,12 @@ pub(crate) fn file_of(rt: &impl Abort, alloc: Global, pairs: &[(&str, &str)]) ->
 static NO_KEYS: &[u8] = b"\xb0\x07\xf4\x57\0\x02\0\x01\0\0\0\x0c";
 
 /// Five keys with their texts.
-static FIVE: [(&str, &str); 5] = [
-    ("ask", "x"),
-    ("ate", "x"),
-    ("on", "x"),
-    ("once", "x"),
-    ("one", "x"),
+static FIVE: [(&[u8], &[u8]); 5] = [
+    (b"ask", b"x"),
+    (b"ate", b"x"),
+    (b"on", b"x"),
+    (b"once", b"x"),
+    (b"one", b"x"),
 ];
 
 fn keys_are_written(rt: &impl Abort, alloc: Global) {
@@ -78,27 +81,24 @@ fn keys_are_written(rt: &impl Abort, alloc: Global) {
 }
 
 /// Files that are no index, with the refusal and its text.
-static BAD_FILES: [(&[u8], IndexFault, &str); 4] = [
+static BAD_FILES: [(&[u8], &str); 4] = [
     (
         b"\xb0\x07\xf4\x57\0\x02\0\x01\x20\0\0\x0c\
             aa\x40\0\0\x12\
             \0\0\0\x01\0\0\0\0x\0",
-        IndexFault::BadNode { offset: 18 },
-        "bad index node at 18",
+        r#"(BadNode { offset: 18 }, Ok("bad index node at 18"))"#,
     ),
     (
         b"\xb0\x07\xf4\x57\0\x02\0\x01\x20\0\0\x16\
             \0\0\0\x01\0\0\0\0x\0\
             ab\x40\0\0\x0c\x40\0\0\x0c",
-        IndexFault::Revisited { offset: 12 },
-        "index node twice at 12",
+        r#"(Revisited { offset: 12 }, Ok("index node twice at 12"))"#,
     ),
     (
         b"\xb0\x07\xf4\x57\0\x02\0\0\0\0\0\x0c",
-        IndexFault::BadVersion,
-        "bad index version",
+        r#"(BadVersion, Ok("bad index version"))"#,
     ),
-    (b"\xb0\x07\xf4", IndexFault::BadMagic, "bad index magic"),
+    (b"\xb0\x07\xf4", r#"(BadMagic, Ok("bad index magic"))"#),
 ];
 
 /// Adopts the nodes of a file.
@@ -108,22 +108,23 @@ fn adopted_nodes(rt: &impl Abort, alloc: Global, file: &[u8]) -> Result<Nodes, I
 }
 
 fn bad_files_are_refused(rt: &impl Abort, alloc: Global) {
-    for (file, want, text) in &BAD_FILES {
-        let Err(fault) = adopted_nodes(rt, alloc, file) else {
-            panic!(rt; "not refused");
-        };
-        holds(rt, fault == *want);
-        let shown = fault.text(alloc).expect(rt, "a text");
-        same(rt, shown.as_bytes(), text.as_bytes());
+    for (file, want) in &BAD_FILES {
+        let refused = adopted_nodes(rt, alloc, file).err();
+        let fault = refused.expect(rt, "a refusal");
+        shown(rt, alloc, (fault, fault.text(alloc)), want);
     }
+}
+
+/// Reads nodes of the five keys.
+fn read_nodes<L: Ledger>(rt: &impl Abort, alloc: Global, steps: &mut Steps<L>) {
+    let nodes = adopted_nodes(rt, alloc, FIVE_KEYS).expect(rt, "an index");
+    read_root(rt, &nodes, steps);
+    drop(nodes);
 }
 
 /// Reads the root of the five keys, and the node below it for `o`, which has a value and two
 /// children.
-fn read_nodes<L: Ledger>(rt: &impl Abort, alloc: Global, steps: &mut Steps<L>) {
-    let Ok(nodes) = adopted_nodes(rt, alloc, FIVE_KEYS) else {
-        panic!(rt; "no index");
-    };
+fn read_root<L: Ledger>(rt: &impl Abort, nodes: &Nodes, steps: &mut Steps<L>) {
     let root = nodes.node(&nodes.root(), steps);
     same(rt, nodes.prefix(&root), b"");
     holds(rt, nodes.first_value(&root).is_none());
@@ -138,31 +139,6 @@ fn read_nodes<L: Ledger>(rt: &impl Abort, alloc: Global, steps: &mut Steps<L>) {
     holds(rt, nodes.next_value(&place).is_none());
 }
 
-/// Returns each value as its priority and text.
-fn written(rt: &impl Abort, alloc: Global, found: &Values) -> Blob {
-    let mut text = Blob::new(alloc);
-    for value in found.as_slice() {
-        text.push(b'0' + (value.priority % 10) as u8)
-            .expect(rt, "a byte");
-        text.extend(value.text.as_bytes()).expect(rt, "bytes");
-        text.push(b' ').expect(rt, "a byte");
-    }
-    text
-}
-
-/// Returns each pair as its key, priority and text.
-fn written_pairs(rt: &impl Abort, alloc: Global, found: &Pairs) -> Blob {
-    let mut text = Blob::new(alloc);
-    for pair in found.as_slice() {
-        text.extend(pair.key.as_bytes()).expect(rt, "bytes");
-        text.push(b'0' + (pair.value.priority % 10) as u8)
-            .expect(rt, "a byte");
-        text.extend(pair.value.text.as_bytes()).expect(rt, "bytes");
-        text.push(b' ').expect(rt, "a byte");
-    }
-    text
-}
-
 /// Adopts an index that is none of the bad ones.
 pub(crate) fn adopt(rt: &impl Abort, alloc: Global, file: &[u8]) -> Index {
     let file = Blob::from_slice(alloc, file).expect(rt, "bytes");
@@ -172,58 +148,63 @@ pub(crate) fn adopt(rt: &impl Abort, alloc: Global, file: &[u8]) -> Index {
 // Each lookup is made by a function that promises nothing.
 
 /// Returns the priority and the text of the first value of a key.
-fn find_one<L: Ledger>(
-    rt: &impl Abort,
-    alloc: Global,
-    index: &Index,
+fn find_one<'a, L: Ledger>(
+    index: &'a Index,
     key: &[u8],
     steps: &mut Steps<L>,
-) -> Option<(u32, Blob)> {
+) -> Option<(u32, &'a [u8])> {
     let Some(place) = index.find_one(key, steps) else {
         return None;
     };
-    let text = Blob::from_slice(alloc, index.text(&place)).expect(rt, "bytes");
-    Some((place.priority(), text))
+    Some((place.priority(), index.text(&place)))
 }
 
 /// Returns the values of a key.
 fn find<L: Ledger>(
-    rt: &impl Abort,
     alloc: Global,
     index: &Index,
     key: &[u8],
     steps: &mut Steps<L>,
-) -> Blob {
-    let found = index.find(alloc, key, steps).expect(rt, "values");
-    written(rt, alloc, &found)
+) -> Result<Values, AllocError> {
+    index.find(alloc, key, steps)
 }
 
 /// Returns all pairs.
-fn all<L: Ledger>(rt: &impl Abort, alloc: Global, index: &Index, steps: &mut Steps<L>) -> Blob {
-    let found = index.all(alloc, steps).expect(rt, "pairs");
-    written_pairs(rt, alloc, &found)
+fn all<L: Ledger>(alloc: Global, index: &Index, steps: &mut Steps<L>) -> Result<Pairs, AllocError> {
+    index.all(alloc, steps)
 }
+
+/// The pairs of the five keys.
+static PAIRS: &str =
+    r#"Ok(List { elements: [Pair { key: "ask", value: Value { priority: 0, text: "x" } }, Pair { key: "ate", value: Value { priority: 1, text: "x" } }, Pair { key: "on", value: Value { priority: 2, text: "x" } }, Pair { key: "once", value: Value { priority: 3, text: "x" } }, Pair { key: "one", value: Value { priority: 4, text: "x" } }] })"#;
 
 /// Looks up keys of five, one by one and all.
 fn look_up_keys<L: Ledger>(rt: &impl Abort, alloc: Global, steps: &mut Steps<L>) {
     let index = adopt(rt, alloc, FIVE_KEYS);
-    let (priority, text) = find_one(rt, alloc, &index, b"once", steps).expect(rt, "a value");
-    holds(rt, priority == 3);
-    same(rt, text.as_bytes(), b"x");
-    holds(rt, find_one(rt, alloc, &index, b"onc", steps).is_none());
-    same(rt, find(rt, alloc, &index, b"on", steps).as_bytes(), b"2x ");
-    let pairs = all(rt, alloc, &index, steps);
-    same(rt, pairs.as_bytes(), b"ask0x ate1x on2x once3x one4x ");
+    let once = find_one(&index, b"once", steps);
+    let onc = find_one(&index, b"onc", steps);
+    shown(rt, alloc, (once, onc), "(Some((3, [120])), None)");
+    let on = find(alloc, &index, b"on", steps);
+    let want = r#"Ok(List { elements: [Value { priority: 2, text: "x" }] })"#;
+    shown(rt, alloc, on, want);
+    shown(rt, alloc, all(alloc, &index, steps), PAIRS);
+    drop(index);
 }
 
 /// Patterns with their texts.
-static TWO_PATTERNS: [(&str, &str); 2] = [("pci_x:v0000[!a-f]d*", "x"), ("pci_x:v*d99", "y")];
+static TWO_PATTERNS: [(&[u8], &[u8]); 2] = [(b"pci_x:v0000[!a-f]d*", b"x"), (b"pci_x:v*d99", b"y")];
 
 /// Texts, and the values of the patterns that they match.
-static MATCHED: [(&str, &str); 3] = [
-    ("pci_x:v00001d99", "0x 1y "),
-    ("pci_x:v0000ad99", "1y "),
-    ("pci_x", ""),
+static MATCHED: [(&[u8], &str); 3] = [
+    (
+        b"pci_x:v00001d99",
+        r#"Ok(List { elements: [Value { priority: 0, text: "x" }, Value { priority: 1, text: "y" }] })"#,
+    ),
+    (
+        b"pci_x:v0000ad99",
+        r#"Ok(List { elements: [Value { priority: 1, text: "y" }] })"#,
+    ),
+    (b"pci_x", "Ok(List { elements: [] })"),
 ];
 
 /// Looks up texts among patterns.
@@ -231,11 +212,9 @@ fn look_up_patterns<L: Ledger>(rt: &impl Abort, alloc: Global, steps: &mut Steps
     let file = file_of(rt, alloc, &TWO_PATTERNS);
     let index = adopt(rt, alloc, file.as_bytes());
     for (text, want) in &MATCHED {
-        let found = index
-            .wild(alloc, text.as_bytes(), steps)
-            .expect(rt, "values");
-        same(rt, written(rt, alloc, &found).as_bytes(), want.as_bytes());
+        shown(rt, alloc, index.wild(alloc, text, steps), want);
     }
+    drop(index);
 }
 
 /// Counts the steps of all lookups, and one step of its own.

@@ -3,9 +3,8 @@
 //!
 //! A module of it has the calls of one layer: names and words, files and outputs, objects and
 //! facts, indexes, the relation of a tree, built-in modules, device nodes, plans, the machine and
-//! its users, removals, and parameters. The commands are called in `test_commands`, and the readers
-//! of their words in `test_words`. It builds on the crates whose calls these are, and on
-//! `test_objects` for small modules that are written out.
+//! its users, removals, parameters, the words of the commands, and the commands. It builds on the
+//! crates whose calls these are, and on `test_objects` for small modules that are written out.
 //!
 //! A call with a long contract is made by a function that promises nothing, so that the contract
 //! isn't carried through the test.
@@ -13,6 +12,8 @@
 
 #[cfg(test)]
 mod builtin;
+#[cfg(test)]
+mod commands;
 #[cfg(test)]
 mod indexes;
 #[cfg(test)]
@@ -41,3 +42,5 @@ mod removals;
 mod same;
 #[cfg(test)]
 mod users;
+#[cfg(test)]
+mod words;

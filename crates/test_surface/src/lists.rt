@@ -1,18 +1,8 @@
-//! Lists as texts, which tests compare.
+//! Lists that tests hand to calls.
 
-use km_names::{Bytes, List, Name, Names, PathText, Paths};
+use km_names::{List, Name, Names, PathText, Paths, Word};
 use std::alloc::Global;
 use std::process::Abort;
-
-/// Returns the items of a list, each with a space after it.
-pub(crate) fn spaced<K>(rt: &impl Abort, alloc: Global, items: &List<Bytes<K>>) -> Vec<u8> {
-    let mut text = Vec::new(alloc);
-    for item in items.as_slice() {
-        text.extend_from_slice(item.as_bytes()).expect(rt, "bytes");
-        text.push(b' ').expect(rt, "a byte");
-    }
-    text
-}
 
 /// Returns a list of these names, put in one by one.
 pub(crate) fn names(rt: &impl Abort, alloc: Global, texts: &[&[u8]]) -> Names {
@@ -40,4 +30,14 @@ pub(crate) fn path(rt: &impl Abort, alloc: Global, text: &[u8]) -> PathText {
         path.push(*byte).expect(rt, "a byte");
     }
     path
+}
+
+/// Returns the words of a text, with one space between each and the next.
+pub(crate) fn words(rt: &impl Abort, alloc: Global, text: &str) -> List<Word> {
+    let mut list = List::new(alloc);
+    for part in text.split(' ') {
+        let word = Word::from_text(alloc, part).expect(rt, "a word");
+        list.push(word).expect(rt, "words");
+    }
+    list
 }

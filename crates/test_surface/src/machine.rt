@@ -2,16 +2,17 @@
 ghost use Rattle.std.specs.Prelude.{◌≡◌};
 
 use crate::lists::path;
-use crate::same::{holds, same};
+use crate::relation::{SYSTEM_MAP, add, kernel_of, usual_kernel};
+use crate::same::{holds, same, shown};
 use km_names::Blob;
-use model_loader::{LoadFault, LoadedAt, Machine, MachineFault, Region};
+use model_loader::{LoadFault, LoadedAt, Machine, Region};
 use module_facts::{Module, ModuleFault, read_module};
 use provider_rel::Kernel;
 use raw_image::Image;
 use std::alloc::Global;
 use std::process::Abort;
 use test_objects::{GIVES, NEEDS, SheetRow, object_of};
-use x86_relocate::{Overflow, Patch, Patches, TooWide, Written, apply, value};
+use x86_relocate::{Patch, Patches, apply, value};
 
 fn words_are_put_into_an_image(rt: &impl Abort, alloc: Global) {
     let mut image = Image::zeroed(alloc, 11).expect(rt, "an image");
@@ -27,13 +28,16 @@ fn words_are_put_into_an_image(rt: &impl Abort, alloc: Global) {
     );
 }
 
-fn words_are_those_of_the_table(rt: &impl Abort) {
-    holds(rt, value(0, 5, 5, 5) == Ok(Written::Nothing));
+/// What three words of the table are, and what one is too wide for.
+static WORDS: &str =
+    "(Ok(Nothing), Ok(Four(2147483648)), Ok(Eight(18446744073709551615)), Err(TooWide))";
+
+fn words_are_those_of_the_table(rt: &impl Abort, alloc: Global) {
+    let nothing = value(0, 5, 5, 5);
     let low = value(11, 0xffff_ffff_8000_0000, 0, 0);
-    holds(rt, low == Ok(Written::Four(0x8000_0000)));
-    holds(rt, value(11, 0x8000_0000, 0, 0) == Err(TooWide));
     let way = value(24, 0, 0, 1);
-    holds(rt, way == Ok(Written::Eight(0xffff_ffff_ffff_ffff)));
+    let high = value(11, 0x8000_0000, 0, 0);
+    shown(rt, alloc, (nothing, low, way, high), WORDS);
 }
 
 /// Returns a patch of four bytes with the address of its symbol.
@@ -56,14 +60,11 @@ fn patches_are_applied(rt: &impl Abort, alloc: Global) {
     let mut image = Image::zeroed(alloc, 8).expect(rt, "an image");
     let patches = [four_bytes(0, 4, 0x0403_0201), four_bytes(1, 0, 1 << 32)];
     let first = Patches::from_vec(patches[..1].to_vec(alloc).expect(rt, "a copy"));
-    holds(rt, apply(&mut image, &first).is_ok());
+    shown(rt, alloc, apply(&mut image, &first), "Ok(())");
     same(rt, image.as_bytes(), b"\0\0\0\0\x01\x02\x03\x04");
     let both = Patches::from_vec(patches.to_vec(alloc).expect(rt, "a copy"));
-    let want = Overflow {
-        section: 3,
-        entry: 1,
-    };
-    holds(rt, apply(&mut image, &both) == Err(want));
+    let want = "Err(Overflow { section: 3, entry: 1 })";
+    shown(rt, alloc, apply(&mut image, &both), want);
 }
 
 /// Bases and sizes, and whether they are those of a region.
@@ -85,12 +86,10 @@ fn regions_are_whole_pages(rt: &impl Abort) {
 /// Where the region of modules usually begins.
 pub(crate) const BASE: u64 = 0xffff_ffff_c000_0000;
 
-/// Reads the table of a kernel that exports `printk`.
+/// Reads the table of a kernel that exports `printk`, with its address.
 fn kernel_of_printk(rt: &impl Abort, alloc: Global) -> Kernel {
-    let symvers = b"0x11111111\tprintk\tvmlinux\tEXPORT_SYMBOL\n".as_slice();
-    let mut kernel = Kernel::from_symvers(alloc, symvers).expect(rt, "a kernel");
-    let map = b"ffffffff81000000 T printk\n".as_slice();
-    kernel.add_addresses(map).expect(rt, "addresses");
+    let mut kernel = usual_kernel(rt, alloc);
+    add(rt, &mut kernel, SYSTEM_MAP).expect(rt, "addresses");
     kernel
 }
 
@@ -123,34 +122,53 @@ pub(crate) fn load(machine: &mut Machine, module: &Module) -> Result<LoadedAt, L
     machine.load(module)
 }
 
-/// Loads the module of a sheet, and returns where it lies.
+/// Loads the module of a sheet.
 fn loaded(
     rt: &impl Abort,
     alloc: Global,
     machine: &mut Machine,
     at: &[u8],
     row: &SheetRow,
-) -> (u64, u64) {
+) -> Result<LoadedAt, LoadFault> {
     let module = module_of(rt, alloc, at, row);
-    let place = load(machine, &module).expect(rt, "a place");
-    (place.base, place.size)
+    let place = load(machine, &module);
+    drop(module);
+    place
 }
 
-/// Loads `a`, which exports `fa`, and returns where it lies.
-pub(crate) fn load_a(rt: &impl Abort, alloc: Global, machine: &mut Machine) -> (u64, u64) {
+/// Loads `a`, which exports `fa`.
+pub(crate) fn load_a(
+    rt: &impl Abort,
+    alloc: Global,
+    machine: &mut Machine,
+) -> Result<LoadedAt, LoadFault> {
     loaded(rt, alloc, machine, b"kernel/a.ko", &GIVES)
 }
 
-/// Loads `b`, which needs `fa`, and returns where it lies.
-pub(crate) fn load_b(rt: &impl Abort, alloc: Global, machine: &mut Machine) -> (u64, u64) {
+/// Loads `b`, which needs `fa`.
+pub(crate) fn load_b(
+    rt: &impl Abort,
+    alloc: Global,
+    machine: &mut Machine,
+) -> Result<LoadedAt, LoadFault> {
     loaded(rt, alloc, machine, b"kernel/b.ko", &NEEDS)
 }
 
+/// Where both lie.
+static BOTH: &str =
+    "(Ok(LoadedAt { base: 18446744072635809792, size: 8192 }), Ok(LoadedAt { base: 18446744072635817984, size: 4096 }))";
+
+/// What the machine says of `a`, and of a module that isn't loaded.
+static A: &str = r#"(LoadedModule { name: "a", base: 18446744072635809792, size: 8192 }, None)"#;
+
+/// What it says of `b`.
+static B: &str = r#"LoadedModule { name: "b", base: 18446744072635817984, size: 4096 }"#;
+
 /// Stops unless the modules are `a` and `b`.
-fn expect_a_and_b(rt: &impl Abort, machine: &Machine) {
+fn expect_a_and_b(rt: &impl Abort, alloc: Global, machine: &Machine) {
     holds(rt, machine.module_count() == 2);
-    same(rt, machine.module_at(1).name.as_bytes(), b"b");
-    holds(rt, machine.module_at(0).base == BASE);
+    shown(rt, alloc, (machine.module_at(0), machine.image(b"c")), A);
+    shown(rt, alloc, machine.module_at(1), B);
 }
 
 /// Stops unless the image of `b` begins with the address of `fa`.
@@ -158,66 +176,56 @@ fn expect_image_of_b(rt: &impl Abort, machine: &Machine) {
     let image = machine.image(b"b").expect(rt, "an image");
     holds(rt, image.len() == 0x1000);
     same(rt, &image[..8], b"\0\0\0\xc0\xff\xff\xff\xff");
-    holds(rt, machine.image(b"c").is_none());
 }
 
 fn modules_are_loaded(rt: &impl Abort, alloc: Global) {
     let mut machine = machine(rt, alloc, 0x3000);
     let a = load_a(rt, alloc, &mut machine);
-    holds(rt, a == (BASE, 0x2000));
     let b = load_b(rt, alloc, &mut machine);
-    holds(rt, b == (BASE + 0x2000, 0x1000));
-    expect_a_and_b(rt, &machine);
-    expect_image_of_b(rt, &machine)
+    shown(rt, alloc, (a, b), BOTH);
+    expect_a_and_b(rt, alloc, &machine);
+    expect_image_of_b(rt, &machine);
+    drop(machine);
 }
 
-/// Loads `b`, which is refused.
-fn refused_b(rt: &impl Abort, alloc: Global, machine: &mut Machine) -> LoadFault {
-    let module = module_of(rt, alloc, b"kernel/b.ko", &NEEDS);
-    match load(machine, &module) {
-        Ok(_at) => panic!(rt; "loaded"),
-        Err(fault) => fault,
-    }
+/// Stops unless `b` is refused with this text.
+fn expect_refused(rt: &impl Abort, alloc: Global, machine: &mut Machine, want: &str) {
+    let refused = load_b(rt, alloc, machine).err();
+    let fault = refused.expect(rt, "a refusal");
+    shown(rt, alloc, (fault.text(alloc), fault), want);
 }
 
-/// Stops unless `b` is refused for want of `fa`.
-fn expect_missing(rt: &impl Abort, alloc: Global, machine: &mut Machine) {
-    let fault = refused_b(rt, alloc, machine);
-    let text = fault.text(alloc).expect(rt, "a text");
-    same(rt, text.as_bytes(), b"missing symbol fa");
-}
+/// Why `b` is refused without `a`.
+static MISSING: &str = r#"(Ok("missing symbol fa"), MissingSymbol { name: "fa" })"#;
 
-/// Stops unless `b` finds no room for its page.
-fn expect_full(rt: &impl Abort, alloc: Global, machine: &mut Machine) {
-    let LoadFault::RegionFull { pages } = refused_b(rt, alloc, machine) else {
-        panic!(rt; "another refusal");
-    };
-    holds(rt, pages == 1);
-}
+/// Why `b` is refused where only `a` has room.
+static FULL: &str = r#"(Ok("region full, 1 pages"), RegionFull { pages: 1 })"#;
 
 fn a_region_is_full(rt: &impl Abort, alloc: Global) {
     let mut machine = machine(rt, alloc, 0x2000);
-    expect_missing(rt, alloc, &mut machine);
-    let _at = load_a(rt, alloc, &mut machine);
-    expect_full(rt, alloc, &mut machine);
+    expect_refused(rt, alloc, &mut machine, MISSING);
+    let _at = load_a(rt, alloc, &mut machine).expect(rt, "a place");
+    expect_refused(rt, alloc, &mut machine, FULL);
     holds(rt, machine.module_count() == 1);
+    drop(machine);
 }
 
 fn a_kernel_needs_addresses(rt: &impl Abort, alloc: Global) {
-    let symvers = b"0x1\tfa\tvmlinux\n".as_slice();
-    let kernel = Kernel::from_symvers(alloc, symvers).expect(rt, "a kernel");
+    let kernel = kernel_of(rt, alloc, b"0x1\tfa\tvmlinux\n");
     let region = Region::new(BASE, 0x1000).expect(rt, "a region");
-    let made = Machine::new(alloc, kernel, region);
-    let Err(MachineFault::KernelWithoutAddress { name }) = made else {
-        panic!(rt; "made");
-    };
-    same(rt, name.as_bytes(), b"fa");
+    let refused = Machine::new(alloc, kernel, region).err();
+    shown(
+        rt,
+        alloc,
+        refused,
+        r#"Some(KernelWithoutAddress { name: "fa" })"#,
+    );
 }
 
 #[test]
 fn the_machine_is_called(rt: HostRuntime) {
     words_are_put_into_an_image(&rt, rt.alloc());
-    words_are_those_of_the_table(&rt);
+    words_are_those_of_the_table(&rt, rt.alloc());
     patches_are_applied(&rt, rt.alloc());
     regions_are_whole_pages(&rt);
     modules_are_loaded(&rt, rt.alloc());

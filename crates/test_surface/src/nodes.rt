@@ -1,7 +1,7 @@
 //! Device nodes, their text, and its reader.
 
 use crate::lists::path;
-use crate::same::{holds, same, same_length};
+use crate::same::{holds, shown};
 use devname_nodes::{NodeList, nodes, nodes_text, read_nodes};
 use km_names::{Blob, ConfFault, Name, Names, Texts};
 use module_facts::{Exports, Facts, Needs};
@@ -9,19 +9,24 @@ use provider_rel::TreeFacts;
 use std::alloc::Global;
 use std::process::Abort;
 
-/// Returns the facts of `fuse`, which states its device and its number.
-fn facts_of_fuse(rt: &impl Abort, alloc: Global) -> Facts {
+/// Returns the aliases of `fuse`, which state its device and its number.
+fn aliases_of_fuse(rt: &impl Abort, alloc: Global) -> Texts {
     let mut aliases = Texts::new(alloc);
     for alias in [b"devname:fuse".as_slice(), b"char-major-10-229"] {
         let text = Blob::from_slice(alloc, alias).expect(rt, "bytes");
         aliases.push(text).expect(rt, "aliases");
     }
+    aliases
+}
+
+/// Returns the facts of `fuse`.
+fn facts_of_fuse(rt: &impl Abort, alloc: Global) -> Facts {
     Facts {
         path: path(rt, alloc, b"kernel/fuse.ko"),
         name: Name::from_slice(alloc, b"fuse").expect(rt, "a name"),
         exports: Exports::new(alloc),
         needs: Needs::new(alloc),
-        aliases,
+        aliases: aliases_of_fuse(rt, alloc),
         softdeps: Texts::new(alloc),
         free: true,
         imports: Names::new(alloc),
@@ -35,38 +40,42 @@ fn nodes_of_fuse(rt: &impl Abort, alloc: Global) -> NodeList {
     nodes(alloc, &tree).expect(rt, "nodes")
 }
 
-/// A modules.devname with the node of that module.
-static FUSE_TEXT: &[u8] =
-    b"# Device nodes to trigger on-demand module loading.\nfuse fuse c10:229\n";
-
 /// Reads the nodes of a modules.devname.
 fn read(rt: &impl Abort, alloc: Global, text: &[u8]) -> Result<NodeList, ConfFault> {
     holds(rt, text.len() <= 67_108_864);
     read_nodes(alloc, &path(rt, alloc, b"modules.devname"), text)
 }
 
-/// Stops unless the one node is that of `fuse`.
-fn expect_fuse(rt: &impl Abort, list: &NodeList) {
-    same_length(rt, list.len(), 1);
-    let node = list.get(0).expect(rt, "a node");
-    same(rt, node.module.as_bytes(), b"fuse");
-    same(rt, node.device.as_bytes(), b"fuse");
-    holds(rt, (node.block, node.major, node.minor) == (false, 10, 229));
+fn nodes_are_written(rt: &impl Abort, alloc: Global) {
+    let list = nodes_of_fuse(rt, alloc);
+    let want =
+        r##"Ok("# Device nodes to trigger on-demand module loading.\nfuse fuse c10:229\n")"##;
+    shown(rt, alloc, nodes_text(alloc, &list), want);
+    let want =
+        r#"List { elements: [Node { module: "fuse", device: "fuse", block: false, major: 10, minor: 229 }] }"#;
+    shown(rt, alloc, list, want);
 }
 
-fn nodes_are_written_and_read(rt: &impl Abort, alloc: Global) {
-    let list = nodes_of_fuse(rt, alloc);
-    expect_fuse(rt, &list);
-    let text = nodes_text(alloc, &list).expect(rt, "a text");
-    same(rt, text.as_bytes(), FUSE_TEXT);
-    expect_fuse(rt, &read(rt, alloc, FUSE_TEXT).expect(rt, "nodes"));
-    let Err(ConfFault::BadLine { line, .. }) = read(rt, alloc, b"# x\nfuse fuse c10\n") else {
-        panic!(rt; "not refused");
-    };
-    holds(rt, line == 2);
+/// Texts of modules.devname, and what is read.
+static TEXTS: [(&[u8], &str); 2] = [
+    (
+        b"# Device nodes to trigger on-demand module loading.\nfuse fuse c10:229\n",
+        r#"Ok(List { elements: [Node { module: "fuse", device: "fuse", block: false, major: 10, minor: 229 }] })"#,
+    ),
+    (
+        b"# x\nfuse fuse c10\n",
+        r#"Err(BadLine { file: "modules.devname", line: 2 })"#,
+    ),
+];
+
+fn nodes_are_read(rt: &impl Abort, alloc: Global) {
+    for (text, want) in &TEXTS {
+        shown(rt, alloc, read(rt, alloc, text), want);
+    }
 }
 
 #[test]
 fn device_nodes_are_called(rt: HostRuntime) {
-    nodes_are_written_and_read(&rt, rt.alloc());
+    nodes_are_written(&rt, rt.alloc());
+    nodes_are_read(&rt, rt.alloc());
 }

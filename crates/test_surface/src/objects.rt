@@ -1,18 +1,17 @@
 //! Objects, the fields of `.modinfo`, and the facts of modules.
 
-use crate::lists::{path, spaced};
+use crate::lists::path;
 use crate::machine::read;
-use crate::same::{holds, same, same_length};
+use crate::same::{holds, same, shown};
 use elf_object::{Object, ObjectFault, SectionFault, Sections};
 use km_names::{Blob, List, Name};
 use modinfo_fields::{Field, FieldList, fields};
 use modinfo_tool::{ShowOptions, show};
-use module_facts::Facts;
 use std::alloc::Global;
 use std::process::Abort;
 use test_objects::{
-    EMPTY_MORE, EMPTY_SHEET, GIVES_ALONE, GPL_ONLY, IN_SPACE, LICENSE_OBJECT, MoreRow, NeedRow,
-    SheetRow, VersionRow, object_with,
+    EMPTY_MORE, EMPTY_SHEET, GIVES_ALONE, GPL_ONLY, IN_SPACE, LICENSE_OBJECT, MoreRow, NO_MORE,
+    NeedRow, SheetRow, VersionRow, object_with,
 };
 use tree_gen::{
     Sheet, SheetMore, SheetNeed, SheetPlace, SheetVersion, is_sheet, object, object_more,
@@ -27,33 +26,41 @@ fn sections_of(rt: &impl Abort, alloc: Global, length: usize) -> Result<Sections
     Sections::read(alloc, bytes)
 }
 
+/// The second section of the small object.
+static MODINFO: &str =
+    r#"Section { name: ".modinfo", kind: 1, flags: 2, offset: 64, size: 12, link: 0, info: 0, align: 1, kept: false }"#;
+
+/// Stops unless these are the sections of the small object.
+fn expect_license(rt: &impl Abort, alloc: Global, sections: &Sections) {
+    holds(rt, sections.section_count() == 3);
+    shown(rt, alloc, sections.section(1), MODINFO);
+    same(rt, sections.section_bytes(1), b"license=GPL\0");
+    let modinfo = sections.section_named(b".modinfo");
+    let text = sections.section_named(b".text");
+    shown(rt, alloc, (modinfo, text), "(Some(1), None)");
+}
+
 fn sections_are_read(rt: &impl Abort, alloc: Global) {
     let sections = sections_of(rt, alloc, 288).expect(rt, "sections");
-    holds(rt, sections.section_count() == 3);
-    holds(rt, sections.section_named(b".modinfo") == Some(1));
-    holds(rt, sections.section_named(b".text") == None);
-    let section = sections.section(1);
-    same(rt, section.name.as_bytes(), b".modinfo");
-    holds(rt, [section.kind, section.link, section.info] == [1, 0, 0]);
-    holds(
-        rt,
-        [section.flags, section.offset, section.size] == [2, 64, 12],
-    );
-    holds(rt, (section.align, section.kept) == (1, false));
-    same(rt, sections.section_bytes(1), b"license=GPL\0");
+    expect_license(rt, alloc, &sections);
+    drop(sections);
 }
 
 fn a_file_that_is_cut_is_refused(rt: &impl Abort, alloc: Global) {
-    let Err(fault) = sections_of(rt, alloc, 287) else {
-        panic!(rt; "not refused");
-    };
-    let want = SectionFault::Truncated {
-        offset: 96,
-        need: 192,
-    };
-    holds(rt, fault == want);
-    let text = fault.text(alloc).expect(rt, "a text");
-    same(rt, text.as_bytes(), b"truncated at 96 need 192");
+    let refused = sections_of(rt, alloc, 287).err();
+    let fault = refused.expect(rt, "a refusal");
+    shown(rt, alloc, fault, "Truncated { offset: 96, need: 192 }");
+    shown(
+        rt,
+        alloc,
+        fault.text(alloc),
+        r#"Ok("truncated at 96 need 192")"#,
+    );
+}
+
+/// Returns the name of the symbol.
+fn fa(rt: &impl Abort, alloc: Global) -> Name {
+    Name::from_slice(alloc, b"fa").expect(rt, "a name")
 }
 
 /// Makes a sheet that needs `fa`, with one word for it.
@@ -65,25 +72,43 @@ fn needs_fa(rt: &impl Abort, alloc: Global, kind: u32) -> Sheet {
         needs: List::new(alloc),
         places: List::new(alloc),
     };
-    let name = Name::from_slice(alloc, b"fa").expect(rt, "a name");
-    let need = SheetNeed { name, weak: false };
+    push_need(rt, alloc, &mut sheet);
+    push_place(rt, alloc, &mut sheet, kind);
+    sheet
+}
+
+/// Puts the need of `fa` into a sheet.
+fn push_need(rt: &impl Abort, alloc: Global, sheet: &mut Sheet) {
+    let need = SheetNeed {
+        name: fa(rt, alloc),
+        weak: false,
+    };
     sheet.needs.push(need).expect(rt, "needs");
-    let symbol = Name::from_slice(alloc, b"fa").expect(rt, "a name");
+}
+
+/// Puts a word for `fa` into a sheet.
+fn push_place(rt: &impl Abort, alloc: Global, sheet: &mut Sheet, kind: u32) {
     let place = SheetPlace {
         kind,
-        symbol,
+        symbol: fa(rt, alloc),
         addend: -7,
     };
     sheet.places.push(place).expect(rt, "places");
-    sheet
+}
+
+/// Returns the object of a sheet.
+fn written(rt: &impl Abort, alloc: Global, sheet: &Sheet) -> Blob {
+    let can_be_written = is_sheet(alloc, sheet, &SheetMore::none(alloc)).expect(rt, "an answer");
+    holds(rt, can_be_written);
+    object(alloc, sheet).expect(rt, "an object")
 }
 
 /// Returns the object of that sheet.
 fn object_that_needs_fa(rt: &impl Abort, alloc: Global, kind: u32) -> Blob {
     let sheet = needs_fa(rt, alloc, kind);
-    let can_be_written = is_sheet(alloc, &sheet, &SheetMore::none(alloc)).expect(rt, "an answer");
-    holds(rt, can_be_written);
-    object(alloc, &sheet).expect(rt, "an object")
+    let bytes = written(rt, alloc, &sheet);
+    drop(sheet);
+    bytes
 }
 
 /// Reads that object.
@@ -93,139 +118,138 @@ fn read_object(rt: &impl Abort, alloc: Global, kind: u32) -> Result<Object, Obje
     Object::read(alloc, bytes)
 }
 
+/// The section of the words of that object.
+static DATA: &str =
+    r#"Section { name: ".data", kind: 1, flags: 3, offset: 64, size: 8, link: 0, info: 0, align: 8, kept: true }"#;
+
+/// Its symbol, which isn't defined.
+static SYMBOL: &str = r#"Symbol { name: "fa", binding: 1, section: 0, value: 0 }"#;
+
+/// Its place.
+static PLACE: &str =
+    "RelaPlace { section: 5, entry: 0, target: 2, offset: 0, symbol: 1, kind: 1, addend: -7 }";
+
 fn an_object_is_read(rt: &impl Abort, alloc: Global) {
     let object = read_object(rt, alloc, 1).expect(rt, "an object");
+    expect_sections(rt, alloc, &object);
+    expect_entries(rt, alloc, &object);
+    drop(object);
+}
+
+/// Stops unless an object has nine sections, the second of them for its word.
+fn expect_sections(rt: &impl Abort, alloc: Global, object: &Object) {
     holds(rt, object.section_count() == 9);
     holds(rt, object.section_named(b".data") == Some(2));
-    holds(rt, object.section(2).size == 8);
-    holds(rt, object.section(2).kept);
+    shown(rt, alloc, object.section(2), DATA);
     same(rt, object.section_bytes(2), &[0; 8]);
-    expect_symbol(rt, &object);
-    expect_place(rt, &object);
 }
 
-/// Stops unless the symbol is `fa`, which isn't defined.
-fn expect_symbol(rt: &impl Abort, object: &Object) {
+/// Stops unless an object has the one symbol, and the one place.
+fn expect_entries(rt: &impl Abort, alloc: Global, object: &Object) {
     holds(rt, object.symbol_count() == 2);
-    let symbol = object.symbol(1);
-    same(rt, symbol.name.as_bytes(), b"fa");
-    holds(
-        rt,
-        (symbol.binding, symbol.section, symbol.value) == (1, 0, 0),
-    );
-}
-
-/// Stops unless the place is that of `fa`.
-fn expect_place(rt: &impl Abort, object: &Object) {
+    shown(rt, alloc, object.symbol(1), SYMBOL);
     holds(rt, object.place_count() == 1);
-    let place = object.place(0);
-    holds(rt, [place.section, place.entry, place.target] == [5, 0, 2]);
-    holds(rt, [place.symbol, place.kind] == [1, 1]);
-    holds(rt, (place.offset, place.addend) == (0, -7));
+    shown(rt, alloc, object.place(0), PLACE);
 }
 
-/// Returns the object of that sheet with a version in the extended form.
+/// Returns what an object has besides its sheet: a version in the extended form.
+fn version_of_fa(rt: &impl Abort, alloc: Global) -> SheetMore {
+    let mut more = SheetMore::none(alloc);
+    let version = SheetVersion {
+        name: fa(rt, alloc),
+        crc: 0x11,
+    };
+    more.ext.push(version).expect(rt, "one more");
+    more
+}
+
+/// Returns the object of a sheet with more.
+fn written_more(rt: &impl Abort, alloc: Global, sheet: &Sheet, more: &SheetMore) -> Blob {
+    let can_be_written = is_sheet(alloc, sheet, more).expect(rt, "an answer");
+    holds(rt, can_be_written);
+    object_more(alloc, sheet, more).expect(rt, "an object")
+}
+
+/// Returns the object of that sheet with that version.
 fn object_with_version(rt: &impl Abort, alloc: Global) -> Blob {
     let sheet = needs_fa(rt, alloc, 1);
-    let mut more = SheetMore::none(alloc);
-    more.ext
-        .push(SheetVersion {
-            name: Name::from_slice(alloc, b"fa").expect(rt, "bytes"),
-            crc: 0x11,
-        })
-        .expect(rt, "one more");
-    let can_be_written = is_sheet(alloc, &sheet, &more).expect(rt, "an answer");
-    holds(rt, can_be_written);
-    object_more(alloc, &sheet, &more).expect(rt, "an object")
+    let more = version_of_fa(rt, alloc);
+    let bytes = written_more(rt, alloc, &sheet, &more);
+    drop(sheet);
+    drop(more);
+    bytes
 }
+
+/// Stops unless a module has these facts, and so many places.
+fn expect_module(rt: &impl Abort, alloc: Global, at: &[u8], bytes: Blob, want: &str) {
+    let module = read(rt, alloc, at, bytes).expect(rt, "a module");
+    shown(
+        rt,
+        alloc,
+        (&module.facts, module.object.place_count()),
+        want,
+    );
+    drop(module);
+}
+
+/// The facts of its module.
+static VERSION_OF_FA: &str =
+    r#"(Facts { path: "kernel/b.ko", name: "b", exports: List { elements: [] }, needs: List { elements: [Need { name: "fa", symbol: 1, weak: false, crc: Some(17) }] }, aliases: List { elements: [] }, softdeps: List { elements: [] }, free: false, imports: List { elements: [] } }, 1)"#;
 
 fn an_object_has_more(rt: &impl Abort, alloc: Global) {
     let bytes = object_with_version(rt, alloc);
-    let module = read(rt, alloc, b"kernel/b.ko", bytes).expect(rt, "a module");
-    let need = module.facts.needs.get(0).expect(rt, "a need");
-    holds(rt, need.crc == Some(0x11));
+    expect_module(rt, alloc, b"kernel/b.ko", bytes, VERSION_OF_FA);
 }
 
 /// Stops unless a module is refused with this text.
-fn expect_refusal(rt: &impl Abort, alloc: Global, at: &[u8], kind: u32, want: &[u8]) {
+fn expect_refusal(rt: &impl Abort, alloc: Global, at: &[u8], kind: u32, want: &str) {
     let bytes = object_that_needs_fa(rt, alloc, kind);
-    let Err(fault) = read(rt, alloc, at, bytes) else {
-        panic!(rt; "not refused");
-    };
-    let text = fault.text(alloc).expect(rt, "a text");
-    same(rt, text.as_bytes(), want);
+    let refused = read(rt, alloc, at, bytes).err();
+    let fault = refused.expect(rt, "a refusal");
+    shown(rt, alloc, fault.text(alloc), want);
+    drop(fault);
 }
 
+/// Paths of modules that are refused, the types of their places, and why.
+static REFUSALS: [(&[u8], u32, &str); 3] = [
+    (b"/m/a.ko", 9, r#"Ok("unknown relocation 5 0 9")"#),
+    (b"/m/x.ko.zst", 1, r#"Ok("compressed")"#),
+    (b"/m/.ko", 1, r#"Ok("bad name")"#),
+];
+
 fn faults_of_modules_have_texts(rt: &impl Abort, alloc: Global) {
-    expect_refusal(rt, alloc, b"/m/a.ko", 9, b"unknown relocation 5 0 9");
-    expect_refusal(rt, alloc, b"/m/x.ko.zst", 1, b"compressed");
-    expect_refusal(rt, alloc, b"/m/.ko", 1, b"bad name")
+    for (at, kind, want) in &REFUSALS {
+        expect_refusal(rt, alloc, at, *kind, want);
+    }
 }
 
 fn an_unknown_relocation_is_reported(rt: &impl Abort, alloc: Global) {
-    let Err(fault) = read_object(rt, alloc, 9) else {
-        panic!(rt; "not refused");
-    };
-    let want = ObjectFault::UnknownType {
-        section: 5,
-        entry: 0,
-        kind: 9,
-    };
-    holds(rt, fault == want);
-    let text = fault.text(alloc).expect(rt, "a text");
-    same(rt, text.as_bytes(), b"unknown relocation 5 0 9");
+    let refused = read_object(rt, alloc, 9).err();
+    let fault = refused.expect(rt, "a refusal");
+    let want = "UnknownType { section: 5, entry: 0, kind: 9 }";
+    shown(rt, alloc, fault, want);
+    shown(
+        rt,
+        alloc,
+        fault.text(alloc),
+        r#"Ok("unknown relocation 5 0 9")"#,
+    );
 }
+
+/// The facts of a module that exports nothing, needs only `fa` and isn't free.
+static FACTS: &str =
+    r#"(Facts { path: "kernel/b-c.ko", name: "b_c", exports: List { elements: [] }, needs: List { elements: [Need { name: "fa", symbol: 1, weak: false, crc: None }] }, aliases: List { elements: [] }, softdeps: List { elements: [] }, free: false, imports: List { elements: [] } }, 1)"#;
 
 fn a_module_has_its_facts(rt: &impl Abort, alloc: Global) {
     let bytes = object_that_needs_fa(rt, alloc, 1);
-    let module = read(rt, alloc, b"kernel/b-c.ko", bytes).expect(rt, "a module");
-    expect_facts(rt, &module.facts);
-    holds(rt, module.object.place_count() == 1);
-}
-
-/// Stops unless a module has its path and its name, exports nothing, needs only `fa` and isn't
-/// free.
-fn expect_facts(rt: &impl Abort, facts: &Facts) {
-    same(rt, facts.path.as_bytes(), b"kernel/b-c.ko");
-    same(rt, facts.name.as_bytes(), b"b_c");
-    holds(rt, facts.exports.is_empty());
-    holds(rt, !facts.free);
-    same_length(rt, facts.needs.len(), 1);
-    let need = facts.needs.get(0).expect(rt, "a need");
-    same(rt, need.name.as_bytes(), b"fa");
-    holds(rt, (need.symbol, need.weak, need.crc) == (1, false, None));
-}
-
-/// Exports that are the same but for their kind: whether only GPL modules use them, and their
-/// namespace.
-static EXPORTS: [(MoreRow, bool, &[u8]); 3] = [
-    (EMPTY_MORE, false, b""),
-    (GPL_ONLY, true, b""),
-    (IN_SPACE, false, b"NS"),
-];
-
-/// Stops unless a module exports `fa` in this way.
-fn expect_export(rt: &impl Abort, facts: &Facts, gpl: bool, space: &[u8]) {
-    let export = facts.exports.get(0).expect(rt, "an export");
-    same(rt, export.name.as_bytes(), b"fa");
-    holds(rt, export.gpl == gpl);
-    same(rt, export.space.as_bytes(), space);
-}
-
-/// Compares exports of which one is GPL-only, and another in a namespace.
-fn exports_have_their_kind(rt: &impl Abort, alloc: Global) {
-    for (more, gpl, space) in &EXPORTS {
-        let bytes = object_with(alloc, &GIVES_ALONE, more).expect(rt, "an object");
-        let module = read(rt, alloc, b"kernel/a.ko", bytes).expect(rt, "a module");
-        expect_export(rt, &module.facts, *gpl, space);
-    }
+    expect_module(rt, alloc, b"kernel/b-c.ko", bytes, FACTS);
 }
 
 /// A name of 60 bytes, for which an entry of `__versions` has no room.
 const LONG: &[u8] = &[b'x'; 60];
 
 /// A module that needs that name in a version.
-static NEEDS_LONG: SheetRow = SheetRow {
+const NEEDS_LONG: SheetRow = SheetRow {
     needs: &[NeedRow {
         name: LONG,
         weak: false,
@@ -234,7 +258,7 @@ static NEEDS_LONG: SheetRow = SheetRow {
 };
 
 /// The version, in the extended form.
-static LONG_VERSION: MoreRow = MoreRow {
+const LONG_VERSION: MoreRow = MoreRow {
     ext: &[VersionRow {
         name: LONG,
         crc: 0x11,
@@ -242,98 +266,132 @@ static LONG_VERSION: MoreRow = MoreRow {
     ..EMPTY_MORE
 };
 
-fn long_names_have_versions(rt: &impl Abort, alloc: Global) {
-    let bytes = object_with(alloc, &NEEDS_LONG, &LONG_VERSION).expect(rt, "an object");
-    let module = read(rt, alloc, b"kernel/b.ko", bytes).expect(rt, "a module");
-    let need = module.facts.needs.get(0).expect(rt, "a need");
-    same(rt, need.name.as_bytes(), LONG);
-    holds(rt, need.crc == Some(0x11));
+/// Modules, with their facts. Three exports are the same but for their kind: whether only GPL
+/// modules use them, and their namespace.
+static MODULES: [(SheetRow, MoreRow, &str); 4] = [
+    (
+        GIVES_ALONE,
+        NO_MORE,
+        r#"(Facts { path: "kernel/a.ko", name: "a", exports: List { elements: [Export { name: "fa", symbol: 2, crc: None, gpl: false, space: "" }] }, needs: List { elements: [] }, aliases: List { elements: [] }, softdeps: List { elements: [] }, free: false, imports: List { elements: [] } }, 0)"#,
+    ),
+    (
+        GIVES_ALONE,
+        GPL_ONLY,
+        r#"(Facts { path: "kernel/a.ko", name: "a", exports: List { elements: [Export { name: "fa", symbol: 2, crc: None, gpl: true, space: "" }] }, needs: List { elements: [] }, aliases: List { elements: [] }, softdeps: List { elements: [] }, free: false, imports: List { elements: [] } }, 0)"#,
+    ),
+    (
+        GIVES_ALONE,
+        IN_SPACE,
+        r#"(Facts { path: "kernel/a.ko", name: "a", exports: List { elements: [Export { name: "fa", symbol: 3, crc: None, gpl: false, space: "NS" }] }, needs: List { elements: [] }, aliases: List { elements: [] }, softdeps: List { elements: [] }, free: false, imports: List { elements: [] } }, 0)"#,
+    ),
+    (
+        NEEDS_LONG,
+        LONG_VERSION,
+        r#"(Facts { path: "kernel/a.ko", name: "a", exports: List { elements: [] }, needs: List { elements: [Need { name: "xxxxxxxxxxxxxxxxxxxxxxxxxxxxxxxxxxxxxxxxxxxxxxxxxxxxxxxxxxxx", symbol: 1, weak: false, crc: Some(17) }] }, aliases: List { elements: [] }, softdeps: List { elements: [] }, free: false, imports: List { elements: [] } }, 0)"#,
+    ),
+];
+
+fn exports_and_needs_have_their_kind(rt: &impl Abort, alloc: Global) {
+    for (sheet, more, want) in &MODULES {
+        let bytes = object_with(alloc, sheet, more).expect(rt, "an object");
+        expect_module(rt, alloc, b"kernel/a.ko", bytes, want);
+    }
 }
 
 /// Fields with NULs between them, one without `=`.
-static TEXTS: &[u8] = b"license=GPL\0\0\0lone\0author=A\0";
-
-/// Returns the values of a key, each with a space after it.
-fn values_text(rt: &impl Abort, alloc: Global, list: &FieldList, key: &[u8]) -> Vec<u8> {
-    let values = list.values_of(alloc, key).expect(rt, "values");
-    spaced(rt, alloc, &values)
-}
+const TEXTS: &[u8] = b"license=GPL\0\0\0lone\0author=A\0";
 
 fn fields_stand_between_nuls(rt: &impl Abort, alloc: Global) {
     let list = fields(alloc, TEXTS).expect(rt, "fields");
-    same_length(rt, list.len(), 3);
-    let field = list.get(1).expect(rt, "a field");
-    same(rt, field.key.as_bytes(), b"lone");
-    same(rt, field.value.as_bytes(), b"");
-    let values = values_text(rt, alloc, &list, b"license");
-    same(rt, values.as_slice(), b"GPL ");
+    let values = list.values_of(alloc, b"license");
+    shown(rt, alloc, values, r#"Ok(List { elements: ["GPL"] })"#);
+    let field = (list.len(), list.get(1));
+    shown(
+        rt,
+        alloc,
+        field,
+        r#"(3, Some(Field { key: "lone", value: "" }))"#,
+    );
 }
 
-fn fields_of_ones_own_have_values(rt: &impl Abort, alloc: Global) {
+/// Returns a list of one field.
+fn one_field(rt: &impl Abort, alloc: Global) -> FieldList {
     let mut list = FieldList::new(alloc);
     list.push(Field {
         key: Name::from_slice(alloc, b"alias").expect(rt, "bytes"),
         value: Blob::from_slice(alloc, b"fs-x").expect(rt, "bytes"),
     })
     .expect(rt, "one more");
-    same_length(rt, list.len(), 1);
-    let values = values_text(rt, alloc, &list, b"alias");
-    same(rt, values.as_slice(), b"fs-x ");
+    list
+}
+
+fn fields_of_ones_own_have_values(rt: &impl Abort, alloc: Global) {
+    let list = one_field(rt, alloc);
+    let values = (list.len(), list.values_of(alloc, b"alias"));
+    shown(rt, alloc, values, r#"(1, Ok(List { elements: ["fs-x"] }))"#);
+}
+
+/// Returns the only field that is shown, if there is one.
+fn field_of(rt: &impl Abort, alloc: Global, key: Option<&[u8]>) -> Option<Name> {
+    match key {
+        Some(key) => Some(Name::from_slice(alloc, key).expect(rt, "a name")),
+        None => None,
+    }
 }
 
 /// Returns what is shown of these fields of a module.
-fn shown(
-    rt: &impl Abort,
-    alloc: Global,
-    list: &FieldList,
-    field: Option<&[u8]>,
-    zero: bool,
-) -> Blob {
-    let field = match field {
-        Some(key) => Some(Name::from_slice(alloc, key).expect(rt, "a name")),
-        None => None,
-    };
-    let options = ShowOptions { field, zero };
-    show(alloc, &path(rt, alloc, b"/m/a.ko"), list, &options).expect(rt, "a text")
+fn text_of(rt: &impl Abort, alloc: Global, list: &FieldList, options: &ShowOptions) -> Blob {
+    show(alloc, &path(rt, alloc, b"/m/a.ko"), list, options).expect(rt, "a text")
 }
 
-/// Stops unless this is shown of the fields.
-fn expect_shown(
-    rt: &impl Abort,
-    alloc: Global,
-    texts: &[u8],
-    field: Option<&[u8]>,
-    zero: bool,
-    want: &[u8],
-) {
+/// Fields of two parameters, with others before and after them.
+const PARAMETERS: &[u8] =
+    b"license=GPL\0parm=depth:how deep\0parmtype=depth:int\0parmtype=raw:bool\0alias=fs-x\0";
+
+/// Fields, the only one that is shown, if there is one, whether its lines end with NULs, and what
+/// is shown.
+type ShownRow = (&'static [u8], Option<&'static [u8]>, bool, &'static [u8]);
+
+/// These rows.
+static ROWS: [ShownRow; 4] = [
+    (
+        TEXTS,
+        None,
+        false,
+        b"filename:       /m/a.ko\nlicense:        GPL\nlone:           \nauthor:         A\n",
+    ),
+    (TEXTS, Some(b"license"), true, b"GPL\0"),
+    (
+        PARAMETERS,
+        None,
+        false,
+        b"filename:       /m/a.ko\n\
+            license:        GPL\n\
+            alias:          fs-x\n\
+            parm:           depth:how deep (int)\n\
+            parm:           raw:bool\n",
+    ),
+    (
+        PARAMETERS,
+        Some(b"parm"),
+        true,
+        b"depth:how deep (int)\0raw:bool\0",
+    ),
+];
+
+/// Stops unless this is shown of fields.
+fn expect_text(rt: &impl Abort, alloc: Global, row: ShownRow) {
+    let (texts, key, zero, want) = row;
     let list = fields(alloc, texts).expect(rt, "fields");
-    let text = shown(rt, alloc, &list, field, zero);
+    let field = field_of(rt, alloc, key);
+    let text = text_of(rt, alloc, &list, &ShowOptions { field, zero });
     same(rt, text.as_bytes(), want);
 }
 
-/// What is shown of the fields.
-static TEXTS_SHOWN: &[u8] =
-    b"filename:       /m/a.ko\nlicense:        GPL\nlone:           \nauthor:         A\n";
-
-/// Fields of two parameters, with others before and after them.
-static PARAMETERS: &[u8] =
-    b"license=GPL\0parm=depth:how deep\0parmtype=depth:int\0parmtype=raw:bool\0alias=fs-x\0";
-
-/// What is shown of these fields.
-static PARAMETERS_SHOWN: &[u8] = b"filename:       /m/a.ko\n\
-    license:        GPL\n\
-    alias:          fs-x\n\
-    parm:           depth:how deep (int)\n\
-    parm:           raw:bool\n";
-
-/// The values of the parameters, each ended by a NUL.
-static PARAMETER_VALUES: &[u8] = b"depth:how deep (int)\0raw:bool\0";
-
 fn fields_are_shown(rt: &impl Abort, alloc: Global) {
-    expect_shown(rt, alloc, TEXTS, None, false, TEXTS_SHOWN);
-    expect_shown(rt, alloc, TEXTS, Some(b"license"), true, b"GPL\0");
-    expect_shown(rt, alloc, PARAMETERS, None, false, PARAMETERS_SHOWN);
-    expect_shown(rt, alloc, PARAMETERS, Some(b"parm"), true, PARAMETER_VALUES);
+    for row in &ROWS {
+        expect_text(rt, alloc, *row);
+    }
 }
 
 #[test]
@@ -345,8 +403,7 @@ fn objects_are_called(rt: HostRuntime) {
     an_object_has_more(&rt, rt.alloc());
     an_unknown_relocation_is_reported(&rt, rt.alloc());
     a_module_has_its_facts(&rt, rt.alloc());
-    exports_have_their_kind(&rt, rt.alloc());
-    long_names_have_versions(&rt, rt.alloc());
+    exports_and_needs_have_their_kind(&rt, rt.alloc());
     fields_stand_between_nuls(&rt, rt.alloc());
     fields_of_ones_own_have_values(&rt, rt.alloc());
     fields_are_shown(&rt, rt.alloc());

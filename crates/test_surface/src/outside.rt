@@ -1,27 +1,33 @@
 //! Files and outputs in memory, and those of the machine.
 
-use crate::lists::{path, spaced};
-use crate::same::{holds, same, same_option};
-use km_names::{Blob, Names, PathText, Paths};
+use crate::lists::path;
+use crate::same::{holds, same, same_option, shown};
+use km_names::{Blob, Names, Paths};
 use km_outside::{
     CallKind, DiskFiles, FileAnswer, Files, MemFiles, MemOut, Out, OutFailed, Reads, ReplaceAnswer,
     StdErr, StdOut, Writes,
 };
-use std::alloc::{AllocError, Global};
+use std::alloc::Global;
 use std::process::Abort;
 
 // Each call of files has a function that promises nothing.
 
 /// Puts a file.
-fn put(rt: &impl Abort, alloc: Global, files: &mut MemFiles, at: &[u8], bytes: &[u8]) {
-    files
-        .put(&path(rt, alloc, at), bytes)
-        .expect(rt, "a file more");
+pub(crate) fn put(rt: &impl Abort, alloc: Global, files: &mut MemFiles, at: &[u8], bytes: &[u8]) {
+    let at = path(rt, alloc, at);
+    files.put(&at, bytes).expect(rt, "a file more");
 }
 
-/// Returns the bytes of the file at a path.
-fn held<'a>(files: &'a MemFiles, at: &PathText) -> Option<&'a [u8]> {
-    files.get(at)
+/// Stops unless a file has these bytes, or there is none.
+pub(crate) fn expect_file(
+    rt: &impl Abort,
+    alloc: Global,
+    files: &MemFiles,
+    at: &[u8],
+    want: Option<&[u8]>,
+) {
+    let at = path(rt, alloc, at);
+    same_option(rt, files.get(&at), want);
 }
 
 /// Makes a call of a kind fail.
@@ -31,30 +37,53 @@ fn fail(rt: &impl Abort, files: &mut MemFiles, kind: CallKind, number: u8) {
         .expect(rt, "a call more");
 }
 
-/// Reads the file at a path.
-fn read(alloc: Global, files: &mut MemFiles, at: &PathText) -> Result<Blob, FileAnswer> {
-    files.read(alloc, at)
-}
-
-/// Replaces the file at a path.
-fn replace(
+/// Reads a file.
+fn read(
+    rt: &impl Abort,
     alloc: Global,
     files: &mut MemFiles,
-    at: &PathText,
+    at: &[u8],
+) -> Result<Blob, FileAnswer> {
+    let at = path(rt, alloc, at);
+    files.read(alloc, &at)
+}
+
+/// Replaces a file.
+fn replace(
+    rt: &impl Abort,
+    alloc: Global,
+    files: &mut MemFiles,
+    at: &[u8],
     bytes: &[u8],
 ) -> Result<(), ReplaceAnswer> {
-    files.replace(alloc, at, bytes)
+    let at = path(rt, alloc, at);
+    files.replace(alloc, &at, bytes)
 }
 
 /// Lists the files of configuration of a folder.
-fn list_conf(alloc: Global, files: &mut MemFiles, at: &PathText) -> Result<Names, FileAnswer> {
-    files.list_conf(alloc, at)
+fn list_conf(
+    rt: &impl Abort,
+    alloc: Global,
+    files: &mut MemFiles,
+    at: &[u8],
+) -> Result<Names, FileAnswer> {
+    let at = path(rt, alloc, at);
+    files.list_conf(alloc, &at)
 }
 
 /// Lists all files below a folder.
-fn list_tree(alloc: Global, files: &mut MemFiles, at: &PathText) -> Result<Paths, FileAnswer> {
-    files.list_tree(alloc, at)
+fn list_tree(
+    rt: &impl Abort,
+    alloc: Global,
+    files: &mut MemFiles,
+    at: &[u8],
+) -> Result<Paths, FileAnswer> {
+    let at = path(rt, alloc, at);
+    files.list_tree(alloc, &at)
 }
+
+/// A file of configuration.
+static A: &[u8] = b"/e/a.conf";
 
 /// Three files of configuration, one of them deeper, and one other.
 static FILES: [&[u8]; 4] = [b"/e/b.conf", b"/e/a.conf", b"/e/f/c.conf", b"/e/a.ko"];
@@ -70,26 +99,27 @@ fn four_files(rt: &impl Abort, alloc: Global) -> MemFiles {
 
 fn files_in_memory_are_read_and_replaced(rt: &impl Abort, alloc: Global) {
     let mut files = four_files(rt, alloc);
-    let there = path(rt, alloc, b"/e/a.conf");
-    let text = read(alloc, &mut files, &there).expect(rt, "bytes");
-    same(rt, text.as_bytes(), b"text");
-    holds(rt, replace(alloc, &mut files, &there, b"new") == Ok(()));
-    same_option(rt, held(&files, &there), Some(b"new"));
-    let nowhere = path(rt, alloc, b"/e/none");
-    let answer = read(alloc, &mut files, &nowhere);
-    holds(rt, answer.err() == Some(FileAnswer::Absent));
-    holds(rt, held(&files, &nowhere).is_none());
+    shown(rt, alloc, read(rt, alloc, &mut files, A), r#"Ok("text")"#);
+    let replaced = replace(rt, alloc, &mut files, A, b"new");
+    shown(rt, alloc, replaced, "Ok(())");
+    expect_file(rt, alloc, &files, A, Some(b"new"));
+    let answer = read(rt, alloc, &mut files, b"/e/none");
+    shown(rt, alloc, answer, "Err(Absent)");
+    expect_file(rt, alloc, &files, b"/e/none", None);
+    drop(files);
 }
+
+/// The answers of listings: those of a folder, of all below it, and of one that isn't there.
+static LISTED: &str =
+    r#"(Ok(List { elements: ["a.conf", "b.conf"] }), Ok(List { elements: ["a.conf", "a.ko", "b.conf", "f/c.conf"] }), Err(Absent))"#;
 
 fn folders_in_memory_are_listed(rt: &impl Abort, alloc: Global) {
     let mut files = four_files(rt, alloc);
-    let names = list_conf(alloc, &mut files, &path(rt, alloc, b"/e")).expect(rt, "names");
-    same(rt, spaced(rt, alloc, &names).as_slice(), b"a.conf b.conf ");
-    let paths = list_tree(alloc, &mut files, &path(rt, alloc, b"/e/")).expect(rt, "paths");
-    let want = b"a.conf a.ko b.conf f/c.conf ".as_slice();
-    same(rt, spaced(rt, alloc, &paths).as_slice(), want);
-    let none = list_conf(alloc, &mut files, &path(rt, alloc, b"/none"));
-    holds(rt, none.err() == Some(FileAnswer::Absent));
+    let names = list_conf(rt, alloc, &mut files, b"/e");
+    let paths = list_tree(rt, alloc, &mut files, b"/e/");
+    let none = list_conf(rt, alloc, &mut files, b"/none");
+    shown(rt, alloc, (names, paths, none), LISTED);
+    drop(files);
 }
 
 /// Makes those files, whose second read and first call of each other kind fails.
@@ -104,15 +134,15 @@ fn failing_files(rt: &impl Abort, alloc: Global) -> MemFiles {
 
 fn listed_calls_fail(rt: &impl Abort, alloc: Global) {
     let mut files = failing_files(rt, alloc);
-    let at = path(rt, alloc, b"/e/a.conf");
-    let failed = Some(FileAnswer::Failed);
-    holds(rt, read(alloc, &mut files, &at).is_ok());
-    holds(rt, read(alloc, &mut files, &at).err() == failed);
-    holds(rt, list_conf(alloc, &mut files, &at).err() == failed);
-    holds(rt, list_tree(alloc, &mut files, &at).err() == failed);
-    let answer = replace(alloc, &mut files, &at, b"");
-    holds(rt, answer.err() == Some(ReplaceAnswer::Failed));
-    same_option(rt, held(&files, &at), Some(b"text"));
+    shown(rt, alloc, read(rt, alloc, &mut files, A), r#"Ok("text")"#);
+    shown(rt, alloc, read(rt, alloc, &mut files, A), "Err(Failed)");
+    let names = list_conf(rt, alloc, &mut files, A);
+    let paths = list_tree(rt, alloc, &mut files, A);
+    let replaced = replace(rt, alloc, &mut files, A, b"");
+    let want = "(Err(Failed), Err(Failed), Err(Failed))";
+    shown(rt, alloc, (names, paths, replaced), want);
+    expect_file(rt, alloc, &files, A, Some(b"text"));
+    drop(files);
 }
 
 /// Writes a piece to an output.
@@ -122,13 +152,20 @@ fn write(out: &mut MemOut, piece: &[u8]) -> Result<(), OutFailed> {
 
 fn outputs_in_memory_have_a_room(rt: &impl Abort, alloc: Global) {
     let mut out = MemOut::with_room(alloc, 5).expect(rt, "an output");
-    holds(rt, write(&mut out, b"abc") == Ok(()));
-    holds(rt, write(&mut out, b"def") == Err(OutFailed));
-    holds(rt, write(&mut out, b"de") == Ok(()));
+    let abc = write(&mut out, b"abc");
+    let def = write(&mut out, b"def");
+    let de = write(&mut out, b"de");
+    shown(
+        rt,
+        alloc,
+        (abc, def, de),
+        "(Ok(()), Err(OutFailed), Ok(()))",
+    );
     same(rt, out.bytes(), b"abcde");
     out.fail_write(3).expect(rt, "one write more");
-    holds(rt, write(&mut out, b"") == Err(OutFailed));
-    holds(rt, write(&mut out, b"") == Ok(()));
+    let answers = (write(&mut out, b""), write(&mut out, b""));
+    shown(rt, alloc, answers, "(Err(OutFailed), Ok(()))");
+    drop(out);
 }
 
 #[test]

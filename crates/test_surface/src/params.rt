@@ -2,7 +2,7 @@
 //! of their images.
 
 use crate::machine::{BASE, load, machine, read};
-use crate::same::{holds, same, same_length, same_option};
+use crate::same::{holds, same_option, shown};
 use elf_object::Object;
 use image_layout::image_size;
 use km_names::{Blob, List, Name};
@@ -13,16 +13,29 @@ use std::alloc::Global;
 use std::process::Abort;
 use tree_gen::{SheetParam, SheetParams, param_object};
 
-/// Returns the object of a module with the parameters `depth`, an `int`, and `raw`, a `bool`.
-fn object_of_two(rt: &impl Abort, alloc: Global) -> Blob {
+/// Parameters, with their types.
+static TWO: [(&[u8], &[u8]); 2] = [(b"depth", b"int"), (b"raw", b"bool")];
+
+/// Returns a name.
+fn name_of(rt: &impl Abort, alloc: Global, text: &[u8]) -> Name {
+    Name::from_slice(alloc, text).expect(rt, "a name")
+}
+
+/// Returns these parameters.
+fn two(rt: &impl Abort, alloc: Global) -> SheetParams {
     let mut params: SheetParams = List::new(alloc);
-    for (name, kind) in [(b"depth".as_slice(), b"int".as_slice()), (b"raw", b"bool")] {
-        let name = Name::from_slice(alloc, name).expect(rt, "a name");
-        let kind = Name::from_slice(alloc, kind).expect(rt, "a kind");
-        params
-            .push(SheetParam { name, kind })
-            .expect(rt, "parameters");
+    for (name, kind) in &TWO {
+        let name = name_of(rt, alloc, name);
+        let kind = name_of(rt, alloc, kind);
+        let param = SheetParam { name, kind };
+        params.push(param).expect(rt, "parameters");
     }
+    params
+}
+
+/// Returns the object of a module with these parameters.
+fn object_of_two(rt: &impl Abort, alloc: Global) -> Blob {
+    let params = two(rt, alloc);
     param_object(alloc, &params).expect(rt, "an object")
 }
 
@@ -43,10 +56,14 @@ fn offset_of(rt: &impl Abort, object: &Object, name: &[u8]) -> u64 {
     section_at(object, number)
 }
 
-fn sections_have_their_places(rt: &impl Abort, alloc: Global) {
-    let module = module_of_two(rt, alloc);
-    holds(rt, offset_of(rt, &module.object, b"__param") == 0);
-    holds(rt, offset_of(rt, &module.object, b".data") == 4096);
+/// Sections, and where they begin in the image.
+static OFFSETS: [(&[u8], u64); 2] = [(b"__param", 0), (b".data", 4096)];
+
+/// Stops unless the sections of an object have these places.
+fn expect_offsets(rt: &impl Abort, object: &Object) {
+    for (name, offset) in &OFFSETS {
+        holds(rt, offset_of(rt, object, name) == *offset);
+    }
 }
 
 /// Makes a machine with that module.
@@ -70,12 +87,9 @@ fn applied(
     apply_params(alloc, module, BASE, image, options)
 }
 
-fn parameters_are_written(rt: &impl Abort, alloc: Global) {
-    let module = module_of_two(rt, alloc);
-    let machine = machine_of_params(rt, alloc, &module);
-    let Ok(params) = applied(rt, alloc, &module, &machine, b"depth=3 raw") else {
-        panic!(rt; "refused");
-    };
+/// Writes options that are understood.
+fn expect_written(rt: &impl Abort, alloc: Global, module: &Module, machine: &Machine) {
+    let params = applied(rt, alloc, module, machine, b"depth=3 raw").expect(rt, "parameters");
     holds(rt, params.count == 2);
     let before = machine.image(b"p").expect(rt, "an image");
     expect_values(rt, params.image.as_bytes());
@@ -91,34 +105,31 @@ fn expect_values(rt: &impl Abort, image: &[u8]) {
 
 /// Stops unless the machine's own image has no values, and is else as the other.
 fn expect_unchanged(rt: &impl Abort, before: &[u8], image: &[u8]) {
-    same_length(rt, before.len(), 8192);
+    holds(rt, before.len() == 8192);
     same_option(rt, before.get(..4096), image.get(..4096));
     same_option(rt, before.get(4096..4112), Some(&[0; 16]));
     same_option(rt, before.get(4112..), image.get(4112..));
 }
 
-/// Stops unless the value of `depth` is the bad one.
-fn expect_bad_depth(rt: &impl Abort, alloc: Global, fault: &ParamFault) {
-    let text = fault.text(alloc).expect(rt, "a text");
-    same(rt, text.as_bytes(), b"bad value of depth");
-    let ParamFault::BadValue { name } = fault else {
-        panic!(rt; "another refusal");
-    };
-    same(rt, name.as_bytes(), b"depth");
+/// Writes options of which one is bad.
+fn expect_bad_value(rt: &impl Abort, alloc: Global, module: &Module, machine: &Machine) {
+    let refused = applied(rt, alloc, module, machine, b"raw depth=08").err();
+    let fault = refused.expect(rt, "a refusal");
+    shown(rt, alloc, fault.text(alloc), r#"Ok("bad value of depth")"#);
+    shown(rt, alloc, fault, r#"BadValue { name: "depth" }"#);
 }
 
-fn bad_values_are_reported(rt: &impl Abort, alloc: Global) {
+fn parameters_are_written(rt: &impl Abort, alloc: Global) {
     let module = module_of_two(rt, alloc);
     let machine = machine_of_params(rt, alloc, &module);
-    match applied(rt, alloc, &module, &machine, b"raw depth=08") {
-        Ok(_params) => panic!(rt; "not refused"),
-        Err(fault) => expect_bad_depth(rt, alloc, &fault),
-    }
+    expect_offsets(rt, &module.object);
+    expect_written(rt, alloc, &module, &machine);
+    expect_bad_value(rt, alloc, &module, &machine);
+    drop(machine);
+    drop(module);
 }
 
 #[test]
 fn parameters_are_called(rt: HostRuntime) {
-    sections_have_their_places(&rt, rt.alloc());
     parameters_are_written(&rt, rt.alloc());
-    bad_values_are_reported(&rt, rt.alloc());
 }

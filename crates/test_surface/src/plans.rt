@@ -1,9 +1,10 @@
 //! Rules of the configuration, what names stand for, and plans.
 
 use crate::indexes::{adopt, file_of};
-use crate::lists::{names, path, spaced};
+use crate::lists::{names, path};
 use crate::relation::{TWO_MODULES, one_file};
-use crate::same::{holds, same, same_length, same_option};
+use crate::same::{holds, same_option, shown};
+use index_read::Index;
 use km_names::{Blob, ConfFault, Name};
 use modprobe_conf::{Rule, Rules, parse};
 use name_lookup::{Found, Indexes, resolve};
@@ -16,7 +17,7 @@ use std::process::Abort;
 
 /// Reads the rules of a configuration of one file.
 pub(crate) fn rules_of(rt: &impl Abort, alloc: Global, text: &[u8]) -> Result<Rules, ConfFault> {
-    let files = one_file(alloc, text).expect(rt, "a file");
+    let files = one_file(rt, alloc, text);
     parse(alloc, &files)
 }
 
@@ -25,18 +26,16 @@ fn expect_softdep(rt: &impl Abort, alloc: Global, rule: Option<&Rule>) {
     let Some(Rule::Softdep { name, pre, post }) = rule else {
         panic!(rt; "another rule");
     };
-    same(rt, name.as_bytes(), b"m_b");
-    same(rt, spaced(rt, alloc, pre).as_slice(), b"gone a_b ");
-    same(rt, spaced(rt, alloc, post).as_slice(), b"late ");
+    let want = r#"("m_b", List { elements: ["gone", "a_b"] }, List { elements: ["late"] })"#;
+    shown(rt, alloc, (name, pre, post), want);
 }
 
 /// Stops unless a rule is the options of `a`.
-fn expect_options(rt: &impl Abort, rule: Option<&Rule>) {
+fn expect_options(rt: &impl Abort, alloc: Global, rule: Option<&Rule>) {
     let Some(Rule::Options { name, text }) = rule else {
         panic!(rt; "another rule");
     };
-    same(rt, name.as_bytes(), b"a");
-    same(rt, text.as_bytes(), b"depth=3  raw");
+    shown(rt, alloc, (name, text), r#"("a", "depth=3  raw")"#);
 }
 
 /// A configuration of two rules.
@@ -44,30 +43,31 @@ static TWO_RULES: &[u8] = b"softdep m-b x pre: gone a-b post: late\noptions a de
 
 fn rules_are_read(rt: &impl Abort, alloc: Global) {
     let rules = rules_of(rt, alloc, TWO_RULES).expect(rt, "rules");
-    same_length(rt, rules.len(), 2);
+    holds(rt, rules.len() == 2);
     expect_softdep(rt, alloc, rules.get(0));
-    expect_options(rt, rules.get(1));
+    expect_options(rt, alloc, rules.get(1));
 }
 
 fn a_bad_line_is_reported(rt: &impl Abort, alloc: Global) {
-    let Err(ConfFault::BadLine { file, line }) = rules_of(rt, alloc, b"options x") else {
-        panic!(rt; "not refused");
-    };
-    same(rt, file.as_bytes(), b"/e/a.conf");
-    holds(rt, line == 1);
+    let refused = rules_of(rt, alloc, b"options x").err();
+    let want = r#"Some(BadLine { file: "/e/a.conf", line: 1 })"#;
+    shown(rt, alloc, refused, want);
+}
+
+/// Makes the index of a key with its text.
+fn index_of(rt: &impl Abort, alloc: Global, key: &[u8], text: &[u8]) -> Index {
+    let file = file_of(rt, alloc, &[(key, text)]);
+    adopt(rt, alloc, file.as_bytes())
 }
 
 /// Makes the indexes of two modules and of `built`, which is built in. `b` needs `a`, which exports
 /// `fa` and has an alias.
 fn indexes(rt: &impl Abort, alloc: Global) -> Indexes {
-    let alias = file_of(rt, alloc, &[("usb:v*", "a")]);
-    let symbols = file_of(rt, alloc, &[("symbol:fa", "a")]);
-    let builtin = file_of(rt, alloc, &[("built", "")]);
     Indexes {
         dep: adopt(rt, alloc, TWO_MODULES),
-        alias: adopt(rt, alloc, alias.as_bytes()),
-        symbols: adopt(rt, alloc, symbols.as_bytes()),
-        builtin: adopt(rt, alloc, builtin.as_bytes()),
+        alias: index_of(rt, alloc, b"usb:v*", b"a"),
+        symbols: index_of(rt, alloc, b"symbol:fa", b"a"),
+        builtin: index_of(rt, alloc, b"built", b""),
     }
 }
 
@@ -75,12 +75,12 @@ fn indexes(rt: &impl Abort, alloc: Global) -> Indexes {
 fn found(
     rt: &impl Abort,
     alloc: Global,
-    name: &str,
+    name: &[u8],
     use_blacklist: bool,
     rules: &Rules,
     indexes: &Indexes,
 ) -> Found {
-    let name = Name::from_slice(alloc, name.as_bytes()).expect(rt, "a name");
+    let name = Name::from_slice(alloc, name).expect(rt, "a name");
     resolve(alloc, &name, use_blacklist, rules, indexes).expect(rt, "names")
 }
 
@@ -88,73 +88,74 @@ fn found(
 static THREE_RULES: &[u8] = b"alias net-* b\ninstall x /bin/true\nblacklist a\n";
 
 /// Names, whether the blacklist applies to them, and the list and the names that are found.
-static LOOKUPS: [(&str, bool, u8, &str); 8] = [
-    ("net-1", false, 1, "b "),
-    ("b", false, 2, "b "),
-    ("symbol:fa", false, 3, "a "),
-    ("symbol:fa", true, 3, ""),
-    ("x", false, 4, "x "),
-    ("usb:v1", false, 5, ""),
-    ("built", false, 6, "built "),
-    ("nosuch", false, 0, ""),
+static LOOKUPS: [(&[u8], bool, &str); 8] = [
+    (b"net-1", false, r#"(1, List { elements: ["b"] })"#),
+    (b"b", false, r#"(2, List { elements: ["b"] })"#),
+    (b"symbol:fa", false, r#"(3, List { elements: ["a"] })"#),
+    (b"symbol:fa", true, "(3, List { elements: [] })"),
+    (b"x", false, r#"(4, List { elements: ["x"] })"#),
+    (b"usb:v1", false, "(5, List { elements: [] })"),
+    (b"built", false, r#"(6, List { elements: ["built"] })"#),
+    (b"nosuch", false, "(0, List { elements: [] })"),
 ];
 
-fn names_are_looked_up(rt: &impl Abort, alloc: Global) {
-    let indexes = indexes(rt, alloc);
+/// Looks up these names.
+fn look_up_names(rt: &impl Abort, alloc: Global, indexes: &Indexes) {
     let rules = rules_of(rt, alloc, THREE_RULES).expect(rt, "rules");
-    for (name, use_blacklist, list, want) in &LOOKUPS {
-        let found = found(rt, alloc, name, *use_blacklist, &rules, &indexes);
-        holds(rt, found.list == *list);
-        same(
-            rt,
-            spaced(rt, alloc, &found.names).as_slice(),
-            want.as_bytes(),
-        );
+    for (name, use_blacklist, want) in &LOOKUPS {
+        let found = found(rt, alloc, name, *use_blacklist, &rules, indexes);
+        shown(rt, alloc, (found.list, found.names), want);
     }
 }
 
 /// Names, and whether their values are dependency lines.
-static LINES: [(&[u8], bool); 2] = [(b"b", true), (b"nosuch", false)];
+static LINES: [(&[u8], &str); 2] = [(b"b", "Ok(true)"), (b"nosuch", "Ok(false)")];
 
-fn dependency_lines_have_paths(rt: &impl Abort, alloc: Global) {
+fn dependency_lines_have_paths(rt: &impl Abort) {
     let line = b"kernel/b.ko: kernel/a.ko".as_slice();
     same_option(rt, line_path(line), Some(b"kernel/b.ko"));
     same_option(rt, line_path(b"kernel/b.ko"), None);
-    let indexes = indexes(rt, alloc);
+}
+
+/// Asks for the dependency lines of these names.
+fn ask_for_lines(rt: &impl Abort, alloc: Global, indexes: &Indexes) {
     for (name, want) in &LINES {
         let name = Name::from_slice(alloc, name).expect(rt, "a name");
-        let answer = well_formed(alloc, &name, &indexes).expect(rt, "an answer");
-        holds(rt, answer == *want);
+        shown(rt, alloc, well_formed(alloc, &name, indexes), want);
     }
 }
+
+/// A list of two loaded modules.
+static LOADED: &[u8] = b"b 4096 0 - Live 0x0\n \t\na 8192 1 b, Live 0x0";
 
 fn loaded_modules_are_read(rt: &impl Abort, alloc: Global) {
-    let loaded = Loaded::read(alloc, b"b 4096 0 - Live 0x0\n \t\na 8192 1 b, Live 0x0").expect(
-        rt, "names",
-    );
-    same_length(rt, loaded.len(), 2);
-    for (place, want) in [(0, b"b".as_slice()), (1, b"a")] {
-        let name = loaded.get(place).expect(rt, "a name");
-        same(rt, name.as_bytes(), want);
+    let loaded = Loaded::read(alloc, LOADED).expect(rt, "names");
+    let names = (loaded.len(), loaded.get(0), loaded.get(1));
+    shown(rt, alloc, names, r#"(2, Some("b"), Some("a"))"#);
+}
+
+fn a_list_of_ones_own_is_made(rt: &impl Abort, alloc: Global) {
+    let mut loaded = Loaded::new(alloc);
+    let name = Name::from_slice(alloc, b"a").expect(rt, "a name");
+    loaded.push(name).expect(rt, "names");
+    let names = (loaded.len(), loaded.get(0), loaded.get(1));
+    shown(rt, alloc, names, r#"(1, Some("a"), None)"#);
+}
+
+/// Returns the line of a missing symbol.
+fn missing(rt: &impl Abort, alloc: Global) -> Unbound {
+    Unbound::Missing {
+        path: path(rt, alloc, b"m.ko"),
+        symbol: Name::from_slice(alloc, b"x").expect(rt, "a name"),
     }
 }
 
-fn lists_of_ones_own_are_made(rt: &impl Abort, alloc: Global) {
-    let mut loaded = Loaded::new(alloc);
-    loaded
-        .push(Name::from_slice(alloc, b"a").expect(rt, "a name"))
-        .expect(rt, "names");
-    same_length(rt, loaded.len(), 1);
-    holds(rt, loaded.get(0).is_some() && loaded.get(1).is_none());
+fn lines_of_ones_own_are_made(rt: &impl Abort, alloc: Global) {
     let mut unmet = Unmet::new(alloc);
-    unmet
-        .push(Unbound::Missing {
-            path: path(rt, alloc, b"m.ko"),
-            symbol: Name::from_slice(alloc, b"x").expect(rt, "bytes"),
-        })
-        .expect(rt, "one more");
-    same_length(rt, unmet.len(), 1);
-    holds(rt, unmet.get(0).is_some() && unmet.get(1).is_none());
+    unmet.push(missing(rt, alloc)).expect(rt, "one more");
+    let lines = (unmet.len(), unmet.get(0), unmet.get(1));
+    let want = r#"(1, Some(Missing { path: "m.ko", symbol: "x" }), None)"#;
+    shown(rt, alloc, lines, want);
 }
 
 /// Reads the lines of a modules.unmet.
@@ -170,34 +171,15 @@ static FIVE_LINES: &[u8] = b"missing m.ko x\n\
     namespace m.ko x p.ko\n\
     double x m.ko p.ko\n";
 
-/// Stops unless a line is the one of a namespace.
-fn expect_namespace(rt: &impl Abort, line: Option<&Unbound>) {
-    let Some(
-        Unbound::Namespace {
-            path,
-            symbol,
-            provider,
-        },
-    ) = line
-    else {
-        panic!(rt; "another line");
-    };
-    same(rt, path.as_bytes(), b"m.ko");
-    same(rt, symbol.as_bytes(), b"x");
-    same(rt, provider.as_bytes(), b"p.ko");
-}
+/// Its number of lines, and the line of a namespace.
+static NAMESPACE: &str = r#"(5, Some(Namespace { path: "m.ko", symbol: "x", provider: "p.ko" }))"#;
 
 fn obstacle_lines_are_read(rt: &impl Abort, alloc: Global) {
     let unmet = unmet_of(rt, alloc, FIVE_LINES).expect(rt, "lines");
-    same_length(rt, unmet.len(), 5);
-    expect_namespace(rt, unmet.get(3));
-}
-
-fn a_bad_obstacle_line_is_reported(rt: &impl Abort, alloc: Global) {
-    let Err(ConfFault::BadLine { line, .. }) = unmet_of(rt, alloc, b"missing m.ko x\n\n") else {
-        panic!(rt; "not refused");
-    };
-    holds(rt, line == 2);
+    shown(rt, alloc, (unmet.len(), unmet.get(3)), NAMESPACE);
+    let bad = unmet_of(rt, alloc, b"missing m.ko x\n\n");
+    let want = r#"Err(BadLine { file: "modules.unmet", line: 2 })"#;
+    shown(rt, alloc, bad, want);
 }
 
 /// A name, the rules, the lines of modules.unmet, the loaded modules, and the plan or the obstacle.
@@ -207,103 +189,71 @@ struct PlanRow {
     rules: &'static [u8],
     unmet: &'static [u8],
     loaded: &'static [u8],
-    want: &'static [u8],
+    want: &'static str,
 }
 
-/// The plan of `b`.
+/// A request for `b`.
 const B: PlanRow = PlanRow {
     name: b"b",
     rules: b"",
     unmet: b"",
     loaded: b"",
-    want: b"insert a kernel/a.ko raw=0, insert b kernel/b.ko raw=1, ",
+    want: "",
 };
 
-/// Puts a step at the end.
-fn push_step(rt: &impl Abort, text: &mut Vec<u8>, step: &PlanStep) {
-    let parts = match step {
-        PlanStep::Insert {
-            name,
-            path,
-            options,
-        } => [
-            b"insert ".as_slice(),
-            name.as_bytes(),
-            b" ",
-            path.as_bytes(),
-            b" ",
-            options.as_bytes(),
-        ],
-        PlanStep::Install { name, command } => {
-            [
-                b"install ",
-                name.as_bytes(),
-                b" ",
-                command.as_bytes(),
-                b"",
-                b"",
-            ]
-        }
-        PlanStep::Builtin { name } => [b"builtin ", name.as_bytes(), b"", b"", b"", b""],
-    };
-    for part in parts {
-        text.extend_from_slice(part).expect(rt, "bytes");
-    }
-    text.extend_from_slice(b", ").expect(rt, "bytes");
-}
-
-/// Returns the steps of a plan.
-fn steps_text(rt: &impl Abort, alloc: Global, steps: &PlanSteps) -> Vec<u8> {
-    let mut text = Vec::new(alloc);
-    for step in steps.as_slice() {
-        push_step(rt, &mut text, step);
-    }
-    text
-}
-
-/// Makes the plan of a row.
-fn planned(rt: &impl Abort, alloc: Global, row: &PlanRow) -> Result<PlanSteps, Obstacle> {
-    let rules = rules_of(rt, alloc, row.rules).expect(rt, "rules");
-    let unmet = unmet_of(rt, alloc, row.unmet).expect(rt, "lines");
-    let loaded = Loaded::read(alloc, row.loaded).expect(rt, "names");
-    let request = Request {
-        names: names(rt, alloc, &[row.name]),
+/// Returns the request for a name, with one word of options.
+fn request(rt: &impl Abort, alloc: Global, name: &[u8]) -> Request {
+    Request {
+        names: names(rt, alloc, &[name]),
         options: Blob::from_slice(alloc, b"raw=1").expect(rt, "bytes"),
         use_blacklist: false,
         ignore_install: false,
-    };
-    let indexes = indexes(rt, alloc);
-    plan(alloc, &request, &rules, &indexes, &unmet, &loaded)
+    }
+}
+
+/// Makes the plan of a row.
+fn planned(
+    rt: &impl Abort,
+    alloc: Global,
+    indexes: &Indexes,
+    row: &PlanRow,
+) -> Result<PlanSteps, Obstacle> {
+    let rules = rules_of(rt, alloc, row.rules).expect(rt, "rules");
+    let unmet = unmet_of(rt, alloc, row.unmet).expect(rt, "lines");
+    let loaded = Loaded::read(alloc, row.loaded).expect(rt, "names");
+    let request = request(rt, alloc, row.name);
+    plan(alloc, &request, &rules, indexes, &unmet, &loaded)
 }
 
 /// Requests with their plans.
 static PLANS: [PlanRow; 4] = [
     PlanRow {
         rules: b"options a raw=0\n",
+        want: r#"Ok(List { elements: [Insert { name: "a", path: "kernel/a.ko", options: "raw=0" }, Insert { name: "b", path: "kernel/b.ko", options: "raw=1" }] })"#,
         ..B
     },
     PlanRow {
         loaded: b"a 8192 0 - Live 0x0\n",
         rules: b"options b depth=3\n",
-        want: b"insert b kernel/b.ko depth=3 raw=1, ",
+        want: r#"Ok(List { elements: [Insert { name: "b", path: "kernel/b.ko", options: "depth=3 raw=1" }] })"#,
         ..B
     },
     PlanRow {
         rules: b"install a /bin/true\n",
-        want: b"install a /bin/true, insert b kernel/b.ko raw=1, ",
+        want: r#"Ok(List { elements: [Install { name: "a", command: "/bin/true" }, Insert { name: "b", path: "kernel/b.ko", options: "raw=1" }] })"#,
         ..B
     },
     PlanRow {
         name: b"built",
-        want: b"builtin built, ",
+        want: r#"Ok(List { elements: [Builtin { name: "built" }] })"#,
         ..B
     },
 ];
 
-fn plans_are_made(rt: &impl Abort, alloc: Global) {
+/// Makes these plans.
+fn make_plans(rt: &impl Abort, alloc: Global, indexes: &Indexes) {
     for row in &PLANS {
-        let steps = planned(rt, alloc, row).expect(rt, "a plan");
-        same(rt, steps_text(rt, alloc, &steps).as_slice(), row.want);
+        shown(rt, alloc, planned(rt, alloc, indexes, row), row.want);
     }
 }
 
@@ -311,44 +261,47 @@ fn plans_are_made(rt: &impl Abort, alloc: Global) {
 static OBSTACLES: [PlanRow; 3] = [
     PlanRow {
         name: b"nosuch",
-        want: b"not found nosuch",
+        want: r#"(Ok("not found nosuch"), NotFound { name: "nosuch" })"#,
         ..B
     },
     PlanRow {
         unmet: b"missing kernel/a.ko x\n",
-        want: b"missing kernel/a.ko x",
+        want: r#"(Ok("missing kernel/a.ko x"), Missing { path: "kernel/a.ko", symbol: "x" })"#,
         ..B
     },
     PlanRow {
         rules: b"softdep a pre: b\n",
-        want: b"cycle a -> b -> a",
+        want: r#"(Ok("cycle a -> b -> a"), Cycle { names: List { elements: ["a", "b"] } })"#,
         ..B
     },
 ];
 
-fn obstacles_are_reported(rt: &impl Abort, alloc: Global) {
+/// Asks for plans that there aren't.
+fn meet_obstacles(rt: &impl Abort, alloc: Global, indexes: &Indexes) {
     for row in &OBSTACLES {
-        let Err(obstacle) = planned(rt, alloc, row) else {
-            panic!(rt; "a plan");
-        };
-        same(
-            rt,
-            obstacle.text(alloc).expect(rt, "a text").as_bytes(),
-            row.want,
-        );
+        let refused = planned(rt, alloc, indexes, row).err();
+        let obstacle = refused.expect(rt, "an obstacle");
+        shown(rt, alloc, (obstacle.text(alloc), obstacle), row.want);
     }
+}
+
+fn names_are_looked_up_and_planned(rt: &impl Abort, alloc: Global) {
+    let indexes = indexes(rt, alloc);
+    look_up_names(rt, alloc, &indexes);
+    ask_for_lines(rt, alloc, &indexes);
+    make_plans(rt, alloc, &indexes);
+    meet_obstacles(rt, alloc, &indexes);
+    drop(indexes);
 }
 
 #[test]
 fn plans_are_called(rt: HostRuntime) {
     rules_are_read(&rt, rt.alloc());
     a_bad_line_is_reported(&rt, rt.alloc());
-    names_are_looked_up(&rt, rt.alloc());
-    dependency_lines_have_paths(&rt, rt.alloc());
+    dependency_lines_have_paths(&rt);
     loaded_modules_are_read(&rt, rt.alloc());
-    lists_of_ones_own_are_made(&rt, rt.alloc());
+    a_list_of_ones_own_is_made(&rt, rt.alloc());
+    lines_of_ones_own_are_made(&rt, rt.alloc());
     obstacle_lines_are_read(&rt, rt.alloc());
-    a_bad_obstacle_line_is_reported(&rt, rt.alloc());
-    plans_are_made(&rt, rt.alloc());
-    obstacles_are_reported(&rt, rt.alloc());
+    names_are_looked_up_and_planned(&rt, rt.alloc());
 }

@@ -1,5 +1,5 @@
 //! The tree of a folder, the kernel's table, the relation of a tree and depmod's files.
-ghost use Rattle.std.specs.Prelude.{◌≡◌, ◌≤◌, ◌==◌, not, length, All, AllPairs};
+ghost use Rattle.std.specs.Prelude.{◌≡◌, ◌≤◌, ◌==◌, [], ◌∷◌, not, length, All, AllPairs};
 ghost use Rattle.std.specs.Prelude.{IfOk, IsTrue};
 ghost use Rattle.std.specs.List.{list_any};
 ghost use Rattle.km_names.specs.Ascii.{is_graphic};
@@ -8,54 +8,56 @@ ghost use Rattle.provider_rel.specs.Seen.{closures_by};
 ghost use Rattle.provider_rel.specs.Tree.{IsTree, IsTreeModule};
 ghost use Rattle.depmod_core.specs.Files.{IsRelationOf};
 
-use crate::lists::{names, paths, spaced};
-use crate::same::{holds, same, same_length};
+use crate::lists::{names, paths};
+use crate::same::{holds, same, shown};
 use depmod_core::{OutputFault, OutputFiles, outputs};
-use km_names::{ConfFault, ConfFiles, Name, Names, PathText, Texts, TreeIndex, is_graphic};
+use km_names::{
+    ConfFault, ConfFile, ConfFiles, List, Name, Names, PathText, Texts, TreeIndex, is_graphic,
+};
 use mod_tree::{Search, Tree, TreeFault, choose, parse_search};
 use module_facts::{Export, Exports, Facts, Need, Needs};
-use provider_rel::{
-    Kernel, KernelExports, KernelFault, Provider, Relation, RelationFault, TreeFacts, Unbound,
-    agree,
-};
-use std::alloc::{AllocError, Global};
+use provider_rel::{Kernel, KernelExports, KernelFault, Relation, RelationFault, TreeFacts, agree};
+use std::alloc::Global;
 use std::process::Abort;
-use test_objects::{RowFault, conf_file};
+use test_objects::conf_file;
+
+/// Returns a file of configuration.
+fn configuration(rt: &impl Abort, alloc: Global, text: &[u8]) -> ConfFile
+    ensures { length result.bytes ≤ file_limit }
+{
+    conf_file(alloc, b"/e/a.conf", text).expect(rt, "a file")
+}
 
 /// Makes a configuration of one file.
-pub(crate) fn one_file(alloc: Global, text: &[u8]) -> Result<ConfFiles, RowFault>
-    ensures { IfOk result (λ files. All (λ file. length file.bytes ≤ file_limit) files) }
+pub(crate) fn one_file(rt: &impl Abort, alloc: Global, text: &[u8]) -> ConfFiles
+    ensures { All (λ file. length file.bytes ≤ file_limit) result }
 {
-    let mut files = ConfFiles::new(alloc);
-    files.push(conf_file(alloc, b"/e/a.conf", text)?)?;
-    Ok(files)
+    only(rt, alloc, configuration(rt, alloc, text))
 }
 
 /// Reads the search list of a configuration of one file.
 fn search_of(rt: &impl Abort, alloc: Global, text: &[u8]) -> Result<Search, ConfFault> {
-    let files = one_file(alloc, text).expect(rt, "a file");
+    let files = one_file(rt, alloc, text);
     parse_search(alloc, &files)
 }
 
-/// Stops unless a configuration has this search list.
-fn expect_search(rt: &impl Abort, alloc: Global, text: &[u8], want: &[u8]) {
-    let search = search_of(rt, alloc, text).expect(rt, "a search list");
-    let shown = spaced(rt, alloc, &search);
-    same(rt, shown.as_slice(), want);
-}
+/// Configurations, and their search lists.
+static SEARCHES: [(&[u8], &str); 3] = [
+    (b"", r#"Ok(List { elements: ["updates", "built-in"] })"#),
+    (
+        b"search extra\n# c\nsearch built-in a-b",
+        r#"Ok(List { elements: ["extra", "built-in", "a-b"] })"#,
+    ),
+    (
+        b"\noverride a * b",
+        r#"Err(BadLine { file: "/e/a.conf", line: 2 })"#,
+    ),
+];
 
 fn search_lines_are_read(rt: &impl Abort, alloc: Global) {
-    expect_search(rt, alloc, b"", b"updates built-in ");
-    let text = b"search extra\n# c\nsearch built-in a-b".as_slice();
-    expect_search(rt, alloc, text, b"extra built-in a-b ")
-}
-
-fn a_bad_search_line_is_reported(rt: &impl Abort, alloc: Global) {
-    let Err(ConfFault::BadLine { file, line }) = search_of(rt, alloc, b"\noverride a * b") else {
-        panic!(rt; "not refused");
-    };
-    same(rt, file.as_bytes(), b"/e/a.conf");
-    holds(rt, line == 2);
+    for (text, want) in &SEARCHES {
+        shown(rt, alloc, search_of(rt, alloc, text), want);
+    }
 }
 
 /// Chooses modules of a listing by a search list of these words.
@@ -74,37 +76,40 @@ fn chosen(
 static LISTED: [&[u8]; 3] = [b"updates/a.ko", b"kernel/b.ko", b"kernel/a.ko"];
 
 /// First words of a search list, modules.order, and the tree.
-static CHOICES: [(&[u8], &[u8], &[u8]); 2] = [
-    (b"updates", b"", b"kernel/b.ko updates/a.ko "),
+static CHOICES: [(&[u8], &[u8], &str); 2] = [
+    (
+        b"updates",
+        b"",
+        r#"Some(List { elements: ["kernel/b.ko", "updates/a.ko"] })"#,
+    ),
     (
         b"kernel",
         b"kernel/b.ko\nkernel/a.ko\n",
-        b"kernel/b.ko kernel/a.ko ",
+        r#"Some(List { elements: ["kernel/b.ko", "kernel/a.ko"] })"#,
     ),
 ];
 
 fn a_search_list_of_ones_own_chooses(rt: &impl Abort, alloc: Global) {
     for (first, order, want) in &CHOICES {
-        let words = [*first, b"built-in"];
-        let Ok(tree) = chosen(rt, alloc, &LISTED, order, &words) else {
-            panic!(rt; "no tree");
-        };
-        same(rt, spaced(rt, alloc, &tree).as_slice(), *want);
+        let tree = chosen(rt, alloc, &LISTED, order, &[first, b"built-in"]).ok();
+        shown(rt, alloc, tree, want);
     }
 }
 
+/// Paths of which two aren't those of modules.
+static BAD_PATHS: [&[u8]; 3] = [b"z .ko", b"a:.ko", b"b b"];
+
 fn a_bad_path_is_reported(rt: &impl Abort, alloc: Global) {
-    let listed = [b"z .ko".as_slice(), b"a:.ko", b"b b"];
-    let Err(TreeFault::BadPath { path }) = chosen(rt, alloc, &listed, b"", &[]) else {
+    let Err(TreeFault::BadPath { path }) = chosen(rt, alloc, &BAD_PATHS, b"", &[]) else {
         panic!(rt; "not refused");
     };
-    same(rt, path.as_bytes(), b"a:.ko");
+    shown(rt, alloc, path, r#""a:.ko""#);
 }
 
 // Each table is read by a function that promises nothing.
 
 /// Reads the addresses of a System.map into a table.
-fn add(rt: &impl Abort, kernel: &mut Kernel, map: &[u8]) -> Result<(), KernelFault> {
+pub(crate) fn add(rt: &impl Abort, kernel: &mut Kernel, map: &[u8]) -> Result<(), KernelFault> {
     holds(rt, map.len() <= 67_108_864);
     kernel.add_addresses(map)
 }
@@ -115,53 +120,63 @@ fn mapped(rt: &impl Abort, alloc: Global, map: &[u8]) -> Result<Kernel, KernelFa
     Kernel::from_map(alloc, map)
 }
 
+/// Reads the table of a Module.symvers.
+pub(crate) fn kernel_of(rt: &impl Abort, alloc: Global, symvers: &[u8]) -> Kernel {
+    holds(rt, symvers.len() <= 67_108_864);
+    Kernel::from_symvers(alloc, symvers).expect(rt, "a kernel")
+}
+
 fn a_kernel_of_ones_own_is_made(rt: &impl Abort, alloc: Global) {
     let kernel = Kernel {
         known: true,
         exports: KernelExports::new(alloc),
     };
-    holds(rt, kernel.known);
-    holds(rt, kernel.exports.is_empty());
-    holds(rt, !Kernel::unknown(alloc).known);
-}
-
-/// Stops unless a kernel exports `printk`, whose address isn't known.
-fn expect_printk(rt: &impl Abort, kernel: &Kernel) {
-    let export = kernel.exports.get(0).expect(rt, "an export");
-    same(rt, export.name.as_bytes(), b"printk");
-    holds(
-        rt,
-        (export.crc, export.address) == (Some(0x1111_1111), None),
+    let parts = (
+        kernel.known,
+        kernel.exports.len(),
+        Kernel::unknown(alloc).known,
     );
+    shown(rt, alloc, parts, "(true, 0, false)");
 }
 
-/// Stops unless all modules may use what a kernel exports, whose address is known.
-fn expect_address(rt: &impl Abort, kernel: &Kernel) {
-    let export = kernel.exports.get(0).expect(rt, "an export");
-    holds(rt, export.address == Some(0xffff_ffff_8100_0000));
-    holds(rt, !export.gpl && export.space.is_empty());
+/// The table of a kernel that exports `printk`.
+pub(crate) static SYMVERS: &[u8] = b"0x11111111\tprintk\tvmlinux\tEXPORT_SYMBOL\n";
+
+/// Its addresses.
+pub(crate) static SYSTEM_MAP: &[u8] = b"ffffffff81000000 T printk\n";
+
+/// Reads the table of that kernel, without the addresses.
+pub(crate) fn usual_kernel(rt: &impl Abort, alloc: Global) -> Kernel {
+    kernel_of(rt, alloc, SYMVERS)
 }
+
+/// What that kernel exports. All modules may use it.
+static EXPORTS: &str =
+    r#"List { elements: [KernelExport { name: "printk", crc: Some(286331153), address: None, gpl: false, space: "" }] }"#;
+
+/// The same with the address.
+static PLACED: &str =
+    r#"List { elements: [KernelExport { name: "printk", crc: Some(286331153), address: Some(18446744071578845184), gpl: false, space: "" }] }"#;
 
 fn kernels_are_read(rt: &impl Abort, alloc: Global) {
     let mut kernel = usual_kernel(rt, alloc);
-    expect_printk(rt, &kernel);
-    add(rt, &mut kernel, b"ffffffff81000000 T printk\n").expect(rt, "addresses");
-    expect_address(rt, &kernel)
+    shown(rt, alloc, &kernel.exports, EXPORTS);
+    shown(rt, alloc, add(rt, &mut kernel, SYSTEM_MAP), "Ok(())");
+    shown(rt, alloc, &kernel.exports, PLACED);
 }
 
+/// A System.map that shows an export.
+static KSYMTAB: &[u8] = b"ffffffff81000000 T printk\nffffffff82000000 r __ksymtab_printk\n";
+
+/// Whether it is known what its kernel exports, and that.
+static MAPPED: &str =
+    r#"(true, List { elements: [KernelExport { name: "printk", crc: None, address: Some(18446744071578845184), gpl: false, space: "" }] })"#;
+
 fn kernels_are_read_from_maps(rt: &impl Abort, alloc: Global) {
-    let map = b"ffffffff81000000 T printk\nffffffff82000000 r __ksymtab_printk\n".as_slice();
-    let kernel = mapped(rt, alloc, map).expect(rt, "a kernel");
-    holds(rt, kernel.known);
-    let export = kernel.exports.get(0).expect(rt, "an export");
-    holds(
-        rt,
-        (export.crc, export.address) == (None, Some(0xffff_ffff_8100_0000)),
-    );
-    let Err(KernelFault::BadKernelLine { line }) = mapped(rt, alloc, b"\n1 T  a") else {
-        panic!(rt; "not refused");
-    };
-    holds(rt, line == 2);
+    let kernel = mapped(rt, alloc, KSYMTAB).expect(rt, "a kernel");
+    shown(rt, alloc, (kernel.known, &kernel.exports), MAPPED);
+    let refused = mapped(rt, alloc, b"\n1 T  a").err();
+    shown(rt, alloc, refused, "Some(BadKernelLine { line: 2 })");
 }
 
 fn versions_agree(rt: &impl Abort) {
@@ -178,11 +193,13 @@ struct ModuleRow {
     need: &'static [u8],
 }
 
-/// Stops unless a text is a word of visible characters.
-fn expect_word(rt: &impl Abort, text: &[u8])
-    ensures { IsTrue (is_graphic text.now) }
+/// Returns a word of visible characters.
+fn word(rt: &impl Abort, alloc: Global, text: &[u8]) -> Name
+    ensures same { result ≡ text.now }
+    ensures graphic { IsTrue (is_graphic result) }
 {
     holds(rt, is_graphic(text));
+    Name::from_slice(alloc, text).expect(rt, "a name")
 }
 
 /// Whether a text has a `:`.
@@ -192,69 +209,77 @@ fn has_colon(text: &[u8]) -> bool
     text.iter().any(|byte| *byte == b':')
 }
 
-/// Stops if a text has a `:`.
-fn expect_no_colon(rt: &impl Abort, text: &[u8])
-    ensures { IsTrue (not (list_any (λ b. b == 58) text.now)) }
+/// Returns a path of visible characters without a `:`.
+fn path(rt: &impl Abort, alloc: Global, text: &[u8]) -> PathText
+    ensures graphic { IsTrue (is_graphic result) }
+    ensures colon { IsTrue (not (list_any (λ b. b == 58) result)) }
 {
+    holds(rt, is_graphic(text));
     holds(rt, !has_colon(text));
+    PathText::from_slice(alloc, text).expect(rt, "a path")
+}
+
+/// Returns the list of one item.
+fn only<T: Drop>(rt: &impl Abort, alloc: Global, item: T) -> List<T>
+    ensures { result ≡ item ∷ [] }
+{
+    let mut list = List::new(alloc);
+    list.push(item).expect(rt, "a list");
+    list
+}
+
+/// Returns the list of two items.
+fn pair<T: Drop>(rt: &impl Abort, alloc: Global, first: T, second: T) -> List<T>
+    ensures { result ≡ first ∷ second ∷ [] }
+{
+    let mut list = only(rt, alloc, first);
+    list.push(second).expect(rt, "a list");
+    list
 }
 
 /// Returns the one symbol that a module exports.
-fn one_export(rt: &impl Abort, alloc: Global, name: &[u8]) -> Result<Exports, AllocError>
-    ensures distinct { IfOk result (λ exports. AllPairs (λ a b. a.name ≡ b.name → ⊥) exports) }
-    ensures graphic { IfOk result (λ exports. All (λ export. IsTrue (is_graphic export.name)) exports) }
+fn one_export(rt: &impl Abort, alloc: Global, name: &[u8]) -> Exports
+    ensures distinct { AllPairs (λ a b. a.name ≡ b.name → ⊥) result }
+    ensures graphic { All (λ export. IsTrue (is_graphic export.name)) result }
 {
-    expect_word(rt, name);
-    let own = Name::from_slice(alloc, name)?;
-    let mut exports = Exports::new(alloc);
-    exports.push(Export {
-        name: own,
+    let export = Export {
+        name: word(rt, alloc, name),
         symbol: 1,
         crc: None,
         gpl: false,
         space: Name::new(alloc),
-    })?;
-    Ok(exports)
+    };
+    only(rt, alloc, export)
 }
 
 /// Returns the one symbol that a module needs.
-fn one_need(rt: &impl Abort, alloc: Global, name: &[u8]) -> Result<Needs, AllocError>
-    ensures { IfOk result (λ needs. All (λ need. IsTrue (is_graphic need.name)) needs) }
+fn one_need(rt: &impl Abort, alloc: Global, name: &[u8]) -> Needs
+    ensures { All (λ need. IsTrue (is_graphic need.name)) result }
 {
-    expect_word(rt, name);
-    let own = Name::from_slice(alloc, name)?;
-    let mut needs = Needs::new(alloc);
-    needs.push(Need {
-        name: own,
+    let need = Need {
+        name: word(rt, alloc, name),
         symbol: 2,
         weak: false,
         crc: None,
-    })?;
-    Ok(needs)
+    };
+    only(rt, alloc, need)
 }
 
 /// Returns the facts of a module.
-fn facts(rt: &impl Abort, alloc: Global, row: ModuleRow) -> Result<Facts, AllocError>
-    ensures good { IfOk result IsTreeModule }
-    ensures named { IfOk result (λ facts. facts.name ≡ row.name.now) }
+fn facts(rt: &impl Abort, alloc: Global, row: ModuleRow) -> Facts
+    ensures good { IsTreeModule result }
+    ensures named { result.name ≡ row.name.now }
 {
-    expect_word(rt, row.path);
-    expect_word(rt, row.name);
-    expect_no_colon(rt, row.path);
-    let path = PathText::from_slice(alloc, row.path)?;
-    let name = Name::from_slice(alloc, row.name)?;
-    let exports = one_export(rt, alloc, row.export)?;
-    let needs = one_need(rt, alloc, row.need)?;
-    Ok(Facts {
-        path,
-        name,
-        exports,
-        needs,
+    Facts {
+        path: path(rt, alloc, row.path),
+        name: word(rt, alloc, row.name),
+        exports: one_export(rt, alloc, row.export),
+        needs: one_need(rt, alloc, row.need),
         aliases: Texts::new(alloc),
         softdeps: Texts::new(alloc),
         free: true,
         imports: Names::new(alloc),
-    })
+    }
 }
 
 /// Stops unless two names differ.
@@ -266,28 +291,14 @@ fn expect_apart(rt: &impl Abort, first: &[u8], second: &[u8])
 }
 
 /// Makes a tree of two modules.
-fn tree_of_two(
-    rt: &impl Abort,
-    alloc: Global,
-    first: ModuleRow,
-    second: ModuleRow,
-) -> Result<TreeFacts, AllocError>
-    ensures tree { IfOk result IsTree }
-    ensures long { IfOk result (λ tree. length tree ≡ 2) }
+fn tree_of_two(rt: &impl Abort, alloc: Global, first: ModuleRow, second: ModuleRow) -> TreeFacts
+    ensures tree { IsTree result }
+    ensures long { length result ≡ 2 }
 {
     expect_apart(rt, first.name, second.name);
-    let first = facts(rt, alloc, first)?;
-    let second = facts(rt, alloc, second)?;
-    let mut tree = TreeFacts::new(alloc);
-    tree.push(first)?;
-    tree.push(second)?;
-    Ok(tree)
-}
-
-/// Reads the table of a kernel that exports `printk`.
-fn usual_kernel(rt: &impl Abort, alloc: Global) -> Kernel {
-    let symvers = b"0x11111111\tprintk\tvmlinux\tEXPORT_SYMBOL\n".as_slice();
-    Kernel::from_symvers(alloc, symvers).expect(rt, "a kernel")
+    let first = facts(rt, alloc, first);
+    let second = facts(rt, alloc, second);
+    pair(rt, alloc, first, second)
 }
 
 /// `a`, which exports `fa` and needs a symbol.
@@ -319,57 +330,48 @@ fn related(rt: &impl Abort, alloc: Global, tree: &TreeFacts) -> Result<Relation,
     Relation::make(alloc, tree, &kernel)
 }
 
+/// Who provides `fa`, `printk` and `nosuch`.
+static PROVIDERS: &str = "(Module(TreeIndex(0)), Kernel, Nobody)";
+
+/// Stops unless `a` provides `fa`, the kernel `printk`, and nobody `nosuch`.
+fn expect_providers(rt: &impl Abort, alloc: Global, relation: &Relation) {
+    let fa = relation.provider(b"fa");
+    let printk = relation.provider(b"printk");
+    let nosuch = relation.provider(b"nosuch");
+    shown(rt, alloc, (fa, printk, nosuch), PROVIDERS);
+}
+
+/// On what `a` and `b` depend.
+static CLOSURES: &str = "(List { elements: [] }, List { elements: [TreeIndex(0)] })";
+
+/// Stops unless only `b` depends on a module, `a`.
+fn expect_closures(rt: &impl Abort, alloc: Global, relation: &Relation)
+    requires { length (closures_by relation.now) ≡ 2 }
+{
+    let a = relation.closure(TreeIndex(0));
+    let b = relation.closure(TreeIndex(1));
+    shown(rt, alloc, (a, b), CLOSURES);
+}
+
+/// The one obstacle: `a` needs `nosuch`.
+static NOSUCH: &str = r#"List { elements: [Missing { path: "kernel/a.ko", symbol: "nosuch" }] }"#;
+
 fn a_tree_is_related(rt: &impl Abort, alloc: Global) {
-    let Ok(tree) = tree_of_two(rt, alloc, a_that_needs(b"nosuch"), B) else {
-        panic!(rt; "no tree");
-    };
+    let tree = tree_of_two(rt, alloc, a_that_needs(b"nosuch"), B);
     let Ok(relation) = related(rt, alloc, &tree) else {
         panic!(rt; "refused");
     };
-    expect_providers(rt, &relation);
-    expect_closures(rt, &relation);
-    expect_obstacle(rt, &relation);
-}
-
-/// Stops unless `a` provides `fa`, the kernel `printk`, and nobody `nosuch`.
-fn expect_providers(rt: &impl Abort, relation: &Relation) {
-    holds(
-        rt,
-        relation.provider(b"fa") == Provider::Module(TreeIndex(0)),
-    );
-    holds(rt, relation.provider(b"printk") == Provider::Kernel);
-    holds(rt, relation.provider(b"nosuch") == Provider::Nobody);
-}
-
-/// Stops unless only `b` depends on a module, `a`.
-fn expect_closures(rt: &impl Abort, relation: &Relation)
-    requires { length (closures_by relation.now) ≡ 2 }
-{
-    same_length(rt, relation.closure(TreeIndex(0)).len(), 0);
-    holds(
-        rt,
-        relation.closure(TreeIndex(1)).get(0).copied() == Some(TreeIndex(0)),
-    );
-}
-
-/// Stops unless the one obstacle is that `a` needs `nosuch`.
-fn expect_obstacle(rt: &impl Abort, relation: &Relation) {
-    same_length(rt, relation.obstacles().len(), 1);
-    let Some(Unbound::Missing { path, symbol }) = relation.obstacles().get(0) else {
-        panic!(rt; "another line");
-    };
-    same(rt, path.as_bytes(), b"kernel/a.ko");
-    same(rt, symbol.as_bytes(), b"nosuch");
+    expect_providers(rt, alloc, &relation);
+    expect_closures(rt, alloc, &relation);
+    shown(rt, alloc, relation.obstacles(), NOSUCH);
+    drop(relation);
 }
 
 fn a_cycle_is_named(rt: &impl Abort, alloc: Global) {
-    let Ok(tree) = tree_of_two(rt, alloc, a_that_needs(b"fb"), B) else {
-        panic!(rt; "no tree");
-    };
-    let Err(RelationFault::Cycle { names }) = related(rt, alloc, &tree) else {
-        panic!(rt; "not refused");
-    };
-    same(rt, spaced(rt, alloc, &names).as_slice(), b"a b ");
+    let tree = tree_of_two(rt, alloc, a_that_needs(b"fb"), B);
+    let refused = related(rt, alloc, &tree).err();
+    let want = r#"Some(Cycle { names: List { elements: ["a", "b"] } })"#;
+    shown(rt, alloc, refused, want);
 }
 
 /// The index of two modules, the second of which needs the first: dependency lines by names.
@@ -396,35 +398,30 @@ fn files_of(
 }
 
 fn a_tree_has_files(rt: &impl Abort, alloc: Global) {
-    let Ok(tree) = tree_of_two(rt, alloc, a_that_needs(b"printk"), B) else {
-        panic!(rt; "no tree");
-    };
+    let tree = tree_of_two(rt, alloc, a_that_needs(b"printk"), B);
     let Ok(relation) = related(rt, alloc, &tree) else {
         panic!(rt; "refused");
     };
-    expect_files(rt, &files_of(alloc, &relation, &tree).expect(rt, "files"));
+    let files = files_of(alloc, &relation, &tree).expect(rt, "files");
+    expect_files(rt, alloc, &files);
+    drop(files);
+    drop(relation);
 }
-
-/// The modules.dep of two modules.
-static DEP: &[u8] = b"kernel/a.ko:\nkernel/b.ko: kernel/a.ko\n";
-
-/// The modules.symbols of two modules.
-static SYMBOLS: &[u8] =
-    b"# Aliases for symbols, used by symbol_request().\nalias symbol:fa a\nalias symbol:fb b\n";
 
 /// Stops unless these are the files of the tree.
-fn expect_files(rt: &impl Abort, files: &OutputFiles) {
-    same(rt, files.dep.as_bytes(), DEP);
+fn expect_files(rt: &impl Abort, alloc: Global, files: &OutputFiles) {
     same(rt, files.dep_bin.as_bytes(), TWO_MODULES);
     same(rt, files.builtin_bin.as_bytes(), BUILT);
-    same(rt, files.unmet.as_bytes(), b"");
-    same(rt, files.symbols.as_bytes(), SYMBOLS);
+    shown(rt, alloc, (&files.dep, &files.unmet, &files.symbols), TEXTS);
 }
+
+/// The texts of three of the files: modules.dep, modules.unmet and modules.symbols.
+static TEXTS: &str =
+    r##"("kernel/a.ko:\nkernel/b.ko: kernel/a.ko\n", "", "# Aliases for symbols, used by symbol_request().\nalias symbol:fa a\nalias symbol:fb b\n")"##;
 
 #[test]
 fn relations_are_called(rt: HostRuntime) {
     search_lines_are_read(&rt, rt.alloc());
-    a_bad_search_line_is_reported(&rt, rt.alloc());
     a_search_list_of_ones_own_chooses(&rt, rt.alloc());
     a_bad_path_is_reported(&rt, rt.alloc());
     a_kernel_of_ones_own_is_made(&rt, rt.alloc());

@@ -3,7 +3,7 @@ ghost use Rattle.std.specs.Prelude.{◌≡◌, ◌<◌, length};
 ghost use Rattle.model_unload.specs.Unload.{first_user as user_of};
 
 use crate::machine::{load_a, load_b, machine};
-use crate::same::{holds, same};
+use crate::same::{holds, shown};
 use model_loader::Machine;
 use model_unload::{UnloadFault, unload};
 use std::alloc::Global;
@@ -12,32 +12,27 @@ use std::process::Abort;
 /// Makes a machine with `a`, and with `b`, which needs it.
 pub(crate) fn machine_of_two(rt: &impl Abort, alloc: Global) -> Machine {
     let mut machine = machine(rt, alloc, 0x3000);
-    let _at = load_a(rt, alloc, &mut machine);
-    let _at = load_b(rt, alloc, &mut machine);
+    let _at = load_a(rt, alloc, &mut machine).expect(rt, "a place");
+    let _at = load_b(rt, alloc, &mut machine).expect(rt, "a place");
     machine
 }
 
 /// Stops unless only `b` binds to `a`.
-fn expect_bound(rt: &impl Abort, machine: &Machine) {
+fn expect_bound(rt: &impl Abort, alloc: Global, machine: &Machine) {
     holds(rt, machine.module_count() == 2);
-    holds(rt, machine.binds(1, 0));
-    holds(rt, !machine.binds(0, 1));
-    holds(rt, !machine.binds(0, 0));
+    let binds = (
+        machine.binds(1, 0),
+        machine.binds(0, 1),
+        machine.binds(0, 0),
+    );
+    shown(rt, alloc, binds, "(true, false, false)");
 }
 
 fn users_are_known(rt: &impl Abort, alloc: Global) {
     let machine = machine_of_two(rt, alloc);
-    expect_bound(rt, &machine);
-    let uses = machine.uses(alloc).expect(rt, "lists");
-    expect_uses(rt, uses.as_slice());
-}
-
-/// Stops unless `a` uses nothing, and `b` only `a`.
-fn expect_uses(rt: &impl Abort, uses: &[Vec<usize>]) {
-    holds(rt, uses.len() == 2);
-    holds(rt, uses[0].is_empty());
-    holds(rt, uses[1].first().copied() == Some(0));
-    holds(rt, uses[1].iter().all(|place| *place == 0));
+    expect_bound(rt, alloc, &machine);
+    shown(rt, alloc, machine.uses(alloc), "Ok([[], [0]])");
+    drop(machine);
 }
 
 /// Takes a module out by its name.
@@ -45,27 +40,31 @@ fn take_out(machine: &mut Machine, name: &[u8]) -> Result<(), UnloadFault> {
     unload(machine, name)
 }
 
-/// Stops unless `a` stays, which `b` uses, and no module `c` is known.
-fn expect_refused(rt: &impl Abort, machine: &mut Machine) {
-    let used = UnloadFault::InUse { user: 1 };
-    holds(rt, take_out(machine, b"a") == Err(used));
-    let unknown = UnloadFault::NotLoaded;
-    holds(rt, take_out(machine, b"c") == Err(unknown));
-    holds(rt, machine.module_count() == 2);
-}
+/// The machine after `b` was taken out: its module, and the image of `b`.
+static ONLY_A: &str =
+    r#"(LoadedModule { name: "a", base: 18446744072635809792, size: 8192 }, None)"#;
 
 /// Stops unless only `a` is left.
-fn expect_only_a(rt: &impl Abort, machine: &Machine) {
+fn expect_only_a(rt: &impl Abort, alloc: Global, machine: &Machine) {
     holds(rt, machine.module_count() == 1);
-    same(rt, machine.module_at(0).name.as_bytes(), b"a");
-    holds(rt, machine.image(b"b").is_none());
+    let left = (machine.module_at(0), machine.image(b"b"));
+    shown(rt, alloc, left, ONLY_A);
 }
 
 fn modules_are_taken_out_by_name(rt: &impl Abort, alloc: Global) {
     let mut machine = machine_of_two(rt, alloc);
-    expect_refused(rt, &mut machine);
-    holds(rt, take_out(&mut machine, b"b") == Ok(()));
-    expect_only_a(rt, &machine);
+    let a = take_out(&mut machine, b"a");
+    let c = take_out(&mut machine, b"c");
+    shown(
+        rt,
+        alloc,
+        (a, c),
+        "(Err(InUse { user: 1 }), Err(NotLoaded))",
+    );
+    holds(rt, machine.module_count() == 2);
+    shown(rt, alloc, take_out(&mut machine, b"b"), "Ok(())");
+    expect_only_a(rt, alloc, &machine);
+    drop(machine);
 }
 
 /// Returns the place of the oldest module that binds to the one at the place.
@@ -94,19 +93,20 @@ fn drop_unused(machine: &mut Machine, j: usize) -> Result<(), usize>
 }
 
 /// Takes out `b`, and then `a`, which it used.
-fn take_out_both(rt: &impl Abort, machine: &mut Machine) {
+fn take_out_both(rt: &impl Abort, alloc: Global, machine: &mut Machine) {
     holds(rt, machine.module_count() == 2);
-    holds(rt, drop_unused(machine, 0) == Err(1));
+    shown(rt, alloc, drop_unused(machine, 0), "Err(1)");
     holds(rt, machine.module_count() == 2);
-    holds(rt, drop_unused(machine, 1) == Ok(()));
+    shown(rt, alloc, drop_unused(machine, 1), "Ok(())");
     holds(rt, machine.module_count() == 1);
-    holds(rt, drop_unused(machine, 0) == Ok(()));
+    shown(rt, alloc, drop_unused(machine, 0), "Ok(())");
     holds(rt, machine.module_count() == 0);
 }
 
 fn modules_are_taken_out_by_place(rt: &impl Abort, alloc: Global) {
     let mut machine = machine_of_two(rt, alloc);
-    take_out_both(rt, &mut machine);
+    take_out_both(rt, alloc, &mut machine);
+    drop(machine);
 }
 
 #[test]

@@ -1,4 +1,4 @@
-use Rattle.std.proofs.Common.{List, ℕ, IsTrue, subst, sym}
+use Rattle.std.proofs.Common.{ℕ, List, IsTrue}
 use Rattle.km_names.specs.Ascii.{is_graphic}
 use Rattle.module_facts.specs.declared.facts.Export.{Export}
 use Rattle.test_surface.proofs.TreeSteps.{alone}
@@ -6,5 +6,4 @@ use Rattle.test_surface.proofs.relation.one_export.Goals as goal
 
 pub returns-clause-graphic : goal.returns-clause-graphic
 returns-clause-graphic g c =
-    alone (λ (e : Export). IsTrue (is_graphic e.name)) _ _ _ c.new-exports.ensures c.in_ok-push.ensures.ok
-    (subst (λ (t : List ℕ). IsTrue (is_graphic t)) (sym c.in_ok-own.ensures) c.expect_word.ensures)
+    alone (λ (e : Export). IsTrue (is_graphic e.name)) _ _ c.only.ensures c.word.ensures.graphic
