@@ -8,7 +8,6 @@ mod extra_trees;
 mod failing;
 mod indexes;
 mod indexing;
-mod lookup_rows;
 mod modinfo_names;
 mod modprobe_names;
 mod sheets;

@@ -11,5 +11,3 @@ mod depmod;
 mod modprobe;
 #[cfg(test)]
 mod rows;
-#[cfg(test)]
-mod surface;

@@ -6,10 +6,13 @@ mod runs;
 mod same;
 
 pub(crate) use file_system::{FILE_SYSTEM, FILE_SYSTEM_KERNEL};
-pub(crate) use objects::{Objects, words_of};
+pub(crate) use objects::{Objects, path_in, path_of, put_at};
 pub(crate) use row::{
-    Failing, FileRow, INDEX, INDEXED, IndexedRow, ModuleRow, Row, RowOf, SYMVERS, SYSTEM_MAP, TWO,
-    USAGE, wanted,
+    EXTRA, Failing, FileRow, INDEX, INDEXED, IndexedRow, ModuleRow, Row, RowOf, SYMVERS,
+    SYSTEM_MAP, TWO, USAGE,
 };
-pub(crate) use runs::{image, objects_with, put_modules, run_indexed, run_over};
-pub(crate) use same::{same_files, same_seen, value};
+pub(crate) use runs::{
+    FOLDER, expect_indexed, expect_last, expect_next, expect_over, expect_trees, image,
+    objects_with, put_modules, put_object,
+};
+pub(crate) use same::same_seen;

@@ -1,16 +1,15 @@
 // Trees that are changed: indexed again, and with a module that is damaged.
-use crate::depmod::expect::{DONE, IndexRow, REFUSED, expect_over, objects_of};
+use crate::depmod::expect::{DONE, IndexRow, REFUSED, expect_again, objects_of};
 use crate::depmod::indexes::Index;
 use crate::depmod::sheets::{GIVES_FC, GIVES_LONG, LONG_VERSION_17, NEEDS_LONG};
-use crate::rows::{Failing, TWO, put_modules, value};
-use km_names::Blob;
+use crate::rows::{Failing, ModuleRow, TWO, path_of, put_modules};
 use km_outside::CallKind;
 use std::alloc::Global;
 use std::process::Abort;
 use test_objects::{NO_MORE, object_with};
 
 /// Two modules that are indexed for the first time. The third replacement after that fails.
-const FIRST: IndexRow<'static> = IndexRow {
+static FIRST: IndexRow<'static> = IndexRow {
     name: "the first index",
     modules: TWO,
     is_old: false,
@@ -20,7 +19,7 @@ const FIRST: IndexRow<'static> = IndexRow {
 };
 
 /// The same with `c`: two files are new, and seven are as the first index left them.
-const SECOND: IndexRow<'static> = IndexRow {
+static SECOND: IndexRow<'static> = IndexRow {
     name: "the second index",
     status: 3,
     err: "kmod: file fault /r/lib/modules/6.1.0/modules.alias\n",
@@ -29,18 +28,20 @@ const SECOND: IndexRow<'static> = IndexRow {
     ..DONE
 };
 
+/// The module that is added.
+static C: [ModuleRow<'static>; 1] = [("kernel/c.ko", &GIVES_FC, &NO_MORE)];
+
 /// Indexes a tree twice, the second time with one module more.
 fn expect_second(rt: &impl Abort, alloc: Global) {
     let mut objects = objects_of(rt, alloc, &FIRST);
-    expect_over(rt, alloc, &mut objects, &FIRST);
-    let put = put_modules(alloc, &mut objects, &[("kernel/c.ko", &GIVES_FC, &NO_MORE)]);
-    value(rt, put, "no module more");
-    value(rt, objects.note(alloc), "no listing");
-    expect_over(rt, alloc, &mut objects, &SECOND);
+    expect_again(rt, alloc, &mut objects, &FIRST);
+    put_modules(rt, alloc, &mut objects, &C);
+    expect_again(rt, alloc, &mut objects, &SECOND);
+    drop(objects);
 }
 
 /// The names of versions in the extended form have no end.
-const CUT: IndexRow<'static> = IndexRow {
+static CUT: IndexRow<'static> = IndexRow {
     name: "names of versions without an end",
     modules: &[("kernel/a.ko", &GIVES_LONG, &NO_MORE)],
     err: "kmod: kernel/b.ko: bad versions\n",
@@ -65,30 +66,30 @@ fn end_of_last_name(bytes: &[u8]) -> Option<usize> {
     end
 }
 
-/// Returns an object that needs a long name.
-fn object_of_long(rt: &impl Abort, alloc: Global) -> Blob {
-    object_with(alloc, &NEEDS_LONG, &LONG_VERSION_17).expect(rt, "an object")
-}
-
 /// Returns an object in which the name of a version has no NUL.
 fn cut_object(rt: &impl Abort, alloc: Global) -> Vec<u8> {
-    let object = object_of_long(rt, alloc);
+    let object = object_with(alloc, &NEEDS_LONG, &LONG_VERSION_17).expect(rt, "an object");
     let mut bytes = Vec::from_slice(alloc, object.as_bytes()).expect(rt, "a copy");
+    cut_last_name(rt, &mut bytes);
+    bytes
+}
+
+/// Replaces the NUL of the last name by another byte.
+fn cut_last_name(rt: &impl Abort, bytes: &mut Vec<u8>) {
     let end = end_of_last_name(bytes.as_slice()).expect(rt, "no name");
     let nul = bytes.get_mut(end).expect(rt, "no byte");
     assert_eq!(rt; *nul, 0);
     *nul = b'x';
-    bytes
 }
 
 /// Indexes a tree in which a module has a name of a version without its NUL.
 fn expect_bad_versions(rt: &impl Abort, alloc: Global) {
-    let bytes = cut_object(rt, alloc);
     let mut objects = objects_of(rt, alloc, &CUT);
-    objects
-        .put(alloc, "/r/lib/modules/6.1.0/kernel/b.ko", bytes.as_slice())
-        .expect(rt, "a file");
-    expect_over(rt, alloc, &mut objects, &CUT);
+    let bytes = cut_object(rt, alloc);
+    let path = path_of(rt, alloc, b"/r/lib/modules/6.1.0/kernel/b.ko");
+    objects.put(rt, &path, bytes.as_slice());
+    expect_again(rt, alloc, &mut objects, &CUT);
+    drop(objects);
 }
 
 #[test]

@@ -1,26 +1,23 @@
 // What a depmod results in: what it answers and writes, and every file.
 use crate::depmod::indexes::{Index, files_of};
 use crate::rows::{
-    Failing, FileRow, INDEX, ModuleRow, Objects, SYMVERS, objects_with, same_files, same_seen,
-    value,
+    FOLDER, Failing, FileRow, INDEX, ModuleRow, Objects, RowOf, SYMVERS, expect_last, expect_next,
+    objects_with, path_in, put_at,
 };
 use std::alloc::Global;
 use std::process::Abort;
 
-/// The folder of a kernel's modules.
-const FOLDER: &str = "/r/lib/modules/6.1.0";
-
 /// The names of the files of an index, in the order in which they are replaced.
-const NAMES: [&str; 9] = [
-    "modules.dep",
-    "modules.dep.bin",
-    "modules.alias",
-    "modules.alias.bin",
-    "modules.softdep",
-    "modules.symbols",
-    "modules.symbols.bin",
-    "modules.builtin.bin",
-    "modules.unmet",
+static NAMES: [&[u8]; 9] = [
+    b"modules.dep",
+    b"modules.dep.bin",
+    b"modules.alias",
+    b"modules.alias.bin",
+    b"modules.softdep",
+    b"modules.symbols",
+    b"modules.symbols.bin",
+    b"modules.builtin.bin",
+    b"modules.unmet",
 ];
 
 /// A depmod over a tree.
@@ -30,7 +27,7 @@ pub(crate) struct IndexRow<'a> {
     pub(crate) name: &'a str,
     /// The modules of the tree.
     pub(crate) modules: &'a [ModuleRow<'a>],
-    /// Whether there is an index already, whose files have the text `old`.
+    /// The other files.
     pub(crate) files: &'a [FileRow<'a>],
     /// Whether there is an index already, whose files hold `old`.
     pub(crate) is_old: bool,
@@ -45,7 +42,7 @@ pub(crate) struct IndexRow<'a> {
     /// What the words are to write to err.
     pub(crate) err: &'a str,
     /// The folder of the index.
-    pub(crate) folder: &'a str,
+    pub(crate) folder: &'a [u8],
     /// The files of the index.
     pub(crate) index: Index,
     /// How many of them are replaced, in their order. All other files are to be as they were.
@@ -75,83 +72,68 @@ pub(crate) const REFUSED: IndexRow<'static> = IndexRow {
     ..DONE
 };
 
-fn path_in(rt: &impl Abort, alloc: Global, folder: &str, name: &str) -> String {
-    format!(in alloc; "{folder}/{name}").expect(rt, "a path")
-}
-
-/// Returns the paths of the files of an index in a folder.
-fn paths_in(rt: &impl Abort, alloc: Global, folder: &str) -> Vec<String> {
-    let mut paths = Vec::new(alloc);
-    for name in &NAMES {
-        let path = path_in(rt, alloc, folder, name);
-        paths.push(path).expect(rt, "a path more");
-    }
-    paths
-}
-
-/// Puts an old index.
-fn put_old(rt: &impl Abort, alloc: Global, objects: &mut Objects) {
-    let paths = paths_in(rt, alloc, FOLDER);
-    for path in paths.iter() {
-        objects
-            .put(alloc, path.as_str(), b"old")
-            .expect(rt, "a file");
+/// Puts an old index of the files with these names.
+pub(crate) fn put_old(rt: &impl Abort, alloc: Global, objects: &mut Objects, names: &[&[u8]]) {
+    for name in names {
+        let path = path_in(rt, alloc, FOLDER, name);
+        objects.put(rt, &path, b"old");
     }
 }
 
 /// Returns the objects of a row.
 pub(crate) fn objects_of(rt: &impl Abort, alloc: Global, row: &IndexRow<'_>) -> Objects {
-    let objects = objects_with(alloc, row.modules, row.files, row.failing);
-    let mut objects = value(rt, objects, "no objects");
+    let mut objects = objects_with(rt, alloc, row.modules, row.files, row.failing);
     if row.is_old {
-        put_old(rt, alloc, &mut objects);
+        put_old(rt, alloc, &mut objects, &NAMES);
     }
     objects
 }
 
-/// Returns the first files of an index, which a row replaces.
-fn replaced_files<'a>(
-    rt: &impl Abort,
-    alloc: Global,
-    paths: &'a [String],
-    row: &IndexRow<'_>,
-) -> Vec<FileRow<'a>> {
-    let mut after = Vec::new(alloc);
-    for (path, bytes) in paths.iter().zip(files_of(row.index)).take(row.replaced) {
-        let path = path.as_str();
-        let file = FileRow { path, bytes };
-        after.push(file).expect(rt, "a file more");
-    }
-    after
-}
-
-/// Compares all files with those before, except the first files of an index, which were replaced.
-pub(crate) fn expect_replaced(
+/// Wants a file in a folder.
+pub(crate) fn want_in(
     rt: &impl Abort,
     alloc: Global,
     objects: &mut Objects,
-    row: &IndexRow<'_>,
+    (folder, name): (&[u8], &[u8]),
+    bytes: &[u8],
 ) {
-    let paths = paths_in(rt, alloc, row.folder);
-    let after = replaced_files(rt, alloc, paths.as_slice(), row);
-    same_files(rt, alloc, objects, after.as_slice(), row.name);
+    let path = path_in(rt, alloc, folder, name);
+    put_at(rt, &mut objects.wanted, &path, bytes);
+}
+
+/// Wants the first files of an index, which a row replaces. All other files are to stay.
+fn want_replaced(rt: &impl Abort, alloc: Global, objects: &mut Objects, row: &IndexRow<'_>) {
+    for (name, bytes) in NAMES.iter().zip(files_of(row.index)).take(row.replaced) {
+        want_in(rt, alloc, objects, (row.folder, name), bytes);
+    }
+}
+
+/// Returns what a row is to result in.
+fn outcome_of<'a>(row: &IndexRow<'a>) -> RowOf<'a> {
+    (row.words, row.status, row.out, row.err)
 }
 
 /// Runs the words of a row over objects, and compares the outcome.
-pub(crate) fn expect_over(
+pub(crate) fn expect_again(
     rt: &impl Abort,
     alloc: Global,
     objects: &mut Objects,
     row: &IndexRow<'_>,
 ) {
-    objects.run(alloc, row.words).expect(rt, "words");
-    let want = (row.status, row.out.as_bytes(), row.err.as_bytes());
-    same_seen(rt, objects, want, row.name);
-    expect_replaced(rt, alloc, objects, row);
+    want_replaced(rt, alloc, objects, row);
+    expect_next(rt, alloc, objects, outcome_of(row), row.name);
 }
 
 /// Runs a depmod over a tree, and compares the outcome.
 pub(crate) fn expect_index(rt: &impl Abort, alloc: Global, row: &IndexRow<'_>) {
     let mut objects = objects_of(rt, alloc, row);
-    expect_over(rt, alloc, &mut objects, row);
+    want_replaced(rt, alloc, &mut objects, row);
+    expect_last(rt, alloc, objects, outcome_of(row), row.name);
+}
+
+/// Runs each row.
+pub(crate) fn expect_rows(rt: &impl Abort, alloc: Global, rows: &[IndexRow<'_>]) {
+    for row in rows {
+        expect_index(rt, alloc, row);
+    }
 }

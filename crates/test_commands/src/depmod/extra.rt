@@ -1,35 +1,29 @@
 // Trees that are indexed with `--extra`.
+use crate::depmod::expect::{put_old, want_in};
 use crate::depmod::extra_trees::{NO_KEYS, NO_NODES, ONE_NODE, TTY, TTY_INDEX, TWO_NODES};
 use crate::rows::{
-    Failing, FileRow, INDEX, ModuleRow, Objects, SYMVERS, objects_with, same_files, same_seen,
-    value,
+    EXTRA, FOLDER, Failing, FileRow, INDEX, ModuleRow, Objects, SYMVERS, expect_last, objects_with,
+    path_in, put_at,
 };
-use km_names::{PathText, join};
 use km_outside::CallKind;
 use std::alloc::Global;
 use std::process::Abort;
 use test_objects::{NEEDS_NOSUCH, NO_MORE};
 
-/// The folder of a kernel's modules.
-const FOLDER: &[u8] = b"/r/lib/modules/6.1.0";
-
 /// The names of the files of depmod, in the order in which they are replaced.
-static NAMES: [&str; 11] = [
-    "modules.dep",
-    "modules.dep.bin",
-    "modules.alias",
-    "modules.alias.bin",
-    "modules.softdep",
-    "modules.symbols",
-    "modules.symbols.bin",
-    "modules.builtin.bin",
-    "modules.unmet",
-    "modules.builtin.alias.bin",
-    "modules.devname",
+static NAMES: [&[u8]; 11] = [
+    b"modules.dep",
+    b"modules.dep.bin",
+    b"modules.alias",
+    b"modules.alias.bin",
+    b"modules.softdep",
+    b"modules.symbols",
+    b"modules.symbols.bin",
+    b"modules.builtin.bin",
+    b"modules.unmet",
+    b"modules.builtin.alias.bin",
+    b"modules.devname",
 ];
-
-/// The words that index with the two other files.
-const EXTRA: &str = "depmod --extra -b /r -E /r/Module.symvers 6.1.0";
 
 /// A depmod over a tree.
 #[derive(Clone, Copy)]
@@ -168,107 +162,49 @@ static ROWS: [ExtraRow<'static>; 10] = [
     },
 ];
 
-/// Returns the path of a file in the folder.
-fn path_in(rt: &impl Abort, alloc: Global, name: &str) -> PathText {
-    let folder = PathText::from_slice(alloc, FOLDER).expect(rt, "a folder");
-    join(alloc, &folder, name.as_bytes()).expect(rt, "a path")
-}
-
-/// Returns the bytes of a file in the folder.
-fn file_in(rt: &impl Abort, alloc: Global, objects: &Objects, name: &str) -> Vec<u8> {
-    let path = path_in(rt, alloc, name);
-    let bytes = objects.files.get(&path).unwrap_or(b"no file");
-    Vec::from_slice(alloc, bytes).expect(rt, "a copy")
-}
-
-fn text_of_path(rt: &impl Abort, alloc: Global, name: &str) -> String {
-    format!(in alloc; "/r/lib/modules/6.1.0/{name}").expect(rt, "a path")
-}
-
-/// Returns the paths of the files of depmod.
-fn paths_of(rt: &impl Abort, alloc: Global) -> Vec<String> {
-    let mut paths = Vec::new(alloc);
-    for name in &NAMES {
-        let path = text_of_path(rt, alloc, name);
-        paths.push(path).expect(rt, "a path more");
-    }
-    paths
-}
-
 /// Returns the objects of a row.
 fn objects_of(rt: &impl Abort, alloc: Global, row: &ExtraRow<'_>, failing: Failing) -> Objects {
-    let objects = objects_with(alloc, row.modules, row.files, failing);
-    value(rt, objects, "no objects")
+    objects_with(rt, alloc, row.modules, row.files, failing)
 }
 
-/// Returns the nine files of a depmod without the option.
-fn plain_files(rt: &impl Abort, alloc: Global, row: &ExtraRow<'_>) -> Vec<Vec<u8>> {
+/// Wants a file as it was left by another command.
+fn want_same(rt: &impl Abort, alloc: Global, objects: &mut Objects, other: &Objects, name: &[u8]) {
+    let path = path_in(rt, alloc, FOLDER, name);
+    let bytes = other.files.get(&path).unwrap_or(b"no file");
+    put_at(rt, &mut objects.wanted, &path, bytes);
+}
+
+/// Wants the first files as a depmod without the option leaves them.
+fn want_plain(rt: &impl Abort, alloc: Global, objects: &mut Objects, row: &ExtraRow<'_>) {
     let mut plain = objects_of(rt, alloc, row, Failing::Nothing);
-    plain.run(alloc, INDEX).expect(rt, "words");
-    let mut files = Vec::new(alloc);
-    for name in NAMES.iter().take(9) {
-        let file = file_in(rt, alloc, &plain, name);
-        files.push(file).expect(rt, "a file more");
+    plain.run(rt, alloc, INDEX);
+    for name in NAMES.iter().take(row.replaced.min(9)) {
+        want_same(rt, alloc, objects, &plain, name);
     }
-    files
+    drop(plain);
 }
 
-/// Returns what the files are to have: the nine of a depmod without the option, and the two of a
-/// row.
-fn wanted_files(rt: &impl Abort, alloc: Global, row: &ExtraRow<'_>) -> Vec<Vec<u8>> {
-    let mut files = plain_files(rt, alloc, row);
-    for bytes in &row.extra {
-        let file = Vec::from_slice(alloc, bytes).expect(rt, "a copy");
-        files.push(file).expect(rt, "a file more");
+/// Wants the two files of a row, as far as they are replaced.
+fn want_extra(rt: &impl Abort, alloc: Global, objects: &mut Objects, row: &ExtraRow<'_>) {
+    let names = NAMES.iter().take(row.replaced).skip(9);
+    for (name, bytes) in names.zip(row.extra) {
+        want_in(rt, alloc, objects, (FOLDER, name), bytes);
     }
-    files
-}
-
-/// Puts an old index.
-fn put_old(rt: &impl Abort, alloc: Global, objects: &mut Objects, paths: &[String]) {
-    for path in paths {
-        objects
-            .put(alloc, path.as_str(), b"old")
-            .expect(rt, "a file");
-    }
-}
-
-/// Returns so many of the files, with their paths.
-fn first_files<'a>(
-    rt: &impl Abort,
-    alloc: Global,
-    paths: &'a [String],
-    files: &'a [Vec<u8>],
-    count: usize,
-) -> Vec<FileRow<'a>> {
-    let mut after = Vec::new(alloc);
-    for (path, bytes) in paths.iter().zip(files.iter()).take(count) {
-        let file = FileRow {
-            path: path.as_str(),
-            bytes: bytes.as_slice(),
-        };
-        after.push(file).expect(rt, "a file more");
-    }
-    after
 }
 
 /// Runs a depmod over a tree with an old index, and compares the outcome.
 fn expect_row(rt: &impl Abort, alloc: Global, row: &ExtraRow<'_>) {
-    let paths = paths_of(rt, alloc);
-    let files = wanted_files(rt, alloc, row);
     let mut objects = objects_of(rt, alloc, row, row.failing);
-    put_old(rt, alloc, &mut objects, paths.as_slice());
-    objects.run(alloc, row.words).expect(rt, "words");
-    let want = (row.status, row.out.as_bytes(), row.err.as_bytes());
-    same_seen(rt, &objects, want, row.name);
-    let after = first_files(rt, alloc, paths.as_slice(), files.as_slice(), row.replaced);
-    same_files(rt, alloc, &mut objects, after.as_slice(), row.name);
+    put_old(rt, alloc, &mut objects, &NAMES);
+    want_plain(rt, alloc, &mut objects, row);
+    want_extra(rt, alloc, &mut objects, row);
+    let outcome = (row.words, row.status, row.out, row.err);
+    expect_last(rt, alloc, objects, outcome, row.name);
 }
 
 #[test]
 fn trees_are_indexed_with_two_more_files(rt: HostRuntime) {
-    let alloc = rt.alloc();
     for row in &ROWS {
-        expect_row(&rt, alloc, row);
+        expect_row(&rt, rt.alloc(), row);
     }
 }

@@ -1,18 +1,13 @@
 // What the two commands answer over the files that a depmod left, and over bad ones.
 use crate::depmod::extra_trees::{ONE_NODE, TTY, TWO_BUILT_IN, TWO_NODES};
-use crate::depmod::lookup_rows::expect_over;
 use crate::rows::{
-    Failing, FileRow, ModuleRow, Objects, Row, SYMVERS, USAGE, objects_with, same_files, same_seen,
-    value, wanted,
+    EXTRA, Failing, FileRow, INDEXED, IndexedRow, RowOf, SYMVERS, USAGE, expect_over, expect_trees,
 };
 use std::alloc::Global;
 use std::process::Abort;
 
-/// The words that index with the two other files.
-const EXTRA: &str = "depmod --extra -b /r -E /r/Module.symvers 6.1.0";
-
 /// Lookups over a module with a device node, and a built-in one with an alias.
-static ONE: [Row; 18] = [
+const ONE: &[RowOf<'static>] = &[
     ("builtin-alias -d /r -S 6.1.0 tty-x", 0, "tty\n", ""),
     ("builtin-alias -S6.1.0 -d/r// tty_", 0, "tty\n", ""),
     (
@@ -75,7 +70,7 @@ static ONE: [Row; 18] = [
 ];
 
 /// Lookups over two modules with device nodes, and two built-in ones.
-static TWO: [Row; 3] = [
+const TWO: &[RowOf<'static>] = &[
     // Each module once, in the order in which they are first seen.
     ("builtin-alias -d /r -S 6.1.0 mm", 0, "snd_b\na\n", ""),
     ("builtin-alias -d /r -S 6.1.0 x", 0, "a\n", ""),
@@ -99,58 +94,54 @@ static BAD_INDEXES: [(&[u8], &str); 2] = [
     ),
 ];
 
-/// Texts of modules.devname, what is printed, and the number of the first bad line or none.
-static NODE_TEXTS: [(&[u8], &str, u8); 7] = [
-    (b"", "", 0),
-    (b"# x\n\n  \nfuse fuse c10:229", "fuse fuse c10:229\n", 0),
-    (b"fuse fuse c10:229\nfuse  fuse c10:229\n", "", 2),
-    (b"# x\nfuse fuse d10:229\n", "", 2),
-    (b"fuse fuse c010:229\n", "", 1),
-    (b"fuse fuse c10:4294967296\n", "", 1),
-    (b"fuse fuse c10-229\n", "", 1),
+/// Texts of modules.devname, what is printed, and the line on err if one of them is bad.
+static NODE_TEXTS: [(&[u8], &str, &str); 7] = [
+    (b"", "", ""),
+    (b"# x\n\n  \nfuse fuse c10:229", "fuse fuse c10:229\n", ""),
+    (
+        b"fuse fuse c10:229\nfuse  fuse c10:229\n",
+        "",
+        "kmod: /r/lib/modules/6.1.0/modules.devname: bad line 2\n",
+    ),
+    (
+        b"# x\nfuse fuse d10:229\n",
+        "",
+        "kmod: /r/lib/modules/6.1.0/modules.devname: bad line 2\n",
+    ),
+    (
+        b"fuse fuse c010:229\n",
+        "",
+        "kmod: /r/lib/modules/6.1.0/modules.devname: bad line 1\n",
+    ),
+    (
+        b"fuse fuse c10:4294967296\n",
+        "",
+        "kmod: /r/lib/modules/6.1.0/modules.devname: bad line 1\n",
+    ),
+    (
+        b"fuse fuse c10-229\n",
+        "",
+        "kmod: /r/lib/modules/6.1.0/modules.devname: bad line 1\n",
+    ),
 ];
 
-/// Indexes a tree, which is to be done and write nothing.
-fn indexed(
-    rt: &impl Abort,
-    alloc: Global,
-    modules: &[ModuleRow<'static>],
-    built_in: FileRow<'static>,
-) -> Objects {
-    let files = [SYMVERS, built_in];
-    let objects = objects_with(alloc, modules, &files, Failing::Nothing);
-    let mut objects = value(rt, objects, "no objects");
-    objects.run(alloc, EXTRA).expect(rt, "words");
-    same_seen(rt, &objects, (0, b"", b""), EXTRA);
-    value(rt, objects.note(alloc), "no listing");
-    objects
-}
-
-/// Indexes a tree, runs the words of a row, and compares the outcome. The words change no file.
-fn expect_found(
-    rt: &impl Abort,
-    alloc: Global,
-    modules: &[ModuleRow<'static>],
-    built_in: FileRow<'static>,
-    row: Row,
-) {
-    let (words, ..) = row;
-    let mut objects = indexed(rt, alloc, modules, built_in);
-    objects.run(alloc, words).expect(rt, "words");
-    same_seen(rt, &objects, wanted(row), words);
-    same_files(rt, alloc, &mut objects, &[], words);
-}
-
-#[test]
-fn names_and_nodes_are_found(rt: HostRuntime) {
-    let alloc = rt.alloc();
-    for row in &ONE {
-        expect_found(&rt, alloc, ONE_NODE, TTY, *row);
-    }
-    for row in &TWO {
-        expect_found(&rt, alloc, TWO_NODES, TWO_BUILT_IN, *row);
-    }
-}
+/// The trees of these lookups.
+static TREES: [IndexedRow<'static>; 2] = [
+    IndexedRow {
+        modules: ONE_NODE,
+        files: &[SYMVERS, TTY],
+        first: EXTRA,
+        rows: ONE,
+        ..INDEXED
+    },
+    IndexedRow {
+        modules: TWO_NODES,
+        files: &[SYMVERS, TWO_BUILT_IN],
+        first: EXTRA,
+        rows: TWO,
+        ..INDEXED
+    },
+];
 
 /// Looks up a name in an index that is refused.
 fn expect_bad_index(rt: &impl Abort, alloc: Global, bytes: &'static [u8], err: &str) {
@@ -162,59 +153,36 @@ fn expect_bad_index(rt: &impl Abort, alloc: Global, bytes: &'static [u8], err: &
     expect_over(rt, alloc, &[file], Failing::Nothing, row);
 }
 
-#[test]
-fn bad_indexes_are_refused(rt: HostRuntime) {
-    for (bytes, err) in &BAD_INDEXES {
-        expect_bad_index(&rt, rt.alloc(), bytes, err);
-    }
-}
-
 /// Prints the nodes of a modules.devname while something fails, and compares the outcome.
 fn expect_nodes(
     rt: &impl Abort,
     alloc: Global,
     bytes: &'static [u8],
     failing: Failing,
-    want: (u8, &str, &str),
+    (status, out, err): (u8, &str, &str),
 ) {
     let file = FileRow {
         path: "/r/lib/modules/6.1.0/modules.devname",
         bytes,
     };
-    let (status, out, err) = want;
     let row = ("static-nodes -d /r -S 6.1.0 -f devname", status, out, err);
     expect_over(rt, alloc, &[file], failing, row);
 }
 
-/// Returns the line on err of a modules.devname whose line of this number is bad.
-fn bad_line(rt: &impl Abort, alloc: Global, number: u8) -> String {
-    format!(in alloc; "kmod: /r/lib/modules/6.1.0/modules.devname: bad line {number}\n").expect(
-        rt, "a line",
-    )
-}
-
-/// Prints the nodes of a modules.devname whose line of this number is the first bad one.
-fn expect_bad_line(rt: &impl Abort, alloc: Global, bytes: &'static [u8], out: &str, number: u8) {
-    let err = bad_line(rt, alloc, number);
-    let want = (1, out, err.as_str());
-    expect_nodes(rt, alloc, bytes, Failing::Nothing, want);
-}
+/// A modules.devname of one node.
+static FUSE_TEXT: &[u8] = b"fuse fuse c10:229\n";
 
 #[test]
-fn texts_of_nodes_are_read(rt: HostRuntime) {
+fn names_and_nodes_are_found(rt: HostRuntime) {
     let alloc = rt.alloc();
-    for (bytes, out, number) in &NODE_TEXTS {
-        if *number == 0 {
-            expect_nodes(&rt, alloc, bytes, Failing::Nothing, (0, out, ""));
-        } else {
-            expect_bad_line(&rt, alloc, bytes, out, *number);
-        }
+    expect_trees(&rt, alloc, &TREES);
+    for (bytes, err) in &BAD_INDEXES {
+        expect_bad_index(&rt, alloc, bytes, err);
     }
-}
-
-#[test]
-fn writes_that_fail_are_reported(rt: HostRuntime) {
+    for (bytes, out, err) in &NODE_TEXTS {
+        let status = if err.is_empty() { 0 } else { 1 };
+        expect_nodes(&rt, alloc, bytes, Failing::Nothing, (status, out, err));
+    }
     let want = (3, "", "kmod: output fault\n");
-    let bytes = b"fuse fuse c10:229\n".as_slice();
-    expect_nodes(&rt, rt.alloc(), bytes, Failing::Write(0), want);
+    expect_nodes(&rt, alloc, FUSE_TEXT, Failing::Write(0), want);
 }

@@ -1,5 +1,5 @@
 // Trees that are indexed, and those that are refused.
-use crate::depmod::expect::{DONE, IndexRow, REFUSED, expect_index};
+use crate::depmod::expect::{DONE, IndexRow, REFUSED, expect_index, expect_rows};
 use crate::depmod::indexes::Index;
 use crate::depmod::sheets::{
     ALIASES, CIRCLE_A, CIRCLE_B, CIRCLE_C, CIRCLE_P, GIVES_LONG, LONG_VERSION_17, LONG_VERSION_18,
@@ -7,8 +7,6 @@ use crate::depmod::sheets::{
 };
 use crate::rows::{FILE_SYSTEM, FILE_SYSTEM_KERNEL, Failing, FileRow, SYMVERS, TWO, USAGE};
 use km_outside::CallKind;
-use std::alloc::Global;
-use std::process::Abort;
 use test_objects::{
     FREE, GIVES, GIVES_ALONE, GIVES_VERSION_1, GPL_ONLY, IMPORTS, IN_SPACE, MAY_NEED,
     MAY_NEED_VERSION_2, NEEDS, NEEDS_NOSUCH, NO_MORE, NOTHING,
@@ -54,7 +52,7 @@ static PLAIN: [IndexRow<'static>; 10] = [
         modules: &[("kernel/a.ko", &GIVES, &NO_MORE)],
         words: "depmod -b /r// -o /o/ -E /r/Module.symvers 6.1.0",
         index: Index::AAlone,
-        folder: "/o/lib/modules/6.1.0",
+        folder: b"/o/lib/modules/6.1.0",
         ..DONE
     },
     // An alias is written as it is stated; one without a normal form is left out.
@@ -399,13 +397,6 @@ static FILE_SYSTEM_ROW: IndexRow<'static> = IndexRow {
     index: Index::FileSystemFiles,
     ..DONE
 };
-
-/// Runs each row.
-fn expect_rows(rt: &impl Abort, alloc: Global, rows: &[IndexRow<'_>]) {
-    for row in rows {
-        expect_index(rt, alloc, row);
-    }
-}
 
 #[test]
 fn trees_are_indexed_or_refused(rt: HostRuntime) {

@@ -1,6 +1,5 @@
 // Modules that are shown by their names.
-use crate::depmod::lookup_rows::expect_over;
-use crate::rows::{Failing, FileRow, Row, RowOf};
+use crate::rows::{Failing, FileRow, Row, RowOf, expect_over};
 use km_outside::CallKind;
 use std::alloc::Global;
 use std::process::Abort;

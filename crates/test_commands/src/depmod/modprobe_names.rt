@@ -1,7 +1,6 @@
 // What names stand for, by files of a folder and a configuration.
-use crate::depmod::lookup_rows::expect_over;
 use crate::depmod::modinfo_names::{CUT_VALUE, FORWARD_CHILD, REACHED_TWICE};
-use crate::rows::{Failing, FileRow, Row};
+use crate::rows::{Failing, FileRow, Row, expect_over};
 use std::alloc::Global;
 use std::process::Abort;
 

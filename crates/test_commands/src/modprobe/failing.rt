@@ -1,7 +1,8 @@
 // Each call of a load fails in turn: what was printed and put before stays, and nothing else is
 // done.
-use crate::modprobe::expect::expect_indexed;
-use crate::rows::{Failing, FileRow, INDEXED, IndexedRow, SYMVERS, SYSTEM_MAP, TWO, image};
+use crate::rows::{
+    Failing, FileRow, INDEXED, IndexedRow, SYMVERS, SYSTEM_MAP, TWO, expect_indexed, image,
+};
 use km_outside::CallKind;
 use std::alloc::Global;
 use std::process::Abort;
@@ -22,64 +23,119 @@ const A_LOADED: &str =
 const BOTH_LOADED: &str =
     "insmod /r/lib/modules/6.1.0/kernel/a.ko\ninsmod /r/lib/modules/6.1.0/kernel/b.ko\nloaded a ffffffffc0000000 8192 c6c95917cef2d89bf138a45b46ef4155f44b4dba3fdef5bd3e0dd145c1741227\nloaded b ffffffffc0002000 4096 0a0ae56ba2cd70c076737e2ae47ebdd9a5154c842c849bb19266dcee8398c17b\n";
 
-/// A call on files of such a load: its kind and path, what was written before, and how many images
-/// were put.
-type CallRow = (CallKind, &'static str, &'static str, usize);
+/// What fails in such a load, its line on err, what was written before, and how many images were
+/// put.
+type FailingRow = (Failing, &'static str, &'static str, usize);
 
-/// These calls in their order.
-static CALLS: [CallRow; 17] = [
-    (CallKind::ListConf, "/etc/modprobe.d", "", 0),
-    (CallKind::ListConf, "/run/modprobe.d", "", 0),
-    (CallKind::ListConf, "/usr/local/lib/modprobe.d", "", 0),
-    (CallKind::ListConf, "/usr/lib/modprobe.d", "", 0),
-    (CallKind::ListConf, "/lib/modprobe.d", "", 0),
+/// The calls of a load in their order, each counted from the first call of its kind, of which some
+/// were depmod's. The last run of each kind has no call of that number, and is done.
+static CALLS: [FailingRow; 21] = [
     (
-        CallKind::Read,
-        "/r/lib/modules/6.1.0/modules.dep.bin",
+        Failing::Call(CallKind::ListConf, 5),
+        "kmod: file fault /etc/modprobe.d\n",
         "",
         0,
     ),
     (
-        CallKind::Read,
-        "/r/lib/modules/6.1.0/modules.alias.bin",
+        Failing::Call(CallKind::ListConf, 6),
+        "kmod: file fault /run/modprobe.d\n",
         "",
         0,
     ),
     (
-        CallKind::Read,
-        "/r/lib/modules/6.1.0/modules.symbols.bin",
+        Failing::Call(CallKind::ListConf, 7),
+        "kmod: file fault /usr/local/lib/modprobe.d\n",
         "",
         0,
     ),
     (
-        CallKind::Read,
-        "/r/lib/modules/6.1.0/modules.builtin.bin",
+        Failing::Call(CallKind::ListConf, 8),
+        "kmod: file fault /usr/lib/modprobe.d\n",
         "",
         0,
     ),
     (
-        CallKind::Read,
-        "/r/lib/modules/6.1.0/modules.softdep",
+        Failing::Call(CallKind::ListConf, 9),
+        "kmod: file fault /lib/modprobe.d\n",
         "",
         0,
     ),
-    (CallKind::Read, "/r/lib/modules/6.1.0/modules.unmet", "", 0),
-    (CallKind::Read, "/r/System.map", "", 0),
-    (CallKind::Read, "/r/Module.symvers", "", 0),
     (
-        CallKind::Read,
-        "/r/lib/modules/6.1.0/kernel/a.ko",
+        Failing::Call(CallKind::Read, 5),
+        "kmod: file fault /r/lib/modules/6.1.0/modules.dep.bin\n",
+        "",
+        0,
+    ),
+    (
+        Failing::Call(CallKind::Read, 6),
+        "kmod: file fault /r/lib/modules/6.1.0/modules.alias.bin\n",
+        "",
+        0,
+    ),
+    (
+        Failing::Call(CallKind::Read, 7),
+        "kmod: file fault /r/lib/modules/6.1.0/modules.symbols.bin\n",
+        "",
+        0,
+    ),
+    (
+        Failing::Call(CallKind::Read, 8),
+        "kmod: file fault /r/lib/modules/6.1.0/modules.builtin.bin\n",
+        "",
+        0,
+    ),
+    (
+        Failing::Call(CallKind::Read, 9),
+        "kmod: file fault /r/lib/modules/6.1.0/modules.softdep\n",
+        "",
+        0,
+    ),
+    (
+        Failing::Call(CallKind::Read, 10),
+        "kmod: file fault /r/lib/modules/6.1.0/modules.unmet\n",
+        "",
+        0,
+    ),
+    (
+        Failing::Call(CallKind::Read, 11),
+        "kmod: file fault /r/System.map\n",
+        "",
+        0,
+    ),
+    (
+        Failing::Call(CallKind::Read, 12),
+        "kmod: file fault /r/Module.symvers\n",
+        "",
+        0,
+    ),
+    (
+        Failing::Call(CallKind::Read, 13),
+        "kmod: file fault /r/lib/modules/6.1.0/kernel/a.ko\n",
         PLANNED,
         0,
     ),
-    (CallKind::Replace, "/r/img/a.img", PLANNED, 0),
     (
-        CallKind::Read,
-        "/r/lib/modules/6.1.0/kernel/b.ko",
+        Failing::Call(CallKind::Replace, 9),
+        "kmod: file fault /r/img/a.img\n",
+        PLANNED,
+        0,
+    ),
+    (
+        Failing::Call(CallKind::Read, 14),
+        "kmod: file fault /r/lib/modules/6.1.0/kernel/b.ko\n",
         A_LOADED,
         1,
     ),
-    (CallKind::Replace, "/r/img/b.img", A_LOADED, 1),
+    (
+        Failing::Call(CallKind::Replace, 10),
+        "kmod: file fault /r/img/b.img\n",
+        A_LOADED,
+        1,
+    ),
+    (Failing::Call(CallKind::ListConf, 10), "", BOTH_LOADED, 2),
+    (Failing::Call(CallKind::ListTree, 2), "", BOTH_LOADED, 2),
+    (Failing::Call(CallKind::Read, 15), "", BOTH_LOADED, 2),
+    (Failing::Call(CallKind::Replace, 11), "", BOTH_LOADED, 2),
 ];
 
 /// What the image of `a` has besides zeros.
@@ -88,17 +144,19 @@ static A_WORDS: [(usize, &[u8]); 1] = [(4096, b"\x00\x00\x00\x81\xff\xff\xff\xff
 /// What the image of `b` has besides zeros.
 static B_WORDS: [(usize, &[u8]); 1] = [(0, b"\x00\x00\x00\xc0\xff\xff\xff\xff")];
 
+/// The tree of a load, and nothing run over it.
+static LOADED: IndexedRow<'static> = IndexedRow {
+    modules: TWO,
+    files: &[SYMVERS, SYSTEM_MAP],
+    ..INDEXED
+};
+
 /// Runs the load while something fails, and compares what it answers and writes, and the first
 /// images.
-fn expect_load(
-    rt: &impl Abort,
-    alloc: Global,
-    failing: Failing,
-    (out, err): (&str, &str),
-    images: usize,
-) {
-    let a = image(alloc, 8192, &A_WORDS).expect(rt, "an image");
-    let b = image(alloc, 4096, &B_WORDS).expect(rt, "an image");
+fn expect_load(rt: &impl Abort, alloc: Global, row: FailingRow) {
+    let (failing, err, out, images) = row;
+    let a = image(rt, alloc, 8192, &A_WORDS);
+    let b = image(rt, alloc, 4096, &B_WORDS);
     let after = [
         FileRow {
             path: "/r/img/a.img",
@@ -112,68 +170,28 @@ fn expect_load(
     let status = if err.is_empty() { 0 } else { 3 };
     let tree = IndexedRow {
         name: "calls that fail",
-        modules: TWO,
-        files: &[SYMVERS, SYSTEM_MAP],
         failing,
         rows: &[(LOAD, status, out, err)],
         after: &after[..images.min(2)],
-        ..INDEXED
+        ..LOADED
     };
     expect_indexed(rt, alloc, &tree);
 }
 
-/// Returns the call of a kind with a number.
-fn call_of(kind: CallKind, number: u8) -> Option<CallRow> {
-    let mut calls = CALLS.iter().filter(|call| call.0 == kind);
-    calls.nth(usize::from(number)).copied()
-}
-
-/// Returns the line on err of a call that fails at a path.
-fn fault_at(rt: &impl Abort, alloc: Global, path: &str) -> String {
-    format!(in alloc; "kmod: file fault {path}\n").expect(rt, "a line")
-}
-
-/// Makes a call fail, counted from the first of that kind after depmod's, and returns whether there
-/// is one.
-fn expect_call(rt: &impl Abort, alloc: Global, kind: CallKind, (first, number): (u8, u8)) -> bool {
-    let failing = Failing::Call(kind, first.saturating_add(number));
-    let Some((_, path, out, images)) = call_of(kind, number) else {
-        expect_load(rt, alloc, failing, (BOTH_LOADED, ""), 2);
-        return false;
-    };
-    let err = fault_at(rt, alloc, path);
-    expect_load(rt, alloc, failing, (out, err.as_str()), images);
-    true
-}
-
-/// Makes each call of a kind fail in turn, until a run has none of that number and is done. Some
-/// were depmod's.
-fn expect_kind(rt: &impl Abort, alloc: Global, kind: CallKind, first: u8) {
-    for number in 0..30 {
-        if !expect_call(rt, alloc, kind, (first, number)) {
-            return;
-        }
-    }
-    panic!(rt; "each run met a fault")
-}
-
-/// What was written before each write to the output, the line on err, and how many images were put.
-/// The last run has no such write.
-static WRITES: [(&str, &str, usize); 4] = [
-    ("", "kmod: output fault\n", 0),
-    (PLANNED, "kmod: output fault\n", 1),
-    (A_LOADED, "kmod: output fault\n", 2),
-    (BOTH_LOADED, "", 2),
+/// The writes to the output. The last run has no write of that number, and is done.
+static WRITES: [FailingRow; 4] = [
+    (Failing::Write(0), "kmod: output fault\n", "", 0),
+    (Failing::Write(1), "kmod: output fault\n", PLANNED, 1),
+    (Failing::Write(2), "kmod: output fault\n", A_LOADED, 2),
+    (Failing::Write(3), "", BOTH_LOADED, 2),
 ];
 
 #[test]
 fn each_call_can_fail(rt: HostRuntime) {
-    let alloc = rt.alloc();
-    expect_kind(&rt, alloc, CallKind::ListConf, 5);
-    expect_kind(&rt, alloc, CallKind::ListTree, 2);
-    expect_kind(&rt, alloc, CallKind::Read, 5);
-    expect_kind(&rt, alloc, CallKind::Replace, 9);
-    for (number, (out, err, images)) in (0u8..).zip(WRITES) {
-        expect_load(&rt, alloc, Failing::Write(number), (out, err), images);
+    for row in &CALLS {
+        expect_load(&rt, rt.alloc(), *row);
+    }
+    for row in &WRITES {
+        expect_load(&rt, rt.alloc(), *row);
     }
 }

@@ -1,8 +1,7 @@
 // Loads into the modelled machine.
-use crate::modprobe::expect::{expect_indexed, expect_trees};
 use crate::rows::{
     FILE_SYSTEM, FILE_SYSTEM_KERNEL, FileRow, INDEXED, IndexedRow, RowOf, SYMVERS, SYSTEM_MAP, TWO,
-    USAGE, image,
+    USAGE, expect_indexed, expect_trees, image,
 };
 use std::alloc::Global;
 use std::process::Abort;
@@ -155,8 +154,8 @@ const EXT4_WORDS: &[u8] =
 /// Loads a file system with two helpers, over a kernel of 40 names, and compares both images byte
 /// for byte.
 fn expect_file_system(rt: &impl Abort, alloc: Global) {
-    let jbd2 = image(alloc, 8192, &[(4096, JBD2_WORD)]).expect(rt, "an image");
-    let ext4 = image(alloc, 4096, &[(0, EXT4_WORDS)]).expect(rt, "an image");
+    let jbd2 = image(rt, alloc, 8192, &[(4096, JBD2_WORD)]);
+    let ext4 = image(rt, alloc, 4096, &[(0, EXT4_WORDS)]);
     let tree = IndexedRow {
         name: "a file system is loaded",
         modules: FILE_SYSTEM,

@@ -1,9 +1,10 @@
 // Loads whose parameters are written.
-use crate::modprobe::expect::expect_words;
-use crate::rows::{Failing, FileRow, IndexedRow, RowOf, SYMVERS, SYSTEM_MAP, USAGE, image};
+use crate::rows::{
+    Failing, FileRow, INDEXED, IndexedRow, RowOf, SYMVERS, SYSTEM_MAP, USAGE, expect_indexed, image,
+};
 use km_names::{Blob, List, Name};
 use km_outside::CallKind;
-use std::alloc::{AllocError, Global};
+use std::alloc::Global;
 use std::process::Abort;
 use tree_gen::{SheetParam, SheetParams, param_object};
 
@@ -148,22 +149,30 @@ static FINISHED: [(usize, &[u8]); 7] = [
     (4104, b"\x01"),
 ];
 
+/// The parameters, with their types.
+static TWO: [(&[u8], &[u8]); 2] = [(b"depth", b"int"), (b"raw", b"bool")];
+
+/// Returns a name.
+fn name_of(rt: &impl Abort, alloc: Global, text: &[u8]) -> Name {
+    Name::from_slice(alloc, text).expect(rt, "a name")
+}
+
 /// Returns two parameters.
-fn params_of(alloc: Global) -> Result<SheetParams, AllocError> {
-    let rows: [(&[u8], &[u8]); 2] = [(b"depth", b"int"), (b"raw", b"bool")];
+fn two(rt: &impl Abort, alloc: Global) -> SheetParams {
     let mut params: SheetParams = List::new(alloc);
-    for (name, kind) in rows.as_slice() {
-        params.push(SheetParam {
-            name: Name::from_slice(alloc, name)?,
-            kind: Name::from_slice(alloc, kind)?,
-        })?;
+    for (name, kind) in &TWO {
+        let param = SheetParam {
+            name: name_of(rt, alloc, name),
+            kind: name_of(rt, alloc, kind),
+        };
+        params.push(param).expect(rt, "a parameter more");
     }
-    Ok(params)
+    params
 }
 
 /// Returns an object with two parameters.
-fn two_parameters(rt: &impl Abort, alloc: Global) -> Blob {
-    let params = params_of(alloc).expect(rt, "parameters");
+fn object_of_two(rt: &impl Abort, alloc: Global) -> Blob {
+    let params = two(rt, alloc);
     param_object(alloc, &params).expect(rt, "an object")
 }
 
@@ -182,47 +191,29 @@ fn files_of(object: &[u8]) -> [FileRow<'_>; 7] {
 }
 
 /// Runs each row over the indexed tree, and compares the outcome, with every file.
-fn expect(
+fn expect<'a>(
     rt: &impl Abort,
     alloc: Global,
     failing: Failing,
-    rows: &[RowOf<'static>],
-    after: &[FileRow<'_>],
+    rows: &'a [RowOf<'a>],
+    after: &'a [FileRow<'a>],
 ) {
-    let object = two_parameters(rt, alloc);
+    let object = object_of_two(rt, alloc);
     let files = files_of(object.as_bytes());
     let tree = IndexedRow {
-        name: "parameters",
-        modules: &[],
         files: files.as_slice(),
         failing,
         rows,
         after,
+        ..INDEXED
     };
-    expect_words(rt, alloc, &tree);
-}
-
-#[test]
-fn parameters_are_written(rt: HostRuntime) {
-    expect(&rt, rt.alloc(), Failing::Nothing, &LOADS, &[]);
-}
-
-#[test]
-fn a_refusal_ends_the_loads(rt: HostRuntime) {
-    expect(&rt, rt.alloc(), Failing::Nothing, &LOADS_OF_TWO, &[]);
-}
-
-#[test]
-fn only_loads_have_parameters(rt: HostRuntime) {
-    expect(&rt, rt.alloc(), Failing::Nothing, &NO_LOADS, &[]);
+    expect_indexed(rt, alloc, &tree);
 }
 
 /// Checks that both images are put, whole; and that the first stays if the second can't be put.
-#[test]
-fn both_images_are_put(rt: HostRuntime) {
-    let alloc = rt.alloc();
-    let own = image(alloc, 8192, &OWN).expect(&rt, "an image");
-    let finished = image(alloc, 8192, &FINISHED).expect(&rt, "an image");
+fn expect_images(rt: &impl Abort, alloc: Global) {
+    let own = image(rt, alloc, 8192, &OWN);
+    let finished = image(rt, alloc, 8192, &FINISHED);
     let own = FileRow {
         path: "/r/img/p.img",
         bytes: own.as_slice(),
@@ -231,7 +222,16 @@ fn both_images_are_put(rt: HostRuntime) {
         path: "/r/img/p.params.img",
         bytes: finished.as_slice(),
     };
-    expect(&rt, alloc, Failing::Nothing, &PUT, &[own, finished]);
+    expect(rt, alloc, Failing::Nothing, &PUT, &[own, finished]);
     let second = Failing::Call(CallKind::Replace, REPLACED + 1);
-    expect(&rt, alloc, second, &PUT_ONCE, &[own]);
+    expect(rt, alloc, second, &PUT_ONCE, &[own]);
+}
+
+#[test]
+fn parameters_are_written(rt: HostRuntime) {
+    let alloc = rt.alloc();
+    expect(&rt, alloc, Failing::Nothing, &LOADS, &[]);
+    expect(&rt, alloc, Failing::Nothing, &LOADS_OF_TWO, &[]);
+    expect(&rt, alloc, Failing::Nothing, &NO_LOADS, &[]);
+    expect_images(&rt, alloc);
 }

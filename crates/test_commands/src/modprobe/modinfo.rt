@@ -1,12 +1,12 @@
 // Modules that are shown by their paths.
 use crate::rows::{
-    Failing, FileRow, Objects, Row, RowOf, USAGE, run_over, same_files, same_seen, value, wanted,
+    Failing, FileRow, Objects, Row, RowOf, USAGE, expect_last, expect_over, path_of, put_at,
+    put_object, same_seen,
 };
-use km_names::{Blob, PathText};
-use km_outside::{CallKind, MemFiles};
+use km_outside::CallKind;
 use std::alloc::Global;
 use std::process::Abort;
-use test_objects::{LICENSE_OBJECT, SheetRow, object_of};
+use test_objects::{LICENSE_OBJECT, NO_MORE, SheetRow};
 
 /// A module with two parameters, one of them without a text.
 static PARAMETERS: SheetRow = SheetRow {
@@ -144,45 +144,38 @@ static NOT_UNDERSTOOD: [&str; 24] = [
     "modinfo --help",
 ];
 
-fn put(rt: &impl Abort, alloc: Global, objects: &mut Objects, path: &str, bytes: &[u8]) {
-    objects.put(alloc, path, bytes).expect(rt, "a file");
-}
-
-fn object(rt: &impl Abort, alloc: Global, sheet: &SheetRow) -> Blob {
-    object_of(alloc, sheet).expect(rt, "an object")
-}
+/// The module at the first path.
+const A: FileRow<'static> = FileRow {
+    path: "/m/a.ko",
+    bytes: &LICENSE_OBJECT,
+};
 
 /// Puts the modules at paths.
 fn put_modules(rt: &impl Abort, alloc: Global, objects: &mut Objects) {
-    put(rt, alloc, objects, "/m/a.ko", &LICENSE_OBJECT);
-    put(rt, alloc, objects, "/m/cut.ko", &LICENSE_OBJECT[..287]);
-    let parameters = object(rt, alloc, &PARAMETERS);
-    put(rt, alloc, objects, "/m/p.ko", parameters.as_bytes());
-    let lone_key = object(rt, alloc, &LONE_KEY);
-    put(rt, alloc, objects, "/m/lone.ko", lone_key.as_bytes());
+    objects.put_file(rt, alloc, A);
+    let cut = path_of(rt, alloc, b"/m/cut.ko");
+    objects.put(rt, &cut, &LICENSE_OBJECT[..287]);
+    put_object(rt, alloc, objects, (b"/m", "p.ko"), (&PARAMETERS, &NO_MORE));
+    put_object(
+        rt,
+        alloc,
+        objects,
+        (b"/m", "lone.ko"),
+        (&LONE_KEY, &NO_MORE),
+    );
 }
 
 /// Runs a row over the modules. No file is changed.
 fn expect_shown(rt: &impl Abort, alloc: Global, row: Row) {
     let (words, ..) = row;
-    let mut objects = Objects::new(alloc).expect(rt, "objects");
+    let mut objects = Objects::new(rt, alloc);
     put_modules(rt, alloc, &mut objects);
-    objects.run(alloc, words).expect(rt, "words");
-    same_seen(rt, &objects, wanted(row), words);
-    same_files(rt, alloc, &mut objects, &[], words);
+    expect_last(rt, alloc, objects, row, words);
 }
 
 /// Runs a row over one module while something fails. No file is changed.
 fn expect_one(rt: &impl Abort, alloc: Global, failing: Failing, row: RowOf<'_>) {
-    let module = FileRow {
-        path: "/m/a.ko",
-        bytes: &LICENSE_OBJECT,
-    };
-    let (words, ..) = row;
-    let run = run_over(alloc, &[module], failing, words);
-    let mut objects = value(rt, run, "no run");
-    same_seen(rt, &objects, wanted(row), words);
-    same_files(rt, alloc, &mut objects, &[], words);
+    expect_over(rt, alloc, &[A], failing, row);
 }
 
 /// What fails while modules are shown, and the row then. The first module is printed before the
@@ -225,6 +218,21 @@ static FAILING: [(Failing, Row); 5] = [
     ),
 ];
 
+/// Puts a file of so many zeros.
+fn put_zeros(rt: &impl Abort, alloc: Global, objects: &mut Objects, length: usize) {
+    let bytes = vec![in alloc; 0u8; length].expect(rt, "zeros");
+    let path = path_of(rt, alloc, b"/m/a.ko");
+    put_at(rt, &mut objects.files, &path, bytes.as_slice());
+}
+
+/// What is said of a file past the limit.
+static TOO_LARGE: Row = (
+    "modinfo -F license /m/a.ko",
+    1,
+    "",
+    "kmod: /m/a.ko: too large\n",
+);
+
 #[test]
 fn modules_are_shown_by_their_paths(rt: HostRuntime) {
     let alloc = rt.alloc();
@@ -239,20 +247,17 @@ fn modules_are_shown_by_their_paths(rt: HostRuntime) {
     }
 }
 
-/// Puts a file of so many zeros.
-fn put_zeros(rt: &impl Abort, alloc: Global, files: &mut MemFiles, path: &[u8], length: usize) {
-    let bytes = vec![in alloc; 0u8; length].expect(rt, "zeros");
-    let path = PathText::from_slice(alloc, path).expect(rt, "a path");
-    files.put(&path, bytes.as_slice()).expect(rt, "a file");
+/// Runs words over a file past the limit.
+fn expect_too_large(rt: &impl Abort, alloc: Global) {
+    let (words, ..) = TOO_LARGE;
+    let mut objects = Objects::new(rt, alloc);
+    put_zeros(rt, alloc, &mut objects, 67_108_865);
+    objects.run(rt, alloc, words);
+    same_seen(rt, &objects, TOO_LARGE, words);
+    drop(objects);
 }
 
 #[test]
 fn a_file_past_the_limit_is_too_large(rt: HostRuntime) {
-    let alloc = rt.alloc();
-    let words = "modinfo -F license /m/a.ko";
-    let mut objects = Objects::new(alloc).expect(&rt, "objects");
-    put_zeros(&rt, alloc, &mut objects.files, b"/m/a.ko", 67_108_865);
-    objects.run(alloc, words).expect(&rt, "words");
-    let line = b"kmod: /m/a.ko: too large\n".as_slice();
-    same_seen(&rt, &objects, (1, b"", line), words);
+    expect_too_large(&rt, rt.alloc());
 }

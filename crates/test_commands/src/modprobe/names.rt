@@ -1,7 +1,6 @@
 // What names stand for in trees that depmod indexed.
-use crate::modprobe::expect::expect_trees;
 use crate::modprobe::sheets::{ALIASES, USB};
-use crate::rows::{FileRow, INDEXED, IndexedRow, SYMVERS, TWO};
+use crate::rows::{FileRow, INDEXED, IndexedRow, SYMVERS, TWO, expect_trees};
 use test_objects::NO_MORE;
 
 /// Trees, and what names stand for in each.

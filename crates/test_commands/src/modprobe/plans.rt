@@ -1,7 +1,8 @@
 // Plans, and what is in the way of one.
-use crate::modprobe::expect::expect_trees;
 use crate::modprobe::sheets::ASKS_FOR_MORE;
-use crate::rows::{FileRow, INDEXED, IndexedRow, ModuleRow, SYMVERS, SYSTEM_MAP, TWO};
+use crate::rows::{
+    FileRow, INDEXED, IndexedRow, ModuleRow, SYMVERS, SYSTEM_MAP, TWO, expect_trees,
+};
 use test_objects::{
     FREE, GIVES_ALONE, GIVES_VERSION_1, GPL_ONLY, IMPORTS, IN_SPACE, MAY_NEED_VERSION_2, NEEDS,
     NEEDS_NOSUCH, NO_MORE, NOTHING,

@@ -1,6 +1,7 @@
 // Removals from the modelled machine.
-use crate::modprobe::expect::expect_words;
-use crate::rows::{FileRow, INDEXED, IndexedRow, ModuleRow, RowOf, SYMVERS, SYSTEM_MAP};
+use crate::rows::{
+    FileRow, INDEXED, IndexedRow, ModuleRow, RowOf, SYMVERS, SYSTEM_MAP, expect_indexed,
+};
 use test_objects::{GIVES, NEEDS, NO_MORE, NOTHING};
 
 /// Three modules. `b` needs `a`, and `c` has nothing to do with them.
@@ -163,7 +164,6 @@ const ROWS: &[RowOf<'static>] = &[
 
 /// The tree of the three modules.
 static TREE: IndexedRow<'static> = IndexedRow {
-    name: "removals",
     modules: THREE,
     files: FILES,
     rows: ROWS,
@@ -172,5 +172,5 @@ static TREE: IndexedRow<'static> = IndexedRow {
 
 #[test]
 fn modules_are_removed_or_refused(rt: HostRuntime) {
-    expect_words(&rt, rt.alloc(), &TREE);
+    expect_indexed(&rt, rt.alloc(), &TREE);
 }

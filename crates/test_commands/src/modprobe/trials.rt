@@ -1,7 +1,7 @@
 // Whole runs of trials. A separate program worked out the digests of images from the made trees. An
 // image has 8192 bytes, which are 0 except for the address of `printk` at byte 4096 and, after the
 // first, the address of `s0000` at byte 4104.
-use crate::rows::{Failing, Row, USAGE, run_over, same_files, same_seen, value, wanted};
+use crate::rows::{Failing, Row, USAGE, expect_over};
 use std::alloc::Global;
 use std::process::Abort;
 
@@ -36,35 +36,30 @@ static NOT_UNDERSTOOD: [Row; 4] = [
 ];
 
 /// A tree of 2,000 modules. A separate program worked out its digest and its dependencies.
-const MANY: Row = (
+const OF_MANY: Row = (
     "trial 7 2000",
     0,
     "modules 2000\ndependencies 135792\nplanned 2000\nloaded 2000\nimages 522c29431e76887306aa87c75dfa4d8e4fbdce7e5c514bea39cc3705b92aedb8\n",
     "",
 );
 
-/// Runs a row over no file, and checks that no file is left.
-fn expect_row(rt: &impl Abort, alloc: Global, row: Row) {
-    let (words, ..) = row;
-    let run = run_over(alloc, &[], Failing::Nothing, words);
-    let mut objects = value(rt, run, "no run");
-    same_seen(rt, &objects, wanted(row), words);
-    same_files(rt, alloc, &mut objects, &[], words);
+/// Two runs over it, which give the same.
+static MANY: [Row; 2] = [OF_MANY, OF_MANY];
+
+/// Runs rows over no file, and checks that no file is left.
+fn expect_rows(rt: &impl Abort, alloc: Global, rows: &[Row]) {
+    for row in rows {
+        expect_over(rt, alloc, &[], Failing::Nothing, *row);
+    }
 }
 
 #[test]
 fn made_trees_are_indexed_and_loaded(rt: HostRuntime) {
-    for row in &TRIALS {
-        expect_row(&rt, rt.alloc(), *row);
-    }
-    for row in &NOT_UNDERSTOOD {
-        expect_row(&rt, rt.alloc(), *row);
-    }
+    expect_rows(&rt, rt.alloc(), &TRIALS);
+    expect_rows(&rt, rt.alloc(), &NOT_UNDERSTOOD);
 }
 
-/// Checks that two runs give the same.
 #[test]
 fn a_tree_of_many_modules(rt: HostRuntime) {
-    expect_row(&rt, rt.alloc(), MANY);
-    expect_row(&rt, rt.alloc(), MANY);
+    expect_rows(&rt, rt.alloc(), &MANY);
 }

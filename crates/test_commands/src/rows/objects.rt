@@ -3,141 +3,134 @@ use crate::rows::row::FileRow;
 use km_names::{List, PathText, Paths, Word, join};
 use km_outside::{FileAnswer, Files, MemFiles, MemOut};
 use kmod_cli::run;
-use std::alloc::{AllocError, Global};
-use std::test::Fail;
+use std::alloc::Global;
+use std::process::Abort;
 
-/// The objects that a command is handed, what the files were before it, and the status that the
+/// The objects that a command is handed, what the files are to be after it, and the status that the
 /// last one answered.
 #[derive(Drop)]
-pub struct Objects {
+pub(crate) struct Objects {
     /// The files.
-    pub files: MemFiles,
-    /// The files as they were put or noted last.
-    pub before: MemFiles,
+    pub(crate) files: MemFiles,
+    /// The files as they are to be.
+    pub(crate) wanted: MemFiles,
     /// The output.
-    pub out: MemOut,
+    pub(crate) out: MemOut,
     /// The output of lines that say why.
-    pub err: MemOut,
+    pub(crate) err: MemOut,
     /// The status that was answered last, at first 0.
-    pub status: u8,
+    pub(crate) status: u8,
+}
+
+/// Makes an output with ample room.
+fn output(rt: &impl Abort, alloc: Global) -> MemOut {
+    MemOut::with_room(alloc, 4096).expect(rt, "an output")
+}
+
+/// Returns a path.
+pub(crate) fn path_of(rt: &impl Abort, alloc: Global, path: &[u8]) -> PathText {
+    PathText::from_slice(alloc, path).expect(rt, "a path")
+}
+
+/// Returns the path of a file in a folder.
+pub(crate) fn path_in(rt: &impl Abort, alloc: Global, folder: &[u8], name: &[u8]) -> PathText {
+    let folder = path_of(rt, alloc, folder);
+    join(alloc, &folder, name).expect(rt, "a path")
+}
+
+/// Puts a file at a path.
+pub(crate) fn put_at(rt: &impl Abort, files: &mut MemFiles, path: &PathText, bytes: &[u8]) {
+    files.put(path, bytes).expect(rt, "a file more");
 }
 
 impl Objects {
     /// Returns no file, and outputs with ample room.
-    pub fn new(alloc: Global) -> Result<Objects, AllocError> {
-        Ok(Objects {
+    pub(crate) fn new(rt: &impl Abort, alloc: Global) -> Objects {
+        Objects {
             files: MemFiles::new(alloc),
-            before: MemFiles::new(alloc),
-            out: MemOut::with_room(alloc, 4096)?,
-            err: MemOut::with_room(alloc, 4096)?,
+            wanted: MemFiles::new(alloc),
+            out: output(rt, alloc),
+            err: output(rt, alloc),
             status: 0,
-        })
+        }
     }
 
-    /// Puts a file at the path.
-    pub fn put(&mut self, alloc: Global, path: &str, bytes: &[u8]) -> Result<(), AllocError> {
-        let path = PathText::from_slice(alloc, path.as_bytes())?;
-        self.files.put(&path, bytes)?;
-        self.before.put(&path, bytes)
+    /// Puts a file, which is to stay.
+    pub(crate) fn put(&mut self, rt: &impl Abort, path: &PathText, bytes: &[u8]) {
+        put_at(rt, &mut self.files, path, bytes);
+        put_at(rt, &mut self.wanted, path, bytes);
+    }
+
+    /// Puts a file that is written out, which is to stay.
+    pub(crate) fn put_file(&mut self, rt: &impl Abort, alloc: Global, file: FileRow<'_>) {
+        let path = path_of(rt, alloc, file.path.as_bytes());
+        self.put(rt, &path, file.bytes);
+    }
+
+    /// Wants a file that is written out.
+    pub(crate) fn want_file(&mut self, rt: &impl Abort, alloc: Global, file: FileRow<'_>) {
+        let path = path_of(rt, alloc, file.path.as_bytes());
+        put_at(rt, &mut self.wanted, &path, file.bytes);
+    }
+
+    /// Wants the files as they are.
+    pub(crate) fn want_all(&mut self, rt: &impl Abort, alloc: Global) {
+        for path in paths_of(rt, alloc, &mut self.files).as_slice() {
+            let bytes = self.files.get(path).expect(rt, "a file");
+            put_at(rt, &mut self.wanted, path, bytes);
+        }
     }
 
     /// Runs words, with one space between each and the next.
-    pub fn run(&mut self, alloc: Global, words: &str) -> Result<(), AllocError> {
-        let words = words_of(alloc, words)?;
-        self.status = run(
-            alloc,
-            words.as_slice(),
-            &mut self.files,
-            &mut self.out,
-            &mut self.err,
-        );
-        Ok(())
-    }
-
-    /// Returns the status that was answered last, and what was written to the output and to err.
-    pub fn seen(&self) -> (u8, &[u8], &[u8]) {
-        (self.status, self.out.bytes(), self.err.bytes())
-    }
-
-    /// Notes the files as they are: later ones are compared with these.
-    pub fn note(&mut self, alloc: Global) -> Result<(), Fail> {
-        let paths = paths_of(alloc, &mut self.files)?;
-        for path in paths.as_slice() {
-            if let Some(bytes) = self.files.get(path) {
-                self.before.put(path, bytes)?;
-            }
-        }
-        Ok(())
-    }
-
-    /// Returns the first path whose file isn't as it has to be, or the empty one if there is none.
-    /// The files that are listed have to be there with their bytes, and all others have to be as
-    /// they were noted.
-    pub fn stray(&mut self, alloc: Global, after: &[FileRow<'_>]) -> Result<PathText, Fail> {
-        for path in paths_of(alloc, &mut self.files)?.as_slice() {
-            let wanted = listed(after, path).or(self.before.get(path));
-            if self.files.get(path) != wanted {
-                return Ok(PathText::from_slice(alloc, path.as_bytes())?);
-            }
-        }
-        self.lost(alloc, after)
-    }
-
-    /// Returns the first path of a file that is gone, or of a listed one that is missing, or the
-    /// empty one if there is none.
-    fn lost(&mut self, alloc: Global, after: &[FileRow<'_>]) -> Result<PathText, Fail> {
-        let mut paths = paths_of(alloc, &mut self.before)?;
-        for file in after {
-            paths.push(PathText::from_slice(alloc, file.path.as_bytes())?)?;
-        }
-        for path in paths.as_slice() {
-            if self.files.get(path).is_none() {
-                return Ok(PathText::from_slice(alloc, path.as_bytes())?);
-            }
-        }
-        Ok(PathText::new(alloc))
+    pub(crate) fn run(&mut self, rt: &impl Abort, alloc: Global, words: &str) {
+        let words = words_of(rt, alloc, words);
+        run_over(alloc, words.as_slice(), self);
     }
 }
 
-/// Returns the bytes that a list of files has for a path.
-fn listed<'a>(files: &[FileRow<'a>], path: &PathText) -> Option<&'a [u8]> {
-    let found = files
-        .iter()
-        .find(|file| file.path.as_bytes() == path.as_bytes())?;
-    Some(found.bytes)
-}
-
-/// Returns the paths of all files. A listing that was to fail fails here once.
-fn paths_of(alloc: Global, files: &mut MemFiles) -> Result<Paths, Fail> {
-    let root = PathText::from_slice(alloc, b"/")?;
-    let listed = match files.list_tree(alloc, &root) {
-        Err(FileAnswer::Failed) => files.list_tree(alloc, &root),
-        answer => answer,
-    };
-    match listed {
-        Ok(paths) => rooted(alloc, &root, &paths),
-        Err(FileAnswer::Absent) => Ok(Paths::new(alloc)),
-        Err(_) => Err("no listing".into()),
-    }
-}
-
-/// Returns the paths below a folder, with the folder.
-fn rooted(alloc: Global, folder: &PathText, paths: &Paths) -> Result<Paths, Fail> {
-    let mut whole = Paths::new(alloc);
-    for path in paths.as_slice() {
-        whole.push(join(alloc, folder, path.as_bytes())?)?;
-    }
-    Ok(whole)
+/// Runs words, and promises nothing.
+fn run_over(alloc: Global, words: &[Word], objects: &mut Objects) {
+    let (files, out, err) = (&mut objects.files, &mut objects.out, &mut objects.err);
+    objects.status = run(alloc, words, files, out, err);
 }
 
 /// Returns the words of a text, with one space between each and the next. An empty text has none.
-pub(crate) fn words_of(alloc: Global, text: &str) -> Result<List<Word>, AllocError> {
+fn words_of(rt: &impl Abort, alloc: Global, text: &str) -> List<Word> {
     let mut words = List::new(alloc);
-    if text.is_empty() {
-        return Ok(words);
+    if !text.is_empty() {
+        for word in text.split(' ') {
+            let word = Word::from_text(alloc, word).expect(rt, "a word");
+            words.push(word).expect(rt, "a word more");
+        }
     }
-    for word in text.split(' ') {
-        words.push(Word::from_text(alloc, word)?)?;
+    words
+}
+
+/// Returns the paths of all files. A listing that was to fail fails here once.
+pub(crate) fn paths_of(rt: &impl Abort, alloc: Global, files: &mut MemFiles) -> Paths {
+    let root = path_of(rt, alloc, b"/");
+    let listed = match list(alloc, files, &root) {
+        Err(FileAnswer::Failed) => list(alloc, files, &root),
+        answer => answer,
+    };
+    match listed {
+        Ok(paths) => rooted(rt, alloc, &root, &paths),
+        Err(FileAnswer::Absent) => Paths::new(alloc),
+        Err(_) => panic!(rt; "no listing"),
     }
-    Ok(words)
+}
+
+/// Lists the files below a folder, and promises nothing.
+fn list(alloc: Global, files: &mut MemFiles, folder: &PathText) -> Result<Paths, FileAnswer> {
+    files.list_tree(alloc, folder)
+}
+
+/// Returns the paths below a folder, with the folder.
+fn rooted(rt: &impl Abort, alloc: Global, folder: &PathText, paths: &Paths) -> Paths {
+    let mut whole = Paths::new(alloc);
+    for path in paths.as_slice() {
+        let path = join(alloc, folder, path.as_bytes()).expect(rt, "a path");
+        whole.push(path).expect(rt, "a path more");
+    }
+    whole
 }

@@ -13,12 +13,6 @@ pub type Row = RowOf<'static>;
 pub const USAGE: &str =
     "kmod: usage: kmod depmod|modprobe|modinfo|trial|static-nodes|builtin-alias WORDS\n";
 
-/// Returns what a row is to result in: its status, and what is written to the output and to err.
-pub fn wanted(row: RowOf<'_>) -> (u8, &[u8], &[u8]) {
-    let (_, status, out, err) = row;
-    (status, out.as_bytes(), err.as_bytes())
-}
-
 /// A file before a command, or one that is expected after it.
 #[derive(Clone, Copy)]
 pub struct FileRow<'a> {
@@ -65,10 +59,13 @@ pub const TWO: &[ModuleRow<'static>] = &[
 /// The words that index the tree over the usual table.
 pub const INDEX: &str = "depmod -b /r -E /r/Module.symvers 6.1.0";
 
+/// The words that index it with the two other files.
+pub const EXTRA: &str = "depmod --extra -b /r -E /r/Module.symvers 6.1.0";
+
 /// Commands over a tree that depmod indexed: each row over files of its own.
 #[derive(Clone, Copy)]
 pub struct IndexedRow<'a> {
-    /// What the rows show.
+    /// What the rows show, or nothing if their words do.
     pub name: &'a str,
     /// The modules of the tree.
     pub modules: &'a [ModuleRow<'a>],
@@ -76,6 +73,8 @@ pub struct IndexedRow<'a> {
     pub files: &'a [FileRow<'a>],
     /// What fails, counted from the first call of depmod's.
     pub failing: Failing,
+    /// The words that index the tree. They are to be done, and to write nothing.
+    pub first: &'a str,
     /// The words, and what they are to result in.
     pub rows: &'a [RowOf<'a>],
     /// The files that are to be there afterwards. All others are to be as depmod left them.
@@ -88,6 +87,7 @@ pub const INDEXED: IndexedRow<'static> = IndexedRow {
     modules: &[],
     files: &[SYMVERS],
     failing: Failing::Nothing,
+    first: INDEX,
     rows: &[],
     after: &[],
 };
