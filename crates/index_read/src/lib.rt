@@ -6,9 +6,12 @@
 //! that it answers. The others read each node at most once, and keep the levels that they are on in
 //! a vector.
 //!
+//! A lookup of all keys that match a text reads them byte by byte down the tree, with the places of
+//! the text that each can reach so far. So what keys begin with in common is matched once.
+//!
 //! A small file may have a map of any size. So the lookups in all keys count the bytes of the list
-//! that they answer, of the prefixes that they go over, and of the keys that they match. Past
-//! 268,435,456 they are out of memory.
+//! that they answer, and of a listing the prefixes that it goes over. Past 268,435,456 they are out
+//! of memory. The bytes that are matched with a text take 2,147,483,648 steps at most.
 //!
 //! Each node that is read is a step on the ledger that the caller gives; the lookups of [`plain`]
 //! and [`first_values`] count nothing. The crate builds on `index_nodes`, which reads the nodes, on `glob_match` for the

@@ -1,16 +1,20 @@
 use km_names::FILE_LIMIT;
 use std::alloc::AllocError;
 
-/// How many bytes a lookup in all keys may take, each for itself: the list that it answers, the
-/// prefixes that it goes over, and the keys that it matches. It is four times the greatest file.
+/// How many bytes a lookup in all keys may take: the list that it answers and, of a listing, the
+/// prefixes that it goes over, each for itself. It is four times the greatest file.
 const ROOM: usize = 4 * FILE_LIMIT;
 
-/// How many words a search over the keys may go over.
-const WORDS: usize = 1 << 29;
+/// How many steps the bytes of keys that are matched with a text may take.
+const STEPS: usize = 1 << 31;
 
-/// How many bytes may still be taken. Nodes may overlap, and the keys of a chain of nodes begin
-/// alike, so that a small file may have a map of any size. So what is kept or gone over is counted
-/// before it is.
+/// The steps of each such byte, beside one for each word that has places of the text. As many words
+/// take about as long as what is done for every byte.
+const BYTE_STEPS: usize = 16;
+
+/// How many bytes or steps may still be taken. Nodes may overlap, and the keys of a chain of nodes
+/// begin alike, so that a small file may have a map of any size. So what is kept or gone over is
+/// counted.
 #[derive(Clone, Copy)]
 pub(crate) struct Room {
     left: usize,
@@ -23,8 +27,8 @@ impl Room {
     }
 
     /// Makes the room for the bytes of keys that are matched.
-    pub(crate) fn of_keys() -> Room {
-        Room { left: WORDS }
+    pub(crate) fn of_steps() -> Room {
+        Room { left: STEPS }
     }
 
     /// Makes the room for the values of one key. There are no more of these than the file has.
@@ -40,5 +44,14 @@ impl Room {
     pub(crate) fn take(&mut self, bytes: usize) -> Result<(), AllocError> {
         self.left = self.left.checked_sub(bytes).ok_or(AllocError)?;
         Ok(())
+    }
+
+    /// Takes the steps of a byte of a key, by the number of words that have places of the text.
+    ///
+    /// # Errors
+    ///
+    /// Out of memory if fewer are left.
+    pub(crate) fn take_byte(&mut self, words: usize) -> Result<(), AllocError> {
+        self.take(words.saturating_add(BYTE_STEPS))
     }
 }

@@ -45,7 +45,7 @@ fn read_all(progress: &mut Progress, bytes: &[u8], room: &mut Room) -> Result<bo
 {
     for byte in bytes {
         progress.push(*byte)?;
-        room.take(progress.words())?;
+        room.take_byte(progress.words())?;
         if progress.is_lost() {
             return Ok(false);
         }
@@ -95,7 +95,7 @@ impl Search {
     {
         let node = nodes.node(&nodes.root(), steps);
         let mut progress = Progress::new(alloc, text)?;
-        let mut room = Room::of_keys();
+        let mut room = Room::of_steps();
         let alive = read_all(&mut progress, nodes.prefix(&node), &mut room)?;
         let mut search = Search {
             progress,

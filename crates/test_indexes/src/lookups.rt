@@ -2,12 +2,13 @@
 ghost use Rattle.std.specs.Prelude.{◌≡◌, ◌<◌};
 
 use index_read::{Index, Pairs, Steps, Values};
+use index_write::{KeyMap, encode};
 use km_names::Blob;
 use std::alloc::{AllocError, Global};
 use std::marker::Brand;
 use std::process::Abort;
 use std::sync::ledger::{Blank, Ledger};
-use test_objects::bytes_of;
+use test_objects::{bytes_of, is_key, is_text};
 
 /// Returns the bytes of these digits.
 fn bytes(rt: &impl Abort, alloc: Global, digits: &str) -> Blob {
@@ -64,6 +65,35 @@ fn two_patterns(rt: &impl Abort, alloc: Global) -> Index {
          6100 2a 3f 4000000c",
         20,
         "4000001c",
+    );
+    adopted(rt, alloc, file)
+}
+
+/// Adds a pattern to a map, with an empty text.
+fn add_pattern(rt: &impl Abort, map: &mut KeyMap, (pattern, priority): (&str, u32)) {
+    assert!(rt; is_key(pattern.as_bytes()));
+    assert!(rt; is_text(b""));
+    map.add(pattern.as_bytes(), priority, b"")
+        .expect(rt, "a pattern");
+}
+
+/// Returns the patterns of the list.
+fn patterns(rt: &impl Abort, alloc: Global) -> Index {
+    let mut map = KeyMap::new(alloc);
+    for pattern in &PATTERNS {
+        add_pattern(rt, &mut map, *pattern);
+    }
+    adopted(rt, alloc, encode(alloc, &map).expect(rt, "a file"))
+}
+
+/// Returns "x*b" and "yb" with "v" at 0, whose prefixes end with one NUL.
+fn shared_end(rt: &impl Abort, alloc: Global) -> Index {
+    let file = bytes(
+        rt,
+        alloc,
+        "b007f457 00020001 20000019 \
+         2a6200 00000001 00000000 7600 \
+         78 79 c000000c c000000d",
     );
     adopted(rt, alloc, file)
 }
@@ -181,6 +211,43 @@ static TEXTS: [(&str, &str); 5] = [
     ("", ""),
 ];
 
+/// Patterns with their priorities. Nodes split their sets and their runs of `*`, and one has a set
+/// that isn't closed.
+static PATTERNS: [(&str, u32); 10] = [
+    ("[a-c]x", 0),
+    ("[a-z]x", 1),
+    ("[a]x", 2),
+    ("[!a]x", 3),
+    ("[ab", 4),
+    ("**", 5),
+    ("*?*b", 6),
+    ("a**b", 7),
+    ("[-]x", 8),
+    ("[]x", 9),
+];
+
+/// Texts, and the priorities of those patterns that they match.
+static BORDERS: [(&str, &str); 9] = [
+    ("ax", "0 1 2 5 "),
+    ("bx", "0 1 3 5 "),
+    ("dx", "1 3 5 "),
+    ("-x", "3 5 8 "),
+    ("ab", "5 6 7 "),
+    ("b", "5 "),
+    ("", "5 "),
+    (
+        "qqqqqqqqqqqqqqqqqqqqqqqqqqqqqqqqqqqqqqqqqqqqqqqqqqqqqqqqqqqqqqqqqqqqqqqb",
+        "5 6 ",
+    ),
+    (
+        "abbbbbbbbbbbbbbbbbbbbbbbbbbbbbbbbbbbbbbbbbbbbbbbbbbbbbbbbbbbbbbb",
+        "5 6 7 ",
+    ),
+];
+
+/// Texts, and the values of the patterns "x*b" and "yb" that they match.
+static SHARED: [(&str, &str); 4] = [("xb", "0v "), ("xqb", "0v "), ("yb", "0v "), ("yqb", "")];
+
 fn same(rt: &impl Abort, got: &[u8], want: &[u8]) {
     assert_eq!(rt; got, want);
 }
@@ -227,6 +294,20 @@ fn match_patterns<L: Ledger>(rt: &impl Abort, alloc: Global, steps: &mut Steps<L
     }
 }
 
+/// Looks up the patterns that match a text, where nodes split them or share their ends.
+fn match_borders<L: Ledger>(rt: &impl Abort, alloc: Global, steps: &mut Steps<L>) {
+    let index = patterns(rt, alloc);
+    for (text, want) in &BORDERS {
+        let got = wild(rt, alloc, &index, text.as_bytes(), steps);
+        same_for(rt, text, got.as_bytes(), want.as_bytes());
+    }
+    let shared = shared_end(rt, alloc);
+    for (text, want) in &SHARED {
+        let got = wild(rt, alloc, &shared, text.as_bytes(), steps);
+        same_for(rt, text, got.as_bytes(), want.as_bytes());
+    }
+}
+
 /// Looks up the one key of a deep index, and the text before it.
 fn look_deep<L: Ledger>(rt: &impl Abort, alloc: Global, steps: &mut Steps<L>) {
     let index = deep(rt, alloc, 1_000_000);
@@ -251,6 +332,7 @@ fn look<L: Ledger>(rt: &impl Abort, alloc: Global, blank: Blank)
     let mut steps = Steps::<L>::new(blank);
     look_up(rt, alloc, &mut steps);
     match_patterns(rt, alloc, &mut steps);
+    match_borders(rt, alloc, &mut steps);
     look_deep(rt, alloc, &mut steps);
 }
 
