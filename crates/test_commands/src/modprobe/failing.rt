@@ -1,7 +1,7 @@
 // Each call of a load fails in turn: what was printed and put before stays, and nothing else is
 // done.
 use crate::rows::{
-    Failing, FileRow, INDEXED, IndexedRow, SYMVERS, SYSTEM_MAP, TWO, expect_indexed, image,
+    Failing, FileRow, INDEX, IndexedRow, SYMVERS, SYSTEM_MAP, TWO, expect_indexed, image,
 };
 use km_outside::CallKind;
 use std::alloc::Global;
@@ -144,17 +144,15 @@ static A_WORDS: [(usize, &[u8]); 1] = [(4096, b"\x00\x00\x00\x81\xff\xff\xff\xff
 /// What the image of `b` has besides zeros.
 static B_WORDS: [(usize, &[u8]); 1] = [(0, b"\x00\x00\x00\xc0\xff\xff\xff\xff")];
 
-/// The tree of a load, and nothing run over it.
-static LOADED: IndexedRow<'static> = IndexedRow {
-    modules: TWO,
-    files: &[SYMVERS, SYSTEM_MAP],
-    ..INDEXED
-};
-
 /// Runs the load while something fails, and compares what it answers and writes, and the first
 /// images.
-fn expect_load(rt: &impl Abort, alloc: Global, row: FailingRow) {
-    let (failing, err, out, images) = row;
+fn expect_load(
+    rt: &impl Abort,
+    alloc: Global,
+    failing: Failing,
+    (out, err): (&str, &str),
+    images: usize,
+) {
     let a = image(rt, alloc, 8192, &A_WORDS);
     let b = image(rt, alloc, 4096, &B_WORDS);
     let after = [
@@ -170,10 +168,12 @@ fn expect_load(rt: &impl Abort, alloc: Global, row: FailingRow) {
     let status = if err.is_empty() { 0 } else { 3 };
     let tree = IndexedRow {
         name: "calls that fail",
+        modules: TWO,
+        files: &[SYMVERS, SYSTEM_MAP],
         failing,
+        first: INDEX,
         rows: &[(LOAD, status, out, err)],
         after: &after[..images.min(2)],
-        ..LOADED
     };
     expect_indexed(rt, alloc, &tree);
 }
@@ -186,12 +186,15 @@ static WRITES: [FailingRow; 4] = [
     (Failing::Write(3), "", BOTH_LOADED, 2),
 ];
 
+/// Runs the load for each row.
+fn expect_rows(rt: &impl Abort, alloc: Global, rows: &[FailingRow]) {
+    for (failing, err, out, images) in rows {
+        expect_load(rt, alloc, *failing, (out, err), *images);
+    }
+}
+
 #[test]
 fn each_call_can_fail(rt: HostRuntime) {
-    for row in &CALLS {
-        expect_load(&rt, rt.alloc(), *row);
-    }
-    for row in &WRITES {
-        expect_load(&rt, rt.alloc(), *row);
-    }
+    expect_rows(&rt, rt.alloc(), &CALLS);
+    expect_rows(&rt, rt.alloc(), &WRITES);
 }

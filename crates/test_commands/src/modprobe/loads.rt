@@ -1,7 +1,7 @@
 // Loads into the modelled machine.
 use crate::rows::{
-    FILE_SYSTEM, FILE_SYSTEM_KERNEL, FileRow, INDEXED, IndexedRow, RowOf, SYMVERS, SYSTEM_MAP, TWO,
-    USAGE, expect_indexed, expect_trees, image,
+    FILE_SYSTEM, FILE_SYSTEM_KERNEL, Failing, FileRow, INDEX, INDEXED, IndexedRow, RowOf, SYMVERS,
+    SYSTEM_MAP, TWO, USAGE, expect_indexed, expect_trees, image,
 };
 use std::alloc::Global;
 use std::process::Abort;
@@ -160,6 +160,8 @@ fn expect_file_system(rt: &impl Abort, alloc: Global) {
         name: "a file system is loaded",
         modules: FILE_SYSTEM,
         files: FILE_SYSTEM_KERNEL,
+        failing: Failing::Nothing,
+        first: INDEX,
         rows: &[FILE_SYSTEM_LOAD],
         after: &[
             FileRow {
@@ -171,7 +173,6 @@ fn expect_file_system(rt: &impl Abort, alloc: Global) {
                 bytes: ext4.as_slice(),
             },
         ],
-        ..INDEXED
     };
     expect_indexed(rt, alloc, &tree);
 }

@@ -1,6 +1,6 @@
 // Loads whose parameters are written.
 use crate::rows::{
-    Failing, FileRow, INDEXED, IndexedRow, RowOf, SYMVERS, SYSTEM_MAP, USAGE, expect_indexed, image,
+    Failing, FileRow, INDEX, IndexedRow, RowOf, SYMVERS, SYSTEM_MAP, USAGE, expect_indexed, image,
 };
 use km_names::{Blob, List, Name};
 use km_outside::CallKind;
@@ -201,11 +201,13 @@ fn expect<'a>(
     let object = object_of_two(rt, alloc);
     let files = files_of(object.as_bytes());
     let tree = IndexedRow {
+        name: "",
+        modules: &[],
         files: files.as_slice(),
         failing,
+        first: INDEX,
         rows,
         after,
-        ..INDEXED
     };
     expect_indexed(rt, alloc, &tree);
 }
