@@ -42,3 +42,20 @@ returns-clause-finished c =
       finished = λ p above low. l.invariant.finished p above (omega arith);
       rest = l.invariant.rest;
     }
+
+pub bounds-lists-item : goal.bounds-lists-item
+bounds-lists-item c =
+    let stack = c.args.stack.now in
+    let from = c.args.from in
+    let k = c.loop-item.item-index in
+    let few : k < length stack - from = omega (arith, c.loop-item-test.true, length-take (length stack - from) (drop from stack)) in
+    rw (rest-at stack from k few) (c.requires.within (from + k) 0 (omega arith))
+
+pub index_mut-requires : goal.index_mut-requires
+index_mut-requires c =
+    let stack = c.args.stack.now in
+    let from = c.args.from in
+    let k = c.loop-item.item-index in
+    let few : k < length stack - from = omega (arith, c.loop-item-test.true, length-take (length stack - from) (drop from stack)) in
+    let low : get_or (take (length stack - from) (drop from stack)) k 0 < length c.args.lists.now = rw (rest-at stack from k few) (c.requires.within (from + k) 0 (omega arith)) in
+    omega (arith, c.loop-item.invariant.long, c.loop-item.states.ok.0, low)

@@ -2,6 +2,7 @@ use Rattle.std.proofs.Common.{◌<◌, false, [], get_or, length, refl, sym, ap,
 use Rattle.relation_order.specs.Sets.{has, goes}
 use Rattle.relation_order.specs.Rounds.{Finds}
 use Rattle.relation_order.proofs.Lists.{goes-at}
+use Rattle.relation_order.proofs.Finding.{listed-inside}
 use Rattle.relation_order.proofs.FindSteps.{finds-start, finds-next_list}
 use Rattle.relation_order.proofs.distances.find_round.Goals as goal
 
@@ -22,3 +23,9 @@ loop-y-preserved c =
           (λ z. ap (λ xs. has xs z) c.deref.ensures.value ∙ sym (goes-at c.args.sources.now y z c.index-sources-y.result low c.index-sources-y.is))
           l.invariant.finds c.in_ok-find_all.ensures.finds;
     }
+
+pub find_all-requires-clause-inside : goal.find_all-requires-clause-inside
+find_all-requires-clause-inside c =
+    let y = get_or c.args.last.now c.loop-y.y-index 0 in
+    let low = c.requires.last c.loop-y.y-index 0 c.loop-y-test.true in
+    rw c.deref.ensures.value (listed-inside c.args.sources.now y (length c.loop-y.far.items) c.index-sources-y.result c.requires.inside low c.index-sources-y.is (c.loop-y.invariant.long ∙ c.requires.long))
