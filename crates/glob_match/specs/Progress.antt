@@ -1,5 +1,5 @@
 -- A pattern that is read byte by byte, and the places of a text that it reaches.
--- It belongs to the code: no public meaning rests on it.
+-- The contract of `Progress` cites it; no lookup does.
 use Rattle.std.specs.Prelude.{◌≡◌, ℕ, ◌+◌, ◌-◌, ◌/◌, ◌≤◌, ◌&&◌, ◌||◌, not, nat_le, Bool, List, [], ◌∷◌, ◌++◌, length, take, drop, slice_index, vec_len, Option, Some, None, if◌then◌else◌}
 use Rattle.std.specs.Option.{option_map}
 use Rattle.glob_match.specs.Pattern.{dash}

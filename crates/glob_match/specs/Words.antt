@@ -1,5 +1,5 @@
 -- Sets of numbers as bits of words.
--- It belongs to the code: no public meaning rests on it.
+-- The contract of `Progress` cites it; no lookup does.
 use Rattle.std.specs.Prelude.{◌≡◌, ℕ, zero, suc, ◌+◌, ◌*◌, ◌<◌, ◌≤◌, ◌&&◌, ◌||◌, nat_le, Bool, false, List, length, slice_index, if◌then◌else◌}
 use Rattle.std.specs.Int.{bit_at}
 
