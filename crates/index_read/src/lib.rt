@@ -14,9 +14,9 @@
 //! of memory. The bytes that are matched with a text take 2,147,483,648 steps at most.
 //!
 //! Each node that is read is a step on the ledger that the caller gives; the lookups of [`plain`]
-//! and [`first_values`] count nothing. The crate builds on `index_nodes`, which reads the nodes, on `glob_match` for the
-//! patterns, and on `km_names` for bytes and lists. `IndexFault`, `Place` and `Steps` come from
-//! `index_nodes`.
+//! and [`first_values`] count nothing. The crate builds on `index_nodes`, which reads the nodes, on
+//! `glob_match` for the patterns, and on `km_names` for bytes and lists. `IndexFault`, `Place` and
+//! `Steps` come from `index_nodes`.
 #![tactic(auto)]
 
 mod first;
