@@ -3,10 +3,10 @@ ghost use Rattle.std.specs.Prelude.{◌≡◌, ◌≤◌, ◌&&◌, IfOk, OnOk, 
 ghost use Rattle.std.specs.List.{filter_map};
 ghost use Rattle.std.specs.Option.{option_to_list};
 ghost use Rattle.std.specs.Str.{bytes_eq};
-ghost use Rattle.km_names.specs.Ascii.{is_graphic as is_word};
+ghost use Rattle.km_names.specs.Ascii.{is_graphic};
 ghost use Rattle.km_names.specs.Limit.{file_limit};
 ghost use Rattle.builtin_index.specs.Fields.{fields_of};
-ghost use Rattle.builtin_index.specs.Aliases.{is_alias as is_alias_field, modules_of, alias_map, map_of, with_values};
+ghost use Rattle.builtin_index.specs.Aliases.{is_alias, modules_of, alias_map, map_of, with_values};
 ghost use Rattle.builtin_index.specs.Parts.{field_shown, alias_shown, alias_in, value_at, IsWord};
 
 use crate::piece::{Parts, read_parts};
@@ -25,7 +25,7 @@ pub(crate) struct Stated<'a> {
 
 /// Returns whether a field states an alias that is a word of visible characters.
 fn is_alias(parts: Parts) -> bool
-    ensures { result ≡ is_alias_field (field_shown parts.entry) }
+    ensures { result ≡ is_alias (field_shown parts.entry) }
 {
     parts.key == b"alias".as_slice() && is_graphic(parts.value)
 }

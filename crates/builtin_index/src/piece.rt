@@ -1,7 +1,7 @@
 // The pieces of modules.builtin.modinfo, and their fields.
 ghost use Rattle.std.specs.Prelude.{◌≡◌, ◌==◌, IfOk, IsTrue, option_map, MatchOption, ⊤};
 ghost use Rattle.std.specs.List.{list_any};
-ghost use Rattle.km_names.specs.Ascii.{is_graphic as is_word};
+ghost use Rattle.km_names.specs.Ascii.{is_graphic};
 ghost use Rattle.builtin_index.specs.Fields.{cut_at, field_of};
 ghost use Rattle.builtin_index.specs.Parts.{field_shown};
 
@@ -43,7 +43,7 @@ fn split_once(text: &[u8], byte: u8) -> Option<(&[u8], &[u8])>
 #[tactic(auto, unfolding(crate::specs::Fields::field_of))]
 pub(crate) fn read_parts(piece: &[u8]) -> Option<Parts<'_>>
     ensures field { option_map field_shown result ≡ field_of piece.now }
-    ensures word { MatchOption result ⊤ (λ parts. IsTrue (is_word parts.module.now)) }
+    ensures word { MatchOption result ⊤ (λ parts. IsTrue (is_graphic parts.module.now)) }
 {
     let (named, value) = split_once(piece, b'=')?;
     let (module, key) = split_once(named, b'.')?;

@@ -1,7 +1,7 @@
 // The modules that were seen.
 ghost use Rattle.std.specs.Prelude.{◌≡◌, ◌≤◌, ◌<◌, ◌+◌, ◌-◌, ◌^◌, ℕ, List, [], OnOk, IfOk};
 ghost use Rattle.indexmap.specs.IndexSet.{index_set_len};
-ghost use Rattle.km_names.specs.Path.{underscored as underscored_bytes};
+ghost use Rattle.km_names.specs.Path.{underscored};
 ghost use Rattle.name_table.specs.FirstSeen.{with_name};
 ghost use Rattle.name_table.specs.Keys.{name_of};
 ghost use Rattle.builtin_index.specs.Aliases.{place_among};
@@ -31,7 +31,7 @@ pub(crate) struct Seen<'a> {
 
 /// Returns the key of the module that a text names. A text without a `-` isn't copied.
 fn key_of(alloc: Global, text: &[u8]) -> Result<OwnedNameKey<'_>, AllocError>
-    ensures { IfOk result (λ key. name_of key ≡ underscored_bytes text.now) }
+    ensures { IfOk result (λ key. name_of key ≡ underscored text.now) }
 {
     if !text.contains(&b'-') {
         return Ok(OwnedNameKey::Asked(text));
@@ -57,9 +57,9 @@ impl<'a> Seen<'a> {
     pub(crate) fn place(&mut self, alloc: Global, text: &'a [u8]) -> Result<u32, AllocError>
         requires room { index_set_len self.old.names < 2 ^ 32 - 1 }
         ensures seen { OnOk result ((names : List (List ℕ)) → IsSeen self.old names →
-            IsSeen self.new (with_name names (underscored_bytes text.now))) }
+            IsSeen self.new (with_name names (underscored text.now))) }
         ensures place { IfOk result (λ place. (names : List (List ℕ)) → IsSeen self.old names →
-            place ≡ place_among (with_name names (underscored_bytes text.now)) (underscored_bytes text.now)) }
+            place ≡ place_among (with_name names (underscored text.now)) (underscored text.now)) }
         ensures count { OnOk result (index_set_len self.new.names ≤ index_set_len self.old.names + 1) }
     {
         if let Some(last) = self.last {

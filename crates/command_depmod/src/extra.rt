@@ -2,9 +2,9 @@
 ghost use Rattle.std.specs.Prelude.{◌≡◌, ◌≤◌, ◌⊎◌, Some, None, option_map, IfOk, IfErr, IfSome, OnOk, length};
 ghost use Rattle.km_names.specs.Limit.{file_limit};
 ghost use Rattle.km_course.specs.FollowsOn.{FollowsOnFiles, Returns};
-ghost use Rattle.index_format.specs.File.{file as index_file};
+ghost use Rattle.index_format.specs.File.{file as file_spec};
 ghost use Rattle.builtin_index.specs.Aliases.{alias_map};
-ghost use Rattle.devname_nodes.specs.File.{nodes_text as text_of_nodes};
+ghost use Rattle.devname_nodes.specs.File.{nodes_text};
 ghost use Rattle.devname_nodes.specs.Nodes.{nodes_of};
 ghost use Rattle.command_depmod.specs.Extra.{extra_outcome, reads_info, refused_stop, size_refusal};
 ghost use Rattle.command_depmod.specs.Files.{file_name};
@@ -63,10 +63,10 @@ pub(crate) fn make_extra(
 /// Makes modules.builtin.alias.bin, unless it would be too large.
 fn make_alias_index(alloc: Global, info: &[u8]) -> Result<Blob, Stop>
     requires { length info.now ≤ file_limit }
-    ensures made { IfOk result (λ bytes. bytes ≡ index_file (alias_map info.now)) }
-    ensures small { OnOk result (size_refusal DepmodFile.BuiltinAliasBin (index_file (alias_map info.now)) ≡ None) }
+    ensures made { IfOk result (λ bytes. bytes ≡ file_spec (alias_map info.now)) }
+    ensures small { OnOk result (size_refusal DepmodFile.BuiltinAliasBin (file_spec (alias_map info.now)) ≡ None) }
     ensures stops { IfErr result (λ stop. (stop ≡ Stop.Memory)
-        ⊎ (option_map refused_stop (size_refusal DepmodFile.BuiltinAliasBin (index_file (alias_map info.now))) ≡ Some stop)) }
+        ⊎ (option_map refused_stop (size_refusal DepmodFile.BuiltinAliasBin (file_spec (alias_map info.now))) ≡ Some stop)) }
 {
     match alias_index(alloc, info) {
         Ok(bytes) => Ok(bytes),
@@ -79,10 +79,10 @@ fn make_alias_index(alloc: Global, info: &[u8]) -> Result<Blob, Stop>
 
 /// Makes modules.devname, unless it would be too large.
 fn make_devname(alloc: Global, tree: &TreeFacts) -> Result<Blob, Stop>
-    ensures made { IfOk result (λ text. text ≡ text_of_nodes (nodes_of tree.now)) }
-    ensures small { OnOk result (size_refusal DepmodFile.Devname (text_of_nodes (nodes_of tree.now)) ≡ None) }
+    ensures made { IfOk result (λ text. text ≡ nodes_text (nodes_of tree.now)) }
+    ensures small { OnOk result (size_refusal DepmodFile.Devname (nodes_text (nodes_of tree.now)) ≡ None) }
     ensures stops { IfErr result (λ stop. (stop ≡ Stop.Memory)
-        ⊎ (option_map refused_stop (size_refusal DepmodFile.Devname (text_of_nodes (nodes_of tree.now))) ≡ Some stop)) }
+        ⊎ (option_map refused_stop (size_refusal DepmodFile.Devname (nodes_text (nodes_of tree.now))) ≡ Some stop)) }
 {
     let nodes = nodes(alloc, tree)?;
     let text = nodes_text(alloc, &nodes)?;

@@ -1,6 +1,6 @@
 // The files that depmod leaves.
 ghost use Rattle.std.specs.Prelude.{◌≡◌};
-ghost use Rattle.command_depmod.specs.Files.{content as content_of, file_name};
+ghost use Rattle.command_depmod.specs.Files.{content, file_name};
 
 use depmod_core::{OutputFile, OutputFiles};
 use km_names::Blob;
@@ -50,7 +50,7 @@ pub struct DepmodFiles {
 impl DepmodFiles {
     /// Returns the bytes of one of the files. One that isn't made has none.
     pub(crate) fn content(&self, file: DepmodFile) -> &[u8]
-        ensures { result.now ≡ content_of self.now file }
+        ensures { result.now ≡ content self.now file }
     {
         match file {
             DepmodFile::Usual(file) => self.usual.content(file),

@@ -1,7 +1,7 @@
 // The warnings of `-e`.
 ghost use Rattle.std.specs.Prelude.{◌≡◌, ◌++◌, codes, IfOk};
 ghost use Rattle.km_course.specs.FollowsOn.{FollowsOnErr};
-ghost use Rattle.km_course.specs.Lines.{line as line_of};
+ghost use Rattle.km_course.specs.Lines.{line};
 ghost use Rattle.command_depmod.specs.Warnings.{warning_line, warns_any, warns_each, warns_unmet};
 
 use km_course::{Stop, warn};
@@ -84,7 +84,7 @@ fn warning(alloc: Global, versions: bool, obstacle: &Unbound) -> Result<Option<B
 
 /// Returns the line of a warning.
 fn line(alloc: Global, path: &PathText, what: &[u8], symbol: &Name) -> Result<Blob, AllocError>
-    ensures { IfOk result (λ text. text ≡ line_of (codes "warning: " ++ (path.now ++ (what.now ++ symbol.now)))) }
+    ensures { IfOk result (λ text. text ≡ line (codes "warning: " ++ (path.now ++ (what.now ++ symbol.now)))) }
 {
     let mut text = Blob::from_slice(alloc, b"kmod: warning: ")?;
     text.extend(path.as_bytes())?;

@@ -2,7 +2,7 @@ ghost use Rattle.std.specs.Prelude.{◌≡◌, List, length};
 ghost use Rattle.km_course.specs.FollowsOn.{FollowsOnFilesAndOut, FollowsOnOut};
 ghost use Rattle.module_facts.specs.declared.module.Module.{Module};
 ghost use Rattle.provider_rel.specs.declared.kernel.Kernel.{Kernel};
-ghost use Rattle.model_loader.specs.declared.region.Region.{Region as Placing};
+ghost use Rattle.model_loader.specs.declared.region.Region.{Region};
 ghost use Rattle.model_loader.specs.Machine.{new_machine};
 ghost use Rattle.laws_closed_plans.specs.Binding.{IsLoaded};
 ghost use Rattle.command_remove.specs.Over.{removes_known, removes_over};
@@ -164,7 +164,7 @@ fn remove_listed<F: Reads, O: Out>(
     files: &mut F,
     out: &mut O,
 ) -> Result<(), Stop>
-    requires { (kernel : Kernel) × (region : Placing) × (machine ≡ new_machine kernel region) }
+    requires { (kernel : Kernel) × (region : Region) × (machine ≡ new_machine kernel region) }
     ensures { FollowsOnFilesAndOut (removes_listed folder.now removal.now known.now machine)
         F.seen files.old files.new O.seen out.old out.new result }
 {
@@ -187,7 +187,7 @@ fn remove_names<O: Out>(
     listed: &mut Machine,
     out: &mut O,
 ) -> Result<(), Stop>
-    requires { (kernel : Kernel) × (region : Placing) × (ms : List Module) × IsLoaded kernel region ms listed.old }
+    requires { (kernel : Kernel) × (region : Region) × (ms : List Module) × IsLoaded kernel region ms listed.old }
     ensures { FollowsOnOut (removes_names removal.now known.now listed.old)
         O.seen out.old out.new result }
 {

@@ -1,7 +1,7 @@
 // The lines of a removal.
 ghost use Rattle.std.specs.Prelude.{◌≡◌, ◌<◌, ◌++◌, IfOk, OnOk, Some, length, slice_get};
 ghost use Rattle.model_loader.specs.declared.entry.Entry.{Entry};
-ghost use Rattle.command_remove.specs.Lines.{left_line as left_line_of, left_lines as left_lines_of, line_of_two, step_line, step_lines as step_lines_of};
+ghost use Rattle.command_remove.specs.Lines.{left_line, left_lines, line_of_two, step_line, step_lines};
 
 use km_names::Blob;
 use model_loader::Machine;
@@ -11,7 +11,7 @@ use std::alloc::{AllocError, Global};
 
 /// Returns the lines of steps, a line for each.
 pub(crate) fn step_lines(alloc: Global, steps: &RemovePlan) -> Result<Blob, AllocError>
-    ensures { IfOk result (λ text. text ≡ step_lines_of steps.now) }
+    ensures { IfOk result (λ text. text ≡ step_lines steps.now) }
 {
     let mut text = Blob::new(alloc);
     for step in steps.as_slice() {
@@ -41,7 +41,7 @@ pub(crate) fn push_two(text: &mut Blob, word: &[u8], rest: &[u8]) -> Result<(), 
 
 /// Returns a line for each module of a machine, the oldest first.
 pub(crate) fn left_lines(alloc: Global, machine: &Machine) -> Result<Blob, AllocError>
-    ensures { IfOk result (λ text. text ≡ left_lines_of machine.now.entries) }
+    ensures { IfOk result (λ text. text ≡ left_lines machine.now.entries) }
 {
     let mut text = Blob::new(alloc);
     for i in 0..machine.module_count() {
@@ -54,7 +54,7 @@ pub(crate) fn left_lines(alloc: Global, machine: &Machine) -> Result<Blob, Alloc
 /// Returns the line of the module that was loaded `i`-th.
 fn left_line(alloc: Global, machine: &Machine, i: usize) -> Result<Blob, AllocError>
     requires { i < length machine.now.entries }
-    ensures { IfOk result (λ line. (e : Entry) → slice_get machine.now.entries i ≡ Some e → line ≡ left_line_of e) }
+    ensures { IfOk result (λ line. (e : Entry) → slice_get machine.now.entries i ≡ Some e → line ≡ left_line e) }
 {
     entry_line(alloc, b"left", machine.module_at(i), machine.image_at(i))
 }

@@ -6,7 +6,7 @@ ghost use Rattle.km_course.specs.Inner.{inner_outcome};
 ghost use Rattle.command_depmod.specs.Depmod.{depmod_course};
 ghost use Rattle.command_modprobe.specs.Modprobe.{modprobe_course};
 ghost use Rattle.command_trial.specs.Trial.{inner_room};
-ghost use Rattle.command_trial.specs.Words.{depmod_words as words_of_depmod, modprobe_words as words_of_modprobe};
+ghost use Rattle.command_trial.specs.Words.{depmod_words, modprobe_words};
 
 use crate::status::{bytes_from, hand_on};
 use crate::words::{depmod_words, modprobe_words};
@@ -24,7 +24,7 @@ const ROOM: usize = 4_194_304;
 pub(crate) fn index_made(alloc: Global, files: &mut MemFiles) -> Result<MemOut, Stop>
     requires { no_kind_listed files.old.kinds ≡ true }
     ensures left { Answers (λ out. record { files = files.new.contents; out = out.bytes })
-        (inner_outcome inner_room ((depmod_course words_of_depmod).run files.old.contents) files.old.contents) result }
+        (inner_outcome inner_room ((depmod_course depmod_words).run files.old.contents) files.old.contents) result }
     ensures sure { IfOk result (λ out. no_kind_listed files.new.kinds ≡ true) }
 {
     let words = depmod_words(alloc)?;
@@ -43,7 +43,7 @@ pub(crate) fn index_made(alloc: Global, files: &mut MemFiles) -> Result<MemOut, 
 pub(crate) fn load_made(alloc: Global, count: u32, files: &mut MemFiles) -> Result<MemOut, Stop>
     requires { no_kind_listed files.old.kinds ≡ true }
     ensures { Answers (λ out. record { files = files.new.contents; out = out.bytes })
-        (inner_outcome inner_room ((modprobe_course (words_of_modprobe count)).run files.old.contents) files.old.contents) result }
+        (inner_outcome inner_room ((modprobe_course (modprobe_words count)).run files.old.contents) files.old.contents) result }
 {
     let words = modprobe_words(alloc, count)?;
     let mut out = MemOut::with_room(alloc, ROOM)?;

@@ -1,13 +1,13 @@
 // Texts read line by line.
 ghost use Rattle.std.specs.Prelude.{◌≡◌, IfOk, length};
-ghost use Rattle.command_trial.specs.Summary.{dependencies_in, rests_of_lines as rests_of};
+ghost use Rattle.command_trial.specs.Summary.{dependencies_in, rests_of_lines};
 
 use km_names::{first_line, split_at_byte, words};
 use std::alloc::{AllocError, Global};
 
 /// Returns how many lines of a text begin with `start`.
 pub(crate) fn count_lines(text: &[u8], start: &[u8]) -> usize
-    ensures { result ≡ length (rests_of start.now text.now) }
+    ensures { result ≡ length (rests_of_lines start.now text.now) }
 {
     let mut count = 0;
     let mut left = text;

@@ -4,7 +4,7 @@ ghost use Rattle.std.specs.Fmt.{decimal};
 ghost use Rattle.sha2.specs.Hashers.{Holds256};
 ghost use Rattle.sha2.specs.Sha256.{sha256};
 ghost use Rattle.km_outside.specs.Contents.{rest_after};
-ghost use Rattle.command_trial.specs.Summary.{bytes_at as bytes_of_path, dependencies_left, image_path as path_of_image, images_of, loaded, rest_if_any, stated, summary as summary_of};
+ghost use Rattle.command_trial.specs.Summary.{bytes_at, dependencies_left, image_path, images_of, loaded, rest_if_any, stated, summary};
 
 use crate::lines::{count_lines, count_paths};
 use crate::words::IMAGES;
@@ -18,7 +18,7 @@ const LOADED: &[u8] = b"loaded ";
 
 /// Returns the bytes of the file at the path, or none if nothing is there.
 fn bytes_at<'a>(files: &'a MemFiles, path: &PathText) -> &'a [u8]
-    ensures { result.now ≡ bytes_of_path path.now files.now.contents }
+    ensures { result.now ≡ bytes_at path.now files.now.contents }
 {
     files.get(path).unwrap_or_default()
 }
@@ -34,7 +34,7 @@ pub(crate) fn count_dependencies(alloc: Global, files: &MemFiles) -> Result<usiz
 
 /// Returns the path of the image of a module, by what follows `loaded ` in its line.
 fn image_path(alloc: Global, rest: &[u8]) -> Result<PathText, AllocError>
-    ensures { IfOk result (λ path. path ≡ path_of_image rest.now) }
+    ensures { IfOk result (λ path. path ≡ image_path rest.now) }
 {
     let (name, _) = split_word(rest);
     let folder = PathText::from_slice(alloc, IMAGES.as_bytes())?;
@@ -103,7 +103,7 @@ pub(crate) fn summary(
     files: &MemFiles,
     output: &[u8],
 ) -> Result<Blob, AllocError>
-    ensures { IfOk result (λ text. text ≡ summary_of modules dependencies (record { files = files.now.contents; out = output.now })) }
+    ensures { IfOk result (λ text. text ≡ summary modules dependencies (record { files = files.now.contents; out = output.now })) }
 {
     let digest = digest_of_images(alloc, files, output)?;
     let mut text = Blob::new(alloc);

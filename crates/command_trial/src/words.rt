@@ -1,7 +1,7 @@
 // The words of the commands inside a trial.
 ghost use Rattle.std.specs.Prelude.{◌≡◌, IfOk, map};
 ghost use Rattle.tree_gen.specs.Trial.{name_of};
-ghost use Rattle.command_trial.specs.Words.{depmod_words as words_of_depmod, modprobe_words as words_of_modprobe};
+ghost use Rattle.command_trial.specs.Words.{depmod_words, modprobe_words};
 
 use km_names::{List, Word};
 use std::alloc::{AllocError, Global};
@@ -30,14 +30,14 @@ const MODPROBE: [&str; 11] = [
 
 /// Returns the words for the depmod that indexes the made tree.
 pub(crate) fn depmod_words(alloc: Global) -> Result<List<Word>, AllocError>
-    ensures { IfOk result (λ words. words ≡ words_of_depmod) }
+    ensures { IfOk result (λ words. words ≡ depmod_words) }
 {
     words_of(alloc, &DEPMOD)
 }
 
 /// Returns the words for the modprobe that loads this many of its modules.
 pub(crate) fn modprobe_words(alloc: Global, count: u32) -> Result<List<Word>, AllocError>
-    ensures { IfOk result (λ words. words ≡ words_of_modprobe count) }
+    ensures { IfOk result (λ words. words ≡ modprobe_words count) }
 {
     let mut words = words_of(alloc, &MODPROBE)?;
     for number in 0..count {

@@ -2,10 +2,10 @@
 ghost use Rattle.std.specs.Prelude.{◌≡◌, ◌==◌, ◌&&◌, ◌⊎◌, ℕ, List, Bool, Some, None, IfOk, IfErr, OnOk, drop, length, option_copied, option_map};
 ghost use Rattle.std.specs.List.{before_first, list_any};
 ghost use Rattle.std.specs.Str.{bytes_eq};
-ghost use Rattle.km_names.specs.Path.{module_name as module_name_of};
+ghost use Rattle.km_names.specs.Path.{module_name};
 ghost use Rattle.index_read.specs.Contents.{contents};
-ghost use Rattle.mod_tree.specs.DependencyLine.{is_line_path as can_be_path, own_path};
-ghost use Rattle.dependency_lines.specs.GoodPaths.{AreGood, are_good_needs, is_good as is_good_path};
+ghost use Rattle.mod_tree.specs.DependencyLine.{is_line_path, own_path};
+ghost use Rattle.dependency_lines.specs.GoodPaths.{AreGood, are_good_needs, is_good};
 ghost use Rattle.dependency_lines.specs.Modules.{is_line_of, is_well_formed, bad_among};
 ghost use Rattle.dependency_lines.specs.Spaces.{IsAfterSpace};
 ghost use Rattle.dependency_lines.specs.Tables.{shown};
@@ -101,14 +101,14 @@ fn is_line<'a, K: Known>(
 /// Returns whether what a line has before its first `:` is a path and isn't the whole line.
 fn is_front(line: &[u8], own: &[u8]) -> bool
     requires { own.now ≡ own_path line.now }
-    ensures { result ≡ (list_any (λ b. b == 58) line.now && can_be_path own.now) }
+    ensures { result ≡ (list_any (λ b. b == 58) line.now && is_line_path own.now) }
 {
     own.len() < line.len() && is_line_path(own)
 }
 
 /// Returns whether the module at a path has this name.
 fn names_module(buffer: &mut Vec<u8>, path: &[u8], name: &[u8]) -> Result<bool, AllocError>
-    ensures { IfOk result (λ same. same ≡ bytes_eq (module_name_of path.now) name.now) }
+    ensures { IfOk result (λ same. same ≡ bytes_eq (module_name path.now) name.now) }
 {
     let text = stem(path);
     if is_plain(text) {
@@ -121,7 +121,7 @@ fn names_module(buffer: &mut Vec<u8>, path: &[u8], name: &[u8]) -> Result<bool, 
 /// Returns whether the module at a path is known. Most names are the same as in their paths, and
 /// aren't copied.
 fn is_known<K: Known>(buffer: &mut Vec<u8>, known: &K, path: &[u8]) -> Result<bool, AllocError>
-    ensures { IfOk result (λ there. there ≡ K.has known.now (module_name_of path.now)) }
+    ensures { IfOk result (λ there. there ≡ K.has known.now (module_name path.now)) }
 {
     let text = stem(path);
     if is_plain(text) {
@@ -165,7 +165,7 @@ fn is_good<'a, K: Known>(
     path: &'a [u8],
 ) -> Result<bool, AllocError>
     requires { AreGood (K.has known.now) paths.old.slots.items }
-    ensures good { IfOk result (λ good. good ≡ is_good_path (K.has known.now) path.now) }
+    ensures good { IfOk result (λ good. good ≡ is_good (K.has known.now) path.now) }
     ensures kept { OnOk result (AreGood (K.has known.now) paths.new.slots.items) }
 {
     let slot = slot_of(path);

@@ -3,7 +3,7 @@ ghost use Rattle.std.specs.Prelude.{◌≡◌, ◌<◌, ◌⊎◌, Some, None, l
 ghost use Rattle.std.specs.FinMap.{entries};
 ghost use Rattle.index_format.specs.Map.{KeyValues};
 ghost use Rattle.index_read.specs.Firsts.{firsts_of};
-ghost use Rattle.name_table.specs.NameTable.{place_of as place_in_table};
+ghost use Rattle.name_table.specs.NameTable.{place_of as place_of_spec};
 ghost use Rattle.dependency_lines.specs.Modules.{bad_name, by_number, line_at, line_places, modules_of, name_at, path_at, place_of, places_of};
 ghost use Rattle.dependency_lines.specs.Tables.{shown, IsNamed};
 
@@ -154,7 +154,7 @@ impl<'a> Known for Modules<'a> {
 
 /// Returns the place that a table has for a name.
 fn place_in(names: &NameTable<'_>, name: &[u8]) -> Option<usize>
-    ensures { result ≡ place_in_table names.now name.now }
+    ensures { result ≡ place_of_spec names.now name.now }
 {
     let place = names.place(name)?;
     Some(place as usize)

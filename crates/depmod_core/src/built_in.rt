@@ -1,11 +1,11 @@
 // The modules that are built into the kernel.
 ghost use Rattle.std.specs.Prelude.{◌≡◌, [], IfOk, IsTrue, filter, map};
 ghost use Rattle.std.specs.List.{list_all};
-ghost use Rattle.km_names.specs.Ascii.{is_graphic as is_word};
+ghost use Rattle.km_names.specs.Ascii.{is_graphic};
 ghost use Rattle.km_names.specs.Lines.{lines_of};
-ghost use Rattle.km_names.specs.Path.{module_name as name_of};
+ghost use Rattle.km_names.specs.Path.{module_name};
 ghost use Rattle.name_table.specs.FirstSeen.{first_seen};
-ghost use Rattle.depmod_core.specs.BuiltIn.{built_in_map as map_of_built_in};
+ghost use Rattle.depmod_core.specs.BuiltIn.{built_in_map};
 ghost use Rattle.depmod_core.specs.Maps.{map_of};
 
 use index_write::KeyMap;
@@ -15,7 +15,7 @@ use std::alloc::{AllocError, Global};
 
 /// Returns the names of the listed modules whose names are words of visible characters.
 fn listed_names(alloc: Global, builtin: &[u8]) -> Result<Names, AllocError>
-    ensures { IfOk result (λ names. names ≡ filter is_word (map name_of (lines_of builtin.now))) }
+    ensures { IfOk result (λ names. names ≡ filter is_graphic (map module_name (lines_of builtin.now))) }
 {
     let mut names = Names::new(alloc);
     let mut rest = builtin;
@@ -43,7 +43,7 @@ fn distinct<'a>(alloc: Global, names: &'a Names) -> Result<NameSet<'a>, AllocErr
 
 /// Returns the map of some names, each with an empty text.
 fn map_of_names(alloc: Global, names: &NameSet) -> Result<KeyMap, AllocError>
-    requires { IsTrue (list_all is_word names.now) }
+    requires { IsTrue (list_all is_graphic names.now) }
     ensures { IfOk result (λ m. m ≡ map_of (map (λ name. (name, (0, []))) names.now)) }
 {
     let mut map = KeyMap::new(alloc);
@@ -59,7 +59,7 @@ fn map_of_names(alloc: Global, names: &NameSet) -> Result<KeyMap, AllocError>
 /// lists, with an empty text.
 #[tactic(auto, unfolding(crate::specs::BuiltIn::built_in_map, crate::specs::BuiltIn::built_in_names))]
 pub(crate) fn built_in_map(alloc: Global, builtin: &[u8]) -> Result<KeyMap, AllocError>
-    ensures { IfOk result (λ map. map ≡ map_of_built_in builtin.now) }
+    ensures { IfOk result (λ map. map ≡ built_in_map builtin.now) }
 {
     let names = listed_names(alloc, builtin)?;
     let set = distinct(alloc, &names)?;

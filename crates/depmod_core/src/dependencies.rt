@@ -4,7 +4,7 @@ ghost use Rattle.provider_rel.specs.Tree.{IsTree};
 ghost use Rattle.provider_rel.specs.Seen.{closures_by, places_of};
 ghost use Rattle.depmod_core.specs.Files.{size_fault};
 ghost use Rattle.depmod_core.specs.Text.{with_piece};
-ghost use Rattle.depmod_core.specs.Dependencies.{path_at as path_of, line_of, dep_text as text_of, dep_map as map_of_dependencies};
+ghost use Rattle.depmod_core.specs.Dependencies.{path_at, line_of, dep_text, dep_map};
 
 use crate::text::Text;
 use crate::{OutputFault, OutputFile};
@@ -16,7 +16,7 @@ use std::alloc::{AllocError, Global};
 
 /// Returns the path of the module at a place of a tree.
 fn path_at<'a>(tree: &'a TreeFacts, place: &TreeIndex) -> &'a [u8]
-    ensures { result.now ≡ path_of tree.now place.now.0 }
+    ensures { result.now ≡ path_at tree.now place.now.0 }
 {
     match tree.get(place.0 as usize) {
         Some(facts) => facts.path.as_bytes(),
@@ -45,7 +45,7 @@ fn put_line(
 fn put_lines(text: &mut Text, relation: &Relation, tree: &TreeFacts) -> Result<(), AllocError>
     requires few { length tree.now ≤ 10000 }
     requires long { length (closures_by relation.now) ≡ length tree.now }
-    ensures { OnOk result (text.new ≡ with_piece text.old (text_of tree.now (closures_by relation.now))) }
+    ensures { OnOk result (text.new ≡ with_piece text.old (dep_text tree.now (closures_by relation.now))) }
 {
     let modules = tree.as_slice();
     for place in 0..modules.len() {
@@ -65,10 +65,10 @@ pub(crate) fn dep_text(
 ) -> Result<Blob, OutputFault>
     requires tree { IsTree tree.now }
     requires long { length (closures_by relation.now) ≡ length tree.now }
-    ensures ok { IfOk result (λ bytes. bytes ≡ text_of tree.now (closures_by relation.now)) }
-    ensures passed { OnOk result (size_fault OutputFile.Dep (text_of tree.now (closures_by relation.now)) ≡ None) }
+    ensures ok { IfOk result (λ bytes. bytes ≡ dep_text tree.now (closures_by relation.now)) }
+    ensures passed { OnOk result (size_fault OutputFile.Dep (dep_text tree.now (closures_by relation.now)) ≡ None) }
     ensures err { IfErr result (λ fault. (fault ≡ OutputFault.Memory)
-        ⊎ (size_fault OutputFile.Dep (text_of tree.now (closures_by relation.now)) ≡ Some fault)) }
+        ⊎ (size_fault OutputFile.Dep (dep_text tree.now (closures_by relation.now)) ≡ Some fault)) }
 {
     let mut measured = Text::measured();
     put_lines(&mut measured, relation, tree)?;
@@ -95,7 +95,7 @@ pub(crate) fn dep_map(
 ) -> Result<KeyMap, AllocError>
     requires tree { IsTree tree.now }
     requires long { length (closures_by relation.now) ≡ length tree.now }
-    ensures { IfOk result (λ map. map ≡ map_of_dependencies tree.now (closures_by relation.now)) }
+    ensures { IfOk result (λ map. map ≡ dep_map tree.now (closures_by relation.now)) }
 {
     let mut map = KeyMap::new(alloc);
     let modules = tree.as_slice();

@@ -5,7 +5,7 @@ ghost use Rattle.provider_rel.specs.Faces.{modules_of};
 ghost use Rattle.provider_rel.specs.Seen.{IsRelation, closures_by, obstacles_by};
 ghost use Rattle.provider_rel.specs.Tree.{IsTree};
 ghost use Rattle.depmod_core.specs.Files.{content, files_by, size_fault, output_fault, outputs_of, IsRelationOf, StandFor};
-ghost use Rattle.depmod_core.specs.declared.file.OutputFile.{OutputFile as FileOf};
+ghost use Rattle.depmod_core.specs.declared.file.OutputFile.{OutputFile};
 ghost use Rattle.depmod_core.specs.AllStated.{AreAllStated};
 ghost use Rattle.depmod_core.specs.Kinds.{Stands};
 
@@ -143,7 +143,7 @@ fn make_all(
     ensures passed { OnOk result (output_fault (files_by tree.now (closures_by relation.now) (obstacles_by relation.now) builtin.now) ≡ None) }
     ensures err { IfErr result (λ fault. (fault ≡ OutputFault.Memory)
         ⊎ (output_fault (files_by tree.now (closures_by relation.now) (obstacles_by relation.now) builtin.now) ≡ Some fault)) }
-    ensures stands { IfOk result (λ made. (file : FileOf) → Stands tree.now (closures_by relation.now) builtin.now file (content made file)) }
+    ensures stands { IfOk result (λ made. (file : OutputFile) → Stands tree.now (closures_by relation.now) builtin.now file (content made file)) }
 {
     use OutputFile::{
         Alias, AliasBin, BuiltinBin, Dep, DepBin, Softdep, Symbols, SymbolsBin, Unmet,

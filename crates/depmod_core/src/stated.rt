@@ -1,15 +1,15 @@
 // What modules state for others to find them by.
 ghost use Rattle.std.specs.Prelude.{◌≡◌, ◌==◌, ◌++◌, ◌⊎◌, List, Some, None, OnOk, IfOk, IfErr, IfSome, IsTrue, All, map, codes, if◌then◌else◌};
 ghost use Rattle.std.specs.List.{list_all};
-ghost use Rattle.km_names.specs.Ascii.{is_graphic as is_word};
+ghost use Rattle.km_names.specs.Ascii.{is_graphic};
 ghost use Rattle.index_format.specs.Map.{IsKey};
-ghost use Rattle.module_facts.specs.declared.facts.Facts.{Facts as TreeModule};
+ghost use Rattle.module_facts.specs.declared.facts.Facts.{Facts};
 ghost use Rattle.provider_rel.specs.Tree.{IsTree};
 ghost use Rattle.depmod_core.specs.Files.{size_fault};
 ghost use Rattle.depmod_core.specs.Lines.{ended, lines_text};
 ghost use Rattle.depmod_core.specs.Maps.{with_values};
-ghost use Rattle.depmod_core.specs.Stated.{is_usable_alias as is_usable, is_usable_softdep as is_usable_text, is_printable as is_printable_byte, aliases_of, softdeps_of, symbols_of};
-ghost use Rattle.depmod_core.specs.Kinds.{heading as heading_of, statement, statements, line_of, text_of, values_with, map_for};
+ghost use Rattle.depmod_core.specs.Stated.{is_usable_alias, is_usable_softdep, is_printable, aliases_of, softdeps_of, symbols_of};
+ghost use Rattle.depmod_core.specs.Kinds.{heading, statement, statements, line_of, text_of, values_with, map_for};
 ghost use Rattle.depmod_core.specs.AllStated.{AreStated, AreAllStated};
 ghost use Rattle.depmod_core.specs.Text.{with_piece};
 
@@ -50,7 +50,7 @@ impl<'a> Model for Statement<'a> {
 /// and has a normal form.
 #[tactic(auto, unfolding(crate::specs::Stated::is_usable_alias))]
 fn usable_alias(alloc: Global, alias: &[u8]) -> Result<Option<Statement<'_>>, AllocError>
-    ensures { IfOk result (λ found. found ≡ (if is_usable alias.now then Some (statement Kind.Alias alias.now) else None)) }
+    ensures { IfOk result (λ found. found ≡ (if is_usable_alias alias.now then Some (statement Kind.Alias alias.now) else None)) }
 {
     if !is_graphic(alias) {
         return Ok(None);
@@ -65,7 +65,7 @@ fn usable_alias(alloc: Global, alias: &[u8]) -> Result<Option<Statement<'_>>, Al
 }
 
 fn is_printable(text: &[u8]) -> bool
-    ensures { result ≡ list_all is_printable_byte text.now }
+    ensures { result ≡ list_all is_printable text.now }
 {
     text.iter().all(|b| b.is_ascii_graphic() || *b == b' ')
 }
@@ -80,7 +80,7 @@ fn is_spaces(text: &[u8]) -> bool
 /// least one character that isn't a space, and no mark of continuation at its end.
 #[tactic(auto, unfolding(crate::specs::Stated::is_usable_softdep))]
 fn is_usable_softdep(text: &[u8]) -> bool
-    ensures { result ≡ is_usable_text text.now }
+    ensures { result ≡ is_usable_softdep text.now }
 {
     is_printable(text) && !is_spaces(text) && !text.ends_with(b"\\")
 }
@@ -184,7 +184,7 @@ impl<'a> AllStated<'a> {
 
     /// Returns what the modules state of a kind.
     fn of(&self, kind: Kind) -> &[Vec<Statement<'a>>]
-        ensures { (tree : List TreeModule) → AreAllStated tree self.now → AreStated kind tree result.now }
+        ensures { (tree : List Facts) → AreAllStated tree self.now → AreStated kind tree result.now }
     {
         match kind {
             Kind::Alias => &self.aliases,
@@ -222,7 +222,7 @@ fn put_lines(
 
 /// Returns the heading of a kind's file.
 fn heading(kind: Kind) -> &'static [u8]
-    ensures { result.now ≡ heading_of kind }
+    ensures { result.now ≡ heading kind }
 {
     match kind {
         Kind::Alias => b"# Aliases extracted from modules themselves.",
@@ -278,7 +278,7 @@ fn add_values(
     name: &[u8],
     all: &[Statement<'_>],
 ) -> Result<(), AllocError>
-    requires name { IsTrue (is_word name.now) }
+    requires name { IsTrue (is_graphic name.now) }
     requires keys { All (λ stated. IfSome stated.1 IsKey) all.now }
     ensures { OnOk result (key_map.new ≡ with_values key_map.old (values_with place name.now all.now)) }
 {

@@ -1,7 +1,7 @@
 // Texts in the making.
 ghost use Rattle.std.specs.Prelude.{◌≡◌, ◌⊎◌, List, ℕ, Some, None, OnOk, IfOk, IfErr, length, flat_map};
 ghost use Rattle.depmod_core.specs.Files.{size_fault};
-ghost use Rattle.depmod_core.specs.Text.{measured as measured_text, kept, with_piece};
+ghost use Rattle.depmod_core.specs.Text.{measured, kept, with_piece};
 
 use crate::{OutputFault, OutputFile};
 use km_names::{Blob, FILE_LIMIT};
@@ -17,7 +17,7 @@ pub(crate) struct Text {
 impl Text {
     /// Returns the empty text, whose bytes won't be kept.
     pub(crate) fn measured() -> Text
-        ensures { result ≡ measured_text }
+        ensures { result ≡ measured }
     {
         Text {
             length: 0,
@@ -63,8 +63,8 @@ impl Text {
         alloc: Global,
         file: OutputFile,
     ) -> Result<usize, OutputFault>
-        ensures ok { (bytes : List ℕ) → self.now ≡ with_piece measured_text bytes → OnOk result (size_fault file bytes ≡ None) }
-        ensures err { (bytes : List ℕ) → self.now ≡ with_piece measured_text bytes → IfErr result (λ fault.
+        ensures ok { (bytes : List ℕ) → self.now ≡ with_piece measured bytes → OnOk result (size_fault file bytes ≡ None) }
+        ensures err { (bytes : List ℕ) → self.now ≡ with_piece measured bytes → IfErr result (λ fault.
             (fault ≡ OutputFault.Memory) ⊎ (size_fault file bytes ≡ Some fault)) }
     {
         if self.length > FILE_LIMIT as u64 {

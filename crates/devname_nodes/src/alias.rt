@@ -1,7 +1,7 @@
 // Device nodes in aliases.
 ghost use Rattle.std.specs.Prelude.{◌≡◌, option_map, map};
 ghost use Rattle.km_names.specs.First.{first};
-ghost use Rattle.devname_nodes.specs.Nodes.{device_of as device_named, number_of as number_stated, after_prefix};
+ghost use Rattle.devname_nodes.specs.Nodes.{device_of, number_of, after_prefix};
 
 use crate::number::numbers;
 use km_names::{Blob, is_graphic};
@@ -30,7 +30,7 @@ fn after<'a>(prefix: &[u8], text: &'a [u8]) -> Option<&'a [u8]>
 /// Returns the device that an alias names: what follows `devname:`, if it is a word of visible
 /// characters.
 fn device_of(alias: &[u8]) -> Option<&[u8]>
-    ensures { option_map (λ device. device.now) result ≡ device_named alias.now }
+    ensures { option_map (λ device. device.now) result ≡ device_of alias.now }
 {
     let device = after(b"devname:", alias)?;
     if is_graphic(device) {
@@ -42,7 +42,7 @@ fn device_of(alias: &[u8]) -> Option<&[u8]>
 
 /// Returns the device number that an alias states as `char-major-M-N` or `block-major-M-N`.
 fn number_of(alias: &[u8]) -> Option<DeviceNumber>
-    ensures { result ≡ number_stated alias.now }
+    ensures { result ≡ number_of alias.now }
 {
     if let Some(text) = after(b"char-major-", alias) {
         let (major, minor) = numbers(text)?;
@@ -63,7 +63,7 @@ fn number_of(alias: &[u8]) -> Option<DeviceNumber>
 
 /// Returns the first device that aliases name.
 pub(crate) fn first_device(aliases: &[Blob]) -> Option<&[u8]>
-    ensures { option_map (λ device. device.now) result ≡ first (map device_named aliases.now) }
+    ensures { option_map (λ device. device.now) result ≡ first (map device_of aliases.now) }
 {
     for text in aliases {
         if let Some(device) = device_of(text.as_bytes()) {
@@ -75,7 +75,7 @@ pub(crate) fn first_device(aliases: &[Blob]) -> Option<&[u8]>
 
 /// Returns the first device number that aliases state.
 pub(crate) fn first_number(aliases: &[Blob]) -> Option<DeviceNumber>
-    ensures { result ≡ first (map number_stated aliases.now) }
+    ensures { result ≡ first (map number_of aliases.now) }
 {
     for alias in aliases {
         if let Some(number) = number_of(alias.as_bytes()) {

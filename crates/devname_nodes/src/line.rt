@@ -1,6 +1,6 @@
 // The lines of modules.devname.
 ghost use Rattle.std.specs.Prelude.{◌≡◌, IfOk};
-ghost use Rattle.devname_nodes.specs.Line.{kind_of as kind_of_letter, device_word as device_of_word, line_node, is_ignored as is_ignored_line};
+ghost use Rattle.devname_nodes.specs.Line.{kind_of, device_word, line_node, is_ignored};
 
 use crate::Node;
 use crate::node::is_comment;
@@ -11,7 +11,7 @@ use unmet_file::three_words;
 
 /// Returns whether the letter means a block device, if it means a block or a character device.
 fn kind_of(letter: u8) -> Option<bool>
-    ensures { result ≡ kind_of_letter letter }
+    ensures { result ≡ kind_of letter }
 {
     match letter {
         b'b' => Some(true),
@@ -22,7 +22,7 @@ fn kind_of(letter: u8) -> Option<bool>
 
 /// Returns the kind and the numbers of the last word of a line.
 fn device_word(text: &[u8]) -> Option<(bool, (u32, u32))>
-    ensures { result ≡ device_of_word text.now }
+    ensures { result ≡ device_word text.now }
 {
     let block = kind_of(*text.first()?)?;
     let numbers = plain_numbers(&text[1..])?;
@@ -54,7 +54,7 @@ pub(crate) fn read_line(alloc: Global, line: &[u8]) -> Result<Option<Node>, Allo
 
 /// Returns whether a line is ignored: it is a comment, or blank.
 pub(crate) fn is_ignored(line: &[u8]) -> bool
-    ensures { result ≡ is_ignored_line line.now }
+    ensures { result ≡ is_ignored line.now }
 {
     is_comment(line) || trimmed(line).is_empty()
 }

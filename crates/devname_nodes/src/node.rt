@@ -1,5 +1,5 @@
 ghost use Rattle.std.specs.Prelude.{◌≡◌, IfOk};
-ghost use Rattle.devname_nodes.specs.Nodes.{node_of as node_of_facts, nodes_of, is_comment as begins_as_comment};
+ghost use Rattle.devname_nodes.specs.Nodes.{node_of, nodes_of, is_comment};
 
 use crate::alias::{first_device, first_number};
 use km_names::{Blob, List, Name};
@@ -27,7 +27,7 @@ pub type NodeList = List<Node>;
 
 /// Returns whether a text begins as a comment.
 pub(crate) fn is_comment(text: &[u8]) -> bool
-    ensures { result ≡ begins_as_comment text.now }
+    ensures { result ≡ is_comment text.now }
 {
     !text.is_empty() && text[0] == b'#'
 }
@@ -35,7 +35,7 @@ pub(crate) fn is_comment(text: &[u8]) -> bool
 /// Returns the node of a module, if it has one.
 #[tactic(auto, unfolding(crate::specs::Nodes::node_of))]
 fn node_of(alloc: Global, facts: &Facts) -> Result<Option<Node>, AllocError>
-    ensures { IfOk result (λ node. node ≡ node_of_facts facts.now) }
+    ensures { IfOk result (λ node. node ≡ node_of facts.now) }
 {
     if is_comment(facts.name.as_bytes()) {
         return Ok(None);

@@ -1,16 +1,16 @@
 // The numbers of devices.
 ghost use Rattle.std.specs.Prelude.{◌≡◌, ◌≤◌, ◌==◌, length, IsTrue};
 ghost use Rattle.std.specs.List.{list_all};
-ghost use Rattle.std.specs.Char.{is_digit, digit_value as value_of_digit};
-ghost use Rattle.std.specs.Str.Parse.{digits_value as value_of_digits};
-ghost use Rattle.devname_nodes.specs.Numbers.{number as number_of, plain_number as plain_number_of, numbers as numbers_of, plain_numbers as plain_numbers_of, has_leading_zero as has_zero};
+ghost use Rattle.std.specs.Char.{is_digit, digit_value};
+ghost use Rattle.std.specs.Str.Parse.{digits_value};
+ghost use Rattle.devname_nodes.specs.Numbers.{number as number_spec, plain_number, numbers, plain_numbers, has_leading_zero};
 
 use km_names::split_at_byte;
 
 /// Returns the number below 2^32 that a text states in 1 to 10 decimal digits.
 #[tactic(auto, unfolding(crate::specs::Numbers::number))]
 pub(crate) fn number(text: &[u8]) -> Option<u32>
-    ensures { result ≡ number_of text.now }
+    ensures { result ≡ number_spec text.now }
 {
     if text.is_empty() || 10 < text.len() || !are_digits(text) {
         return None;
@@ -33,7 +33,7 @@ fn are_digits(text: &[u8]) -> bool
 fn digits_value(digits: &[u8]) -> u64
     requires few { length digits.now ≤ 10 }
     requires digits { IsTrue (list_all (λ b. is_digit b 10) digits.now) }
-    ensures { result ≡ value_of_digits 10 digits.now }
+    ensures { result ≡ digits_value 10 digits.now }
 {
     let mut number = 0;
     for i in 0..digits.len() {
@@ -45,20 +45,20 @@ fn digits_value(digits: &[u8]) -> u64
 /// Returns the value of a digit, 0 to 9.
 fn digit_value(digit: u8) -> u64
     requires { IsTrue (is_digit digit 10) }
-    ensures { result ≡ value_of_digit digit }
+    ensures { result ≡ digit_value digit }
 {
     u64::from(digit - b'0')
 }
 
 fn has_leading_zero(text: &[u8]) -> bool
-    ensures { result ≡ has_zero text.now }
+    ensures { result ≡ has_leading_zero text.now }
 {
     text.len() > 1 && text[0] == b'0'
 }
 
 /// Returns the number that a text states without a zero before its first digit.
 pub(crate) fn plain_number(text: &[u8]) -> Option<u32>
-    ensures { result ≡ plain_number_of text.now }
+    ensures { result ≡ plain_number text.now }
 {
     if has_leading_zero(text) {
         return None;
@@ -68,7 +68,7 @@ pub(crate) fn plain_number(text: &[u8]) -> Option<u32>
 
 /// Returns the two numbers of a text with a `-` between.
 pub(crate) fn numbers(text: &[u8]) -> Option<(u32, u32)>
-    ensures { result ≡ numbers_of text.now }
+    ensures { result ≡ numbers text.now }
 {
     let (first, second) = split_at_byte(text, b'-');
     let major = number(first)?;
@@ -78,7 +78,7 @@ pub(crate) fn numbers(text: &[u8]) -> Option<(u32, u32)>
 
 /// Returns the two numbers of a text with a `:` between, without zeros before their first digits.
 pub(crate) fn plain_numbers(text: &[u8]) -> Option<(u32, u32)>
-    ensures { result ≡ plain_numbers_of text.now }
+    ensures { result ≡ plain_numbers text.now }
 {
     let (first, second) = split_at_byte(text, b':');
     let major = plain_number(first)?;

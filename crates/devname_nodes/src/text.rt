@@ -1,6 +1,6 @@
 ghost use Rattle.std.specs.Prelude.{◌≡◌, ◌++◌, ◌∷◌, [], IfOk, OnOk};
 ghost use Rattle.devname_nodes.specs.Line.{node_line};
-ghost use Rattle.devname_nodes.specs.File.{lines_text, nodes_text as text_of_nodes};
+ghost use Rattle.devname_nodes.specs.File.{lines_text, nodes_text};
 
 use crate::{Node, NodeList};
 use km_names::Blob;
@@ -46,7 +46,7 @@ pub fn node_lines(alloc: Global, nodes: &NodeList) -> Result<Blob, AllocError>
 /// modules.devname.
 #[tactic(auto, unfolding(crate::specs::File::nodes_text))]
 pub fn nodes_text(alloc: Global, nodes: &NodeList) -> Result<Blob, AllocError>
-    ensures { IfOk result (λ text. text ≡ text_of_nodes nodes.now) }
+    ensures { IfOk result (λ text. text ≡ nodes_text nodes.now) }
 {
     let mut text = Blob::from_slice(
         alloc,

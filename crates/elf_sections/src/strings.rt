@@ -1,7 +1,7 @@
 // Strings in string tables. gABI 4, "String Table".
 
 ghost use Rattle.std.specs.Prelude.{◌≡◌, ◌≤◌, length, IfOk, IfSome, option_copied};
-ghost use Rattle.km_names.specs.Strings.{string_at as string_of_table};
+ghost use Rattle.km_names.specs.Strings.{string_at};
 ghost use Rattle.elf_sections.specs.Strings.{HasStrings};
 
 use km_names::{FILE_LIMIT, string_at};
@@ -21,7 +21,7 @@ pub const NAME_LIMIT: usize = 4 * FILE_LIMIT;
 /// The string is longer than `left` bytes.
 pub fn string_within(table: &[u8], at: u32, left: usize) -> Result<Option<&[u8]>, AllocError>
     requires { left ≤ NAME_LIMIT }
-    ensures string { IfOk result (λ string. option_copied string ≡ string_of_table table.now at) }
+    ensures string { IfOk result (λ string. option_copied string ≡ string_at table.now at) }
     ensures within { IfOk result (λ string. IfSome string (λ name. length name.now ≤ left)) }
 {
     let at = at as usize;

@@ -1,7 +1,7 @@
 // The classes of sections in memory.
 
 ghost use Rattle.std.specs.Prelude.{◌≡◌};
-ghost use Rattle.image_layout.specs.Offsets.{class_of as the_class, is_class, is_in as stands_in};
+ghost use Rattle.image_layout.specs.Offsets.{class_of, is_class, is_in};
 
 use elf_format::{SHF_EXECINSTR, SHF_WRITE};
 use elf_object::Section;
@@ -20,7 +20,7 @@ pub(crate) enum Class {
 /// Returns the class of a section.
 #[tactic(auto, unfolding(crate::specs::Offsets::class_of))]
 pub(crate) fn class_of(section: &Section) -> Class
-    ensures { result ≡ the_class section.now }
+    ensures { result ≡ class_of section.now }
 {
     if section.flags & SHF_EXECINSTR != 0 {
         Class::Code
@@ -45,7 +45,7 @@ fn are_one(class: Class, other: Class) -> bool
 
 /// Returns whether a section is in memory, in this class.
 pub(crate) fn is_in(class: Class, section: &Section) -> bool
-    ensures { result ≡ stands_in class section.now }
+    ensures { result ≡ is_in class section.now }
 {
     section.kept && are_one(class, class_of(section))
 }

@@ -2,7 +2,7 @@
 
 ghost use Rattle.std.specs.Prelude.{◌≡◌, ◌+◌, ◌%◌, ◌<◌, ◌≤◌, ◌^◌, true, if◌then◌else◌, length, take};
 ghost use Rattle.elf_object.specs.Places.{is_alignment};
-ghost use Rattle.image_layout.specs.Offsets.{aligned as the_aligned, end_of, is_in as stands_in, of_class};
+ghost use Rattle.image_layout.specs.Offsets.{aligned, end_of, is_in, of_class};
 
 use crate::class::{Class, is_in};
 use elf_object::{Object, Section};
@@ -12,7 +12,7 @@ use elf_object::{Object, Section};
 #[tactic(auto, unfolding(crate::specs::Offsets::aligned), using(crate::proofs::Aligning::aligned_above, crate::proofs::Aligning::aligned_near, crate::proofs::Aligning::aligned_page))]
 pub(crate) fn aligned(place: u128, align: u64) -> u128
     requires { place < 2 ^ 120 }
-    ensures aligned { result ≡ the_aligned place align }
+    ensures aligned { result ≡ aligned place align }
     ensures above { place ≤ result }
     ensures near { align ≤ 4096 → result ≤ place + 4096 }
     ensures page { align ≡ 4096 → result % 4096 ≡ 0 }
@@ -27,7 +27,7 @@ pub(crate) fn aligned(place: u128, align: u64) -> u128
 fn end_with(class: Class, section: &Section, end: u128) -> u128
     requires end { end < 2 ^ 110 }
     requires aligned { section.now.kept ≡ true → is_alignment section.now.align ≡ true }
-    ensures end { result ≡ (if stands_in class section.now then the_aligned end section.now.align + section.now.size else end) }
+    ensures end { result ≡ (if is_in class section.now then aligned end section.now.align + section.now.size else end) }
     ensures near { result ≤ end + 2 ^ 65 }
 {
     if !is_in(class, section) {

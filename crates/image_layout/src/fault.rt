@@ -25,9 +25,9 @@ impl From<AllocError> for LayFault {
 }
 
 impl From<Overflow> for LayFault {
-    ghost use Rattle.image_layout.specs.declared.fault.LayFault.TheVariants.{Overflow as TooWide};
+    ghost use Rattle.image_layout.specs.declared.fault.LayFault.TheVariants.{Overflow};
 
-    ghost from_gives = { λ overflow fault. fault ≡ TooWide overflow };
+    ghost from_gives = { λ overflow fault. fault ≡ Overflow overflow };
 
     fn from(overflow: Overflow) -> LayFault {
         LayFault::Overflow(overflow)

@@ -4,7 +4,7 @@ ghost use Rattle.std.specs.Prelude.{◌≡◌, ◌<◌, ◌^◌, ◌⊎◌, None
 ghost use Rattle.std.specs.Result.{result_err};
 ghost use Rattle.x86_relocate.specs.Patched.{patched};
 ghost use Rattle.image_layout.specs.Offsets.{image_size, offsets};
-ghost use Rattle.image_layout.specs.Laid.{laid, overflow, patch_of as the_patch, patches};
+ghost use Rattle.image_layout.specs.Laid.{laid, overflow, patch_of, patches};
 ghost use Rattle.image_layout.specs.declared.fault.LayFault.TheVariants.{Memory, Overflow as TooWide};
 ghost use Rattle.x86_relocate.specs.declared.patch.Overflow.{Overflow};
 
@@ -27,7 +27,7 @@ fn patch_of(
     requires layout { layout.now ≡ offsets object.now.sections }
     requires target { place.now.target < length object.now.sections }
     requires symbol { place.now.symbol < length addresses.now }
-    ensures { result ≡ the_patch object.now base addresses.now place.now }
+    ensures { result ≡ patch_of object.now base addresses.now place.now }
 {
     let at = layout.offset(place.target).wrapping_add(place.offset);
     Patch {

@@ -2,7 +2,7 @@
 
 ghost use Rattle.std.specs.Prelude.{ℕ, List, Some, take, slice_get, [], ◌≡◌, ◌+◌, ◌*◌, ◌%◌, ◌<◌, ◌≤◌, ◌^◌, true, length, IfOk, IfSome, if◌then◌else◌, slice_index};
 ghost use Rattle.elf_object.specs.Places.{is_alignment};
-ghost use Rattle.image_layout.specs.Offsets.{aligned as the_aligned, class_of as the_class, class_start, end_of, fixed_start, image_size as size_of_image, is_class, offset, offsets, variable_start};
+ghost use Rattle.image_layout.specs.Offsets.{aligned, class_of, class_start, end_of, fixed_start, image_size, is_class, offset, offsets, variable_start};
 ghost use Rattle.image_layout.specs.Ends.{AreEnds, AreNear, end_in};
 ghost use Rattle.elf_sections.specs.declared.section.Section.{Section};
 ghost use Rattle.image_layout.specs.declared.class.Class.{Class};
@@ -56,10 +56,10 @@ fn start_of(object: &Object, class: Class) -> u128
 pub fn section_at(object: &Object, i: u32) -> u64
     requires section { i < length object.now.sections }
     requires kept { IfSome (slice_get object.now.sections i) (λ s. s.kept ≡ true) }
-    requires fits { size_of_image object.now.sections < 2 ^ 64 }
+    requires fits { image_size object.now.sections < 2 ^ 64 }
     ensures at { result ≡ offset object.now.sections i }
     ensures within { IfSome (slice_get object.now.sections i)
-        (λ s. result + s.size ≤ size_of_image object.now.sections) }
+        (λ s. result + s.size ≤ image_size object.now.sections) }
 {
     let section = object.section(i);
     let class = class_of(section);
@@ -70,7 +70,7 @@ pub fn section_at(object: &Object, i: u32) -> u64
 /// Returns the size of the image of an object in bytes: whole pages, and at least one.
 #[tactic(auto, unfolding(crate::specs::Offsets::image_size, crate::specs::Offsets::end_of))]
 pub fn image_size(object: &Object) -> u128
-    ensures size { result ≡ size_of_image object.now.sections }
+    ensures size { result ≡ image_size object.now.sections }
     ensures some { 4096 ≤ result }
     ensures pages { result % 4096 ≡ 0 }
     ensures near { result < 2 ^ 100 }
@@ -90,8 +90,8 @@ pub fn image_size(object: &Object) -> u128
 fn place_at(end: &mut u128, section: &Section) -> u128
     requires end { end.old < 2 ^ 110 }
     requires aligned { is_alignment section.now.align ≡ true }
-    ensures at { result ≡ the_aligned end.old section.now.align }
-    ensures end { end.new ≡ the_aligned end.old section.now.align + section.now.size }
+    ensures at { result ≡ aligned end.old section.now.align }
+    ensures end { end.new ≡ aligned end.old section.now.align + section.now.size }
     ensures above { result ≤ end.new }
 {
     let at = aligned(*end, section.align);
@@ -105,9 +105,9 @@ impl Ends {
     fn place(&mut self, section: &Section) -> u128
         requires near { AreNear self.old }
         requires aligned { is_alignment section.now.align ≡ true }
-        ensures at { result ≡ the_aligned (end_in self.old (the_class section.now)) section.now.align }
+        ensures at { result ≡ aligned (end_in self.old (class_of section.now)) section.now.align }
         ensures ends { (class : Class) → end_in self.new class
-            ≡ (if is_class class (the_class section.now) then the_aligned (end_in self.old class) section.now.align + section.now.size
+            ≡ (if is_class class (class_of section.now) then aligned (end_in self.old class) section.now.align + section.now.size
             else end_in self.old class) }
     {
         match class_of(section) {
@@ -147,7 +147,7 @@ impl Model for Layout {
 impl Layout {
     /// Returns the places of the sections of an object whose image fits in memory.
     pub fn new(alloc: Global, object: &Object) -> Result<Layout, AllocError>
-        requires { size_of_image object.now.sections < 2 ^ 63 }
+        requires { image_size object.now.sections < 2 ^ 63 }
         ensures { IfOk result (λ l. l ≡ offsets object.now.sections) }
     {
         let mut ends = class_starts(object);

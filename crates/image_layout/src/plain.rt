@@ -1,8 +1,8 @@
 // The bytes of sections in an image.
 
 ghost use Rattle.std.specs.Prelude.{◌≡◌, ◌<◌, ◌^◌, length, IfOk};
-ghost use Rattle.image_layout.specs.Offsets.{image_size as size_of_image, offsets};
-ghost use Rattle.image_layout.specs.Plain.{piece, plain_image as the_plain_image};
+ghost use Rattle.image_layout.specs.Offsets.{image_size, offsets};
+ghost use Rattle.image_layout.specs.Plain.{piece, plain_image};
 
 use crate::{Layout, image_size};
 use elf_object::Object;
@@ -29,9 +29,9 @@ pub(crate) fn plain_image(
     object: &Object,
     layout: &Layout,
 ) -> Result<Image, AllocError>
-    requires fits { size_of_image object.now.sections < 2 ^ 63 }
+    requires fits { image_size object.now.sections < 2 ^ 63 }
     requires layout { layout.now ≡ offsets object.now.sections }
-    ensures { IfOk result (λ image. image ≡ the_plain_image object.now) }
+    ensures { IfOk result (λ image. image ≡ plain_image object.now) }
 {
     let mut image = Image::zeroed(alloc, image_size(object) as usize)?;
     for i in 0..object.section_count() {

@@ -2,7 +2,7 @@
 
 ghost use Rattle.std.specs.Prelude.{◌≡◌, ◌<◌, true, length, IfOk};
 ghost use Rattle.image_layout.specs.Offsets.{offsets};
-ghost use Rattle.image_layout.specs.Symbols.{addresses as the_addresses, is_placed as stands_in_memory, symbol_address as the_address};
+ghost use Rattle.image_layout.specs.Symbols.{addresses as addresses_spec, is_placed, symbol_address};
 
 use crate::Layout;
 use elf_format::SHN_UNDEF;
@@ -11,7 +11,7 @@ use std::alloc::{AllocError, Global};
 
 /// Returns whether there is a section of this number, and it is in memory.
 fn is_placed(object: &Object, number: u16) -> bool
-    ensures placed { result ≡ stands_in_memory object.now.sections number }
+    ensures placed { result ≡ is_placed object.now.sections number }
     ensures within { result ≡ true → number < length object.now.sections }
 {
     let number = u32::from(number);
@@ -23,7 +23,7 @@ fn is_placed(object: &Object, number: u16) -> bool
 #[tactic(auto, unfolding(crate::specs::Symbols::symbol_address), using(crate::proofs::SymbolLemmas::offset_at, crate::proofs::SymbolLemmas::length_layout, crate::proofs::SymbolLemmas::wrapped_twice))]
 fn symbol_address(object: &Object, layout: &Layout, base: u64, given: u64, symbol: &Symbol) -> u64
     requires { layout.now ≡ offsets object.now.sections }
-    ensures { result ≡ the_address object.now.sections base given symbol.now }
+    ensures { result ≡ symbol_address object.now.sections base given symbol.now }
 {
     if symbol.section == SHN_UNDEF {
         return given;
@@ -46,7 +46,7 @@ pub fn addresses(
 ) -> Result<Vec<u64>, AllocError>
     requires layout { layout.now ≡ offsets object.now.sections }
     requires given { length given.now ≡ length object.now.symbols }
-    ensures { IfOk result (λ v. v.items ≡ the_addresses object.now base given.now) }
+    ensures { IfOk result (λ v. v.items ≡ addresses_spec object.now base given.now) }
 {
     let count = object.symbol_count();
     let mut addresses = Vec::with_capacity(alloc, count as usize)?;

@@ -6,7 +6,7 @@ ghost use Rattle.index_format.specs.Node.{root};
 ghost use Rattle.index_format.specs.Walk.{at};
 ghost use Rattle.index_format.specs.Listing.{IsListing};
 ghost use Rattle.index_read.specs.Contents.{contents, wild_values};
-ghost use Rattle.index_read.specs.Lookups.{has_value as has_value_of, text_of_first};
+ghost use Rattle.index_read.specs.Lookups.{has_value, text_of_first};
 ghost use Rattle.index_read.specs.Values.{shown, shown_pairs};
 
 use crate::index::Index;
@@ -18,7 +18,7 @@ use std::sync::ledger::{Blank, Ledger};
 
 /// Returns whether the index has a value of the key.
 pub fn has_value(index: &Index, key: &[u8]) -> bool
-    ensures { result ≡ has_value_of (contents index.now.nodes) key.now }
+    ensures { result ≡ has_value (contents index.now.nodes) key.now }
 {
     has_value_over::<Brand>(index, key, Blank::new(1))
 }
@@ -27,7 +27,7 @@ fn has_value_over<L: Ledger>(index: &Index, key: &[u8], blank: Blank) -> bool
     requires ledger { blank.name ≡ L.name }
     requires parts { blank.parts ≡ L.parts }
     requires some { 0 < blank.parts }
-    ensures { result ≡ has_value_of (contents index.now.nodes) key.now }
+    ensures { result ≡ has_value (contents index.now.nodes) key.now }
 {
     let mut steps = Steps::<L>::new(blank);
     index.find_one(key, &mut steps).is_some()

@@ -1,5 +1,5 @@
 ghost use Rattle.std.specs.Prelude.{◌≡◌, IfOk};
-ghost use Rattle.km_names.specs.AliasForm.{normal_alias as normal_form};
+ghost use Rattle.km_names.specs.AliasForm.{normal_alias};
 
 use crate::Alias;
 use std::alloc::{AllocError, Global};
@@ -8,7 +8,7 @@ use std::alloc::{AllocError, Global};
 /// becomes `_`. A `[` opens a bracket up to the next `]`. The result is `None` exactly if a `[` has
 /// no `]` after it, or a `]` is outside a bracket. modprobe.d(5), "alias".
 pub fn normal_alias(alloc: Global, text: &[u8]) -> Result<Option<Alias>, AllocError>
-    ensures { IfOk result (λ normal. normal ≡ normal_form text.now) }
+    ensures { IfOk result (λ normal. normal ≡ normal_alias text.now) }
 {
     let mut normal = Vec::with_capacity(alloc, text.len())?;
     let mut bracket = false;

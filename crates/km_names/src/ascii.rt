@@ -1,15 +1,15 @@
 // Words of visible characters, and numbers in hexadecimal digits.
 ghost use Rattle.std.specs.Prelude.{◌≡◌, ◌≤◌, length, IsTrue};
 ghost use Rattle.std.specs.List.{list_all};
-ghost use Rattle.std.specs.Char.{is_ascii_graphic, is_digit, digit_value as value_of_digit};
+ghost use Rattle.std.specs.Char.{is_ascii_graphic, is_digit, digit_value};
 ghost use Rattle.std.specs.Str.Parse.{digits_value};
-ghost use Rattle.km_names.specs.Ascii.{is_graphic as is_word, hexadecimal as number_of};
+ghost use Rattle.km_names.specs.Ascii.{is_graphic, hexadecimal};
 
 /// Returns whether the text is a word of visible characters: it isn't empty, and each of its bytes
 /// is one of 33 to 126. isgraph(3).
 #[tactic(auto, unfolding(crate::specs::Ascii::is_graphic))]
 pub fn is_graphic(text: &[u8]) -> bool
-    ensures { result ≡ is_word text.now }
+    ensures { result ≡ is_graphic text.now }
 {
     !text.is_empty() && are_graphic(text)
 }
@@ -25,7 +25,7 @@ fn are_graphic(text: &[u8]) -> bool
 /// `kallsyms`.
 #[tactic(auto, unfolding(crate::specs::Ascii::hexadecimal))]
 pub fn hexadecimal(text: &[u8]) -> Option<u64>
-    ensures { result ≡ number_of text.now }
+    ensures { result ≡ hexadecimal text.now }
 {
     if text.is_empty() || 16 < text.len() || !are_digits(text) {
         return None;
@@ -55,7 +55,7 @@ fn digits_value(digits: &[u8]) -> u64
 /// Returns the value of a digit, 0 to 15.
 fn digit_value(digit: u8) -> u64
     requires { IsTrue (is_digit digit 16) }
-    ensures { result ≡ value_of_digit digit }
+    ensures { result ≡ digit_value digit }
 {
     match digit {
         b'0'..=b'9' => u64::from(digit - b'0'),

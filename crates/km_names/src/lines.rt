@@ -1,6 +1,6 @@
 ghost use Rattle.std.specs.Prelude.{◌≡◌, ◌+◌, ◌-◌, ◌<◌, ◌≤◌, ◌++◌, ◌∷◌, [], ℕ, length, IfOk, OnOk, IsTrue};
 ghost use Rattle.km_names.specs.Limit.{file_limit};
-ghost use Rattle.km_names.specs.Lines.{lines_of, joined_lines, goes_on as is_going_on, statements, conf_lines as lines_of_conf};
+ghost use Rattle.km_names.specs.Lines.{lines_of, joined_lines, goes_on, statements, conf_lines};
 
 use crate::space::trimmed;
 use crate::{Blob, Line, Lines};
@@ -25,7 +25,7 @@ pub fn first_line(text: &[u8]) -> (&[u8], &[u8])
 /// with `#` are left out. modprobe.d(5), depmod.d(5).
 pub fn conf_lines(alloc: Global, bytes: &[u8]) -> Result<Lines, AllocError>
     requires { length bytes.now ≤ file_limit }
-    ensures { IfOk result (λ lines. lines ≡ lines_of_conf bytes.now) }
+    ensures { IfOk result (λ lines. lines ≡ conf_lines bytes.now) }
 {
     let mut lines = Lines::new(alloc);
     let mut rest = bytes;
@@ -77,7 +77,7 @@ fn first_joined(alloc: Global, text: &[u8]) -> Result<Joined<'_>, AllocError>
 }
 
 fn goes_on(line: &[u8]) -> bool
-    ensures goes_on { result ≡ is_going_on line.now }
+    ensures goes_on { result ≡ goes_on line.now }
     ensures some { IsTrue result → 0 < length line.now }
 {
     line.ends_with(b"\\")

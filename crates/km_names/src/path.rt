@@ -1,6 +1,6 @@
 ghost use Rattle.std.specs.Prelude.{◌≡◌, ◌==◌, IfOk};
 ghost use Rattle.std.specs.List.{before_first, after_last};
-ghost use Rattle.km_names.specs.Path.{underscored as underscored_bytes, module_name as name_of_path, is_compressed as has_compressed_end, without_end_slashes as without_slashes, path_below};
+ghost use Rattle.km_names.specs.Path.{underscored, module_name, is_compressed, without_end_slashes, path_below};
 
 use crate::{Name, PathText};
 use memchr::{memchr, memrchr};
@@ -9,7 +9,7 @@ use std::alloc::{AllocError, Global};
 /// Returns a name from these bytes, with each `-` replaced by `_`, as modprobe(8) reads the names
 /// of modules.
 pub fn underscored(alloc: Global, text: &[u8]) -> Result<Name, AllocError>
-    ensures { IfOk result (λ name. name ≡ underscored_bytes text.now) }
+    ensures { IfOk result (λ name. name ≡ underscored text.now) }
 {
     let bytes: Vec<u8> = text
         .iter()
@@ -21,7 +21,7 @@ pub fn underscored(alloc: Global, text: &[u8]) -> Result<Name, AllocError>
 /// Returns the name of the module at a path: the bytes after the last `/`, up to the first `.`,
 /// each `-` replaced by `_`. modprobe(8), modules.dep(5).
 pub fn module_name(alloc: Global, path: &PathText) -> Result<Name, AllocError>
-    ensures { IfOk result (λ name. name ≡ name_of_path path.now) }
+    ensures { IfOk result (λ name. name ≡ module_name path.now) }
 {
     underscored(
         alloc,
@@ -32,7 +32,7 @@ pub fn module_name(alloc: Global, path: &PathText) -> Result<Name, AllocError>
 /// Returns whether the path is of a compressed module: it ends in `.ko.gz`, `.ko.xz` or `.ko.zst`.
 /// depmod(8).
 pub fn is_compressed(path: &PathText) -> bool
-    ensures { result ≡ has_compressed_end path.now }
+    ensures { result ≡ is_compressed path.now }
 {
     let bytes = path.as_bytes();
     bytes.ends_with(b".ko.gz") || bytes.ends_with(b".ko.xz") || bytes.ends_with(b".ko.zst")
@@ -69,7 +69,7 @@ fn after_last_byte(byte: u8, text: &[u8]) -> &[u8]
 
 // Returns the bytes without the slashes at their end.
 fn without_end_slashes(path: &[u8]) -> &[u8]
-    ensures { result.now ≡ without_slashes path.now }
+    ensures { result.now ≡ without_end_slashes path.now }
 {
     let mut end = path.len();
     while end > 0 && path[end - 1] == b'/' {

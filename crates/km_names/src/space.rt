@@ -1,6 +1,6 @@
 ghost use Rattle.std.specs.Prelude.{◌≡◌, ◌≤◌, ◌++◌, ◌∷◌, [], length, IfOk, OnOk};
 ghost use Rattle.std.specs.List.{position_or_len};
-ghost use Rattle.km_names.specs.Space.{is_space as is_space_byte, trimmed as trimmed_text, trimmed_start as trimmed_at_start, trimmed_end as trimmed_at_end, first_word, rest_after_word, nonempty, words as words_of};
+ghost use Rattle.km_names.specs.Space.{is_space, trimmed, trimmed_start, trimmed_end, first_word, rest_after_word, nonempty, words as words_spec};
 
 use crate::{Blob, Texts};
 use std::alloc::{AllocError, Global};
@@ -8,7 +8,7 @@ use std::alloc::{AllocError, Global};
 /// Returns a text without the white space at either end. White space is space, tab and carriage
 /// return. modprobe.d(5).
 pub fn trimmed(text: &[u8]) -> &[u8]
-    ensures { result.now ≡ trimmed_text text.now }
+    ensures { result.now ≡ trimmed text.now }
 {
     trimmed_end(trimmed_start(text))
 }
@@ -24,14 +24,14 @@ pub fn split_word(text: &[u8]) -> (&[u8], &[u8])
 }
 
 fn is_space(byte: u8) -> bool
-    ensures { result ≡ is_space_byte byte }
+    ensures { result ≡ is_space byte }
 {
     byte == b' ' || byte == b'\t' || byte == b'\r'
 }
 
 // Returns the number of bytes before the first white space.
 fn word_length(text: &[u8]) -> usize
-    ensures place { result ≡ position_or_len is_space_byte text.now }
+    ensures place { result ≡ position_or_len is_space text.now }
     ensures within { result ≤ length text.now }
 {
     let mut end = 0;
@@ -42,7 +42,7 @@ fn word_length(text: &[u8]) -> usize
 }
 
 fn trimmed_start(text: &[u8]) -> &[u8]
-    ensures { result.now ≡ trimmed_at_start text.now }
+    ensures { result.now ≡ trimmed_start text.now }
 {
     let mut start = 0;
     while start < text.len() && is_space(text[start]) {
@@ -52,7 +52,7 @@ fn trimmed_start(text: &[u8]) -> &[u8]
 }
 
 fn trimmed_end(text: &[u8]) -> &[u8]
-    ensures { result.now ≡ trimmed_at_end text.now }
+    ensures { result.now ≡ trimmed_end text.now }
 {
     let mut end = text.len();
     while end > 0 && is_space(text[end - 1]) {
@@ -63,7 +63,7 @@ fn trimmed_end(text: &[u8]) -> &[u8]
 
 /// Returns the words of a text: its pieces between white space. modprobe.d(5), depmod.d(5).
 pub fn words(alloc: Global, text: &[u8]) -> Result<Texts, AllocError>
-    ensures { IfOk result (λ words. words ≡ words_of text.now) }
+    ensures { IfOk result (λ words. words ≡ words_spec text.now) }
 {
     let mut words = Texts::new(alloc);
     let mut rest = text;

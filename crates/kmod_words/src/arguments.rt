@@ -1,7 +1,7 @@
 // The options and words of a command, and the command that `clap` reads.
 ghost use Rattle.std.specs.Prelude.{◌≡◌, IfOk, map, false, true};
 ghost use Rattle.clap.specs.Words.{app_of, rule_of};
-ghost use Rattle.kmod_words.specs.Arguments.{command as command_with, with_value};
+ghost use Rattle.kmod_words.specs.Arguments.{command as command_spec, with_value};
 ghost use Rattle.kmod_words.specs.Rules.{rule_for};
 
 use clap::builder::ValueParser;
@@ -75,7 +75,7 @@ pub(crate) fn command<'a>(
     name: &'a str,
     arguments: &[Argument],
 ) -> Result<Command<'a>, AllocError>
-    ensures { IfOk result (λ command. app_of command ≡ command_with name.entry.now (map rule_for arguments.now)) }
+    ensures { IfOk result (λ command. app_of command ≡ command_spec name.entry.now (map rule_for arguments.now)) }
 {
     let mut command = Command::new(alloc, name)
         .no_binary_name(true)

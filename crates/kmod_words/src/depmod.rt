@@ -1,6 +1,6 @@
 ghost use Rattle.std.specs.Prelude.{◌≡◌, IfOk, Option};
 ghost use Rattle.clap.specs.Words.{found_of, rows_of};
-ghost use Rattle.kmod_words.specs.Depmod.{depmod_request, depmod_asked, depmod_of, has_two_kernels as has_both_files};
+ghost use Rattle.kmod_words.specs.Depmod.{depmod_request, depmod_asked, depmod_of, has_two_kernels};
 
 use crate::arguments::{Argument, command};
 use crate::matches::{bytes_of, bytes_or, is_given, is_version, texts_of, understood, value_of};
@@ -73,7 +73,7 @@ fn asked(alloc: Global, matches: &ArgMatches<'_>) -> Result<Option<DepmodWords>,
 
 // Returns whether both files of the kernel are given.
 fn has_two_kernels(matches: &ArgMatches<'_>) -> bool
-    ensures { result ≡ has_both_files (rows_of (found_of matches.now)) }
+    ensures { result ≡ has_two_kernels (rows_of (found_of matches.now)) }
 {
     value_of(matches, "filesyms").is_some() && value_of(matches, "symvers").is_some()
 }

@@ -2,7 +2,7 @@
 ghost use Rattle.std.specs.Prelude.{◌≡◌, ◌==◌, true, IfOk, map, option_map, unwrap_or};
 ghost use Rattle.std.specs.List.{list_any};
 ghost use Rattle.clap.specs.Words.{app_of, found_of, is_simple_and_free, rows_of};
-ghost use Rattle.kmod_words.specs.Understood.{understood as matches_of_words, is_given as is_given_in, is_from_words as is_no_default, value_of, words_of as words_of_name, is_version as has_no_slash};
+ghost use Rattle.kmod_words.specs.Understood.{understood, is_given, is_from_words, value_of, words_of, is_version};
 
 use clap::error::ErrorKind;
 use clap::parser::ValueSource;
@@ -28,7 +28,7 @@ pub(crate) fn understood<'a>(
 ) -> Result<Option<ArgMatches<'a>>, AllocError>
     requires { is_simple_and_free (app_of command) ≡ true }
     ensures { IfOk result (λ matches. option_map (λ m. rows_of (found_of m)) matches
-        ≡ matches_of_words (app_of command.entry) (map (λ word. word.now) words.entry.now)) }
+        ≡ understood (app_of command.entry) (map (λ word. word.now) words.entry.now)) }
 {
     match command.try_get_matches_from(words) {
         Ok(matches) => Ok(Some(matches)),
@@ -41,14 +41,14 @@ pub(crate) fn understood<'a>(
 
 /// Returns whether a flag is among the words.
 pub(crate) fn is_given(matches: &ArgMatches<'_>, name: &str) -> bool
-    ensures { result ≡ is_given_in name.now (rows_of (found_of matches.now)) }
+    ensures { result ≡ is_given name.now (rows_of (found_of matches.now)) }
 {
     is_from_words(matches.value_source(name))
 }
 
 // Returns whether a value comes from the words, and isn't a default.
 fn is_from_words(source: Option<ValueSource>) -> bool
-    ensures { result ≡ is_no_default source }
+    ensures { result ≡ is_from_words source }
 {
     match source {
         Some(ValueSource::CommandLine) => true,
@@ -98,7 +98,7 @@ pub(crate) fn words_of(
     matches: &ArgMatches<'_>,
     name: &str,
 ) -> Result<Names, AllocError>
-    ensures { IfOk result (λ words. words ≡ words_of_name name.now (rows_of (found_of matches.now))) }
+    ensures { IfOk result (λ words. words ≡ words_of name.now (rows_of (found_of matches.now))) }
 {
     match matches.get_strs(name) {
         Some(words) => names_of(alloc, words),
@@ -118,7 +118,7 @@ fn names_of(alloc: Global, words: &[&str]) -> Result<Names, AllocError>
 
 /// Returns whether a text may be a kernel's version.
 pub(crate) fn is_version(text: &str) -> bool
-    ensures { result ≡ has_no_slash text.now }
+    ensures { result ≡ is_version text.now }
 {
     !has_slash(text.as_bytes())
 }

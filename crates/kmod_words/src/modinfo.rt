@@ -1,6 +1,6 @@
 ghost use Rattle.std.specs.Prelude.{◌≡◌, ◌++◌, IfOk, OnOk, Option, option_map, map};
 ghost use Rattle.clap.specs.Words.{found_of, rows_of};
-ghost use Rattle.kmod_words.specs.Modinfo.{modinfo_request, modinfo_asked, modinfo_of, keys_asked as all_keys, key_by_flag, single as single_key, is_by_name_or_path as names_or_paths};
+ghost use Rattle.kmod_words.specs.Modinfo.{modinfo_request, modinfo_asked, modinfo_of, keys_asked, key_by_flag, single, is_by_name_or_path};
 
 use crate::arguments::{Argument, command};
 use crate::matches::{
@@ -69,7 +69,7 @@ fn asked(alloc: Global, matches: &ArgMatches<'_>) -> Result<Option<ModinfoWords>
 // Returns all keys that the matches ask for.
 #[tactic(auto, unfolding(crate::specs::Modinfo::keys_asked))]
 fn keys_asked<'a>(alloc: Global, matches: &ArgMatches<'a>) -> Result<Vec<&'a str>, AllocError>
-    ensures { IfOk result (λ keys. map (λ key. key.now) keys.items ≡ all_keys (rows_of (found_of matches.now))) }
+    ensures { IfOk result (λ keys. map (λ key. key.now) keys.items ≡ keys_asked (rows_of (found_of matches.now))) }
 {
     let mut keys = Vec::new(alloc);
     if let Some(key) = value_of(matches, "field") {
@@ -101,7 +101,7 @@ fn push_key<'a>(
 
 // Returns the key, if there is one, and nothing if there are two.
 fn single<'a>(keys: &[&'a str]) -> Option<Option<&'a str>>
-    ensures { option_map (option_map (λ key. key.now)) result ≡ single_key (map (λ key. key.now) keys.now) }
+    ensures { option_map (option_map (λ key. key.now)) result ≡ single (map (λ key. key.now) keys.now) }
 {
     match keys {
         [] => Some(None),
@@ -113,7 +113,7 @@ fn single<'a>(keys: &[&'a str]) -> Option<Option<&'a str>>
 // Returns whether the words are names and the version is one, or the words are paths and there is
 // no root.
 fn is_by_name_or_path(matches: &ArgMatches<'_>) -> bool
-    ensures { result ≡ names_or_paths (rows_of (found_of matches.now)) }
+    ensures { result ≡ is_by_name_or_path (rows_of (found_of matches.now)) }
 {
     match value_of(matches, "set-version") {
         Some(version) => is_version(version),

@@ -1,7 +1,7 @@
 ghost use Rattle.std.specs.Prelude.{◌≡◌, IfOk, Option, codes, option_map, unwrap_or};
 ghost use Rattle.clap.specs.Words.{found_of, rows_of};
-ghost use Rattle.kmod_words.specs.Understood.{value_of as value_in};
-ghost use Rattle.kmod_words.specs.Modprobe.{modprobe_request, modprobe_asked, modprobe_of, mode_asked as mode_of_flags, mode_by_flags as mode_of_four, goes_with as options_go_with, chosen, shown};
+ghost use Rattle.kmod_words.specs.Understood.{value_of};
+ghost use Rattle.kmod_words.specs.Modprobe.{modprobe_request, modprobe_asked, modprobe_of, mode_asked, mode_by_flags, goes_with, chosen, shown};
 
 use crate::arguments::{Argument, command};
 use crate::matches::{
@@ -135,7 +135,7 @@ fn choice_of<'a>(matches: &ArgMatches<'a>) -> Option<Choice<'a>>
 
 // Returns the mode that the flags ask for.
 fn mode_asked(matches: &ArgMatches<'_>) -> Option<Mode>
-    ensures { result ≡ mode_of_flags (rows_of (found_of matches.now)) }
+    ensures { result ≡ mode_asked (rows_of (found_of matches.now)) }
 {
     mode_by_flags(
         is_given(matches, "dry-run"),
@@ -151,7 +151,7 @@ fn mode_by_flags(
     resolve_alias: bool,
     remove: bool,
 ) -> Option<Mode>
-    ensures { result ≡ mode_of_four dry_run show_depends resolve_alias remove }
+    ensures { result ≡ mode_by_flags dry_run show_depends resolve_alias remove }
 {
     match (dry_run, show_depends, resolve_alias, remove) {
         (false, false, false, false) => Some(Mode::Load),
@@ -165,7 +165,7 @@ fn mode_by_flags(
 
 // Returns whether the mode has the addresses that it needs, and no option that isn't for it.
 fn goes_with(matches: &ArgMatches<'_>, mode: Mode) -> bool
-    ensures { result ≡ options_go_with (rows_of (found_of matches.now)) mode }
+    ensures { result ≡ goes_with (rows_of (found_of matches.now)) mode }
 {
     let has_map = value_of(matches, "system-map").is_some();
     let has_image = value_of(matches, "image").is_some();
@@ -220,9 +220,9 @@ struct PlanPaths {
 // Returns the paths that every mode reads.
 fn plan_paths(alloc: Global, matches: &ArgMatches<'_>) -> Result<PlanPaths, AllocError>
     ensures dirname { IfOk result (λ paths. paths.dirname
-        ≡ unwrap_or (value_in (codes "dirname") (rows_of (found_of matches.now))) (codes "/")) }
-    ensures config { IfOk result (λ paths. paths.config ≡ value_in (codes "config") (rows_of (found_of matches.now))) }
-    ensures loaded { IfOk result (λ paths. paths.loaded ≡ value_in (codes "loaded") (rows_of (found_of matches.now))) }
+        ≡ unwrap_or (value_of (codes "dirname") (rows_of (found_of matches.now))) (codes "/")) }
+    ensures config { IfOk result (λ paths. paths.config ≡ value_of (codes "config") (rows_of (found_of matches.now))) }
+    ensures loaded { IfOk result (λ paths. paths.loaded ≡ value_of (codes "loaded") (rows_of (found_of matches.now))) }
 {
     let dirname = bytes_or(alloc, matches, "dirname", b"/")?;
     let config = bytes_of(alloc, matches, "config")?;
@@ -244,9 +244,9 @@ struct LoadPaths {
 
 // Returns the paths that only a load or a removal needs.
 fn load_paths(alloc: Global, matches: &ArgMatches<'_>) -> Result<LoadPaths, AllocError>
-    ensures system_map { IfOk result (λ paths. paths.system_map ≡ value_in (codes "system-map") (rows_of (found_of matches.now))) }
-    ensures symvers { IfOk result (λ paths. paths.symvers ≡ value_in (codes "symvers") (rows_of (found_of matches.now))) }
-    ensures image { IfOk result (λ paths. paths.image ≡ value_in (codes "image") (rows_of (found_of matches.now))) }
+    ensures system_map { IfOk result (λ paths. paths.system_map ≡ value_of (codes "system-map") (rows_of (found_of matches.now))) }
+    ensures symvers { IfOk result (λ paths. paths.symvers ≡ value_of (codes "symvers") (rows_of (found_of matches.now))) }
+    ensures image { IfOk result (λ paths. paths.image ≡ value_of (codes "image") (rows_of (found_of matches.now))) }
 {
     let system_map = bytes_of(alloc, matches, "system-map")?;
     let symvers = bytes_of(alloc, matches, "symvers")?;

@@ -1,6 +1,6 @@
 // A region of addresses in which modules are placed.
 ghost use Rattle.std.specs.Prelude.{◌≡◌, option_map};
-ghost use Rattle.kmod_words.specs.Numbers.{is_region as is_region_of_pages, region_of as region_of_text, region_or_usual as region_or_usual_one, prefixed_hexadecimal as number_of_text};
+ghost use Rattle.kmod_words.specs.Numbers.{is_region, region_of, region_or_usual, prefixed_hexadecimal};
 
 use km_names::{hexadecimal, split_at_byte};
 
@@ -13,7 +13,7 @@ pub(crate) struct Region {
 
 /// Returns the region that a text states, or the usual one if there is no text.
 pub(crate) fn region_or_usual(text: Option<&str>) -> Option<Region>
-    ensures { result ≡ region_or_usual_one (option_map (λ t. t.now) text.entry) }
+    ensures { result ≡ region_or_usual (option_map (λ t. t.now) text.entry) }
 {
     match text {
         Some(text) => region_of(text.as_bytes()),
@@ -27,7 +27,7 @@ pub(crate) fn region_or_usual(text: Option<&str>) -> Option<Region>
 // Returns the region of a text `BASE:SIZE`.
 #[tactic(auto, unfolding(crate::specs::Numbers::region_of))]
 fn region_of(text: &[u8]) -> Option<Region>
-    ensures { result ≡ region_of_text text.now }
+    ensures { result ≡ region_of text.now }
 {
     let (base, size) = split_at_byte(text, b':');
     let base = prefixed_hexadecimal(base)?;
@@ -42,7 +42,7 @@ fn region_of(text: &[u8]) -> Option<Region>
 // Returns the number of a text of `0x` and hexadecimal digits.
 #[tactic(auto, unfolding(crate::specs::Numbers::prefixed_hexadecimal))]
 fn prefixed_hexadecimal(text: &[u8]) -> Option<u64>
-    ensures { result ≡ number_of_text text.now }
+    ensures { result ≡ prefixed_hexadecimal text.now }
 {
     if text.starts_with(b"0x") {
         hexadecimal(&text[2..])
@@ -53,7 +53,7 @@ fn prefixed_hexadecimal(text: &[u8]) -> Option<u64>
 
 // Returns whether modules can be placed in the region.
 fn is_region(base: u64, size: u64) -> bool
-    ensures { result ≡ is_region_of_pages base size }
+    ensures { result ≡ is_region base size }
 {
     base % 4096 == 0 && size % 4096 == 0 && size > 0 && base <= u64::MAX - (size - 1)
 }

@@ -1,6 +1,6 @@
 ghost use Rattle.std.specs.Prelude.{◌≡◌, ◌≤◌, IfOk, IfSome, Option};
 ghost use Rattle.clap.specs.Words.{found_of, rows_of};
-ghost use Rattle.kmod_words.specs.Trial.{trial_request, trial_asked, number_of as number_of_name};
+ghost use Rattle.kmod_words.specs.Trial.{trial_request, trial_asked, number_of};
 
 use crate::arguments::{Argument, command};
 use crate::matches::{texts_of, understood, value_of};
@@ -54,7 +54,7 @@ fn asked(matches: &ArgMatches<'_>) -> Option<TrialWords>
 
 // Returns the number that the word of a name states.
 fn number_of(matches: &ArgMatches<'_>, name: &str, most: usize) -> Option<u64>
-    ensures { result ≡ number_of_name most name.now (rows_of (found_of matches.now)) }
+    ensures { result ≡ number_of most name.now (rows_of (found_of matches.now)) }
 {
     decimal(value_of(matches, name)?, most)
 }

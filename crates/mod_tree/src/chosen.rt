@@ -1,6 +1,6 @@
 ghost use Rattle.std.specs.Prelude.{◌≡◌, ◌<◌, ℕ, List, map, All, IfOk, None};
 ghost use Rattle.std.specs.List.{position_or_len};
-ghost use Rattle.mod_tree.specs.Tree.{rank as rank_of, is_folder_of};
+ghost use Rattle.mod_tree.specs.Tree.{rank as rank_spec, is_folder_of};
 ghost use Rattle.mod_tree.specs.Shown.{shown};
 ghost use Rattle.mod_tree.specs.Places.{IsPlacesOf};
 ghost use Rattle.mod_tree.specs.Chosen.{IsCandidate, path_of, HasChosen, heads};
@@ -67,7 +67,7 @@ fn word_places<'a>(alloc: Global, search: &'a Search) -> Result<Places<'a>, Allo
 
 /// Returns the rank of a path among search words whose places are known.
 fn rank(places: &Places<'_>, path: &[u8]) -> usize
-    ensures { (search : List (List ℕ)) → IsPlacesOf search places.now → result ≡ rank_of search path.now }
+    ensures { (search : List (List ℕ)) → IsPlacesOf search places.now → result ≡ rank_spec search path.now }
 {
     let place = folder_place(places, path);
     if place < places.count() {

@@ -1,6 +1,6 @@
 ghost use Rattle.std.specs.Prelude.{◌≡◌, ◌==◌, drop, length, option_copied};
 ghost use Rattle.std.specs.List.{before_first, list_any, slice_split};
-ghost use Rattle.mod_tree.specs.DependencyLine.{is_separator as is_parting, is_line_path as can_be_path, are_needed, line_path as path_of_line};
+ghost use Rattle.mod_tree.specs.DependencyLine.{is_separator, is_line_path, are_needed, line_path};
 
 use crate::tree::is_module_path;
 use memchr::memchr3;
@@ -11,7 +11,7 @@ use memchr::memchr3;
 /// there is the path of a module without spaces, `:` and line ends. The result is `None` exactly if
 /// the bytes aren't such a line.
 pub fn line_path(line: &[u8]) -> Option<&[u8]>
-    ensures { option_copied result ≡ path_of_line line.now }
+    ensures { option_copied result ≡ line_path line.now }
 {
     let (own, rest) = split_at_separator(line);
     if rest.is_empty() || rest[0] != b':' {
@@ -27,21 +27,21 @@ pub fn line_path(line: &[u8]) -> Option<&[u8]>
 /// Returns whether a text can be a path of a dependency line: it is the path of a module, without
 /// spaces, `:` and line ends. modules.dep(5).
 pub fn is_line_path(path: &[u8]) -> bool
-    ensures { result ≡ can_be_path path.now }
+    ensures { result ≡ is_line_path path.now }
 {
     is_module_path(path) && !has_separator(path)
 }
 
 /// Returns whether a byte of a text separates paths of a line, or ends it.
 fn has_separator(text: &[u8]) -> bool
-    ensures { result ≡ list_any is_parting text.now }
+    ensures { result ≡ list_any is_separator text.now }
 {
     memchr3(b' ', b':', b'\n', text).is_some()
 }
 
 /// Returns the bytes before the first separator, and the rest, which begins with it.
 fn split_at_separator(text: &[u8]) -> (&[u8], &[u8])
-    ensures before { result.0.now ≡ before_first is_parting text.now }
+    ensures before { result.0.now ≡ before_first is_separator text.now }
     ensures rest { result.1.now ≡ drop (length result.0.now) text.now }
 {
     match memchr3(b' ', b':', b'\n', text) {

@@ -1,6 +1,6 @@
 ghost use Rattle.std.specs.Prelude.{◌≡◌, ◌≤◌, ◌⊎◌, ◌++◌, length, All, IfOk, IfErr, OnOk};
 ghost use Rattle.km_names.specs.Limit.{file_limit};
-ghost use Rattle.mod_tree.specs.Search.{search_of, words_of_lines as listed_words};
+ghost use Rattle.mod_tree.specs.Search.{search_of, words_of_lines};
 
 use km_names::{
     Blob, ConfFault, ConfFiles, List as Items, Name, Names, Statement, Texts, parse_files,
@@ -32,7 +32,7 @@ pub fn parse_search(alloc: Global, files: &ConfFiles) -> Result<Search, ConfFaul
 
 /// Returns the words of all lines, in order, or the default list if there is no line.
 fn words_of_lines(alloc: Global, lines: &Items<SearchLine>) -> Result<Search, AllocError>
-    ensures { IfOk result (λ search. search ≡ listed_words lines.now) }
+    ensures { IfOk result (λ search. search ≡ words_of_lines lines.now) }
 {
     let mut search = Search::new(alloc);
     if lines.is_empty() {

@@ -1,6 +1,6 @@
 ghost use Rattle.std.specs.Prelude.{◌≡◌, ◌⊎◌, filter, IfOk, IfErr, option_copied};
 ghost use Rattle.std.specs.List.{list_any};
-ghost use Rattle.mod_tree.specs.Tree.{tree_of, is_module_path as has_module_path, is_bad_byte as is_bad, lesser as lesser_of, bad_path as bad_path_of};
+ghost use Rattle.mod_tree.specs.Tree.{tree_of, is_module_path, is_bad_byte, lesser, bad_path};
 ghost use Rattle.km_names.specs.Path.{is_compressed};
 ghost use Rattle.mod_tree.specs.Shown.{shown};
 
@@ -84,7 +84,7 @@ pub fn choose(
 
 /// Returns the paths of modules among these paths.
 fn module_paths(alloc: Global, paths: &Paths) -> Result<Vec<&PathText>, AllocError>
-    ensures { IfOk result (λ modules. shown modules.items ≡ filter has_module_path paths.now) }
+    ensures { IfOk result (λ modules. shown modules.items ≡ filter is_module_path paths.now) }
 {
     let mut modules = Vec::new(alloc);
     for path in paths.as_slice() {
@@ -97,7 +97,7 @@ fn module_paths(alloc: Global, paths: &Paths) -> Result<Vec<&PathText>, AllocErr
 
 /// Returns whether a path is of a module: it ends in `.ko`, or as compressed modules do.
 pub(crate) fn is_module_path(path: &[u8]) -> bool
-    ensures { result ≡ has_module_path path.now }
+    ensures { result ≡ is_module_path path.now }
 {
     path.ends_with(b".ko") || has_compressed_end(path)
 }
@@ -110,7 +110,7 @@ fn has_compressed_end(path: &[u8]) -> bool
 
 /// Returns the least path by bytes that has a bad byte.
 fn bad_path<'a>(modules: &[&'a PathText]) -> Option<&'a PathText>
-    ensures { option_copied result ≡ bad_path_of (shown modules.now) }
+    ensures { option_copied result ≡ bad_path (shown modules.now) }
 {
     let mut least = None;
     let mut at = modules.len();
@@ -125,14 +125,14 @@ fn bad_path<'a>(modules: &[&'a PathText]) -> Option<&'a PathText>
 }
 
 fn has_bad_byte(path: &[u8]) -> bool
-    ensures { result ≡ list_any is_bad path.now }
+    ensures { result ≡ list_any is_bad_byte path.now }
 {
     path.iter().any(|b| *b < 33 || *b > 126 || *b == b':')
 }
 
 /// Returns the lesser by bytes of a path and an optional other one.
 fn lesser<'a>(path: &'a PathText, other: Option<&'a PathText>) -> &'a PathText
-    ensures { Some result.now ≡ lesser_of path.now (option_copied other.entry) }
+    ensures { Some result.now ≡ lesser path.now (option_copied other.entry) }
 {
     match other {
         None => path,

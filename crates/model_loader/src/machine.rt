@@ -10,7 +10,7 @@ ghost use Rattle.model_loader.specs.Machine.{export_named, kernel_fault, kernel_
 ghost use Rattle.model_loader.specs.declared.fault.MachineFault.TheVariants.{KernelWithoutAddress};
 ghost use Rattle.model_loader.specs.Standing.{export_pair, named_pair, standing, standing_in, standing_of};
 ghost use Rattle.model_loader.specs.Sound.{IsSound};
-ghost use Rattle.model_loader.specs.Use.{AreUses, IsUnused, binds as is_bound_to, without};
+ghost use Rattle.model_loader.specs.Use.{AreUses, IsUnused, binds, without};
 ghost use Rattle.model_loader.specs.Step.{entry_at, module_base, module_size, refusal, step};
 
 use crate::entry::{Entry, LoadedModule};
@@ -197,7 +197,7 @@ impl Machine {
     pub fn binds(&self, k: usize, j: usize) -> bool
         requires user { k < length self.now.entries }
         requires other { j < length self.now.entries }
-        ensures { result ≡ is_bound_to self.now k j }
+        ensures { result ≡ binds self.now k j }
     {
         binds_to(&self.table, &self.entries[k], k, &self.entries[j], j)
     }

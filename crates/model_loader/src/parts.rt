@@ -4,7 +4,7 @@ ghost use Rattle.std.specs.Prelude.{◌≡◌, ◌<◌, All, IfOk, Some, length,
 ghost use Rattle.module_facts.specs.declared.facts.Export.{Export};
 ghost use Rattle.model_loader.specs.Parts.{placed_by};
 ghost use Rattle.model_loader.specs.Standing.{export_pair, named_pair};
-ghost use Rattle.model_loader.specs.Step.{bound_need as bound};
+ghost use Rattle.model_loader.specs.Step.{bound_need};
 
 use crate::entry::{BoundNeed, PlacedExport};
 use crate::standing::{Named, Standing};
@@ -67,7 +67,7 @@ pub(crate) fn placed_exports(
 
 /// Returns what an entry keeps of a need.
 fn bound_need(alloc: Global, need: &Need) -> Result<BoundNeed, AllocError>
-    ensures { IfOk result (λ n. n ≡ bound need.now) }
+    ensures { IfOk result (λ n. n ≡ bound_need need.now) }
 {
     Ok(BoundNeed {
         name: copied(alloc, &need.name)?,
@@ -78,7 +78,7 @@ fn bound_need(alloc: Global, need: &Need) -> Result<BoundNeed, AllocError>
 
 /// Returns what an entry keeps of the needs of a module.
 pub(crate) fn bound_needs(alloc: Global, needs: &Needs) -> Result<List<BoundNeed>, AllocError>
-    ensures { IfOk result (λ l. l ≡ map bound needs.now) }
+    ensures { IfOk result (λ l. l ≡ map bound_need needs.now) }
 {
     let mut copy = List::new(alloc);
     for need in needs.as_slice() {

@@ -9,7 +9,7 @@ ghost use Rattle.model_loader.specs.Gap.{gap};
 ghost use Rattle.model_loader.specs.Runs.{IsPaged, run_of};
 ghost use Rattle.model_loader.specs.Standing.{Keeps, export_pair, named_pair};
 ghost use Rattle.model_loader.specs.Parts.{HasParts, entry_by};
-ghost use Rattle.model_loader.specs.Step.{entry_at, module_base, module_size, named_pages as pages_in_a_refusal, overflow_fault, place_tests};
+ghost use Rattle.model_loader.specs.Step.{entry_at, module_base, module_size, named_pages, overflow_fault, place_tests};
 
 use crate::entry::{Entry, LoadedModule};
 use crate::gap::lowest_gap;
@@ -85,7 +85,7 @@ fn entry_of(
 
 /// Returns the number of pages of this many bytes, as a refusal states it.
 fn named_pages(size: u128) -> u64
-    ensures { result ≡ pages_in_a_refusal (size / 4096) }
+    ensures { result ≡ named_pages (size / 4096) }
 {
     let pages = size / u128::from(PAGE);
     if pages < 1 << 64 {

@@ -4,7 +4,7 @@
 ghost use Rattle.std.specs.Prelude.{◌≡◌, ◌&&◌, ℕ, IfOk, map, nat_eq, nat_lt};
 ghost use Rattle.std.specs.List.{list_any};
 ghost use Rattle.name_table.specs.NameTable.{IsTableOf};
-ghost use Rattle.model_loader.specs.Uses.{AreBoundPlaces, bound_place as bound_place_of, is_bound_at, is_met_named, is_owner as is_owner_of, met_place as met_place_of, owner_place as owner_place_of, stated_names};
+ghost use Rattle.model_loader.specs.Uses.{AreBoundPlaces, bound_place, is_bound_at, is_met_named, is_owner, met_place, owner_place, stated_names};
 
 use crate::entry::{BoundNeed, Entry};
 use crate::standing::{ExportTable, Standing};
@@ -14,7 +14,7 @@ use symbol_binding::sees;
 
 /// Returns whether the owner of an export is the module of this name.
 fn is_owner(standing: &Standing, name: &[u8]) -> bool
-    ensures { result ≡ is_owner_of name.now standing.now }
+    ensures { result ≡ is_owner name.now standing.now }
 {
     match &standing.owner {
         Some(owner) => owner.as_bytes() == name,
@@ -53,7 +53,7 @@ pub(crate) fn binds_to(table: &ExportTable, user: &Entry, k: usize, other: &Entr
 
 /// Returns the place of the owner of an export, if the export is seen and the owner is a module.
 fn owner_place(places: &NameTable, free: bool, standing: &Standing) -> Option<u32>
-    ensures { result ≡ owner_place_of places.now free standing.now }
+    ensures { result ≡ owner_place places.now free standing.now }
 {
     if !sees(free, standing.gpl) {
         return None;
@@ -66,7 +66,7 @@ fn owner_place(places: &NameTable, free: bool, standing: &Standing) -> Option<u3
 
 /// Returns the place of the module that exports a need, with an export that is seen.
 fn met_place(table: &ExportTable, places: &NameTable, free: bool, need: &BoundNeed) -> Option<u32>
-    ensures { result ≡ met_place_of table.now places.now free need.now }
+    ensures { result ≡ met_place table.now places.now free need.now }
 {
     match table.get(need.name.as_bytes()) {
         Some(standing) => owner_place(places, free, standing),
@@ -83,7 +83,7 @@ fn bound_place(
     k: usize,
     need: &BoundNeed,
 ) -> Option<usize>
-    ensures { result ≡ bound_place_of table.now places.now free k need.now }
+    ensures { result ≡ bound_place table.now places.now free k need.now }
 {
     let place = met_place(table, places, free, need)? as usize;
     if place < k { Some(place) } else { None }

@@ -8,7 +8,7 @@ ghost use Rattle.std.specs.Prelude.{◌≡◌, ◌<◌, ℕ, List, Ok, Err, Some
 ghost use Rattle.module_facts.specs.declared.module.Module.{Module};
 ghost use Rattle.model_loader.specs.Sound.{IsSound};
 ghost use Rattle.model_unload.specs.Below.{IsUnusedBelow};
-ghost use Rattle.model_unload.specs.Unload.{first_user as user_of, place_of as found_at, UnusedAreUnloaded, unloaded};
+ghost use Rattle.model_unload.specs.Unload.{first_user, place_of, UnusedAreUnloaded, unloaded};
 
 use model_loader::Machine;
 use thiserror::Error;
@@ -26,7 +26,7 @@ pub enum UnloadFault {
 
 /// Returns the place of the module of this name.
 fn place_of(machine: &Machine, name: &[u8]) -> Option<usize>
-    ensures { result ≡ found_at machine.now name.now }
+    ensures { result ≡ place_of machine.now name.now }
 {
     for k in 0..machine.module_count() {
         if machine.module_at(k).name.as_bytes() == name {
@@ -39,7 +39,7 @@ fn place_of(machine: &Machine, name: &[u8]) -> Option<usize>
 /// Returns the oldest module that binds to the `j`-th loaded one.
 fn first_user(machine: &Machine, j: usize) -> Option<usize>
     requires { j < length machine.now.entries }
-    ensures { result ≡ user_of machine.now j }
+    ensures { result ≡ first_user machine.now j }
 {
     for k in 0..machine.module_count() {
         if machine.binds(k, j) {
@@ -58,7 +58,7 @@ fn first_user(machine: &Machine, j: usize) -> Option<usize>
 /// the oldest.
 pub fn unload(machine: &mut Machine, name: &[u8]) -> Result<(), UnloadFault>
     ensures done { OnOk result (unloaded machine.old name.now ≡ Ok machine.new) }
-    ensures sound { OnOk result ((modules : List Module) (j : ℕ) → found_at machine.old name.now ≡ Some j
+    ensures sound { OnOk result ((modules : List Module) (j : ℕ) → place_of machine.old name.now ≡ Some j
         → IsSound machine.old modules → IsSound machine.new (remove modules j)) }
     ensures fault { IfErr result (λ e. unloaded machine.old name.now ≡ Err e) }
     ensures unchanged { OnErr result (machine.new ≡ machine.old) }
@@ -76,7 +76,7 @@ pub fn unload(machine: &mut Machine, name: &[u8]) -> Result<(), UnloadFault>
 /// Returns the place of the module of this name, which is below the place `end`.
 fn place_below(machine: &Machine, end: usize, name: &[u8]) -> usize
     requires { IsUnusedBelow machine.now end name.now }
-    ensures { found_at machine.now name.now ≡ Some result }
+    ensures { place_of machine.now name.now ≡ Some result }
 {
     for k in (0..end).rev() {
         if machine.module_at(k).name.as_bytes() == name {
@@ -92,7 +92,7 @@ fn place_below(machine: &Machine, end: usize, name: &[u8]) -> usize
 pub fn unload_below(machine: &mut Machine, end: usize, name: &[u8]) -> usize
     requires { IsUnusedBelow machine.old end name.now }
     ensures done { unloaded machine.old name.now ≡ Ok machine.new }
-    ensures place { found_at machine.old name.now ≡ Some result }
+    ensures place { place_of machine.old name.now ≡ Some result }
 {
     let place = place_below(machine, end, name);
     machine.drop_entry(place);

@@ -1,7 +1,7 @@
 ghost use Rattle.std.specs.Prelude.{◌≡◌, ℕ, List, IfOk, OnOk, map, option_map, Some, None, if◌then◌else◌};
 ghost use Rattle.std.specs.Option.{option_or};
 ghost use Rattle.std.specs.Str.{bytes_eq};
-ghost use Rattle.modinfo_tool.specs.Parameters.{is_parameter as tells_of_parameter, parameter_names as names_of_parameters, first_told as first_told_of, described, parameter_values as values_of_parameters};
+ghost use Rattle.modinfo_tool.specs.Parameters.{is_parameter, parameter_names, first_told, described, parameter_values};
 ghost use Rattle.modinfo_tool.specs.Tables.{told_in};
 
 use indexmap::IndexMap;
@@ -16,7 +16,7 @@ type Told<'a> = IndexMap<NameKey<'a>, &'a [u8], NameHash>;
 
 /// Returns whether the field describes a parameter.
 pub(crate) fn is_parameter(field: &Field) -> bool
-    ensures { result ≡ tells_of_parameter field.now }
+    ensures { result ≡ is_parameter field.now }
 {
     let key = field.key.as_bytes();
     key == b"parm".as_slice() || key == b"parmtype".as_slice()
@@ -26,7 +26,7 @@ pub(crate) fn is_parameter(field: &Field) -> bool
 /// in.
 #[tactic(auto, unfolding(crate::specs::Parameters::parameter_values))]
 pub(crate) fn parameter_values(alloc: Global, fields: &FieldList) -> Result<Texts, AllocError>
-    ensures { IfOk result (λ values. values ≡ values_of_parameters fields.now) }
+    ensures { IfOk result (λ values. values ≡ parameter_values fields.now) }
 {
     let names = parameter_names(alloc, fields)?;
     let parms = fields.values_of(alloc, b"parm")?;
@@ -42,7 +42,7 @@ fn described_by(
     types: &[Blob],
 ) -> Result<Texts, AllocError>
     ensures { IfOk result (λ values. values
-        ≡ map (λ name. described name (first_told_of parms.now name) (first_told_of types.now name)) names.now) }
+        ≡ map (λ name. described name (first_told parms.now name) (first_told types.now name)) names.now) }
 {
     let texts = first_told(alloc, parms)?;
     let kinds = first_told(alloc, types)?;
@@ -111,7 +111,7 @@ fn describe(
 
 // Returns for each parameter its description by the first of the values that describes it.
 fn first_told<'a>(alloc: Global, values: &'a [Blob]) -> Result<Told<'a>, AllocError>
-    ensures { IfOk result (λ told. (name : List ℕ) → told_in told name ≡ first_told_of values.now name) }
+    ensures { IfOk result (λ told. (name : List ℕ) → told_in told name ≡ first_told values.now name) }
 {
     let mut told = IndexMap::with_hasher(alloc, BuildHasherDefault::new());
     for value in values {
@@ -135,7 +135,7 @@ fn keep_first<'a>(told: &mut Told<'a>, name: &'a [u8], rest: &'a [u8]) -> Result
 
 // Returns the parameters that any field describes, in the order they are first seen in.
 fn parameter_names<'a>(alloc: Global, fields: &'a FieldList) -> Result<NameSet<'a>, AllocError>
-    ensures { IfOk result (λ names. names ≡ names_of_parameters fields.now) }
+    ensures { IfOk result (λ names. names ≡ parameter_names fields.now) }
 {
     let mut names = NameSet::new(alloc);
     for i in 0..fields.len() {

@@ -2,8 +2,8 @@ ghost use Rattle.std.specs.Prelude.{◌≡◌, ◌-◌, ◌++◌, ◌∷◌, [],
 ghost use Rattle.std.specs.List.{repeat};
 ghost use Rattle.modinfo_fields.specs.declared.piece.Field.{Field};
 ghost use Rattle.modinfo_fields.specs.Fields.{fields_of, values_of_key};
-ghost use Rattle.modinfo_tool.specs.Parameters.{is_parameter as tells_of_parameter};
-ghost use Rattle.modinfo_tool.specs.Show.{labelled, all_lines, values_under as values_under_key, ended, line_end as end_of_line, shown};
+ghost use Rattle.modinfo_tool.specs.Parameters.{is_parameter};
+ghost use Rattle.modinfo_tool.specs.Show.{labelled, all_lines, values_under, ended, line_end, shown};
 
 use crate::parameters::{is_parameter, parameter_values};
 use km_names::{Blob, Name, PathText, Texts, split_at_byte};
@@ -55,7 +55,7 @@ pub fn show_values(
     key: &[u8],
     zero: bool,
 ) -> Result<Blob, AllocError>
-    ensures { IfOk result (λ text. text ≡ ended (end_of_line zero) (values_of_key key.now (fields_of section.now))) }
+    ensures { IfOk result (λ text. text ≡ ended (line_end zero) (values_of_key key.now (fields_of section.now))) }
 {
     let end = line_end(zero);
     let mut text = Blob::new(alloc);
@@ -79,7 +79,7 @@ fn push_line(text: &mut Blob, line: &[u8], end: u8) -> Result<(), AllocError>
 }
 
 fn line_end(zero: bool) -> u8
-    ensures { result ≡ end_of_line zero }
+    ensures { result ≡ line_end zero }
 {
     if zero { 0 } else { b'\n' }
 }
@@ -100,7 +100,7 @@ fn all_text(alloc: Global, path: &PathText, fields: &FieldList, end: u8) -> Resu
 // Puts a line for each field at the end, except those that describe parameters.
 fn push_fields(text: &mut Blob, fields: &FieldList, end: u8) -> Result<(), AllocError>
     ensures ok { OnOk result (text.new ≡ text.old ++ ended end
-        (map (λ (field : Field). labelled field.key field.value) (filter (λ field. not (tells_of_parameter field)) fields.now))) }
+        (map (λ (field : Field). labelled field.key field.value) (filter (λ field. not (is_parameter field)) fields.now))) }
 {
     for i in 0..fields.len() {
         if let Some(field) = fields.get(i) {
@@ -150,7 +150,7 @@ fn values_under(
     path: &PathText,
     fields: &FieldList,
 ) -> Result<Texts, AllocError>
-    ensures { IfOk result (λ values. values ≡ values_under_key key.now path.now fields.now) }
+    ensures { IfOk result (λ values. values ≡ values_under key.now path.now fields.now) }
 {
     if key == b"filename".as_slice() {
         let mut values = Texts::new(alloc);

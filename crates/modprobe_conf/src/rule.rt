@@ -1,7 +1,7 @@
 ghost use Rattle.std.specs.Prelude.{◌≡◌, ◌++◌, ◌∷◌, [], IfOk, IsTrue, OnOk, map};
-ghost use Rattle.km_names.specs.Path.{underscored as underscored_bytes};
-ghost use Rattle.km_names.specs.Space.{nonempty, words as words_of};
-ghost use Rattle.modprobe_conf.specs.Rules.{command_of as command_of_word, rule_of_command as rule_of_rest, alias_rule as alias_of, blacklist_rule as blacklist_of, name_with_rest as name_with_rest_of, softdep_rule as softdep_of, is_marker as is_marker_word, words_after};
+ghost use Rattle.km_names.specs.Path.{underscored};
+ghost use Rattle.km_names.specs.Space.{nonempty, words};
+ghost use Rattle.modprobe_conf.specs.Rules.{command_of, rule_of_command, alias_rule, blacklist_rule, name_with_rest, softdep_rule, is_marker, words_after};
 
 use km_names::{Alias, Blob, List, Name, Names, Statement, normal_alias, split_word, underscored};
 use std::alloc::{AllocError, Global};
@@ -56,7 +56,7 @@ pub(crate) enum Command {
 /// Returns the command of this name.
 #[tactic(auto, unfolding(crate::specs::Rules::command_of))]
 fn command_of(word: &[u8]) -> Option<Command>
-    ensures { result ≡ command_of_word word.now }
+    ensures { result ≡ command_of word.now }
 {
     if word == b"alias".as_slice() {
         Some(Command::Alias)
@@ -77,7 +77,7 @@ fn command_of(word: &[u8]) -> Option<Command>
 
 /// Returns what a line of this command states, from what follows the command.
 fn rule_of_command(alloc: Global, command: Command, rest: &[u8]) -> Result<Option<Rule>, AllocError>
-    ensures { IfOk result (λ rule. rule ≡ rule_of_rest command rest.now) }
+    ensures { IfOk result (λ rule. rule ≡ rule_of_command command rest.now) }
 {
     match command {
         Command::Alias => alias_rule(alloc, rest),
@@ -129,7 +129,7 @@ fn remove_rule(named: Named) -> Rule
 /// Returns the rule of `alias PATTERN NAME`, from what follows the command. Further words are
 /// ignored.
 fn alias_rule(alloc: Global, rest: &[u8]) -> Result<Option<Rule>, AllocError>
-    ensures { IfOk result (λ rule. rule ≡ alias_of rest.now) }
+    ensures { IfOk result (λ rule. rule ≡ alias_rule rest.now) }
 {
     let (pattern, rest) = split_word(rest);
     let (name, _further) = split_word(rest);
@@ -147,7 +147,7 @@ fn alias_rule(alloc: Global, rest: &[u8]) -> Result<Option<Rule>, AllocError>
 
 /// Returns the rule of `blacklist NAME`, from what follows the command. Further words are ignored.
 fn blacklist_rule(alloc: Global, rest: &[u8]) -> Result<Option<Rule>, AllocError>
-    ensures { IfOk result (λ rule. rule ≡ blacklist_of rest.now) }
+    ensures { IfOk result (λ rule. rule ≡ blacklist_rule rest.now) }
 {
     let (name, _further) = split_word(rest);
     if name.is_empty() {
@@ -160,7 +160,7 @@ fn blacklist_rule(alloc: Global, rest: &[u8]) -> Result<Option<Rule>, AllocError
 
 /// Returns a name and the rest after it. The result is `None` if the rest is empty.
 fn name_with_rest(alloc: Global, rest: &[u8]) -> Result<Option<Named>, AllocError>
-    ensures { IfOk result (λ both. both ≡ name_with_rest_of rest.now) }
+    ensures { IfOk result (λ both. both ≡ name_with_rest rest.now) }
 {
     let (name, text) = split_word(rest);
     if text.is_empty() {
@@ -174,7 +174,7 @@ fn name_with_rest(alloc: Global, rest: &[u8]) -> Result<Option<Named>, AllocErro
 
 /// Returns the rule of `softdep NAME pre: NAMES post: NAMES`, from what follows the command.
 fn softdep_rule(alloc: Global, rest: &[u8]) -> Result<Option<Rule>, AllocError>
-    ensures { IfOk result (λ rule. rule ≡ softdep_of rest.now) }
+    ensures { IfOk result (λ rule. rule ≡ softdep_rule rest.now) }
 {
     let (name, list) = split_word(rest);
     if list.is_empty() {
@@ -189,7 +189,7 @@ fn softdep_rule(alloc: Global, rest: &[u8]) -> Result<Option<Rule>, AllocError>
 
 /// Returns whether a word of a line of soft dependencies is one of the markers `pre:` and `post:`.
 fn is_marker(word: &[u8]) -> bool
-    ensures { result ≡ is_marker_word word.now }
+    ensures { result ≡ is_marker word.now }
 {
     word == b"pre:".as_slice() || word == b"post:".as_slice()
 }
@@ -197,8 +197,8 @@ fn is_marker(word: &[u8]) -> bool
 /// Returns the names after each such marker in a text of words, up to the next marker of either
 /// kind.
 fn names_after(alloc: Global, text: &[u8], marker: &[u8]) -> Result<Names, AllocError>
-    requires { IsTrue (is_marker_word marker.now) }
-    ensures { IfOk result (λ names. names ≡ map underscored_bytes (words_after marker.now (words_of text.now))) }
+    requires { IsTrue (is_marker marker.now) }
+    ensures { IfOk result (λ names. names ≡ map underscored (words_after marker.now (words text.now))) }
 {
     let mut names = Names::new(alloc);
     let mut belongs = false;
@@ -218,7 +218,7 @@ fn names_after(alloc: Global, text: &[u8], marker: &[u8]) -> Result<Names, Alloc
 /// Adds the name that a word states. A text that begins with white space has an empty word there,
 /// which states none.
 fn push_name(alloc: Global, names: &mut Names, word: &[u8]) -> Result<(), AllocError>
-    ensures { OnOk result (names.new ≡ names.old ++ map underscored_bytes (nonempty (word.now ∷ []))) }
+    ensures { OnOk result (names.new ≡ names.old ++ map underscored (nonempty (word.now ∷ []))) }
 {
     if word.is_empty() {
         return Ok(());

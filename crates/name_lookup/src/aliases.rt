@@ -1,8 +1,8 @@
 // The aliases of a configuration, in tables.
 ghost use Rattle.std.specs.Prelude.{◌≡◌, ◌≤◌, ◌++◌, ◌∷◌, [], List, length, map, filter_map, IfOk, OnOk, option_map};
-ghost use Rattle.modprobe_conf.specs.declared.rule.Rule.{Rule as RuleValue};
+ghost use Rattle.modprobe_conf.specs.declared.rule.Rule.{Rule};
 ghost use Rattle.name_lookup.specs.Found.{alias_name};
-ghost use Rattle.name_lookup.specs.Aliases.{IsAliasTable, HasMore, alias_parts, count_before as count_before_place, names_before, shown_plain};
+ghost use Rattle.name_lookup.specs.Aliases.{IsAliasTable, HasMore, alias_parts, count_before, names_before, shown_plain};
 
 use crate::groups::NameGroups;
 use crate::wildcards::{WildAlias, split_at_wildcard};
@@ -81,7 +81,7 @@ impl<'a> AliasTable<'a> {
 
     /// Returns the names of all aliases whose pattern matches the name, in the order of the rules.
     pub(crate) fn names(&self, alloc: Global, name: &[u8]) -> Result<Names, AllocError>
-        ensures { (rules : List RuleValue) → IsAliasTable self.now rules → IfOk result (λ names. names ≡ filter_map (alias_name name.now) rules) }
+        ensures { (rules : List Rule) → IsAliasTable self.now rules → IfOk result (λ names. names ≡ filter_map (alias_name name.now) rules) }
     {
         let mut names = Names::new(alloc);
         let plain = self.plain.of(name);
@@ -105,7 +105,7 @@ fn push_before(
     place: usize,
 ) -> Result<usize, AllocError>
     ensures names { OnOk result (names.new ≡ names.old ++ names_before place (map shown_plain aliases.now)) }
-    ensures count { IfOk result (λ count. count ≡ count_before_place place (map shown_plain aliases.now)) }
+    ensures count { IfOk result (λ count. count ≡ count_before place (map shown_plain aliases.now)) }
     ensures within { IfOk result (λ count. count ≤ length aliases.now) }
 {
     let count = count_before(aliases, place);
@@ -115,7 +115,7 @@ fn push_before(
 
 /// Counts the aliases that come before the first one at a place or after it.
 fn count_before(aliases: &[PlainAlias<'_>], place: usize) -> usize
-    ensures count { result ≡ count_before_place place (map shown_plain aliases.now) }
+    ensures count { result ≡ count_before place (map shown_plain aliases.now) }
     ensures within { result ≤ length aliases.now }
 {
     for (count, alias) in aliases.iter().enumerate() {

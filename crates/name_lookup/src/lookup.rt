@@ -2,7 +2,7 @@ ghost use Rattle.std.specs.Prelude.{◌≡◌, IfOk, if◌then◌else◌, []};
 ghost use Rattle.index_format.specs.Map.{values_of};
 ghost use Rattle.index_read.specs.Contents.{contents};
 ghost use Rattle.name_lookup.specs.Maps.{maps_of, texts};
-ghost use Rattle.name_lookup.specs.Found.{found, asks_symbol, first_list, kept as kept_of, lists};
+ghost use Rattle.name_lookup.specs.Found.{found, asks_symbol, first_list, kept, lists};
 
 use crate::aliases::AliasTable;
 use crate::found::{Found, itself, names_left, nothing};
@@ -145,7 +145,7 @@ impl<'a> Lookup<'a> {
 
     /// Returns what is left of a list without repeats and dropped names.
     fn kept(&self, alloc: Global, first: Found, use_blacklist: bool) -> Result<Found, AllocError>
-        ensures { IfOk result (λ f. f ≡ kept_of self.now.rules use_blacklist first) }
+        ensures { IfOk result (λ f. f ≡ kept self.now.rules use_blacklist first) }
     {
         let Found { list, names } = first;
         let drops = use_blacklist || list == 5;

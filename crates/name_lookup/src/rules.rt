@@ -1,8 +1,8 @@
 // What the rules of the configuration say of names, except for aliases.
 ghost use Rattle.std.specs.Prelude.{◌≡◌, ℕ, List, IfOk, option_map};
 ghost use Rattle.name_table.specs.FirstSeen.{is_among};
-ghost use Rattle.name_lookup.specs.Found.{has_install, blacklisted_name as blacklisted_name_of, is_blacklisted};
-ghost use Rattle.name_lookup.specs.Tables.{installed_name as installed_name_of};
+ghost use Rattle.name_lookup.specs.Found.{has_install, blacklisted_name, is_blacklisted};
+ghost use Rattle.name_lookup.specs.Tables.{installed_name};
 
 use modprobe_conf::{Rule, Rules};
 use name_table::NameSet;
@@ -23,7 +23,7 @@ pub(crate) fn installed_names(alloc: Global, rules: &Rules) -> Result<NameSet<'_
 
 /// Returns the module that the rule has a command for loading.
 fn installed_name(rule: &Rule) -> Option<&[u8]>
-    ensures { option_map (λ name. name.now) result ≡ installed_name_of rule.now }
+    ensures { option_map (λ name. name.now) result ≡ installed_name rule.now }
 {
     match rule {
         Rule::Install { name, .. } => Some(name.as_bytes()),
@@ -46,7 +46,7 @@ pub(crate) fn blacklisted_names(alloc: Global, rules: &Rules) -> Result<NameSet<
 
 /// Returns the module that the rule blacklists.
 fn blacklisted_name(rule: &Rule) -> Option<&[u8]>
-    ensures { option_map (λ name. name.now) result ≡ blacklisted_name_of rule.now }
+    ensures { option_map (λ name. name.now) result ≡ blacklisted_name rule.now }
 {
     match rule {
         Rule::Blacklist { name } => Some(name.as_bytes()),

@@ -2,7 +2,7 @@
 ghost use Rattle.std.specs.Prelude.{◌≡◌, ◌++◌, false, MatchOption};
 ghost use Rattle.std.specs.List.{list_any};
 ghost use Rattle.glob_match.specs.Decision.{is_match};
-ghost use Rattle.name_lookup.specs.Wildcards.{is_wildcard as is_wildcard_byte, IsSplit};
+ghost use Rattle.name_lookup.specs.Wildcards.{is_wildcard, IsSplit};
 
 use glob_match::matches;
 
@@ -15,13 +15,13 @@ pub(crate) struct WildAlias<'a> {
     /// The pattern from its first wildcard on.
     pub(crate) rest: &'a [u8],
     pub(crate) name: &'a [u8],
-    ghost plain_front: { list_any is_wildcard_byte front.now ≡ false },
+    ghost plain_front: { list_any is_wildcard front.now ≡ false },
 }
 
 /// Returns whether a byte of a pattern is a wildcard or opens a set. Every other byte is itself.
 /// glob(7).
 fn is_wildcard(byte: u8) -> bool
-    ensures { result ≡ is_wildcard_byte byte }
+    ensures { result ≡ is_wildcard byte }
 {
     byte == b'*' || byte == b'?' || byte == b'['
 }
@@ -29,7 +29,7 @@ fn is_wildcard(byte: u8) -> bool
 /// Splits a pattern at its first wildcard, if it has one: what comes before it, and the pattern
 /// from there on.
 pub(crate) fn split_at_wildcard(pattern: &[u8]) -> Option<(&[u8], &[u8])>
-    ensures { MatchOption result (list_any is_wildcard_byte pattern.now ≡ false) (λ parts. IsSplit pattern.now parts.0.now parts.1.now) }
+    ensures { MatchOption result (list_any is_wildcard pattern.now ≡ false) (λ parts. IsSplit pattern.now parts.0.now parts.1.now) }
 {
     for (place, byte) in pattern.iter().enumerate() {
         if is_wildcard(*byte) {

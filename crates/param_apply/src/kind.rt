@@ -2,7 +2,7 @@
 
 ghost use Rattle.std.specs.Prelude.{◌≡◌, ◌<◌, ◌≤◌, ◌^◌, option_copied, IfSome};
 ghost use Rattle.param_apply.specs.Numbers.{bytes_in, numbers_in};
-ghost use Rattle.param_apply.specs.Kinds.{kind_of as the_kind_of, number_of as the_number_of, stated, width_of};
+ghost use Rattle.param_apply.specs.Kinds.{kind_of, number_of, stated, width_of};
 
 use crate::number::{signed, truth, unsigned};
 
@@ -61,7 +61,7 @@ pub(crate) enum Kind {
 /// Returns the type that a text names.
 #[tactic(auto, unfolding(crate::specs::Kinds::kind_of))]
 pub(crate) fn kind_of(text: &[u8]) -> Option<Kind>
-    ensures { result ≡ the_kind_of text.now }
+    ensures { result ≡ kind_of text.now }
 {
     if text == b"byte".as_slice() {
         Some(Kind::Unsigned(Width::One))
@@ -114,7 +114,7 @@ impl Kind {
     /// text.
     #[tactic(auto, unfolding(crate::specs::Kinds::number_of))]
     pub(crate) fn number_of(self, text: Option<&[u8]>) -> Option<u64>
-        ensures { result ≡ the_number_of self (option_copied text.entry) }
+        ensures { result ≡ number_of self (option_copied text.entry) }
     {
         match (text, self) {
             (Some(text), kind) => kind.stated(text),

@@ -2,9 +2,9 @@
 
 ghost use Rattle.std.specs.Prelude.{◌≡◌, ◌+◌, ◌*◌, ◌≤◌, ◌^◌, Some, IsTrue};
 ghost use Rattle.std.specs.List.{list_all};
-ghost use Rattle.std.specs.Char.{is_digit, digit_value as value_of_digit};
-ghost use Rattle.std.specs.Str.Parse.{digits_value as value_of_digits};
-ghost use Rattle.param_apply.specs.Numbers.{below as those_below, digits as the_digits, is_hexadecimal as begins_hexadecimal, is_off as means_off, is_on as means_on, magnitude as the_magnitude, negative as the_negative, positive as the_positive, signed as the_signed, truth as the_truth, unsigned as the_unsigned};
+ghost use Rattle.std.specs.Char.{is_digit, digit_value};
+ghost use Rattle.std.specs.Str.Parse.{digits_value};
+ghost use Rattle.param_apply.specs.Numbers.{below, digits as digits_spec, is_hexadecimal, is_off, is_on, magnitude, negative, positive, signed, truth, unsigned};
 
 use crate::kind::Width;
 
@@ -28,7 +28,7 @@ fn are_digits(radix: u32, text: &[u8]) -> bool
 /// Returns the value of a digit, 0 to 15.
 fn digit_value(digit: u8) -> u32
     requires { IsTrue (is_digit digit 16) }
-    ensures value { result ≡ value_of_digit digit }
+    ensures value { result ≡ digit_value digit }
     ensures small { result ≤ 15 }
 {
     match digit {
@@ -42,7 +42,7 @@ fn digit_value(digit: u8) -> u32
 fn with_digit(radix: u32, number: u64, digit: u8) -> u128
     requires radix { radix ≤ 16 }
     requires digit { IsTrue (is_digit digit 16) }
-    ensures { result ≡ number * radix + value_of_digit digit }
+    ensures { result ≡ number * radix + digit_value digit }
 {
     u128::from(number) * u128::from(radix) + u128::from(digit_value(digit))
 }
@@ -52,7 +52,7 @@ fn digits_value(radix: u32, digits: &[u8]) -> Option<u64>
     requires some { 1 ≤ radix }
     requires radix { radix ≤ 16 }
     requires digits { IsTrue (list_all (λ b. is_digit b radix) digits.now) }
-    ensures { result ≡ those_below (2 ^ 64) (Some (value_of_digits radix digits.now)) }
+    ensures { result ≡ below (2 ^ 64) (Some (digits_value radix digits.now)) }
 {
     let mut number = 0_u64;
     for i in 0..digits.len() {
@@ -70,7 +70,7 @@ fn digits_value(radix: u32, digits: &[u8]) -> Option<u64>
 fn digits(radix: u32, text: &[u8]) -> Option<u64>
     requires some { 2 ≤ radix }
     requires radix { radix ≤ 16 }
-    ensures { result ≡ those_below (2 ^ 64) (the_digits radix text.now) }
+    ensures { result ≡ below (2 ^ 64) (digits_spec radix text.now) }
 {
     if text.is_empty() || !are_digits(radix, text) {
         return None;
@@ -80,7 +80,7 @@ fn digits(radix: u32, text: &[u8]) -> Option<u64>
 
 /// Returns whether a text begins as a number in hexadecimal does.
 fn is_hexadecimal(text: &[u8]) -> bool
-    ensures { result ≡ begins_hexadecimal text.now }
+    ensures { result ≡ is_hexadecimal text.now }
 {
     text.starts_with(b"0x") || text.starts_with(b"0X")
 }
@@ -88,7 +88,7 @@ fn is_hexadecimal(text: &[u8]) -> bool
 /// Returns the number that a text states without a sign, if it has at most 64 bits.
 #[tactic(auto, unfolding(crate::specs::Numbers::magnitude))]
 fn magnitude(text: &[u8]) -> Option<u64>
-    ensures { result ≡ those_below (2 ^ 64) (the_magnitude text.now) }
+    ensures { result ≡ below (2 ^ 64) (magnitude text.now) }
 {
     if text == b"0".as_slice() {
         Some(0)
@@ -104,7 +104,7 @@ fn magnitude(text: &[u8]) -> Option<u64>
 /// Returns the number that a text states without a sign or after a `+`, if it has at most 64 bits.
 #[tactic(auto, unfolding(crate::specs::Numbers::positive))]
 fn positive(text: &[u8]) -> Option<u64>
-    ensures { result ≡ those_below (2 ^ 64) (the_positive text.now) }
+    ensures { result ≡ below (2 ^ 64) (positive text.now) }
 {
     if text.starts_with(b"+") {
         magnitude(&text[1..])
@@ -115,7 +115,7 @@ fn positive(text: &[u8]) -> Option<u64>
 
 /// Returns a number of at most 64 bits, if it is below a limit.
 fn below(limit: u128, number: Option<u64>) -> Option<u64>
-    ensures { result ≡ those_below limit number }
+    ensures { result ≡ below limit number }
 {
     let number = number?;
     if u128::from(number) < limit {
@@ -128,7 +128,7 @@ fn below(limit: u128, number: Option<u64>) -> Option<u64>
 /// Returns the number of an unsigned type that a text states.
 #[tactic(auto, unfolding(crate::specs::Numbers::unsigned), using(crate::proofs::NumberLemmas::below_twice))]
 pub(crate) fn unsigned(width: Width, text: &[u8]) -> Option<u64>
-    ensures { result ≡ the_unsigned width text.now }
+    ensures { result ≡ unsigned width text.now }
 {
     below(width.numbers(), positive(text))
 }
@@ -136,7 +136,7 @@ pub(crate) fn unsigned(width: Width, text: &[u8]) -> Option<u64>
 /// Returns a number below zero, or `-0`, in two's complement, by what follows its `-`.
 #[tactic(auto, unfolding(crate::specs::Numbers::negative), using(crate::proofs::NumberLemmas::below_twice))]
 fn negative(width: Width, text: &[u8]) -> Option<u64>
-    ensures { result ≡ the_negative width text.now }
+    ensures { result ≡ negative width text.now }
 {
     let numbers = width.numbers();
     let number = below(numbers / 2 + 1, magnitude(text))?;
@@ -146,7 +146,7 @@ fn negative(width: Width, text: &[u8]) -> Option<u64>
 /// Returns the number of a signed type that a text states, in two's complement.
 #[tactic(auto, unfolding(crate::specs::Numbers::signed), using(crate::proofs::NumberLemmas::below_twice))]
 pub(crate) fn signed(width: Width, text: &[u8]) -> Option<u64>
-    ensures { result ≡ the_signed width text.now }
+    ensures { result ≡ signed width text.now }
 {
     if text.starts_with(b"-") {
         negative(width, &text[1..])
@@ -157,7 +157,7 @@ pub(crate) fn signed(width: Width, text: &[u8]) -> Option<u64>
 
 /// Returns whether the front of a text means true.
 fn is_on(text: &[u8]) -> bool
-    ensures { result ≡ means_on text.now }
+    ensures { result ≡ is_on text.now }
 {
     text.starts_with(b"1")
         || text.starts_with(b"y")
@@ -170,7 +170,7 @@ fn is_on(text: &[u8]) -> bool
 
 /// Returns whether the front of a text means false.
 fn is_off(text: &[u8]) -> bool
-    ensures { result ≡ means_off text.now }
+    ensures { result ≡ is_off text.now }
 {
     text.starts_with(b"0")
         || text.starts_with(b"n")
@@ -184,7 +184,7 @@ fn is_off(text: &[u8]) -> bool
 /// Returns the truth value that a text states: 1 or 0.
 #[tactic(auto, unfolding(crate::specs::Numbers::truth))]
 pub(crate) fn truth(text: &[u8]) -> Option<u64>
-    ensures { result ≡ the_truth text.now }
+    ensures { result ≡ truth text.now }
 {
     if is_on(text) {
         Some(1)

@@ -2,10 +2,10 @@
 
 ghost use Rattle.std.specs.Prelude.{◌≡◌, map, slice_get, Some, IfOk, option_and_then};
 ghost use Rattle.name_table.specs.NameTable.{IsTableOf, place_of};
-ghost use Rattle.km_names.specs.Path.{underscored as underscored_bytes};
+ghost use Rattle.km_names.specs.Path.{underscored};
 ghost use Rattle.module_facts.specs.Contents.{modinfo_bytes};
-ghost use Rattle.param_apply.specs.Kinds.{kind_of as the_kind_of};
-ghost use Rattle.param_apply.specs.Words.{kind_named as the_kind_named, number_named as the_number_named, parameter, text_name, text_type, type_texts};
+ghost use Rattle.param_apply.specs.Kinds.{kind_of};
+ghost use Rattle.param_apply.specs.Words.{kind_named, number_named, parameter, text_name, text_type, type_texts};
 
 use crate::kind::{Kind, kind_of};
 use crate::table::EntryRef;
@@ -50,7 +50,7 @@ fn place_named(
     table: &OwnedNameTable,
     name: &[u8],
 ) -> Result<Option<u32>, AllocError>
-    ensures { IfOk result (λ place. place ≡ place_of table.now (underscored_bytes name.now)) }
+    ensures { IfOk result (λ place. place ≡ place_of table.now (underscored name.now)) }
 {
     let name = underscored(alloc, name)?;
     Ok(table.place(name.as_bytes()))
@@ -61,12 +61,12 @@ fn place_named(
 struct Types {
     texts: Texts,
     names: OwnedNameTable,
-    ghost named: { IsTableOf names (map (λ text. Some (underscored_bytes (text_name text))) texts) },
+    ghost named: { IsTableOf names (map (λ text. Some (underscored (text_name text))) texts) },
 }
 
 /// Returns the table of the names in texts.
 fn text_names(alloc: Global, texts: &[Blob]) -> Result<OwnedNameTable, AllocError>
-    ensures { IfOk result (λ t. IsTableOf t (map (λ text. Some (underscored_bytes (text_name text))) texts.now)) }
+    ensures { IfOk result (λ t. IsTableOf t (map (λ text. Some (underscored (text_name text))) texts.now)) }
 {
     // No file has so many texts.
     if u32::MAX as usize <= texts.len() {
@@ -93,7 +93,7 @@ impl Types {
 
     /// Returns the type in the text at a place, if there is a text and its type is known.
     fn kind_at(&self, place: Option<u32>) -> Option<Kind>
-        ensures { result ≡ option_and_then (λ text. the_kind_of (text_type text)) (option_and_then (slice_get self.now.texts) place) }
+        ensures { result ≡ option_and_then (λ text. kind_of (text_type text)) (option_and_then (slice_get self.now.texts) place) }
     {
         let place = place?;
         let text = self.texts.get(place as usize)?;
@@ -103,7 +103,7 @@ impl Types {
 
     /// Returns the type of the parameter of a name.
     fn kind_named(&self, alloc: Global, name: &[u8]) -> Result<Option<Kind>, AllocError>
-        ensures { IfOk result (λ kind. kind ≡ the_kind_named self.now.texts name.now) }
+        ensures { IfOk result (λ kind. kind ≡ kind_named self.now.texts name.now) }
     {
         let place = place_named(alloc, &self.names, name)?;
         Ok(self.kind_at(place))
@@ -131,7 +131,7 @@ fn params_of<'a>(
 
 /// Returns the table of the names of parameters.
 fn param_names(alloc: Global, list: &[ParamRef]) -> Result<OwnedNameTable, AllocError>
-    ensures { IfOk result (λ t. IsTableOf t (map (λ p. Some (underscored_bytes p.name)) list.now)) }
+    ensures { IfOk result (λ t. IsTableOf t (map (λ p. Some (underscored p.name)) list.now)) }
 {
     // No file has so many parameters.
     if u32::MAX as usize <= list.len() {
@@ -150,7 +150,7 @@ fn param_names(alloc: Global, list: &[ParamRef]) -> Result<OwnedNameTable, Alloc
 pub(crate) struct Parameters<'a> {
     pub(crate) list: Vec<ParamRef<'a>>,
     names: OwnedNameTable,
-    ghost named: { IsTableOf names (map (λ p. Some (underscored_bytes p.name)) list.items) },
+    ghost named: { IsTableOf names (map (λ p. Some (underscored p.name)) list.items) },
 }
 
 impl<'a> Parameters<'a> {
@@ -170,7 +170,7 @@ impl<'a> Parameters<'a> {
 
     /// Returns the number of the parameter of a name, the first of several.
     pub(crate) fn number_named(&self, alloc: Global, name: &[u8]) -> Result<Option<u32>, AllocError>
-        ensures { IfOk result (λ number. number ≡ the_number_named self.now.list.items name.now) }
+        ensures { IfOk result (λ number. number ≡ number_named self.now.list.items name.now) }
     {
         let number = place_named(alloc, &self.names, name)?;
         Ok(number)

@@ -4,7 +4,7 @@ ghost use Rattle.std.specs.Prelude.{◌≡◌, [], ◌∷◌, filter, IfOk, opti
 ghost use Rattle.std.specs.List.{filter_map};
 ghost use Rattle.std.specs.Option.{option_to_list};
 ghost use Rattle.modinfo_fields.specs.Fields.{is_text};
-ghost use Rattle.param_apply.specs.Words.{setting, settings as the_settings, word_text as the_word_text};
+ghost use Rattle.param_apply.specs.Words.{setting, settings as settings_spec, word_text};
 
 use crate::parameter::Parameters;
 use km_names::split_at_byte;
@@ -30,7 +30,7 @@ impl<'a> Model for SettingRef<'a> {
 
 /// Returns the text that a word states, if it states one.
 fn word_text(word: &[u8]) -> Option<&[u8]>
-    ensures { option_copied result ≡ the_word_text word.now }
+    ensures { option_copied result ≡ word_text word.now }
 {
     let (_, text) = split_at_byte(word, b'=');
     if word.contains(&b'=') {
@@ -42,7 +42,7 @@ fn word_text(word: &[u8]) -> Option<&[u8]>
 
 /// Returns the setting of a word that names the parameter of a number, if it names one.
 fn setting_at(number: Option<u32>, word: &[u8]) -> Option<SettingRef<'_>>
-    ensures { result ≡ option_map (λ k. record { number = k; text = the_word_text word.now }) number }
+    ensures { result ≡ option_map (λ k. record { number = k; text = word_text word.now }) number }
 {
     let number = number?;
     let text = word_text(word);
@@ -83,7 +83,7 @@ pub(crate) fn settings<'a>(
     params: &Parameters,
     options: &'a [u8],
 ) -> Result<Vec<SettingRef<'a>>, AllocError>
-    ensures { IfOk result (λ v. v.items ≡ the_settings params.now.list.items options.now) }
+    ensures { IfOk result (λ v. v.items ≡ settings_spec params.now.list.items options.now) }
 {
     let mut settings = Vec::new(alloc);
     let mut rest = options;

@@ -4,9 +4,9 @@ ghost use Rattle.std.specs.Prelude.{◌≡◌, ◌+◌, ◌*◌, ◌<◌, ◌≤
 ghost use Rattle.elf_sections.specs.declared.strings.TheConstants.{NAME_LIMIT};
 ghost use Rattle.image_layout.specs.Offsets.{image_size, offset};
 ghost use Rattle.km_names.specs.Limit.{file_limit};
-ghost use Rattle.km_names.specs.Strings.{string_at as string_of};
+ghost use Rattle.km_names.specs.Strings.{string_at};
 ghost use Rattle.param_apply.specs.declared.fault.ParamFault.TheVariants.{Memory};
-ghost use Rattle.param_apply.specs.Table.{entries as the_entries, entry as the_entry, entry_fault, place_of as the_place_of, table_at as the_table_at, table_fault, table_of as the_table_of};
+ghost use Rattle.param_apply.specs.Table.{entries as entries_spec, entry as entry_spec, entry_fault, place_of, table_at, table_fault, table_of};
 
 use crate::ParamFault;
 use elf_object::{NAME_LIMIT, Object};
@@ -32,7 +32,7 @@ pub(crate) struct ParamTable {
 fn table_at(object: &Object, i: u32) -> ParamTable
     requires section { i < length object.now.sections }
     requires fits { image_size object.now.sections < 2 ^ 63 }
-    ensures table { IfSome (slice_get object.now.sections i) (λ s. result ≡ the_table_at object.now (offset object.now.sections i) s) }
+    ensures table { IfSome (slice_get object.now.sections i) (λ s. result ≡ table_at object.now (offset object.now.sections i) s) }
     ensures within { result.at + result.size ≤ image_size object.now.sections }
     ensures short { result.size ≤ file_limit }
 {
@@ -49,7 +49,7 @@ fn table_at(object: &Object, i: u32) -> ParamTable
 #[tactic(auto, unfolding(crate::specs::Table::table_of))]
 pub(crate) fn table_of(object: &Object) -> ParamTable
     requires { image_size object.now.sections < 2 ^ 63 }
-    ensures table { result ≡ the_table_of object.now }
+    ensures table { result ≡ table_of object.now }
     ensures within { result.at + result.size ≤ image_size object.now.sections }
     ensures short { result.size ≤ file_limit }
 {
@@ -79,7 +79,7 @@ impl<'a> Model for EntryRef<'a> {
 #[tactic(auto, unfolding(crate::specs::Table::place_of))]
 fn place_of(image: &[u8], base: u64, at: usize) -> u64
     requires { at + 8 ≤ length image.now }
-    ensures { result ≡ the_place_of image.now base at }
+    ensures { result ≡ place_of image.now base at }
 {
     le_u64_at(image, at).wrapping_sub(base)
 }
@@ -92,7 +92,7 @@ fn place_of(image: &[u8], base: u64, at: usize) -> u64
 /// The string is longer than `left` bytes.
 fn string_within(image: &[u8], at: u64, left: usize) -> Result<Option<&[u8]>, AllocError>
     requires { left ≤ NAME_LIMIT }
-    ensures string { IfOk result (λ string. option_copied string ≡ string_of image.now at) }
+    ensures string { IfOk result (λ string. option_copied string ≡ string_at image.now at) }
     ensures within { IfOk result (λ string. IfSome string (λ name. length name.now ≤ left)) }
 {
     if image.len() as u64 <= at {
@@ -123,7 +123,7 @@ fn entry_at(
     requires within { table.at + table.size ≤ length image.now }
     requires entry { 40 * k + 40 ≤ table.size }
     requires short { table.size ≤ file_limit }
-    ensures entry { IfOk result (λ e. e ≡ the_entry image.now base table k) }
+    ensures entry { IfOk result (λ e. e ≡ entry_spec image.now base table k) }
     ensures names { IfOk result (λ e. length e.name ≤ left) }
     ensures passed { OnOk result (entry_fault image.now base table k ≡ None) }
     ensures fault { IfErr result (λ e. (e ≡ Memory) ⊎ (entry_fault image.now base table k ≡ Some e)) }
@@ -152,7 +152,7 @@ pub(crate) fn entries(
 ) -> Result<Vec<EntryRef<'_>>, ParamFault>
     requires within { table.at + table.size ≤ length image.now }
     requires short { table.size ≤ file_limit }
-    ensures entries { IfOk result (λ v. v.items ≡ the_entries image.now base table) }
+    ensures entries { IfOk result (λ v. v.items ≡ entries_spec image.now base table) }
     ensures passed { OnOk result (table_fault image.now base table ≡ None) }
     ensures fault { IfErr result (λ e. (e ≡ Memory) ⊎ (table_fault image.now base table ≡ Some e)) }
 {

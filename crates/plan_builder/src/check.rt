@@ -1,10 +1,10 @@
 // What keeps a request from having a plan.
 ghost use Rattle.std.specs.Prelude.{◌≡◌, ◌<◌, ◌⊎◌, ℕ, List, length, All, Some, None, IfOk, IfErr, OnOk};
-ghost use Rattle.km_names.specs.First.{first as first_test};
+ghost use Rattle.km_names.specs.First.{first as first_spec};
 ghost use Rattle.name_table.specs.FirstSeen.{is_among};
-ghost use Rattle.relation_order.specs.Sets.{marked as marks_places};
-ghost use Rattle.plan_builder.specs.Obstacles.{is_path_of, is_met as are_met, is_obstacle as is_obstacle_of, as_obstacle as obstacle_of_line, first_line as first_line_of, stands};
-ghost use Rattle.plan_builder.specs.Needs.{modules as modules_in};
+ghost use Rattle.relation_order.specs.Sets.{marked};
+ghost use Rattle.plan_builder.specs.Obstacles.{is_path_of, is_met, is_obstacle, as_obstacle, first_line, stands};
+ghost use Rattle.plan_builder.specs.Needs.{modules as modules_spec};
 ghost use Rattle.plan_builder.specs.Answers.{need_tests};
 ghost use Rattle.plan_builder.specs.Planner.{sources_of};
 
@@ -33,8 +33,8 @@ pub(crate) fn compared_paths<'a>(
     planner: &Planner<'a>,
     marks: &[bool],
 ) -> Result<ComparedPaths<'a>, AllocError>
-    requires { length marks.now ≡ length (modules_in (sources_of planner.now)) }
-    ensures planned { IfOk result (λ paths. (path : List ℕ) → is_among paths.planned path ≡ is_path_of (modules_in (sources_of planner.now)) (marks_places marks.now) path) }
+    requires { length marks.now ≡ length (modules_spec (sources_of planner.now)) }
+    ensures planned { IfOk result (λ paths. (path : List ℕ) → is_among paths.planned path ≡ is_path_of (modules_spec (sources_of planner.now)) (marked marks.now) path) }
     ensures there { IfOk result (λ paths. (path : List ℕ) → is_among paths.there path ≡ stands (sources_of planner.now) path) }
 {
     let planned = marked_paths(alloc, planner, marks)?;
@@ -48,8 +48,8 @@ fn marked_paths<'a>(
     planner: &Planner<'a>,
     marks: &[bool],
 ) -> Result<NameSet<'a>, AllocError>
-    requires { length marks.now ≡ length (modules_in (sources_of planner.now)) }
-    ensures { IfOk result (λ paths. (path : List ℕ) → is_among paths path ≡ is_path_of (modules_in (sources_of planner.now)) (marks_places marks.now) path) }
+    requires { length marks.now ≡ length (modules_spec (sources_of planner.now)) }
+    ensures { IfOk result (λ paths. (path : List ℕ) → is_among paths path ≡ is_path_of (modules_spec (sources_of planner.now)) (marked marks.now) path) }
 {
     let places = marked(alloc, marks)?;
     let paths = paths_of(alloc, planner.modules(), &places)?;
@@ -89,8 +89,8 @@ pub(crate) fn check_needs(
     planned: &NameSet<'_>,
     there: &NameSet<'_>,
 ) -> Result<(), Obstacle>
-    ensures passed { OnOk result (first_test (need_tests (is_among planned.now) (is_among there.now) unmet.now) ≡ None) }
-    ensures err { IfErr result (λ o. (o ≡ Obstacle.Memory) ⊎ (first_test (need_tests (is_among planned.now) (is_among there.now) unmet.now) ≡ Some o)) }
+    ensures passed { OnOk result (first_spec (need_tests (is_among planned.now) (is_among there.now) unmet.now) ≡ None) }
+    ensures err { IfErr result (λ o. (o ≡ Obstacle.Memory) ⊎ (first_spec (need_tests (is_among planned.now) (is_among there.now) unmet.now) ≡ Some o)) }
 {
     check_unmet(alloc, LineKind::Missing, unmet, planned, there)?;
     check_unmet(alloc, LineKind::Gpl, unmet, planned, there)?;
@@ -107,8 +107,8 @@ pub(crate) fn check_unmet(
     planned: &NameSet<'_>,
     there: &NameSet<'_>,
 ) -> Result<(), Obstacle>
-    ensures passed { OnOk result (first_line_of kind (is_among planned.now) (is_among there.now) unmet.now ≡ None) }
-    ensures err { IfErr result (λ o. (o ≡ Obstacle.Memory) ⊎ (first_line_of kind (is_among planned.now) (is_among there.now) unmet.now ≡ Some o)) }
+    ensures passed { OnOk result (first_line kind (is_among planned.now) (is_among there.now) unmet.now ≡ None) }
+    ensures err { IfErr result (λ o. (o ≡ Obstacle.Memory) ⊎ (first_line kind (is_among planned.now) (is_among there.now) unmet.now ≡ Some o)) }
 {
     for line in unmet {
         if is_obstacle(kind, line, planned, there) {
@@ -120,7 +120,7 @@ pub(crate) fn check_unmet(
 
 /// Returns whether a line is an obstacle of a kind.
 fn is_obstacle(kind: LineKind, line: &Unbound, planned: &NameSet<'_>, there: &NameSet<'_>) -> bool
-    ensures { result ≡ is_obstacle_of kind (is_among planned.now) (is_among there.now) line.now }
+    ensures { result ≡ is_obstacle kind (is_among planned.now) (is_among there.now) line.now }
 {
     match (kind, line) {
         (LineKind::Missing, Unbound::Missing { path, .. })
@@ -139,7 +139,7 @@ fn is_obstacle(kind: LineKind, line: &Unbound, planned: &NameSet<'_>, there: &Na
 /// Returns whether both sides of a double line are planned or loaded before, and at least one is
 /// planned.
 fn is_met(planned: &NameSet<'_>, there: &NameSet<'_>, first: &[u8], second: &[u8]) -> bool
-    ensures { result ≡ are_met (is_among planned.now) (is_among there.now) first.now second.now }
+    ensures { result ≡ is_met (is_among planned.now) (is_among there.now) first.now second.now }
 {
     if planned.contains(first) && (planned.contains(second) || there.contains(second)) {
         return true;
@@ -149,7 +149,7 @@ fn is_met(planned: &NameSet<'_>, there: &NameSet<'_>, first: &[u8], second: &[u8
 
 /// Makes an obstacle of a line.
 fn as_obstacle(alloc: Global, line: &Unbound) -> Result<Obstacle, AllocError>
-    ensures { IfOk result (λ obstacle. obstacle ≡ obstacle_of_line line.now) }
+    ensures { IfOk result (λ obstacle. obstacle ≡ as_obstacle line.now) }
 {
     match line {
         Unbound::Missing { path, symbol } => Ok(Obstacle::Missing {

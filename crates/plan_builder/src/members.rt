@@ -1,15 +1,15 @@
 // What the names of a request stand for.
 ghost use Rattle.std.specs.Prelude.{◌≡◌, ◌<◌, ◌||◌, ◌⊎◌, not, ℕ, List, map, length, All, Some, None, IfOk, IfErr, OnOk, option_map};
 ghost use Rattle.std.specs.List.{find};
-ghost use Rattle.relation_order.specs.Sets.{below, marked as marks_places};
+ghost use Rattle.relation_order.specs.Sets.{below, marked};
 ghost use Rattle.relation_order.specs.Search.{Inside};
 ghost use Rattle.plan_order.specs.Lists.{items_of};
 ghost use Rattle.name_table.specs.FirstSeen.{is_among};
 ghost use Rattle.dependency_lines.specs.Modules.{places_of, name_at};
-ghost use Rattle.plan_builder.specs.Needs.{modules as modules_in, unloaded};
+ghost use Rattle.plan_builder.specs.Needs.{modules as modules_spec, unloaded};
 ghost use Rattle.plan_builder.specs.Planner.{sources_of, texts};
-ghost use Rattle.plan_builder.specs.Members.{founds_of, is_member_of, chosen_command as chosen_command_of, install_command as install_command_of, command_of};
-ghost use Rattle.plan_builder.specs.Obstacles.{is_unfound, is_unknown as is_unknown_of, all_names, not_found as not_found_of, shown_name as shown_name_of};
+ghost use Rattle.plan_builder.specs.Members.{founds_of, is_member_of, chosen_command, install_command, command_of};
+ghost use Rattle.plan_builder.specs.Obstacles.{is_unfound, is_unknown, all_names, not_found, shown_name};
 
 use crate::needs::push_all;
 use crate::obstacle::Obstacle;
@@ -30,7 +30,7 @@ pub(crate) fn find_each(
 ) -> Result<Vec<Found>, Obstacle>
     ensures found { IfOk result (λ founds. founds.items ≡ founds_of (sources_of planner.now) names.now) }
     ensures passed { OnOk result (find (is_unfound (sources_of planner.now)) names.now ≡ None) }
-    ensures err { IfErr result (λ o. (o ≡ Obstacle.Memory) ⊎ (option_map not_found_of (find (is_unfound (sources_of planner.now)) names.now) ≡ Some o)) }
+    ensures err { IfErr result (λ o. (o ≡ Obstacle.Memory) ⊎ (option_map not_found (find (is_unfound (sources_of planner.now)) names.now) ≡ Some o)) }
 {
     let mut founds = Vec::new(alloc);
     for name in names.as_slice() {
@@ -45,7 +45,7 @@ pub(crate) fn find_each(
 
 /// Returns the name that isn't found, in its normal form if it has one.
 fn not_found(alloc: Global, name: &Name) -> Result<Obstacle, AllocError>
-    ensures { IfOk result (λ o. o ≡ not_found_of name.now) }
+    ensures { IfOk result (λ o. o ≡ not_found name.now) }
 {
     Ok(Obstacle::NotFound {
         name: shown_name(alloc, name)?,
@@ -53,7 +53,7 @@ fn not_found(alloc: Global, name: &Name) -> Result<Obstacle, AllocError>
 }
 
 fn shown_name(alloc: Global, name: &Name) -> Result<Name, AllocError>
-    ensures { IfOk result (λ shown. shown ≡ shown_name_of name.now) }
+    ensures { IfOk result (λ shown. shown ≡ shown_name name.now) }
 {
     match normal_alias(alloc, name.as_bytes())? {
         Some(normal) => Name::from_slice(alloc, normal.as_bytes()),
@@ -68,8 +68,8 @@ pub(crate) fn check_known(
     ignored: bool,
     founds: &[Found],
 ) -> Result<(), Obstacle>
-    ensures passed { OnOk result (find (is_unknown_of (sources_of planner.now) ignored) (all_names founds.now) ≡ None) }
-    ensures err { IfErr result (λ o. (o ≡ Obstacle.Memory) ⊎ (option_map not_found_of (find (is_unknown_of (sources_of planner.now) ignored) (all_names founds.now)) ≡ Some o)) }
+    ensures passed { OnOk result (find (is_unknown (sources_of planner.now) ignored) (all_names founds.now) ≡ None) }
+    ensures err { IfErr result (λ o. (o ≡ Obstacle.Memory) ⊎ (option_map not_found (find (is_unknown (sources_of planner.now) ignored) (all_names founds.now)) ≡ Some o)) }
 {
     let names = names_in(alloc, founds)?;
     for name in &names {
@@ -97,8 +97,8 @@ pub(crate) fn requests_of(
     planner: &Planner<'_>,
     founds: &[Found],
 ) -> Result<Vec<Vec<usize>>, AllocError>
-    ensures items { IfOk result (λ requests. items_of requests.items ≡ map (λ f. places_of (modules_in (sources_of planner.now)) f.names) founds.now) }
-    ensures inside { IfOk result (λ requests. Inside (length (modules_in (sources_of planner.now))) requests.items) }
+    ensures items { IfOk result (λ requests. items_of requests.items ≡ map (λ f. places_of (modules_spec (sources_of planner.now)) f.names) founds.now) }
+    ensures inside { IfOk result (λ requests. Inside (length (modules_spec (sources_of planner.now))) requests.items) }
 {
     let mut requests = Vec::new(alloc);
     for found in founds {
@@ -109,8 +109,8 @@ pub(crate) fn requests_of(
 
 /// Finds the places of the names that are modules.
 fn request_of(alloc: Global, planner: &Planner<'_>, names: &Names) -> Result<Vec<usize>, AllocError>
-    ensures items { IfOk result (λ places. places.items ≡ places_of (modules_in (sources_of planner.now)) names.now) }
-    ensures inside { IfOk result (λ places. All (λ y. y < length (modules_in (sources_of planner.now))) places.items) }
+    ensures items { IfOk result (λ places. places.items ≡ places_of (modules_spec (sources_of planner.now)) names.now) }
+    ensures inside { IfOk result (λ places. All (λ y. y < length (modules_spec (sources_of planner.now))) places.items) }
 {
     let places = planner.modules().places_of(alloc, names.as_slice())?;
     Ok(places)
@@ -142,8 +142,8 @@ pub(crate) fn insert_all<'a>(names: &mut NameSet<'a>, more: &'a Names) -> Result
 
 /// Makes a mark for each module that isn't loaded.
 pub(crate) fn free_marks(alloc: Global, planner: &Planner<'_>) -> Result<Vec<bool>, AllocError>
-    ensures long { IfOk result (λ free. length free.items ≡ length (modules_in (sources_of planner.now))) }
-    ensures marks { IfOk result (λ free. marks_places free.items ≡ unloaded (sources_of planner.now)) }
+    ensures long { IfOk result (λ free. length free.items ≡ length (modules_spec (sources_of planner.now))) }
+    ensures marks { IfOk result (λ free. marked free.items ≡ unloaded (sources_of planner.now)) }
 {
     let loaded = name_set(alloc, planner.loaded())?;
     let marks = marks_but(alloc, planner.modules(), &loaded)?;
@@ -178,7 +178,7 @@ fn name_set<'a>(alloc: Global, names: &'a [Name]) -> Result<NameSet<'a>, AllocEr
 
 /// Finds the first command that a rule has for loading the module of this name.
 fn install_command<'a>(rules: &'a RuleTable<'_>, name: &[u8]) -> Option<&'a [u8]>
-    ensures { option_map (λ command. command.now) result ≡ install_command_of rules.now name.now }
+    ensures { option_map (λ command. command.now) result ≡ install_command rules.now name.now }
 {
     let own = rules.on(name);
     for rule in own {
@@ -205,7 +205,7 @@ pub(crate) fn chosen_command<'a>(
     ignored: bool,
     name: &[u8],
 ) -> Option<&'a [u8]>
-    ensures { option_map (λ command. command.now) result ≡ chosen_command_of rules.now ignored name.now }
+    ensures { option_map (λ command. command.now) result ≡ chosen_command rules.now ignored name.now }
 {
     if ignored {
         None
@@ -216,7 +216,7 @@ pub(crate) fn chosen_command<'a>(
 
 /// Returns whether a member is unknown: no module, no install rule, and not built in.
 fn is_unknown(planner: &Planner<'_>, ignored: bool, name: &[u8]) -> bool
-    ensures { result ≡ is_unknown_of (sources_of planner.now) ignored name.now }
+    ensures { result ≡ is_unknown (sources_of planner.now) ignored name.now }
 {
     if planner.modules().place(name).is_some() {
         return false;

@@ -2,7 +2,7 @@
 ghost use Rattle.std.specs.Prelude.{◌≡◌, ◌<◌, ◌++◌, length, IfOk, OnOk};
 ghost use Rattle.std.specs.List.{flat_map};
 ghost use Rattle.dependency_lines.specs.Modules.{name_at};
-ghost use Rattle.plan_builder.specs.Needs.{modules as modules_in, soft_places as places_for};
+ghost use Rattle.plan_builder.specs.Needs.{modules as modules_spec, soft_places};
 ghost use Rattle.plan_builder.specs.Planner.{sources_of, names_on, names_of_side, texts};
 ghost use Rattle.plan_builder.specs.Softdeps.{once};
 
@@ -107,8 +107,8 @@ impl<'p, 'a> ModuleNeeds<'p, 'a> {
 
     /// Returns the modules that soft dependencies name on one side of a module, each once.
     fn soft_places(&self, alloc: Global, place: usize, side: Side) -> Result<Vec<usize>, AllocError>
-        requires { place < length (modules_in (sources_of self.now)) }
-        ensures { IfOk result (λ places. places.items ≡ once (places_for (sources_of self.now) place (flat_map (names_on side (name_at (modules_in (sources_of self.now)) place)) (sources_of self.now).rules))) }
+        requires { place < length (modules_spec (sources_of self.now)) }
+        ensures { IfOk result (λ places. places.items ≡ once (soft_places (sources_of self.now) place (flat_map (names_on side (name_at (modules_spec (sources_of self.now)) place)) (sources_of self.now).rules))) }
     {
         let modules = self.planner.modules();
         let names = soft_names(alloc, self.planner.rules(), modules.name(place), side)?;

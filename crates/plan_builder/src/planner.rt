@@ -7,8 +7,8 @@ ghost use Rattle.symbol_binding.specs.Unmet.{belongs};
 ghost use Rattle.name_lookup.specs.Found.{found};
 ghost use Rattle.name_table.specs.FirstSeen.{is_among};
 ghost use Rattle.name_lookup.specs.Maps.{maps_of, has_value};
-ghost use Rattle.dependency_lines.specs.Modules.{modules_of, path_at, line_places as places_in_line};
-ghost use Rattle.plan_builder.specs.Needs.{modules as modules_in, is_troubled, is_available as can_load};
+ghost use Rattle.dependency_lines.specs.Modules.{modules_of, path_at, line_places};
+ghost use Rattle.plan_builder.specs.Needs.{modules as modules_spec, is_troubled, is_available};
 ghost use Rattle.plan_builder.specs.Planner.{sources_of};
 
 use crate::rule_table::RuleTable;
@@ -100,7 +100,7 @@ impl<'a> Planner<'a> {
 
     /// Returns the modules, by their numbers in the tree.
     pub(crate) fn modules(&self) -> &'a Modules<'a>
-        ensures { result.now ≡ modules_in (sources_of self.now) }
+        ensures { result.now ≡ modules_spec (sources_of self.now) }
     {
         self.modules
     }
@@ -142,24 +142,24 @@ impl<'a> Planner<'a> {
 
     /// Finds the places of the modules that the dependency line of a module names.
     pub(crate) fn line_places(&self, alloc: Global, place: usize) -> Result<Vec<usize>, AllocError>
-        requires { place < length (modules_in (sources_of self.now)) }
-        ensures { IfOk result (λ places. places.items ≡ places_in_line (modules_in (sources_of self.now)) place) }
+        requires { place < length (modules_spec (sources_of self.now)) }
+        ensures { IfOk result (λ places. places.items ≡ line_places (modules_spec (sources_of self.now)) place) }
     {
         self.modules.line_places(alloc, place)
     }
 
     /// Returns whether a line is on a need of a module.
     fn is_troubled(&self, place: usize) -> bool
-        requires { place < length (modules_in (sources_of self.now)) }
-        ensures { result ≡ is_troubled (sources_of self.now).unmet (path_at (modules_in (sources_of self.now)) place) }
+        requires { place < length (modules_spec (sources_of self.now)) }
+        ensures { result ≡ is_troubled (sources_of self.now).unmet (path_at (modules_spec (sources_of self.now)) place) }
     {
         self.troubled.contains(self.modules.path(place))
     }
 
     /// Returns whether a line is on a need of one of some modules.
     fn any_troubled(&self, places: &[usize]) -> bool
-        requires { All (λ y. y < length (modules_in (sources_of self.now))) places.now }
-        ensures { result ≡ list_any (λ y. is_troubled (sources_of self.now).unmet (path_at (modules_in (sources_of self.now)) y)) places.now }
+        requires { All (λ y. y < length (modules_spec (sources_of self.now))) places.now }
+        ensures { result ≡ list_any (λ y. is_troubled (sources_of self.now).unmet (path_at (modules_spec (sources_of self.now)) y)) places.now }
     {
         places.iter().any(|y| self.is_troubled(*y))
     }
@@ -167,8 +167,8 @@ impl<'a> Planner<'a> {
     /// Returns whether a module can be loaded: no line is on a need of it, or of a module of its
     /// dependency line.
     pub(crate) fn is_available(&self, alloc: Global, place: usize) -> Result<bool, AllocError>
-        requires { place < length (modules_in (sources_of self.now)) }
-        ensures { IfOk result (λ available. available ≡ can_load (modules_in (sources_of self.now)) (sources_of self.now).unmet place) }
+        requires { place < length (modules_spec (sources_of self.now)) }
+        ensures { IfOk result (λ available. available ≡ is_available (modules_spec (sources_of self.now)) (sources_of self.now).unmet place) }
     {
         if self.is_troubled(place) {
             return Ok(false);

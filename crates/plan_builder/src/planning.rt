@@ -1,13 +1,13 @@
 ghost use Rattle.std.specs.Prelude.{◌≡◌, ◌<◌, ◌⊎◌, ℕ, List, Some, None, map, length, All, IfOk, IfErr, OnOk};
 ghost use Rattle.km_names.specs.First.{first};
 ghost use Rattle.name_table.specs.FirstSeen.{is_among};
-ghost use Rattle.relation_order.specs.Sets.{marked as marks_places};
+ghost use Rattle.relation_order.specs.Sets.{marked};
 ghost use Rattle.plan_order.specs.Lists.{among};
 ghost use Rattle.plan_order.specs.Answer.{IsPlan, IsAnswer};
 ghost use Rattle.name_lookup.specs.Maps.{maps_of};
 ghost use Rattle.dependency_lines.specs.Modules.{name_at, bad_name, modules_of};
-ghost use Rattle.plan_builder.specs.Needs.{modules as modules_in, before, after, unloaded};
-ghost use Rattle.plan_builder.specs.Members.{asked, planned as planned_for};
+ghost use Rattle.plan_builder.specs.Needs.{modules as modules_spec, before, after, unloaded};
+ghost use Rattle.plan_builder.specs.Members.{asked, planned as planned_spec};
 ghost use Rattle.plan_builder.specs.Steps.{plan_steps};
 ghost use Rattle.plan_builder.specs.Closed.{IsClosed};
 ghost use Rattle.plan_builder.specs.Obstacles.{is_path_of, stands, plan_tests, obstacle_of};
@@ -141,8 +141,8 @@ fn planned_answer(
     planner: &Planner<'_>,
     founds: &[Found],
 ) -> Result<Planning, AllocError>
-    ensures marks { IfOk result (λ p. marks_places p.marks.items ≡ planned_for (sources_of planner.now) founds.now) }
-    ensures long { IfOk result (λ p. length p.marks.items ≡ length (modules_in (sources_of planner.now))) }
+    ensures marks { IfOk result (λ p. marked p.marks.items ≡ planned_spec (sources_of planner.now) founds.now) }
+    ensures long { IfOk result (λ p. length p.marks.items ≡ length (modules_spec (sources_of planner.now))) }
     ensures answer { IfOk result (λ p. IsAnswer (among (before (sources_of planner.now))) (unloaded (sources_of planner.now)) (after (sources_of planner.now)) (asked (sources_of planner.now) founds.now) p.answer) }
 {
     let requests = requests_of(alloc, planner, founds)?;
@@ -160,9 +160,9 @@ fn order_of(
     planner: &Planner<'_>,
     answer: PlanOrCycle,
 ) -> Result<GroupedOrder, Obstacle>
-    requires { ShortCycle (length (modules_in (sources_of planner.now))) answer }
+    requires { ShortCycle (length (modules_spec (sources_of planner.now))) answer }
     ensures order { IfOk result (λ order. answer ≡ PlanOrCycle.Plan order) }
-    ensures err { IfErr result (λ o. (o ≡ Obstacle.Memory) ⊎ IsCycleOf (modules_in (sources_of planner.now)) answer o) }
+    ensures err { IfErr result (λ o. (o ≡ Obstacle.Memory) ⊎ IsCycleOf (modules_spec (sources_of planner.now)) answer o) }
 {
     match answer {
         PlanOrCycle::Plan(order) => Ok(order),
@@ -231,7 +231,7 @@ fn checked_order(
     paths: &ComparedPaths<'_>,
 ) -> Result<GroupedOrder, Obstacle>
     requires answer { IsAnswer (among (before (sources_of planner.now))) (unloaded (sources_of planner.now)) (after (sources_of planner.now)) (asked (sources_of planner.now) founds.now) answer }
-    requires planned { (path : List ℕ) → is_among paths.now.planned path ≡ is_path_of (modules_in (sources_of planner.now)) (planned_for (sources_of planner.now) founds.now) path }
+    requires planned { (path : List ℕ) → is_among paths.now.planned path ≡ is_path_of (modules_spec (sources_of planner.now)) (planned_spec (sources_of planner.now) founds.now) path }
     requires there { (path : List ℕ) → is_among paths.now.there path ≡ stands (sources_of planner.now) path }
     ensures plan { IfOk result (IsPlan (among (before (sources_of planner.now))) (unloaded (sources_of planner.now)) (after (sources_of planner.now)) (asked (sources_of planner.now) founds.now)) }
     ensures passed { OnOk result (first (plan_tests (sources_of planner.now) founds.now) ≡ None) }

@@ -1,6 +1,6 @@
 // The rules of a configuration, by the modules that they are on.
 ghost use Rattle.std.specs.Prelude.{◌≡◌, filter, IfOk, option_map};
-ghost use Rattle.plan_builder.specs.Rules.{owner as owner_of, is_on, shown_rules};
+ghost use Rattle.plan_builder.specs.Rules.{owner, is_on, shown_rules};
 
 use modprobe_conf::{Rule, Rules};
 use name_lookup::NameGroups;
@@ -58,7 +58,7 @@ impl<'a> RuleTable<'a> {
 
 /// Returns the module that the rule is on, if plans ask for rules on it.
 fn owner(rule: &Rule) -> Option<&[u8]>
-    ensures { option_map (λ name. name.now) result ≡ owner_of rule.now }
+    ensures { option_map (λ name. name.now) result ≡ owner rule.now }
 {
     match rule {
         Rule::Options { name, .. } | Rule::Install { name, .. } | Rule::Softdep { name, .. } => {

@@ -2,9 +2,9 @@
 ghost use Rattle.std.specs.Prelude.{◌≡◌, ◌<◌, ◌++◌, ◌∷◌, ◌==◌, [], not, ℕ, List, length, filter, replicate, Some, None, All, IfOk, IfSome, OnOk, unwrap_or};
 ghost use Rattle.std.specs.List.{flat_map};
 ghost use Rattle.relation_order.specs.Search.{with_items};
-ghost use Rattle.plan_builder.specs.Needs.{modules as modules_in, is_available as can_load};
+ghost use Rattle.plan_builder.specs.Needs.{modules, is_available};
 ghost use Rattle.plan_builder.specs.Planner.{sources_of, texts};
-ghost use Rattle.plan_builder.specs.Softdeps.{IsSoftTable, KnowsAvailable, all_soft_names, soft_names_in, kept_places, loadable_places as places_for, once};
+ghost use Rattle.plan_builder.specs.Softdeps.{IsSoftTable, KnowsAvailable, all_soft_names, soft_names_in, kept_places, loadable_places, once};
 
 use crate::planner::Planner;
 use indexmap::{IndexMap, IndexSet};
@@ -128,7 +128,7 @@ fn loadable_places(
 ) -> Result<Vec<usize>, AllocError>
     requires { KnowsAvailable (sources_of planner.now) known.old.items }
     ensures known { OnOk result (KnowsAvailable (sources_of planner.now) known.new.items) }
-    ensures places { IfOk result (λ places. places.items ≡ places_for (sources_of planner.now) name.now) }
+    ensures places { IfOk result (λ places. places.items ≡ loadable_places (sources_of planner.now) name.now) }
 {
     let found = planner.found(alloc, name)?;
     let places = planner.modules().places_of(alloc, found.names.as_slice())?;
@@ -146,9 +146,9 @@ fn only_loadable(
     places: &[usize],
 ) -> Result<Vec<usize>, AllocError>
     requires known { KnowsAvailable (sources_of planner.now) known.old.items }
-    requires places { All (λ y. y < length (modules_in (sources_of planner.now))) places.now }
+    requires places { All (λ y. y < length (modules (sources_of planner.now))) places.now }
     ensures known { OnOk result (KnowsAvailable (sources_of planner.now) known.new.items) }
-    ensures places { IfOk result (λ kept. kept.items ≡ filter (can_load (modules_in (sources_of planner.now)) (sources_of planner.now).unmet) places.now) }
+    ensures places { IfOk result (λ kept. kept.items ≡ filter (is_available (modules (sources_of planner.now)) (sources_of planner.now).unmet) places.now) }
 {
     let mut kept = Vec::new(alloc);
     for y in places {
@@ -167,9 +167,9 @@ fn is_loadable(
     place: usize,
 ) -> Result<bool, AllocError>
     requires known { KnowsAvailable (sources_of planner.now) known.old.items }
-    requires place { place < length (modules_in (sources_of planner.now)) }
+    requires place { place < length (modules (sources_of planner.now)) }
     ensures known { OnOk result (KnowsAvailable (sources_of planner.now) known.new.items) }
-    ensures answer { IfOk result (λ loadable. loadable ≡ can_load (modules_in (sources_of planner.now)) (sources_of planner.now).unmet place) }
+    ensures answer { IfOk result (λ loadable. loadable ≡ is_available (modules (sources_of planner.now)) (sources_of planner.now).unmet place) }
 {
     match known[place] {
         Some(loadable) => Ok(loadable),

@@ -3,11 +3,11 @@ ghost use Rattle.std.specs.Prelude.{◌≡◌, ◌<◌, ◌&&◌, ◌++◌, [], 
 ghost use Rattle.std.specs.List.{flat_map};
 ghost use Rattle.name_table.specs.FirstSeen.{is_among};
 ghost use Rattle.dependency_lines.specs.Modules.{name_at, path_at};
-ghost use Rattle.plan_builder.specs.Needs.{modules as modules_in};
+ghost use Rattle.plan_builder.specs.Needs.{modules};
 ghost use Rattle.plan_builder.specs.Members.{found_for, is_member};
 ghost use Rattle.plan_builder.specs.Planner.{sources_of};
 ghost use Rattle.plan_builder.specs.Tables.{byte_texts};
-ghost use Rattle.plan_builder.specs.Steps.{spaced as spaced_of, rule_options, options_of as options_for, module_step as module_step_of, own_step as own_step_of, own_step_unless, own_steps as own_steps_of};
+ghost use Rattle.plan_builder.specs.Steps.{spaced, rule_options, options_of, module_step, own_step, own_step_unless, own_steps};
 ghost use Rattle.plan_builder.specs.Ends.{RisingEnds, steps_by};
 
 use crate::members::{chosen_command, insert_all, member_names};
@@ -24,7 +24,7 @@ use std::alloc::{AllocError, Global};
 
 /// Texts with a space between each and the next.
 pub(crate) fn spaced(alloc: Global, texts: &[&[u8]]) -> Result<Blob, AllocError>
-    ensures { IfOk result (λ text. text ≡ spaced_of (byte_texts texts.now)) }
+    ensures { IfOk result (λ text. text ≡ spaced (byte_texts texts.now)) }
 {
     let mut text = Blob::new(alloc);
     for i in 0..texts.len() {
@@ -80,7 +80,7 @@ impl Stepping<'_> {
     /// Returns the parameters that a module is loaded with.
     fn options_of(&self, name: &[u8]) -> Result<Blob, AllocError>
         ensures { IfOk result (λ options. options
-            ≡ options_for (sources_of self.now.planner.now) self.now.request.now name.now) }
+            ≡ options_of (sources_of self.now.planner.now) self.now.request.now name.now) }
     {
         let mut texts = rule_texts(self.alloc, self.planner.rules(), name)?;
         if !self.request.options.is_empty() && self.members.contains(name) {
@@ -99,9 +99,9 @@ impl Stepping<'_> {
 
     /// Makes the step of a module.
     fn module_step(&self, place: usize) -> Result<PlanStep, AllocError>
-        requires { place < length (modules_in (sources_of self.now.planner.now)) }
+        requires { place < length (modules (sources_of self.now.planner.now)) }
         ensures { IfOk result (λ step. step
-            ≡ module_step_of (sources_of self.now.planner.now) self.now.request.now place) }
+            ≡ module_step (sources_of self.now.planner.now) self.now.request.now place) }
     {
         let name = self.planner.modules().name(place);
         match chosen_command(self.planner.rules(), self.is_ignored(name), name) {
@@ -112,12 +112,12 @@ impl Stepping<'_> {
 
     /// Makes the step that loads a module.
     fn insert_step(&self, place: usize) -> Result<PlanStep, AllocError>
-        requires { place < length (modules_in (sources_of self.now.planner.now)) }
+        requires { place < length (modules (sources_of self.now.planner.now)) }
         ensures { IfOk result (λ step. step
-            ≡ PlanStep.Insert (name_at (modules_in (sources_of self.now.planner.now)) place)
-            (path_at (modules_in (sources_of self.now.planner.now)) place)
-            (options_for (sources_of self.now.planner.now) self.now.request.now
-            (name_at (modules_in (sources_of self.now.planner.now)) place))) }
+            ≡ PlanStep.Insert (name_at (modules (sources_of self.now.planner.now)) place)
+            (path_at (modules (sources_of self.now.planner.now)) place)
+            (options_of (sources_of self.now.planner.now) self.now.request.now
+            (name_at (modules (sources_of self.now.planner.now)) place))) }
     {
         let name = self.planner.modules().name(place);
         Ok(PlanStep::Insert {
@@ -129,9 +129,9 @@ impl Stepping<'_> {
 
     /// Adds the steps of some modules.
     fn push_modules(&self, steps: &mut PlanSteps, places: &[usize]) -> Result<(), AllocError>
-        requires { All (λ y. y < length (modules_in (sources_of self.now.planner.now))) places.now }
+        requires { All (λ y. y < length (modules (sources_of self.now.planner.now))) places.now }
         ensures { OnOk result (steps.new ≡ steps.old
-            ++ map (module_step_of (sources_of self.now.planner.now) self.now.request.now)
+            ++ map (module_step (sources_of self.now.planner.now) self.now.request.now)
             places.now) }
     {
         for place in places {
@@ -143,7 +143,7 @@ impl Stepping<'_> {
     /// Adds the step of a member that is no module.
     fn push_own_step(&self, steps: &mut PlanSteps, name: &[u8]) -> Result<(), AllocError>
         ensures { OnOk result (steps.new ≡ steps.old
-            ++ own_step_of (sources_of self.now.planner.now) self.now.request.now name.now) }
+            ++ own_step (sources_of self.now.planner.now) self.now.request.now name.now) }
     {
         if self.planner.modules().place(name).is_some() {
             return Ok(());
@@ -169,7 +169,7 @@ impl Stepping<'_> {
         names: &Names,
     ) -> Result<(), AllocError>
         ensures { OnOk result (steps.new ≡ steps.old
-            ++ own_steps_of (sources_of self.now.planner.now) self.now.request.now earlier.now
+            ++ own_steps (sources_of self.now.planner.now) self.now.request.now earlier.now
             names.now) }
     {
         for name in names.as_slice() {
@@ -204,7 +204,7 @@ impl Stepping<'_> {
     ) -> Result<(), AllocError>
         requires long { length plan.now.ends.items ≡ length founds.now }
         requires ends { RisingEnds plan.now.ends.items (length plan.now.order.items) }
-        requires order { All (λ y. y < length (modules_in (sources_of self.now.planner.now)))
+        requires order { All (λ y. y < length (modules (sources_of self.now.planner.now)))
             plan.now.order.items }
         ensures { OnOk result (steps.new ≡ steps.old
             ++ steps_by (sources_of self.now.planner.now) self.now.request.now [] 0 founds.now
@@ -248,7 +248,7 @@ pub(crate) fn all_steps(
 ) -> Result<PlanSteps, AllocError>
     requires long { length plan.now.ends.items ≡ length founds.now }
     requires ends { RisingEnds plan.now.ends.items (length plan.now.order.items) }
-    requires order { All (λ y. y < length (modules_in (sources_of planner.now)))
+    requires order { All (λ y. y < length (modules (sources_of planner.now)))
         plan.now.order.items }
     requires founds { founds.now ≡ found_for (sources_of planner.now) request.now }
     ensures { IfOk result (λ steps. steps ≡ steps_by (sources_of planner.now) request.now [] 0

@@ -1,7 +1,7 @@
 // The texts of obstacles.
 ghost use Rattle.std.specs.Prelude.{◌≡◌, ◌∷◌, ◌++◌, [], codes, take, IfOk, OnOk};
 ghost use Rattle.std.specs.List.{flat_map};
-ghost use Rattle.plan_builder.specs.Steps.{spaced as spaced_of};
+ghost use Rattle.plan_builder.specs.Steps.{spaced};
 ghost use Rattle.plan_builder.specs.Tables.{byte_texts};
 ghost use Rattle.plan_builder.specs.Text.{obstacle_text, round};
 ghost use Rattle.unmet_file.specs.Line.{first_word, two_text, three_text};
@@ -52,7 +52,7 @@ impl Obstacle {
 }
 
 fn two(alloc: Global, word: &[u8], a: &[u8]) -> Result<Blob, AllocError>
-    ensures { IfOk result (λ text. text ≡ spaced_of (word.now ∷ a.now ∷ [])) }
+    ensures { IfOk result (λ text. text ≡ spaced (word.now ∷ a.now ∷ [])) }
 {
     spaced(alloc, &[word, a])
 }
@@ -120,7 +120,7 @@ fn four(alloc: Global, word: &[u8], a: &[u8], b: &[u8], c: &[u8]) -> Result<Blob
 
 /// Returns the text of a cycle: its names, and the first again.
 fn cycle_text(alloc: Global, names: &Names) -> Result<Blob, AllocError>
-    ensures { IfOk result (λ text. text ≡ spaced_of (codes "cycle" ∷ round names.now)) }
+    ensures { IfOk result (λ text. text ≡ spaced (codes "cycle" ∷ round names.now)) }
 {
     let mut texts = Vec::new(alloc);
     texts.push(b"cycle".as_slice())?;

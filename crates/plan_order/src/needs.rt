@@ -1,6 +1,6 @@
 // What is planned, and what each planned module needs.
 ghost use Rattle.std.specs.Prelude.{◌≡◌, ◌<◌, [], ℕ, List, length, All, IfOk, OnOk};
-ghost use Rattle.relation_order.specs.Sets.{marked as marks_places};
+ghost use Rattle.relation_order.specs.Sets.{marked};
 ghost use Rattle.relation_order.specs.Search.{Inside, Marks};
 ghost use Rattle.plan_order.specs.Finding.{Asked};
 ghost use Rattle.plan_order.specs.Lists.{items_of, IsPlanned};
@@ -59,7 +59,7 @@ pub fn find_planned<N: Needs>(
 ) -> Result<Planned, AllocError>
     requires free { length free.now ≡ N.count needs.now }
     requires requests { Inside (N.count needs.now) requests.now }
-    ensures { IfOk result (IsPlanned (N.count needs.now) (N.before needs.now) (marks_places free.now) (N.after needs.now) (items_of requests.now)) }
+    ensures { IfOk result (IsPlanned (N.count needs.now) (N.before needs.now) (marked free.now) (N.after needs.now) (items_of requests.now)) }
 {
     let mut marks = unmarked(alloc, free.len())?;
     let mut before = empty_lists(alloc, free.len())?;

@@ -1,8 +1,8 @@
 ghost use Rattle.std.specs.Prelude.{◌≡◌, [], ℕ, List, length, IfOk};
-ghost use Rattle.relation_order.specs.Sets.{goes, marked as marks_places, successors};
+ghost use Rattle.relation_order.specs.Sets.{goes, marked, successors};
 ghost use Rattle.relation_order.specs.Search.{Inside};
 ghost use Rattle.relation_order.specs.Cycle.{cycle};
-ghost use Rattle.plan_order.specs.Plan.{planned as planned_of};
+ghost use Rattle.plan_order.specs.Plan.{planned as planned_spec};
 ghost use Rattle.plan_order.specs.Lists.{items_of, among, IsPlanned, AreKnown};
 ghost use Rattle.plan_order.specs.Answer.{IsPlan, IsAnswer};
 
@@ -37,11 +37,11 @@ pub fn plan_or_cycle(
     free: &[bool],
     requests: &[Vec<usize>],
 ) -> Result<PlanOrCycle, AllocError>
-    requires known { AreKnown (length free.now) (marks_places free.now) (items_of requests.now) planned.now }
+    requires known { AreKnown (length free.now) (marked free.now) (items_of requests.now) planned.now }
     requires requests { Inside (length free.now) requests.now }
     ensures { IfOk result (λ answer. (before after : ℕ → List ℕ) →
-        IsPlanned (length free.now) before (marks_places free.now) after (items_of requests.now) planned.now →
-        IsAnswer (among before) (marks_places free.now) after (items_of requests.now) answer) }
+        IsPlanned (length free.now) before (marked free.now) after (items_of requests.now) planned.now →
+        IsAnswer (among before) (marked free.now) after (items_of requests.now) answer) }
 {
     match order_or_cycle(alloc, &planned.before, &planned.marks)? {
         OrderOrCycle::Order(_) => {
@@ -65,8 +65,8 @@ fn plan_without_cycle(
     requires inside { Inside (length before.now) before.now }
     requires post { Inside (length before.now) post.now }
     requires requests { Inside (length before.now) requests.now }
-    requires cycle { cycle (goes before.now) (planned_of (goes before.now) (marks_places free.now) (successors post.now) (items_of requests.now)) ≡ [] }
-    ensures { IfOk result (IsPlan (goes before.now) (marks_places free.now) (successors post.now) (items_of requests.now)) }
+    requires cycle { cycle (goes before.now) (planned_spec (goes before.now) (marked free.now) (successors post.now) (items_of requests.now)) ≡ [] }
+    ensures { IfOk result (IsPlan (goes before.now) (marked free.now) (successors post.now) (items_of requests.now)) }
 {
     let mut groups = Groups::new(alloc, before.len())?;
     let ends = groups.add_all(alloc, before, free, requests)?;

@@ -2,7 +2,7 @@
 ghost use Rattle.std.specs.Prelude.{◌≡◌, ◌<◌, ◌^◌, ◌+◌, ◌++◌, ◌∷◌, [], ℕ, List, length, map, take, All, Some, OnOk, IfOk, slice_index_or};
 ghost use Rattle.std.proofs.Common.{replicate};
 ghost use Rattle.name_table.specs.NameTable.{IsTableOf, place_of};
-ghost use Rattle.symbol_binding.specs.declared.unbound.Unbound.{Unbound as Line};
+ghost use Rattle.symbol_binding.specs.declared.unbound.Unbound.{Unbound};
 ghost use Rattle.symbol_binding.specs.declared.unbound.Unbound.TheVariants.{Double};
 ghost use Rattle.provider_rel.specs.Items.{item_name, item_doubles};
 ghost use Rattle.provider_rel.specs.Sharing.{AreLinked, IsChain, last_of};
@@ -108,7 +108,7 @@ fn push_item(
     requires place { k < length items.now }
     requires linked { AreLinked items.now names.now k next.old.items }
     ensures linked { OnOk result (AreLinked items.now names.now (k + 1) next.new.items) }
-    ensures lines { OnOk result ((before : List Line) → lines.old ≡ before ++ item_doubles [] (take k items.now)
+    ensures lines { OnOk result ((before : List Unbound) → lines.old ≡ before ++ item_doubles [] (take k items.now)
         → lines.new ≡ before ++ item_doubles [] (take (k + 1) items.now)) }
 {
     let item = &items[k];

@@ -2,7 +2,7 @@
 ghost use Rattle.std.specs.Prelude.{◌≡◌, ◌+◌, ◌-◌, ◌<◌, ◌≤◌, ◌^◌, length, OnOk, IfOk, map, option_copied};
 ghost use Rattle.std.specs.List.{filter_map};
 ghost use Rattle.km_names.specs.Limit.{file_limit};
-ghost use Rattle.provider_rel.specs.KernelTable.{IsTable, AreFirst, first_of_each, with_export, with_its_address, with_addresses, exported_name as name_of_entry, export_of_entry, stated_export, export_of_symbol, export_of_line};
+ghost use Rattle.provider_rel.specs.KernelTable.{IsTable, AreFirst, first_of_each, with_export, with_its_address, with_addresses, exported_name, export_of_entry, stated_export, export_of_symbol, export_of_line};
 
 use crate::map::Symbols;
 use crate::symvers::SymversLine;
@@ -33,7 +33,7 @@ fn add_first<'a>(
 
 /// Returns what follows `__ksymtab_` in a name that begins with it.
 fn exported_name(name: &[u8]) -> Option<&[u8]>
-    ensures { option_copied result ≡ name_of_entry name.now }
+    ensures { option_copied result ≡ exported_name name.now }
 {
     if name.starts_with(b"__ksymtab_") {
         Some(&name[10..])

@@ -3,7 +3,7 @@ ghost use Rattle.std.specs.Prelude.{◌≡◌, ◌+◌, ◌<◌, ◌^◌, ◌++�
 ghost use Rattle.name_table.specs.NameTable.{IsTableOf};
 ghost use Rattle.provider_rel.specs.Faces.{modules_of, kernel_of};
 ghost use Rattle.provider_rel.specs.Tree.{IsTree};
-ghost use Rattle.provider_rel.specs.Items.{kernel_item, module_item, items as items_of, item_name, bound_of};
+ghost use Rattle.provider_rel.specs.Items.{kernel_item, module_item, items as items_spec, item_name, bound_of};
 
 use crate::{Kernel, RelationFault, TreeFacts};
 use module_facts::{Facts, Needs};
@@ -123,7 +123,7 @@ pub(crate) fn all_items<'a>(
     kernel: &'a Kernel,
 ) -> Result<Vec<ExportItem<'a>>, AllocError>
     requires { IsTree tree.now }
-    ensures { IfOk result (λ items. items.items ≡ items_of (modules_of tree.now) (kernel_of kernel.now)) }
+    ensures { IfOk result (λ items. items.items ≡ items_spec (modules_of tree.now) (kernel_of kernel.now)) }
 {
     let mut items = Vec::new(alloc);
     push_kernel_items(&mut items, kernel)?;

@@ -1,8 +1,8 @@
 // The lines of a table of a kernel.
 ghost use Rattle.std.specs.Prelude.{◌≡◌, ◌≤◌, ◌⊎◌, ℕ, List, Option, Some, None, length, IfOk, IfErr, OnOk};
 ghost use Rattle.km_names.specs.Limit.{file_limit};
-ghost use Rattle.km_names.specs.Space.{is_space as is_space_byte};
-ghost use Rattle.provider_rel.specs.TableLines.{is_blank as is_blank_line, table_fault, stated};
+ghost use Rattle.km_names.specs.Space.{is_space};
+ghost use Rattle.provider_rel.specs.TableLines.{is_blank, table_fault, stated};
 
 use crate::KernelFault;
 use km_names::first_line;
@@ -50,13 +50,13 @@ pub(crate) fn read_lines<'a, L: TableLine<'a>>(
 
 /// Returns whether a line has only white space.
 fn is_blank(line: &[u8]) -> bool
-    ensures { result ≡ is_blank_line line.now }
+    ensures { result ≡ is_blank line.now }
 {
     line.iter().all(|byte| is_space(*byte))
 }
 
 fn is_space(byte: u8) -> bool
-    ensures { result ≡ is_space_byte byte }
+    ensures { result ≡ is_space byte }
 {
     byte == b' ' || byte == b'\t' || byte == b'\r'
 }

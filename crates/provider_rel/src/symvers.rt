@@ -1,7 +1,7 @@
 // The lines of a Module.symvers.
 ghost use Rattle.std.specs.Prelude.{◌≡◌, codes};
 ghost use Rattle.std.specs.Str.{bytes_eq};
-ghost use Rattle.provider_rel.specs.SymversLines.{version as version_of, field};
+ghost use Rattle.provider_rel.specs.SymversLines.{version, field};
 
 use crate::lines::TableLine;
 use km_names::{hexadecimal, is_graphic, split_at_byte};
@@ -28,7 +28,7 @@ impl<'a> Model for SymversLine<'a> {
 /// Reads the version that a field states.
 #[tactic(auto, unfolding(crate::specs::SymversLines::version))]
 fn version(field: &[u8]) -> Option<u64>
-    ensures { result ≡ version_of field.now }
+    ensures { result ≡ version field.now }
 {
     if field.starts_with(b"0x") {
         hexadecimal(&field[2..])

@@ -6,7 +6,7 @@ ghost use Rattle.std.specs.Prelude.{true, false, length, All, IfOk, OnOk, nat_eq
 ghost use Rattle.std.specs.Prelude.{slice_index};
 ghost use Rattle.std.specs.Global.{Vec};
 ghost use Rattle.std.proofs.Common.{replicate};
-ghost use Rattle.relation_order.specs.Sets.{Relation, goes, has, marked as marks_places};
+ghost use Rattle.relation_order.specs.Sets.{Relation, goes, has, marked};
 ghost use Rattle.relation_order.specs.Graphs.{members_of};
 ghost use Rattle.relation_order.specs.Search.{Inside};
 ghost use Rattle.relation_order.specs.Components.{Searching, SearchOf, EndsIn, Enters, KeepsMet};
@@ -113,10 +113,10 @@ impl CycleSearch {
         requires long { length self.old.states.items ≡ length members.now }
         ensures search { OnOk result ((r looked : Relation)
             → r (slice_index self.old.stack.items at) target ≡ true
-            → Searching r looked (marks_places members.now) self.old.states.items
+            → Searching r looked (marked members.now) self.old.states.items
             self.old.stack.items self.old.starts.items self.old.path.items
             → Searching r (with_step looked (slice_index self.old.stack.items at) target)
-            (marks_places members.now) self.new.states.items self.new.stack.items
+            (marked members.now) self.new.states.items self.new.stack.items
             self.new.starts.items self.new.path.items) }
         ensures looked { OnOk result (self.new.looked.items ≡ self.old.looked.items) }
         ensures long { OnOk result (length self.new.states.items ≡ length self.old.states.items) }

@@ -1,7 +1,7 @@
 ghost use Rattle.std.specs.Prelude.{◌≡◌, ◌||◌, ◌&&◌, ◌==◌, ◌<◌, ◌≤◌, ◌∷◌, [], not, ℕ, List, Bool};
 ghost use Rattle.std.specs.Prelude.{true, false, length, take, All, IfOk, OnOk, slice_index};
 ghost use Rattle.std.specs.Prelude.{slice_index_or};
-ghost use Rattle.relation_order.specs.Sets.{goes, marked as marks_places, has};
+ghost use Rattle.relation_order.specs.Sets.{goes, marked, has};
 ghost use Rattle.relation_order.specs.Graphs.{goes_in, members_of};
 ghost use Rattle.relation_order.specs.Least.{least_order, with_next};
 ghost use Rattle.relation_order.specs.Search.{Inside};
@@ -94,7 +94,7 @@ pub fn least(
     requires long { length members.now ≡ length lists.now }
     requires inside { Inside (length lists.now) lists.now }
     ensures { IfOk result (λ order. order.items
-        ≡ least_order (goes lists.now) (marks_places members.now)) }
+        ≡ least_order (goes lists.now) (marked members.now)) }
 {
     let mut builder = OrderBuilder::new(alloc, members.len())?;
     let all = marked(alloc, members)?;
@@ -152,14 +152,14 @@ impl OrderBuilder {
         requires long { length members.now ≡ length lists.now }
         requires inside { Inside (length members.now) lists.now }
         requires fits { Fits lists.now members.now self.old }
-        requires placing { Placing (goes lists.now) (marks_places members.now) self.old.order.items
+        requires placing { Placing (goes lists.now) (marked members.now) self.old.order.items
             self.old.ready.keys (goes self.old.waits.items) [] }
         ensures fits { OnOk result (Fits lists.now members.now self.new) }
         ensures placing { OnOk result
-            (Placing (goes lists.now) (marks_places members.now) self.new.order.items
+            (Placing (goes lists.now) (marked members.now) self.new.order.items
             self.new.ready.keys (goes self.new.waits.items) []) }
         ensures order { OnOk result (self.new.order.items
-            ≡ with_next (goes lists.now) (marks_places members.now) self.old.order.items) }
+            ≡ with_next (goes lists.now) (marked members.now) self.old.order.items) }
     {
         if let Some(next) = self.ready.pop_first() {
             self.listed[next] = true;
@@ -184,9 +184,9 @@ impl OrderBuilder {
         ensures fits { OnOk result (Fits lists.now members.now self.new) }
         ensures order { OnOk result (self.new.order.items ≡ self.old.order.items) }
         ensures placing { OnOk result
-            (Placing (goes lists.now) (marks_places members.now) self.old.order.items
+            (Placing (goes lists.now) (marked members.now) self.old.order.items
             self.old.ready.keys (goes self.old.waits.items) items.now
-            → Placing (goes lists.now) (marks_places members.now) self.new.order.items
+            → Placing (goes lists.now) (marked members.now) self.new.order.items
             self.new.ready.keys (goes self.new.waits.items) []) }
     {
         let graph = Graph { lists, members };

@@ -2,7 +2,7 @@
 ghost use Rattle.std.specs.Prelude.{◌≡◌, ◌<◌, ℕ, List, IfOk, length};
 ghost use Rattle.name_table.specs.FirstSeen.{is_among};
 ghost use Rattle.remove_plan.specs.Marks.{AreAsked};
-ghost use Rattle.remove_plan.specs.Removal.{is_asked as is_asked_at};
+ghost use Rattle.remove_plan.specs.Removal.{is_asked};
 
 use km_names::Names;
 use model_loader::Machine;
@@ -23,7 +23,7 @@ fn set_of<'a>(alloc: Global, names: &'a Names) -> Result<NameSet<'a>, AllocError
 /// Returns whether the name of the module that was loaded `k`-th is in a set.
 fn is_asked(machine: &Machine, set: &NameSet, k: usize) -> bool
     requires { k < length machine.now.entries }
-    ensures { result ≡ is_asked_at machine.now set.now k }
+    ensures { result ≡ is_asked machine.now set.now k }
 {
     set.contains(machine.module_at(k).name.as_bytes())
 }

@@ -2,7 +2,7 @@
 ghost use Rattle.std.specs.Prelude.{◌≡◌, ◌<◌, ◌&&◌, ◌||◌, ℕ, not, All, IfOk, length, map};
 ghost use Rattle.model_loader.specs.Use.{AreUses};
 ghost use Rattle.remove_plan.specs.Marks.{is_marked};
-ghost use Rattle.remove_plan.specs.Removal.{removed as removed_of};
+ghost use Rattle.remove_plan.specs.Removal.{removed as removed_spec};
 
 use crate::marks::mark;
 use model_loader::Machine;
@@ -28,7 +28,7 @@ pub(crate) fn removed(
 ) -> Result<Vec<usize>, AllocError>
     requires uses { AreUses machine.now (map (λ u. u.items) uses.now) }
     requires asked { length asked.now ≡ length machine.now.entries }
-    ensures places { IfOk result (λ v. v.items ≡ removed_of machine.now (is_marked asked.now)) }
+    ensures places { IfOk result (λ v. v.items ≡ removed_spec machine.now (is_marked asked.now)) }
     ensures within { IfOk result (λ v. All (λ (j : ℕ). j < length machine.now.entries) v.items) }
 {
     let count = machine.module_count();

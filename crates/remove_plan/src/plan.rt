@@ -4,7 +4,7 @@ ghost use Rattle.name_table.specs.NameTable.{IsTableOf};
 ghost use Rattle.model_loader.specs.Use.{name_at};
 ghost use Rattle.remove_plan.specs.Marks.{is_marked};
 ghost use Rattle.remove_plan.specs.Removal.{AreRemoved, is_asked, removed_by};
-ghost use Rattle.remove_plan.specs.Steps.{removal_fault, removal_steps, remove_step as step_at, removed_name};
+ghost use Rattle.remove_plan.specs.Steps.{removal_fault, removal_steps, remove_step, removed_name};
 
 use crate::asked::asked;
 use crate::commands::{command_for, table_of};
@@ -45,7 +45,7 @@ fn remove_step(
 ) -> Result<RemoveStep, AllocError>
     requires place { k < length machine.now.entries }
     requires asked { k < length asked.now }
-    ensures { IfOk result (λ step. step ≡ step_at machine.now choice.now.rules.now choice.now.ignored (is_marked asked.now) k) }
+    ensures { IfOk result (λ step. step ≡ remove_step machine.now choice.now.rules.now choice.now.ignored (is_marked asked.now) k) }
 {
     let name = name_of(machine, k);
     let command = if choice.ignored && asked[k] {
@@ -73,7 +73,7 @@ fn steps(
 ) -> Result<RemovePlan, AllocError>
     requires going { All (λ (k : ℕ). k < length machine.now.entries) going.now }
     requires asked { length asked.now ≡ length machine.now.entries }
-    ensures { IfOk result (λ plan. plan ≡ map (step_at machine.now choice.now.rules.now choice.now.ignored (is_marked asked.now)) going.now) }
+    ensures { IfOk result (λ plan. plan ≡ map (remove_step machine.now choice.now.rules.now choice.now.ignored (is_marked asked.now)) going.now) }
 {
     let mut plan = RemovePlan::new(alloc);
     for k in going {

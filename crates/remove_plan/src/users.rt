@@ -4,7 +4,7 @@ ghost use Rattle.std.specs.List.{list_any};
 ghost use Rattle.std.specs.Option.{option_or};
 ghost use Rattle.model_loader.specs.Use.{AreUses};
 ghost use Rattle.remove_plan.specs.Marks.{AreUsers, is_marked};
-ghost use Rattle.remove_plan.specs.Removal.{in_use as in_use_of};
+ghost use Rattle.remove_plan.specs.Removal.{in_use};
 
 use crate::marks::note;
 use model_loader::Machine;
@@ -59,7 +59,7 @@ fn used(asked: &[bool], users: &[Option<usize>], j: usize) -> Option<(usize, usi
 fn first_used(machine: &Machine, asked: &[bool], users: &[Option<usize>]) -> Option<(usize, usize)>
     requires asked { length asked.now ≡ length machine.now.entries }
     requires users { AreUsers machine.now (is_marked asked.now) (length machine.now.entries) users.now }
-    ensures found { result ≡ in_use_of machine.now (is_marked asked.now) }
+    ensures found { result ≡ in_use machine.now (is_marked asked.now) }
     ensures within { IfSome result (λ p. (p.0 < length machine.now.entries) × (p.1 < length machine.now.entries)) }
 {
     for j in 0..machine.module_count() {
@@ -79,7 +79,7 @@ pub(crate) fn in_use(
 ) -> Result<Option<(usize, usize)>, AllocError>
     requires uses { AreUses machine.now (map (λ u. u.items) uses.now) }
     requires asked { length asked.now ≡ length machine.now.entries }
-    ensures found { IfOk result (λ found. found ≡ in_use_of machine.now (is_marked asked.now)) }
+    ensures found { IfOk result (λ found. found ≡ in_use machine.now (is_marked asked.now)) }
     ensures within { IfOk result (λ found. IfSome found (λ p. (p.0 < length machine.now.entries) × (p.1 < length machine.now.entries))) }
 {
     let users = users_outside(alloc, machine, uses, asked)?;

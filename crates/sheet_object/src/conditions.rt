@@ -1,7 +1,7 @@
 // The conditions of a sheet, as a test.
 ghost use Rattle.std.specs.Prelude.{◌≡◌, ◌≤◌, ◌&&◌, true, length, IfOk};
 ghost use Rattle.std.specs.List.{list_all};
-ghost use Rattle.sheet_object.specs.Sheet.{has_no_nul, is_few, is_text, is_version, is_extended, is_space, is_among, are_distinct, are_chosen, are_few, are_texts, are_known, symbol_names, is_sheet as is_the_sheet};
+ghost use Rattle.sheet_object.specs.Sheet.{has_no_nul, is_few, is_text, is_version, is_extended, is_space, is_among, are_distinct, are_chosen, are_few, are_texts, are_known, symbol_names, is_sheet};
 ghost use Rattle.sheet_object.specs.Writing.{names_of};
 
 use crate::names::{names, symbol_names, table_of};
@@ -210,7 +210,7 @@ fn are_known(
 /// exports, each at most once. The only error is out of memory.
 #[tactic(auto, unfolding(crate::specs::Sheet::is_sheet))]
 pub fn is_sheet(alloc: Global, sheet: &Sheet, more: &SheetMore) -> Result<bool, AllocError>
-    ensures { IfOk result (λ b. b ≡ is_the_sheet sheet.now more.now) }
+    ensures { IfOk result (λ b. b ≡ is_sheet sheet.now more.now) }
 {
     if !are_few(sheet) {
         return Ok(false);

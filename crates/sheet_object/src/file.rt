@@ -1,7 +1,7 @@
 // The file of some sections.
 ghost use Rattle.std.specs.Prelude.{◌≡◌, ◌≤◌, ◌<◌, ◌+◌, ◌^◌, ◌++◌, ℕ, length, take, drop, fold, All, OnOk, IfOk};
 ghost use Rattle.sheet_object.specs.Number.{zeros, xword};
-ghost use Rattle.sheet_object.specs.File.{Laid, start, with_part, gap, header, section_header, file_of as the_file_of};
+ghost use Rattle.sheet_object.specs.File.{Laid, start, with_part, gap, header, section_header, file_of};
 ghost use Rattle.sheet_object.specs.Writing.{IsFileOf};
 
 use crate::bytes::{push_half, push_word, push_xword, push_zeros};
@@ -155,7 +155,7 @@ impl ObjectFile {
 pub(crate) fn file_of(alloc: Global, named: u16, parts: &[Part]) -> Result<Vec<u8>, AllocError>
     requires few { length parts.now ≤ 16 }
     requires short { All (λ p. length p.name ≤ 32) parts.now }
-    ensures { IfOk result (λ v. v.items ≡ the_file_of named parts.now) }
+    ensures { IfOk result (λ v. v.items ≡ file_of named parts.now) }
 {
     let mut file = ObjectFile::new(alloc, parts.len() as u16 + 1, named)?;
     file.push_all(parts)?;

@@ -2,7 +2,7 @@
 ghost use Rattle.std.specs.Prelude.{◌≡◌, ◌<◌, ◌≤◌, ◌*◌, ◌+◌, ◌^◌, ◌++◌, length, map, All, Some, OnOk, IfOk};
 ghost use Rattle.std.specs.List.{range_with_len};
 ghost use Rattle.name_table.specs.NameTable.{IsTableOf};
-ghost use Rattle.sheet_object.specs.Further.{crc_bytes, name_bytes, space_bytes, further_part as the_further_part, version_parts, gpl_parts, space_parts, further_parts as the_further_parts, gpl_section, strings_section, text_place, space_place};
+ghost use Rattle.sheet_object.specs.Further.{crc_bytes, name_bytes, space_bytes, further_part, version_parts, gpl_parts, space_parts, further_parts, gpl_section, strings_section, text_place, space_place};
 ghost use Rattle.sheet_object.specs.Sheet.{spaced_names};
 ghost use Rattle.sheet_object.specs.Symbols.{table_section};
 
@@ -56,7 +56,7 @@ fn texts(alloc: Global, spaces: &[SheetSpace]) -> Result<Vec<u8>, AllocError>
 
 /// Makes one of the further sections.
 fn further_part(alloc: Global, name: &[u8], content: Vec<u8>) -> Result<Part, AllocError>
-    ensures { IfOk result (λ p. p ≡ the_further_part name.now content.items) }
+    ensures { IfOk result (λ p. p ≡ further_part name.now content.items) }
 {
     Part::new(
         alloc,
@@ -111,7 +111,7 @@ fn push_spaces(alloc: Global, parts: &mut Vec<Part>, more: &SheetMore) -> Result
 pub(crate) fn further_parts(alloc: Global, more: &SheetMore) -> Result<Vec<Part>, AllocError>
     requires versions { All (λ v. v.crc < 2 ^ 32) more.now.ext }
     requires gpl { length more.now.gpl ≤ 65535 }
-    ensures { IfOk result (λ parts. parts.items ≡ the_further_parts more.now) }
+    ensures { IfOk result (λ parts. parts.items ≡ further_parts more.now) }
 {
     let mut parts = Vec::new(alloc);
     push_versions(alloc, &mut parts, more)?;

@@ -1,7 +1,7 @@
 // Objects of parameters.
 ghost use Rattle.std.specs.Prelude.{◌≡◌, ◌<◌, ◌+◌, ◌*◌, ◌^◌, [], ◌++◌, length, OnOk, IfOk};
 ghost use Rattle.std.specs.List.{flat_map};
-ghost use Rattle.sheet_object.specs.Params.{addresses_of_params, data_address, names_of_params, param_object_of, loaded_param_parts, linked_param_parts, section_symbol as the_section_symbol, type_text};
+ghost use Rattle.sheet_object.specs.Params.{addresses_of_params, data_address, names_of_params, param_object_of, loaded_param_parts, linked_param_parts, section_symbol, type_text};
 
 use crate::bytes::{push_half, push_word, push_xword, push_zeros, zeros};
 use crate::file::file_of;
@@ -114,7 +114,7 @@ fn type_texts(alloc: Global, params: &[SheetParam]) -> Result<Vec<u8>, AllocErro
 /// Returns the symbols: one of zeros, and the symbol of the section `.data`.
 #[tactic(auto, unfolding(crate::specs::Params::section_symbol))]
 fn section_symbol(alloc: Global) -> Result<Vec<u8>, AllocError>
-    ensures { IfOk result (λ v. v.items ≡ the_section_symbol) }
+    ensures { IfOk result (λ v. v.items ≡ section_symbol) }
 {
     let mut symbols = Vec::new(alloc);
     push_zeros(&mut symbols, 24)?;

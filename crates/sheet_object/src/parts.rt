@@ -3,7 +3,7 @@ ghost use Rattle.std.specs.Prelude.{◌≡◌, ◌≤◌, [], ◌∷◌, ◌++�
 ghost use Rattle.std.specs.List.{flat_map};
 ghost use Rattle.sheet_object.specs.Sheet.{is_sheet};
 ghost use Rattle.sheet_object.specs.Number.{with_nul};
-ghost use Rattle.sheet_object.specs.Object.{loaded_parts, linked_parts, with_names, parts_of as the_parts_of};
+ghost use Rattle.sheet_object.specs.Object.{loaded_parts, linked_parts, with_names, parts_of};
 
 use crate::bytes::zeros;
 use crate::content::{modinfo, versions};
@@ -132,7 +132,7 @@ pub(crate) fn parts_of(
     more: &SheetMore,
 ) -> Result<Vec<Part>, AllocError>
     requires { IsTrue (is_sheet sheet.now more.now) }
-    ensures { IfOk result (λ parts. parts.items ≡ the_parts_of sheet.now more.now) }
+    ensures { IfOk result (λ parts. parts.items ≡ parts_of sheet.now more.now) }
 {
     let mut parts = Vec::new(alloc);
     push_loaded(alloc, &mut parts, sheet)?;

@@ -5,7 +5,7 @@ ghost use Rattle.std.specs.FinMap as fin;
 ghost use Rattle.km_names.specs.Limit.{file_limit};
 ghost use Rattle.km_outside.specs.Contents.{by_bytes};
 ghost use Rattle.km_course.specs.FollowsOn.{FollowsOnFiles};
-ghost use Rattle.stages_files.specs.Configuration.{roots as roots_in_order, folder_name as folder_name_of, with_names, paths_of, entries_in_bytes, lists_folder, lists_folders, reads_file, reads_files, reads_given, reads_listed, reads_configuration, stop_of};
+ghost use Rattle.stages_files.specs.Configuration.{roots as roots_spec, folder_name, with_names, paths_of, entries_in_bytes, lists_folder, lists_folders, reads_file, reads_files, reads_given, reads_listed, reads_configuration, stop_of};
 
 use km_course::{Refusal, Stop, list_conf_needed, list_conf_optional, read_needed};
 use km_names::{ConfFault, ConfFile, ConfFiles, List as Items, Names, PathText, Paths, join};
@@ -70,7 +70,7 @@ pub fn stop_of_fault(fault: ConfFault) -> Stop
 
 /// Returns the places of the folders of a tool's configuration.
 fn roots(alloc: Global) -> Result<Paths, AllocError>
-    ensures { IfOk result (λ paths. paths ≡ roots_in_order) }
+    ensures { IfOk result (λ paths. paths ≡ roots_spec) }
 {
     paths_from(
         alloc,
@@ -91,7 +91,7 @@ fn paths_from(alloc: Global, texts: &[&[u8]]) -> Result<Paths, AllocError>
 
 /// Returns the name of the folders of a tool's configuration.
 fn folder_name(tool: Tool) -> &'static [u8]
-    ensures { result.now ≡ folder_name_of tool }
+    ensures { result.now ≡ folder_name tool }
 {
     match tool {
         Tool::Depmod => b"depmod.d",
@@ -140,7 +140,7 @@ fn list_folders<F: Reads>(
     roots: &[PathText],
     files: &mut F,
 ) -> Result<Items<ListedFolder>, Stop>
-    ensures { FollowsOnFiles (lists_folders (folder_name_of tool) roots.now)
+    ensures { FollowsOnFiles (lists_folders (folder_name tool) roots.now)
         F.seen files.old files.new result }
 {
     let name = folder_name(tool);

@@ -2,7 +2,7 @@
 ghost use Rattle.std.specs.Prelude.{◌≡◌, ◌||◌};
 ghost use Rattle.std.specs.List.{list_any};
 ghost use Rattle.std.specs.Str.{bytes_eq};
-ghost use Rattle.symbol_binding.specs.Needs.{agree as versions_agree, is_seen, is_allowed};
+ghost use Rattle.symbol_binding.specs.Needs.{agree as agree_spec, is_seen, is_allowed};
 
 use km_names::{Name, Names};
 
@@ -10,7 +10,7 @@ use km_names::{Name, Names};
 /// takes no memory. The kernel's CONFIG_MODVERSIONS, kernel/module/version.c.
 #[tactic(auto, unfolding(crate::specs::Needs::agree))]
 pub fn agree(a: Option<u64>, b: Option<u64>) -> bool
-    ensures { result ≡ versions_agree a b }
+    ensures { result ≡ agree_spec a b }
 {
     match (a, b) {
         (Some(a), Some(b)) => a == b,

@@ -1,6 +1,6 @@
 // The objects of sheets that are written out.
 ghost use Rattle.std.specs.Prelude.{◌≡◌, ◌⊎◌, false, IfErr, IfOk};
-ghost use Rattle.sheet_object.specs.Sheet.{is_sheet as is_the_sheet, no_more};
+ghost use Rattle.sheet_object.specs.Sheet.{is_sheet, no_more};
 ghost use Rattle.sheet_object.specs.Object.{object_more_of};
 ghost use Rattle.test_objects.specs.Rows.{sheet_of, more_of};
 ghost use Rattle.test_objects.specs.declared.fault.RowFault.TheVariants.{Memory};
@@ -40,7 +40,7 @@ pub fn more(alloc: Global, row: &MoreRow) -> Result<SheetMore, AllocError>
 /// Returns the object of a sheet that is written out.
 pub fn object_of(alloc: Global, row: &SheetRow) -> Result<Blob, RowFault>
     ensures made { IfOk result (λ bytes. bytes ≡ object_more_of (sheet_of row.now) no_more) }
-    ensures refused { IfErr result (λ fault. (fault ≡ Memory) ⊎ (is_the_sheet (sheet_of row.now) no_more ≡ false)) }
+    ensures refused { IfErr result (λ fault. (fault ≡ Memory) ⊎ (is_sheet (sheet_of row.now) no_more ≡ false)) }
 {
     object_with(alloc, row, &NO_MORE)
 }
@@ -48,7 +48,7 @@ pub fn object_of(alloc: Global, row: &SheetRow) -> Result<Blob, RowFault>
 /// Returns the object of a sheet with more, both written out.
 pub fn object_with(alloc: Global, row: &SheetRow, besides: &MoreRow) -> Result<Blob, RowFault>
     ensures made { IfOk result (λ bytes. bytes ≡ object_more_of (sheet_of row.now) (more_of besides.now)) }
-    ensures refused { IfErr result (λ fault. (fault ≡ Memory) ⊎ (is_the_sheet (sheet_of row.now) (more_of besides.now) ≡ false)) }
+    ensures refused { IfErr result (λ fault. (fault ≡ Memory) ⊎ (is_sheet (sheet_of row.now) (more_of besides.now) ≡ false)) }
 {
     let sheet = sheet(alloc, row)?;
     let more = more(alloc, besides)?;

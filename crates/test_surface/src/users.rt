@@ -1,6 +1,6 @@
 //! Modules that use one another, and modules that are taken out of the machine.
 ghost use Rattle.std.specs.Prelude.{◌≡◌, ◌<◌, length};
-ghost use Rattle.model_unload.specs.Unload.{first_user as user_of};
+ghost use Rattle.model_unload.specs.Unload.{first_user};
 
 use crate::machine::{load_a, load_b, machine};
 use crate::same::{holds, shown};
@@ -70,7 +70,7 @@ fn modules_are_taken_out_by_name(rt: &impl Abort, alloc: Global) {
 /// Returns the place of the oldest module that binds to the one at the place.
 fn first_user(machine: &Machine, j: usize) -> Option<usize>
     requires { j < length machine.now.entries }
-    ensures { result ≡ user_of machine.now j }
+    ensures { result ≡ first_user machine.now j }
 {
     for k in 0..machine.module_count() {
         if machine.binds(k, j) {

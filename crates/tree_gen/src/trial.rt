@@ -1,5 +1,5 @@
 ghost use Rattle.std.specs.Prelude.{◌≡◌, ◌≤◌, ◌<◌, ◌+◌, ℕ, IfOk};
-ghost use Rattle.tree_gen.specs.Trial.{start_of, module_path as path_of, module_file as file_of_module, kernel_contents, unused, trial_files};
+ghost use Rattle.tree_gen.specs.Trial.{start_of, module_path, module_file, kernel_contents, unused, trial_files};
 
 use crate::draws::Draws;
 use crate::trial_sheet::{four_digits, module_sheet};
@@ -29,7 +29,7 @@ const SYSTEM_MAP: &[u8] = b"ffffffff81000000 T printk\n";
 /// Returns the path of the module of this number.
 #[tactic(auto, unfolding(crate::specs::Trial::module_path))]
 fn module_path(alloc: Global, number: u32) -> Result<PathText, AllocError>
-    ensures { IfOk result (λ path. path ≡ path_of number) }
+    ensures { IfOk result (λ path. path ≡ module_path number) }
 {
     let mut path = PathText::from_slice(alloc, b"/t/lib/modules/trial/kernel/m")?;
     path.extend(&four_digits(number))?;
@@ -41,7 +41,7 @@ fn module_path(alloc: Global, number: u32) -> Result<PathText, AllocError>
 #[tactic(auto, using(crate::proofs::TrialLemmas::is_sheet_made), unfolding(crate::specs::Trial::module_file))]
 fn module_file(alloc: Global, number: u32, draws: &mut Draws) -> Result<Blob, AllocError>
     requires { number < 10000 }
-    ensures file { IfOk result (λ bytes. (seed : ℕ) → draws.old.last ≡ start_of seed number → bytes ≡ file_of_module seed number) }
+    ensures file { IfOk result (λ bytes. (seed : ℕ) → draws.old.last ≡ start_of seed number → bytes ≡ module_file seed number) }
     ensures next { IfOk result (λ _. (seed : ℕ) → draws.old.last ≡ start_of seed number → draws.new.last ≡ start_of seed (number + 1)) }
 {
     let modules = draws.modules(alloc, number)?;

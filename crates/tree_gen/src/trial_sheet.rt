@@ -1,6 +1,6 @@
 // The sheets of a trial's modules.
 ghost use Rattle.std.specs.Prelude.{◌≡◌, [], ◌∷◌, map, IfOk};
-ghost use Rattle.tree_gen.specs.Trial.{digit as last_digit, four_digits as digits_of, symbol_name as name_of_symbol, exported as exported_by, printk as printk_of_kernel, needed as needed_of, stated, strong, address, texts as texts_of, module_sheet as sheet_of};
+ghost use Rattle.tree_gen.specs.Trial.{digit, four_digits, symbol_name, exported, printk, needed as needed_spec, stated, strong, address, texts as texts_spec, module_sheet};
 
 use elf_format::R_X86_64_64;
 use km_names::{Blob, Name, Texts};
@@ -18,14 +18,14 @@ const FIRST_VERSION: u64 = 0x2000_0000;
 
 /// Returns the last decimal digit of a number.
 fn digit(number: u32) -> u8
-    ensures { result ≡ last_digit number }
+    ensures { result ≡ digit number }
 {
     b'0' + (number % 10) as u8
 }
 
 /// Returns the last four decimal digits of a number.
 pub(crate) fn four_digits(number: u32) -> [u8; 4]
-    ensures { result ≡ digits_of number }
+    ensures { result ≡ four_digits number }
 {
     [
         digit(number / 1000),
@@ -38,7 +38,7 @@ pub(crate) fn four_digits(number: u32) -> [u8; 4]
 /// Returns the name of the symbol that the module of this number exports.
 #[tactic(auto, unfolding(crate::specs::Trial::symbol_name))]
 fn symbol_name(alloc: Global, number: u32) -> Result<Name, AllocError>
-    ensures { IfOk result (λ name. name ≡ name_of_symbol number) }
+    ensures { IfOk result (λ name. name ≡ symbol_name number) }
 {
     let mut name = Name::from_slice(alloc, b"s")?;
     name.extend(&four_digits(number))?;
@@ -47,7 +47,7 @@ fn symbol_name(alloc: Global, number: u32) -> Result<Name, AllocError>
 
 /// Returns the symbol that the module of this number exports, with its version.
 fn exported(alloc: Global, number: u32) -> Result<SheetVersion, AllocError>
-    ensures { IfOk result (λ version. version ≡ exported_by number) }
+    ensures { IfOk result (λ version. version ≡ exported number) }
 {
     let name = symbol_name(alloc, number)?;
     let crc = FIRST_VERSION + u64::from(number);
@@ -56,7 +56,7 @@ fn exported(alloc: Global, number: u32) -> Result<SheetVersion, AllocError>
 
 /// Returns the symbol of the kernel that each module needs, with its version.
 fn printk(alloc: Global) -> Result<SheetVersion, AllocError>
-    ensures { IfOk result (λ version. version ≡ printk_of_kernel) }
+    ensures { IfOk result (λ version. version ≡ printk) }
 {
     let name = Name::from_slice(alloc, b"printk")?;
     Ok(SheetVersion {
@@ -67,7 +67,7 @@ fn printk(alloc: Global) -> Result<SheetVersion, AllocError>
 
 /// Returns the symbols that a module needs, with their versions. The module draws these modules.
 fn needed(alloc: Global, modules: &[u32]) -> Result<SheetVersions, AllocError>
-    ensures { IfOk result (λ versions. versions ≡ needed_of modules.now) }
+    ensures { IfOk result (λ versions. versions ≡ needed_spec modules.now) }
 {
     let mut versions = SheetVersions::new(alloc);
     versions.push(printk(alloc)?)?;
@@ -79,7 +79,7 @@ fn needed(alloc: Global, modules: &[u32]) -> Result<SheetVersions, AllocError>
 
 /// Returns the only export of the module of this number, its symbol.
 fn exports(alloc: Global, number: u32) -> Result<SheetExports, AllocError>
-    ensures { IfOk result (λ exports. exports ≡ stated (exported_by number) ∷ []) }
+    ensures { IfOk result (λ exports. exports ≡ stated (exported number) ∷ []) }
 {
     let SheetVersion { name, crc } = exported(alloc, number)?;
     let mut exports = SheetExports::new(alloc);
@@ -120,7 +120,7 @@ fn places(alloc: Global, needed: &[SheetVersion]) -> Result<SheetPlaces, AllocEr
 
 /// Returns the texts of the module of this number.
 fn texts(alloc: Global, number: u32) -> Result<Texts, AllocError>
-    ensures { IfOk result (λ texts. texts ≡ texts_of number) }
+    ensures { IfOk result (λ texts. texts ≡ texts_spec number) }
 {
     let license = Blob::from_slice(alloc, b"license=GPL")?;
     let mut alias = Blob::from_slice(alloc, b"alias=trial:m")?;
@@ -134,7 +134,7 @@ fn texts(alloc: Global, number: u32) -> Result<Texts, AllocError>
 /// Returns the sheet of the module of this number, which draws these modules.
 #[tactic(auto, unfolding(crate::specs::Trial::module_sheet))]
 pub(crate) fn module_sheet(alloc: Global, number: u32, modules: &[u32]) -> Result<Sheet, AllocError>
-    ensures { IfOk result (λ sheet. sheet ≡ sheet_of number modules.now) }
+    ensures { IfOk result (λ sheet. sheet ≡ module_sheet number modules.now) }
 {
     let versions = needed(alloc, modules)?;
     let needs = needs(alloc, versions.as_slice())?;

@@ -1,7 +1,7 @@
 // A line of modules.unmet.
 ghost use Rattle.std.specs.Prelude.{◌≡◌, IfOk, option_map};
-ghost use Rattle.unmet_file.specs.Line.{unmet_line, two_words as two_words_of, three_words as three_words_of};
-ghost use Rattle.unmet_file.specs.Forms.{form_named as form_of, missing_of, double_of, provided_of, stated as stated_by};
+ghost use Rattle.unmet_file.specs.Line.{unmet_line, two_words, three_words};
+ghost use Rattle.unmet_file.specs.Forms.{form_named, missing_of, double_of, provided_of, stated};
 
 use crate::LineKind;
 use km_names::{Name, PathText, is_graphic, split_at_byte};
@@ -41,7 +41,7 @@ pub(crate) fn read_line(alloc: Global, line: &[u8]) -> Result<Option<Unbound>, A
 /// Returns the form whose first word this is.
 #[tactic(auto, unfolding(crate::specs::Forms::form_named))]
 fn form_named(word: &[u8]) -> Option<Form>
-    ensures { result ≡ form_of word.now }
+    ensures { result ≡ form_named word.now }
 {
     if word == LineKind::Missing.word() {
         Some(Form::Missing)
@@ -60,7 +60,7 @@ fn form_named(word: &[u8]) -> Option<Form>
 
 /// Returns what a line of this form states, by the words after the first.
 fn stated(alloc: Global, form: Form, words: &[u8]) -> Result<Option<Unbound>, AllocError>
-    ensures { IfOk result (λ unbound. unbound ≡ stated_by form words.now) }
+    ensures { IfOk result (λ unbound. unbound ≡ stated form words.now) }
 {
     match form {
         Form::Missing => missing(alloc, words),
@@ -126,7 +126,7 @@ fn provided(alloc: Global, kind: Kind, words: &[u8]) -> Result<Option<Unbound>, 
 
 /// Returns the two words of a text.
 fn two_words(text: &[u8]) -> Option<(&[u8], &[u8])>
-    ensures { option_map (λ w. (w.0.now, w.1.now)) result ≡ two_words_of text.now }
+    ensures { option_map (λ w. (w.0.now, w.1.now)) result ≡ two_words text.now }
 {
     let (first, second) = split_at_byte(text, b' ');
     if !is_graphic(first) || !is_graphic(second) {
@@ -138,7 +138,7 @@ fn two_words(text: &[u8]) -> Option<(&[u8], &[u8])>
 /// Returns the three words of a text with a space between them, if it has this form. A word isn't
 /// empty and its bytes are 33 to 126.
 pub fn three_words(text: &[u8]) -> Option<(&[u8], &[u8], &[u8])>
-    ensures { option_map (λ w. (w.0.now, w.1.now, w.2.now)) result ≡ three_words_of text.now }
+    ensures { option_map (λ w. (w.0.now, w.1.now, w.2.now)) result ≡ three_words text.now }
 {
     let (first, others) = split_at_byte(text, b' ');
     if !is_graphic(first) {
