@@ -1,21 +1,29 @@
 -- How often a table has seen each name.
 -- It belongs to the code: no public meaning rests on it.
-use Rattle.std.specs.Prelude.{◌≡◌, ℕ, zero, suc, List, Option, Some, None}
+use Rattle.std.specs.Prelude.{◌≡◌, ℕ, zero, suc, Bool, true, false, List, Option, Some, None}
 use Rattle.std.specs.List.{count_by}
 use Rattle.std.specs.HashMap.{get_by}
 use Rattle.std.specs.Str.{bytes_eq}
 use Rattle.module_facts.specs.declared.facts.Export.{Export}
 use Rattle.module_facts.specs.declared.seen.SeenNames.{SeenNames}
+use Rattle.module_facts.specs.declared.seen.Times.{Times}
+use Rattle.module_facts.specs.declared.seen.Times.TheVariants.{Once, More}
 
--- The count that a table has for a name.
-abbrev pub times_seen : SeenNames → List ℕ → Option ℕ
+-- What a table has for a name.
+abbrev pub times_seen : SeenNames → List ℕ → Option Times
 times_seen t name = get_by (λ k. bytes_eq name k.bytes.now) t.times
 
--- The count that a table has for a name that was seen so often: none, 1, or 2 for more.
-abbrev pub seen : ℕ → Option ℕ
+-- What a table has for a name that was seen so often.
+abbrev pub seen : ℕ → Option Times
 seen zero = None
-seen (suc zero) = Some 1
-seen (suc (suc n)) = Some 2
+seen (suc zero) = Some Once
+seen (suc (suc n)) = Some More
+
+-- Whether a name was seen more than once.
+abbrev pub is_repeated : Option Times → Bool
+is_repeated (Some More) = true
+is_repeated (Some Once) = false
+is_repeated None = false
 
 -- The number of exports with this name.
 abbrev pub times : List Export → List ℕ → ℕ

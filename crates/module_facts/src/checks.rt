@@ -10,7 +10,7 @@ ghost use Rattle.module_facts.specs.Faults.{facts_tests, has_bad_space, has_bad_
 
 use crate::exports::{given_space, given_version};
 use crate::role::Role;
-use crate::seen::SeenNames;
+use crate::seen::{SeenNames, Times};
 use crate::tables::{SymbolTables, symbol_of};
 use crate::versions::is_bad_list;
 use crate::{Export, Facts, ModuleFault, Need};
@@ -52,7 +52,11 @@ fn seen_names<'a>(alloc: Global, exports: &'a [Export]) -> Result<SeenNames<'a>,
     let mut table = SeenNames::new(alloc);
     for export in exports {
         let name = export.name.as_bytes();
-        let times = if table.get(name).is_some() { 2 } else { 1 };
+        let times = if table.get(name).is_some() {
+            Times::More
+        } else {
+            Times::Once
+        };
         table.put(name, times)?;
     }
     Ok(table)
@@ -64,7 +68,7 @@ fn first_twice<'a>(alloc: Global, exports: &'a [Export]) -> Result<Option<&'a Ex
 {
     let table = seen_names(alloc, exports)?;
     for export in exports {
-        if table.get(export.name.as_bytes()).unwrap_or(0) > 1 {
+        if table.is_repeated(export.name.as_bytes()) {
             return Ok(Some(export));
         }
     }

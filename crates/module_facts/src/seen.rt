@@ -8,14 +8,23 @@ use name_table::{NameHash, NameKey};
 use std::alloc::{AllocError, Global};
 use std::hash::BuildHasherDefault;
 
-/// How often some names were seen: once, or 2 for more.
+/// How often a name was seen.
+#[derive(Clone, Copy)]
+pub(crate) enum Times {
+    /// The name was seen once.
+    Once,
+    /// The name was seen more than once.
+    More,
+}
+
+/// How often some names were seen.
 #[derive(Drop)]
 pub(crate) struct SeenNames<'a> {
-    times: IndexMap<NameKey<'a>, u8, NameHash>,
+    times: IndexMap<NameKey<'a>, Times, NameHash>,
 }
 
 impl<'a> SeenNames<'a> {
-    ghost use Rattle.module_facts.specs.Times.{times_seen};
+    ghost use Rattle.module_facts.specs.Times.{is_repeated, times_seen};
 
     /// Returns a table that has seen no name.
     pub(crate) fn new(alloc: Global) -> Self
@@ -27,7 +36,7 @@ impl<'a> SeenNames<'a> {
     }
 
     /// Stores how often a name was seen.
-    pub(crate) fn put(&mut self, name: &'a [u8], times: u8) -> Result<(), AllocError>
+    pub(crate) fn put(&mut self, name: &'a [u8], times: Times) -> Result<(), AllocError>
         ensures { OnOk result ((other : List ℕ) → times_seen self.new other
             ≡ (if bytes_eq name.now other then Some times else times_seen self.old other)) }
     {
@@ -36,9 +45,19 @@ impl<'a> SeenNames<'a> {
     }
 
     /// Returns how often a name was seen, if it was seen.
-    pub(crate) fn get(&self, name: &[u8]) -> Option<u8>
+    pub(crate) fn get(&self, name: &[u8]) -> Option<Times>
         ensures { result ≡ times_seen self.now name.now }
     {
         self.times.get(&NameKey::new(name)).copied()
+    }
+
+    /// Returns whether a name was seen more than once.
+    pub(crate) fn is_repeated(&self, name: &[u8]) -> bool
+        ensures { result ≡ is_repeated (times_seen self.now name.now) }
+    {
+        match self.get(name) {
+            Some(Times::More) => true,
+            Some(Times::Once) | None => false,
+        }
     }
 }
