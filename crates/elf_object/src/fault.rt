@@ -73,7 +73,13 @@ impl From<SectionFault> for ObjectFault {
     fn from(fault: SectionFault) -> ObjectFault {
         match fault {
             SectionFault::Memory => ObjectFault::Memory,
-            shape => ObjectFault::Shape(shape),
+            SectionFault::NotElf
+            | SectionFault::Truncated { .. }
+            | SectionFault::WrongClass
+            | SectionFault::WrongMachine
+            | SectionFault::NotRelocatable
+            | SectionFault::BadSection { .. }
+            | SectionFault::BadString { .. } => ObjectFault::Shape(fault),
         }
     }
 }

@@ -39,7 +39,9 @@ fn are_one(class: Class, other: Class) -> bool
         (Class::Code, Class::Code) => true,
         (Class::Fixed, Class::Fixed) => true,
         (Class::Variable, Class::Variable) => true,
-        _ => false,
+        (Class::Code, Class::Fixed | Class::Variable)
+        | (Class::Fixed, Class::Code | Class::Variable)
+        | (Class::Variable, Class::Code | Class::Fixed) => false,
     }
 }
 

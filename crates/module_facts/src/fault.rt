@@ -69,7 +69,16 @@ impl From<ObjectFault> for ModuleFault {
     fn from(fault: ObjectFault) -> ModuleFault {
         match fault {
             ObjectFault::Memory => ModuleFault::Memory,
-            other => ModuleFault::Object(other),
+            ObjectFault::Shape(_)
+            | ObjectFault::RelSection { .. }
+            | ObjectFault::BadTable { .. }
+            | ObjectFault::ExtendedIndex { .. }
+            | ObjectFault::CommonSymbol { .. }
+            | ObjectFault::BadSymbol { .. }
+            | ObjectFault::BadAlign { .. }
+            | ObjectFault::BadRela { .. }
+            | ObjectFault::UnknownType { .. }
+            | ObjectFault::OverlappingPlaces { .. } => ModuleFault::Object(fault),
         }
     }
 }

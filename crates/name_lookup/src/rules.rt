@@ -27,7 +27,11 @@ fn installed_name(rule: &Rule) -> Option<&[u8]>
 {
     match rule {
         Rule::Install { name, .. } => Some(name.as_bytes()),
-        _ => None,
+        Rule::Alias { .. }
+        | Rule::Blacklist { .. }
+        | Rule::Options { .. }
+        | Rule::Remove { .. }
+        | Rule::Softdep { .. } => None,
     }
 }
 
@@ -50,6 +54,10 @@ fn blacklisted_name(rule: &Rule) -> Option<&[u8]>
 {
     match rule {
         Rule::Blacklist { name } => Some(name.as_bytes()),
-        _ => None,
+        Rule::Alias { .. }
+        | Rule::Options { .. }
+        | Rule::Install { .. }
+        | Rule::Remove { .. }
+        | Rule::Softdep { .. } => None,
     }
 }

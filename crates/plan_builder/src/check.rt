@@ -132,7 +132,18 @@ fn is_obstacle(kind: LineKind, line: &Unbound, planned: &NameSet<'_>, there: &Na
         (LineKind::Double, Unbound::Double { first, second, .. }) => {
             is_met(planned, there, first.as_bytes(), second.as_bytes())
         }
-        _ => false,
+        (
+            LineKind::Missing
+            | LineKind::Gpl
+            | LineKind::Version
+            | LineKind::Namespace
+            | LineKind::Double,
+            Unbound::Missing { .. }
+            | Unbound::Gpl { .. }
+            | Unbound::Version { .. }
+            | Unbound::Namespace { .. }
+            | Unbound::Double { .. },
+        ) => false,
     }
 }
 

@@ -194,7 +194,12 @@ fn command_in<'a>(rule: &'a Rule, wanted: &[u8]) -> Option<&'a [u8]>
 {
     match rule {
         Rule::Install { name, command } if name.as_bytes() == wanted => Some(command.as_bytes()),
-        _ => None,
+        Rule::Install { .. }
+        | Rule::Alias { .. }
+        | Rule::Blacklist { .. }
+        | Rule::Options { .. }
+        | Rule::Remove { .. }
+        | Rule::Softdep { .. } => None,
     }
 }
 

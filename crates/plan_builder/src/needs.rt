@@ -51,7 +51,12 @@ fn push_soft_names<'a>(
         Rule::Softdep { name, pre, post } if name.as_bytes() == wanted => {
             push_all(names, on_side(side, pre, post))
         }
-        _ => Ok(()),
+        Rule::Softdep { .. }
+        | Rule::Alias { .. }
+        | Rule::Blacklist { .. }
+        | Rule::Options { .. }
+        | Rule::Install { .. }
+        | Rule::Remove { .. } => Ok(()),
     }
 }
 

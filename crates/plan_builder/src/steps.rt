@@ -60,7 +60,12 @@ fn push_text<'a>(texts: &mut Vec<&'a [u8]>, rule: &'a Rule, wanted: &[u8]) -> Re
             texts.push(text.as_bytes())?;
             Ok(())
         }
-        _ => Ok(()),
+        Rule::Options { .. }
+        | Rule::Alias { .. }
+        | Rule::Blacklist { .. }
+        | Rule::Install { .. }
+        | Rule::Remove { .. }
+        | Rule::Softdep { .. } => Ok(()),
     }
 }
 

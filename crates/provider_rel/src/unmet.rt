@@ -42,7 +42,7 @@ fn is_unmet_alone(kind: Kind, need: &Need, known: bool) -> bool
 {
     match kind {
         Kind::Missing => known && !need.weak,
-        _ => false,
+        Kind::Gpl | Kind::Version | Kind::Namespace => false,
     }
 }
 
