@@ -1,7 +1,7 @@
 ghost use Rattle.std.specs.Prelude.{◌≡◌, ◌++◌, IfOk, OnOk, map};
 ghost use Rattle.km_course.specs.FollowsOn.{FollowsOnFilesAndOut, Returns};
 ghost use Rattle.name_table.specs.FirstSeen.{first_seen};
-ghost use Rattle.index_read.specs.Values.{shown};
+ghost use Rattle.index_read.specs.Values.{found_values};
 ghost use Rattle.command_builtin_alias.specs.BuiltinAlias.{builtin_alias_course, found_outcome, lines_of_names, shows_names};
 
 use index_read::{Index, Values, plain};
@@ -70,7 +70,7 @@ fn found_text(alloc: Global, index: &Index, name: &Name) -> Result<Blob, Stop>
 
 /// Collects the texts of values without repeats.
 fn distinct<'a>(alloc: Global, values: &'a Values) -> Result<NameSet<'a>, AllocError>
-    ensures { IfOk result (λ set. set ≡ first_seen (map (λ v. v.1) (shown values.now))) }
+    ensures { IfOk result (λ set. set ≡ first_seen (map (λ v. v.1) (found_values values.now))) }
 {
     let mut set = NameSet::new(alloc);
     for value in values.as_slice() {

@@ -5,7 +5,7 @@ use Rattle.std.specs.Str.{bytes_eq}
 use Rattle.modinfo_fields.specs.declared.piece.Field.{Field}
 use Rattle.modinfo_fields.specs.Fields.{values_of_key}
 use Rattle.modinfo_tool.specs.declared.text.ShowOptions.{ShowOptions}
-use Rattle.modinfo_tool.specs.Show.{shown, values_under, lines_asked, ended, line_end}
+use Rattle.modinfo_tool.specs.Show.{shown_text, values_under, lines_asked, ended, line_end}
 use Rattle.command_modinfo.specs.PlainKeys.{stands_for_else, plain_key}
 
 -- the values of a key that stands for nothing else
@@ -24,8 +24,8 @@ under-key path key fields is = by_tests (bytes_eq key (codes "filename")) (bytes
         differ h = cc
     by_tests false false e d = rw (e, d) refl
 
-pub shown-by-key : (path : List ℕ) (options : ShowOptions) (key : List ℕ) (fields : List Field) → Some key ≡ plain_key options.field → ended (line_end options.zero) (values_of_key key fields) ≡ shown path fields options
-unfolding shown
+pub shown-by-key : (path : List ℕ) (options : ShowOptions) (key : List ℕ) (fields : List Field) → Some key ≡ plain_key options.field → ended (line_end options.zero) (values_of_key key fields) ≡ shown_text path fields options
+unfolding shown_text
 shown-by-key path options key fields is = ap (ended (line_end options.zero)) (by_field options.field is)
   where
     none : Some key ≡ None → ⊥

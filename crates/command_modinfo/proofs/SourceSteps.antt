@@ -4,7 +4,7 @@ use Rattle.std.proofs.lemmas.List.{drop_more}
 use Rattle.std.specs.Prelude.{Option, Some, Result, ⊤}
 use Rattle.elf_sections.specs.Sections.{FileSections}
 use Rattle.modinfo_tool.specs.declared.text.ShowOptions.{ShowOptions}
-use Rattle.modinfo_tool.specs.Show.{shown}
+use Rattle.modinfo_tool.specs.Show.{shown_text}
 use Rattle.km_course.specs.Course.{Stage, ◌>>=◌, each_from, gives, says_any}
 use Rattle.km_course.specs.World.{World}
 use Rattle.km_course.specs.Follows.{Follows}
@@ -26,7 +26,7 @@ shows_found options path = shows path options
 
 -- the stage after a module was read
 abbrev pub said : List ℕ → ShowOptions → FileSections → Stage ⊤
-said path options sections = says_any (shown path (module_fields sections) options)
+said path options sections = says_any (shown_text path (module_fields sections) options)
 
 -- a version names the folder whose modules are read
 pub by_version : (version : Option (List ℕ)) (root v folder : List ℕ) (old new : World) (r : Result Source Stop) → version ≡ Some v → folder ≡ modules_folder root v → Follows (λ x. x) (reads_modules folder >>= named) old new r → Follows (λ x. x) (reads_source version root) old new r

@@ -4,7 +4,7 @@ use Rattle.km_names.specs.Path.{underscored}
 use Rattle.kmod_words.specs.declared.modinfo.ModinfoWords.{ModinfoWords}
 use Rattle.kmod_words.specs.Modinfo.{modinfo_request}
 use Rattle.modinfo_tool.specs.declared.text.ShowOptions.{ShowOptions}
-use Rattle.modinfo_tool.specs.Show.{shown}
+use Rattle.modinfo_tool.specs.Show.{shown_text}
 use Rattle.km_course.specs.Course.{Outcome, Stage, ◌>>=◌, given, gives, ends, each_from, says_any}
 use Rattle.km_course.specs.Course.Outcome.{value}
 use Rattle.km_course.specs.declared.end.End.TheVariants.{NotUnderstood}
@@ -31,7 +31,7 @@ path_asked (Names modules) word = path_outcome modules (underscored word)
 abbrev pub shows : List ℕ → ShowOptions → Stage ⊤
 shows path options = do
   sections ← reads_sections path
-  says_any (shown path (module_fields sections) options)
+  says_any (shown_text path (module_fields sections) options)
 
 -- The module of a word, which is looked up at its turn.
 abbrev pub shows_word : Source → ShowOptions → List ℕ → Stage ⊤

@@ -1,5 +1,5 @@
 ghost use Rattle.std.specs.Prelude.{◌≡◌, IfOk, codes, option_copied};
-ghost use Rattle.modinfo_tool.specs.Show.{shown};
+ghost use Rattle.modinfo_tool.specs.Show.{shown_text};
 ghost use Rattle.command_modinfo.specs.ModuleInfo.{bytes_named, module_fields};
 ghost use Rattle.command_modinfo.specs.PlainKeys.{if_plain, plain_key};
 
@@ -18,7 +18,7 @@ pub(crate) fn module_text(
     sections: &Sections,
     options: &ShowOptions,
 ) -> Result<Blob, AllocError>
-    ensures { IfOk result (λ text. text ≡ shown path.now (module_fields sections.now) options.now) }
+    ensures { IfOk result (λ text. text ≡ shown_text path.now (module_fields sections.now) options.now) }
 {
     let section = module_info(sections);
     match plain_key(&options.field) {

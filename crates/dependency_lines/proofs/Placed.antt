@@ -12,7 +12,7 @@ use Rattle.std.specs.declared.cmp.Ordering.TheVariants.{Less, Equal, Greater}
 use Rattle.dependency_lines.specs.declared.listed.Line.{Line}
 use Rattle.dependency_lines.specs.Modules.{by_number}
 use Rattle.dependency_lines.specs.Places.{ArePlaces, number_at}
-use Rattle.dependency_lines.specs.Tables.{shown}
+use Rattle.dependency_lines.specs.Tables.{listed_modules}
 use Rattle.dependency_lines.proofs.Sorting.{sorted-is}
 
 -- ---- the items that pass a test
@@ -91,7 +91,7 @@ module _ (lines placed : List Line) (places : List ℕ) (are : ArePlaces lines p
           filter-nothing (ties lt x) x placed (λ k m t. let e : number_at placed k x ≡ k = number-is k x (omega (arith, m, long)) in let s = same-number x (get_or placed k x) t in omega (arith, e, s, l, m, long))
           ∙ sym (filter-nothing (ties lt x) x lines (λ r m t. let s = same-number x (get_or lines r x) t in omega (arith, (are.back r x m).0, s, l)))
 
-  pub placed-is : shown placed ≡ by_number (shown lines)
+  pub placed-is : listed_modules placed ≡ by_number (listed_modules lines)
   placed-is = sorted-is lines placed rises stays
 
 -- ---- a place more

@@ -10,8 +10,8 @@ abbrev pub module_of : Line → KeyValue
 module_of line = (line.name.now, (line.number, line.text.now))
 
 -- Modules as keys with their values.
-abbrev pub shown : List Line → List KeyValue
-shown lines = map module_of lines
+abbrev pub listed_modules : List Line → List KeyValue
+listed_modules lines = map module_of lines
 
 -- A table has the names of modules.
 abbrev pub IsNamed : Table → List KeyValue → Type 0

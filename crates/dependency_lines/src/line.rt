@@ -8,7 +8,7 @@ ghost use Rattle.mod_tree.specs.DependencyLine.{is_line_path, own_path};
 ghost use Rattle.dependency_lines.specs.GoodPaths.{AreGood, are_good_needs, is_good};
 ghost use Rattle.dependency_lines.specs.Modules.{is_line_of, is_well_formed, bad_among};
 ghost use Rattle.dependency_lines.specs.Spaces.{IsAfterSpace};
-ghost use Rattle.dependency_lines.specs.Tables.{shown};
+ghost use Rattle.dependency_lines.specs.Tables.{listed_modules};
 
 use crate::fault::LineFault;
 use crate::good_paths::{GoodPaths, slot_of};
@@ -62,8 +62,8 @@ pub(crate) fn check_lines<'a, K: Known>(
     known: &K,
     lines: &[Line<'a>],
 ) -> Result<(), LineFault>
-    ensures passed { OnOk result (bad_among (K.has known.now) (shown lines.now) ≡ None) }
-    ensures err { IfErr result (λ fault. (fault ≡ LineFault.Memory) ⊎ (option_map LineFault.BadLine (bad_among (K.has known.now) (shown lines.now)) ≡ Some fault)) }
+    ensures passed { OnOk result (bad_among (K.has known.now) (listed_modules lines.now) ≡ None) }
+    ensures err { IfErr result (λ fault. (fault ≡ LineFault.Memory) ⊎ (option_map LineFault.BadLine (bad_among (K.has known.now) (listed_modules lines.now)) ≡ Some fault)) }
 {
     let mut paths = GoodPaths::new(alloc)?;
     let mut buffer = Vec::new(alloc);

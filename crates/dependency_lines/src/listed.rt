@@ -1,6 +1,6 @@
 // The modules of an index, by the first values of its keys.
 ghost use Rattle.std.specs.Prelude.{◌≡◌, IfOk};
-ghost use Rattle.dependency_lines.specs.Tables.{shown};
+ghost use Rattle.dependency_lines.specs.Tables.{listed_modules};
 
 use index_read::FirstValues;
 use std::alloc::{AllocError, Global};
@@ -18,7 +18,7 @@ pub(crate) fn lines_of<'a>(
     alloc: Global,
     values: &'a FirstValues<'_>,
 ) -> Result<Vec<Line<'a>>, AllocError>
-    ensures { IfOk result (λ lines. shown lines.items ≡ values.now) }
+    ensures { IfOk result (λ lines. listed_modules lines.items ≡ values.now) }
 {
     let mut lines = Vec::with_capacity(alloc, values.len())?;
     for place in 0..values.len() {

@@ -5,7 +5,7 @@ ghost use Rattle.index_format.specs.Map.{KeyValues};
 ghost use Rattle.index_read.specs.Firsts.{firsts_of};
 ghost use Rattle.name_table.specs.NameTable.{place_of as place_of_spec};
 ghost use Rattle.dependency_lines.specs.Modules.{bad_name, by_number, line_at, line_places, modules_of, name_at, path_at, place_of, places_of};
-ghost use Rattle.dependency_lines.specs.Tables.{shown, IsNamed};
+ghost use Rattle.dependency_lines.specs.Tables.{listed_modules, IsNamed};
 
 use crate::fault::LineFault;
 use crate::line::{Known, check_lines};
@@ -30,13 +30,13 @@ pub struct Modules<'a> {
 impl<'a> Model for Modules<'a> {
     ghost use Rattle.std.specs.Prelude.{List};
     ghost use Rattle.index_format.specs.Listing.{KeyValue};
-    ghost use Rattle.dependency_lines.specs.Tables.{shown, IsNamed};
+    ghost use Rattle.dependency_lines.specs.Tables.{listed_modules, IsNamed};
 
     ghost Value = { List KeyValue };
 
-    ghost view = { λ m. shown m.lines.items };
+    ghost view = { λ m. listed_modules m.lines.items };
 
-    ghost invariant = { λ m. IsNamed m.names (shown m.lines.items) };
+    ghost invariant = { λ m. IsNamed m.names (listed_modules m.lines.items) };
 }
 
 impl<'a> Modules<'a> {
@@ -120,7 +120,7 @@ impl<'a> Modules<'a> {
 
 /// Returns modules by their numbers.
 fn numbered<'a>(alloc: Global, lines: &[Line<'a>]) -> Result<Modules<'a>, AllocError>
-    ensures { IfOk result (λ modules. modules ≡ by_number (shown lines.now)) }
+    ensures { IfOk result (λ modules. modules ≡ by_number (listed_modules lines.now)) }
 {
     let lines = in_order(alloc, lines)?;
     let names = table_of(alloc, &lines)?;
@@ -129,7 +129,7 @@ fn numbered<'a>(alloc: Global, lines: &[Line<'a>]) -> Result<Modules<'a>, AllocE
 
 /// Returns the table of the names of modules.
 fn table_of<'a>(alloc: Global, lines: &[Line<'a>]) -> Result<NameTable<'a>, AllocError>
-    ensures { IfOk result (λ names. IsNamed names (shown lines.now)) }
+    ensures { IfOk result (λ names. IsNamed names (listed_modules lines.now)) }
 {
     if lines.len() >= u32::MAX as usize {
         return Err(AllocError);

@@ -2,7 +2,7 @@
 ghost use Rattle.std.specs.Prelude.{◌≡◌, IfOk, IfSome, length};
 ghost use Rattle.dependency_lines.specs.Modules.{by_number};
 ghost use Rattle.dependency_lines.specs.Places.{ArePlaces};
-ghost use Rattle.dependency_lines.specs.Tables.{shown};
+ghost use Rattle.dependency_lines.specs.Tables.{listed_modules};
 
 use crate::listed::Line;
 use std::alloc::{AllocError, Global};
@@ -10,7 +10,7 @@ use std::alloc::{AllocError, Global};
 /// Lists modules by their numbers, and those of one number in their order. depmod gives n modules
 /// the numbers below n, so that each is put at its number. Others are sorted.
 pub(crate) fn by_number<'a>(alloc: Global, lines: &[Line<'a>]) -> Result<Vec<Line<'a>>, AllocError>
-    ensures { IfOk result (λ sorted. shown sorted.items ≡ by_number (shown lines.now)) }
+    ensures { IfOk result (λ sorted. listed_modules sorted.items ≡ by_number (listed_modules lines.now)) }
 {
     match at_numbers(alloc, lines)? {
         Some(placed) => Ok(placed),
@@ -20,7 +20,7 @@ pub(crate) fn by_number<'a>(alloc: Global, lines: &[Line<'a>]) -> Result<Vec<Lin
 
 /// Sorts modules by their numbers.
 fn sorted<'a>(alloc: Global, lines: &[Line<'a>]) -> Result<Vec<Line<'a>>, AllocError>
-    ensures { IfOk result (λ sorted. shown sorted.items ≡ by_number (shown lines.now)) }
+    ensures { IfOk result (λ sorted. listed_modules sorted.items ≡ by_number (listed_modules lines.now)) }
 {
     let mut sorted = Vec::from_slice(alloc, lines)?;
     sorted.sort_by_key(|line| line.number)?;
@@ -29,7 +29,7 @@ fn sorted<'a>(alloc: Global, lines: &[Line<'a>]) -> Result<Vec<Line<'a>>, AllocE
 
 /// Puts each module at its number, if they have the numbers from 0 on, each once.
 fn at_numbers<'a>(alloc: Global, lines: &[Line<'a>]) -> Result<Option<Vec<Line<'a>>>, AllocError>
-    ensures { IfOk result (λ found. IfSome found (λ placed. shown placed.items ≡ by_number (shown lines.now))) }
+    ensures { IfOk result (λ found. IfSome found (λ placed. listed_modules placed.items ≡ by_number (listed_modules lines.now))) }
 {
     match places_by_number(alloc, lines)? {
         Some(places) => at_places(alloc, lines, &places),
@@ -61,7 +61,7 @@ fn at_places<'a>(
     places: &[usize],
 ) -> Result<Option<Vec<Line<'a>>>, AllocError>
     requires { ArePlaces lines.now places.now (length lines.now) }
-    ensures { IfOk result (λ found. IfSome found (λ placed. shown placed.items ≡ by_number (shown lines.now))) }
+    ensures { IfOk result (λ found. IfSome found (λ placed. listed_modules placed.items ≡ by_number (listed_modules lines.now))) }
 {
     let mut placed = Vec::with_capacity(alloc, lines.len())?;
     for place in places {

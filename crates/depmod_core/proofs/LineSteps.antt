@@ -17,8 +17,8 @@ use Rattle.index_write.proofs.VisibleWords.{both, graphic-text, key-of, characte
 use Rattle.module_facts.specs.declared.facts.Export.{Export}
 use Rattle.module_facts.specs.declared.facts.Facts.{Facts}
 use Rattle.provider_rel.specs.Tree.{IsTreeModule}
-use Rattle.depmod_core.specs.declared.stated.Kind.{Kind}
-use Rattle.depmod_core.specs.declared.stated.Kind.TheVariants.{Alias, Softdep, Symbol}
+use Rattle.depmod_core.specs.declared.stated.StatedKind.{StatedKind}
+use Rattle.depmod_core.specs.declared.stated.StatedKind.TheVariants.{Alias, Softdep, Symbol}
 use Rattle.depmod_core.specs.declared.text.Text.{Text}
 use Rattle.depmod_core.specs.Lines.{ended, lines_text}
 use Rattle.depmod_core.specs.Text.{with_piece}
@@ -87,7 +87,7 @@ line-text tree f places all good =
     All-append P f.path (58 ∷ flat_map (λ (other : List ℕ). 32 ∷ other) others) (graphic-text f.path good.path) (All-cons P 58 _ (omega arith) paths)
 
 -- a line on a symbol in the pieces in which it is put
-pub symbol-line : (kind : Kind) (stated name : List ℕ) → kind ≡ Symbol → codes "alias symbol:" ++ (stated ++ (32 ∷ (name ++ 10 ∷ []))) ≡ ended (stated_line kind name stated)
+pub symbol-line : (kind : StatedKind) (stated name : List ℕ) → kind ≡ Symbol → codes "alias symbol:" ++ (stated ++ (32 ∷ (name ++ 10 ∷ []))) ≡ ended (stated_line kind name stated)
 symbol-line kind stated name is =
     ap (λ bytes. codes "alias symbol:" ++ bytes) (sym (append_assoc stated (32 ∷ name) (10 ∷ [])))
     ∙ ap (λ k. ended (stated_line k name stated)) (sym is)
@@ -113,7 +113,7 @@ usable-key alias usable = go (normal_alias alias) refl
     go None is = tt
     go (Some key) is = normal-key alias key word is
 
-pub stated-keys : (kind : Kind) (f : Facts) → IsTreeModule f → All (λ text. IfSome (key_of kind text) IsKey) (texts_of kind f)
+pub stated-keys : (kind : StatedKind) (f : Facts) → IsTreeModule f → All (λ text. IfSome (key_of kind text) IsKey) (texts_of kind f)
 stated-keys Alias f good = kept-all is_usable_alias (λ text. IfSome (normal_alias text) IsKey) usable-key f.aliases
 stated-keys Softdep f good = λ k d inside. tt
 stated-keys Symbol f good =
@@ -121,7 +121,7 @@ stated-keys Symbol f good =
     (λ k d inside. key-of (codes "symbol:" ++ (get_or f.exports k d).name) (characters (get_or f.exports k d).name (good.exports k d inside)))
 
 -- the same of texts with their keys
-pub keys-good : (kind : Kind) (f : Facts) → IsTreeModule f → All (λ (s : List ℕ × Option (List ℕ)). IfSome s.1 IsKey) (statements kind f)
+pub keys-good : (kind : StatedKind) (f : Facts) → IsTreeModule f → All (λ (s : List ℕ × Option (List ℕ)). IfSome s.1 IsKey) (statements kind f)
 keys-good kind f good = All-map (λ (s : List ℕ × Option (List ℕ)). IfSome s.1 IsKey) (statement kind) (texts_of kind f) (stated-keys kind f good)
 
 -- lists that are seen as lists of what is at their places
@@ -130,13 +130,13 @@ seen-at see f xs ys i x y same within inside is other =
     ap see is ∙ sym (get_or-map see xs i x (see x) within) ∙ ap (λ l. get_or l i (see x)) same ∙ get_or-map f ys i y (see x) inside ∙ ap f (sym other)
 
 -- there is a list for each module
-pub stated-long : (kind : Kind) (tree : List Facts) (all : List (Vec (List ℕ × Option (List ℕ)))) → AreStated kind tree all → length all ≡ length tree
+pub stated-long : (kind : StatedKind) (tree : List Facts) (all : List (Vec (List ℕ × Option (List ℕ)))) → AreStated kind tree all → length all ≡ length tree
 stated-long kind tree all are =
     let see = λ (v : Vec (List ℕ × Option (List ℕ))). v.items in
     omega (arith, ap length are, length-map all see, length-map tree (statements kind))
 
 -- what the module at a place states
-pub stated-at : (kind : Kind) (tree : List Facts) (all : List (Vec (List ℕ × Option (List ℕ)))) (i : ℕ) (v : Vec (List ℕ × Option (List ℕ))) (f : Facts) → AreStated kind tree all → i < length tree → v ≡ get_or all i v → f ≡ get_or tree i f → v.items ≡ statements kind f
+pub stated-at : (kind : StatedKind) (tree : List Facts) (all : List (Vec (List ℕ × Option (List ℕ)))) (i : ℕ) (v : Vec (List ℕ × Option (List ℕ))) (f : Facts) → AreStated kind tree all → i < length tree → v ≡ get_or all i v → f ≡ get_or tree i f → v.items ≡ statements kind f
 stated-at kind tree all i v f are within is at =
     let see = λ (v : Vec (List ℕ × Option (List ℕ))). v.items in
     let inside : i < length all = omega (arith, within, stated-long kind tree all are) in
@@ -154,22 +154,22 @@ tree-module tree items i f same inside is good =
     subst IsTreeModule (sym (is ∙ ap (λ l. get_or l i f) same)) (good i f (omega (arith, ap length same)))
 
 -- The lines of a module.
-abbrev pub lines_by : Kind → Facts → List (List ℕ)
+abbrev pub lines_by : StatedKind → Facts → List (List ℕ)
 lines_by kind f = map (stated_line kind f.name) (texts_of kind f)
 
 -- the same of texts with their keys
-pub lines-seen : (kind : Kind) (f : Facts) (name : List ℕ) (all : List (List ℕ × Option (List ℕ))) → name ≡ f.name → all ≡ statements kind f → map (λ (s : List ℕ × Option (List ℕ)). stated_line kind name s.0) all ≡ lines_by kind f
+pub lines-seen : (kind : StatedKind) (f : Facts) (name : List ℕ) (all : List (List ℕ × Option (List ℕ))) → name ≡ f.name → all ≡ statements kind f → map (λ (s : List ℕ × Option (List ℕ)). stated_line kind name s.0) all ≡ lines_by kind f
 lines-seen kind f name all named are =
     ap (λ n. map (λ (s : List ℕ × Option (List ℕ)). stated_line kind n s.0) all) named
     ∙ ap (map (λ (s : List ℕ × Option (List ℕ)). stated_line kind f.name s.0)) are
     ∙ map-map (λ (s : List ℕ × Option (List ℕ)). stated_line kind f.name s.0) (statement kind) (texts_of kind f)
 
 -- The lines of the file, put one after the other.
-abbrev pub text_by : Kind → List Facts → List ℕ
+abbrev pub text_by : StatedKind → List Facts → List ℕ
 text_by kind tree = lines_text (heading kind ∷ flat_map (lines_by kind) tree)
 
 -- what modules state, by its kind
-pub kind-text : (kind : Kind) (tree : List Facts) → text_by kind tree ≡ text_of kind tree
+pub kind-text : (kind : StatedKind) (tree : List Facts) → text_by kind tree ≡ text_of kind tree
 unfolding alias_text softdep_text symbols_text
 kind-text Alias tree = refl
 kind-text Softdep tree = refl
@@ -184,11 +184,11 @@ same-each f g same [] = refl
 same-each f g same (x ∷ xs) = λ i. same x i ++ same-each f g same xs i
 
 -- values by texts with their keys
-with-keys : (kind : Kind) (place : ℕ) (name : List ℕ) (texts : List (List ℕ)) → values_with place name (map (statement kind) texts) ≡ filter_map (λ text. option_map (λ key. (key, (place, name))) (key_of kind text)) texts
+with-keys : (kind : StatedKind) (place : ℕ) (name : List ℕ) (texts : List (List ℕ)) → values_with place name (map (statement kind) texts) ≡ filter_map (λ text. option_map (λ key. (key, (place, name))) (key_of kind text)) texts
 with-keys kind place name [] = refl
 with-keys kind place name (t ∷ ts) = ap (λ l. cons_option (option_map (λ key. (key, (place, name))) (key_of kind t)) l) (with-keys kind place name ts)
 
-pub kind-map : (kind : Kind) (tree : List Facts) → map_by kind tree ≡ map_for kind tree
+pub kind-map : (kind : StatedKind) (tree : List Facts) → map_by kind tree ≡ map_for kind tree
 unfolding alias_map symbols_map
 kind-map Alias tree =
     ap map_of (same-each (values_by Alias) alias_values (λ m. with-keys Alias m.0 m.1.name (aliases_of m.1)) (enumerate_from 0 tree))

@@ -3,13 +3,13 @@
 use Rattle.std.specs.Prelude.{◌≡◌, ℕ, List, Option, map}
 use Rattle.std.specs.Global.{Vec}
 use Rattle.module_facts.specs.declared.facts.Facts.{Facts}
-use Rattle.depmod_core.specs.declared.stated.Kind.{Kind}
-use Rattle.depmod_core.specs.declared.stated.Kind.TheVariants.{Alias, Softdep, Symbol}
+use Rattle.depmod_core.specs.declared.stated.StatedKind.{StatedKind}
+use Rattle.depmod_core.specs.declared.stated.StatedKind.TheVariants.{Alias, Softdep, Symbol}
 use Rattle.depmod_core.specs.declared.stated.AllStated.{AllStated}
 use Rattle.depmod_core.specs.Kinds.{statements}
 
 -- The statements of one kind of each module of a tree.
-abbrev pub AreStated : Kind → List Facts → List (Vec (List ℕ × Option (List ℕ))) → Type 0
+abbrev pub AreStated : StatedKind → List Facts → List (Vec (List ℕ × Option (List ℕ))) → Type 0
 AreStated kind tree all = map (λ (v : Vec (List ℕ × Option (List ℕ))). v.items) all ≡ map (statements kind) tree
 
 -- The statements of each kind of each module of a tree.

@@ -12,7 +12,7 @@ ghost use Rattle.depmod_core.specs.Kinds.{Stands};
 use crate::built_in::built_in_map;
 use crate::dependencies::{dep_map, dep_text};
 use crate::index::index;
-use crate::stated::{AllStated, Kind, stated_map, stated_text};
+use crate::stated::{AllStated, StatedKind, stated_map, stated_text};
 use crate::unmet::unmet_text;
 use crate::{OutputFault, OutputFile};
 use km_names::Blob;
@@ -84,11 +84,19 @@ fn make(
     match file {
         OutputFile::Dep => dep_text(alloc, relation, tree),
         OutputFile::DepBin => index(alloc, file, &dep_map(alloc, relation, tree)?),
-        OutputFile::Alias => stated_text(alloc, file, Kind::Alias, tree, all),
-        OutputFile::AliasBin => index(alloc, file, &stated_map(alloc, Kind::Alias, tree, all)?),
-        OutputFile::Softdep => stated_text(alloc, file, Kind::Softdep, tree, all),
-        OutputFile::Symbols => stated_text(alloc, file, Kind::Symbol, tree, all),
-        OutputFile::SymbolsBin => index(alloc, file, &stated_map(alloc, Kind::Symbol, tree, all)?),
+        OutputFile::Alias => stated_text(alloc, file, StatedKind::Alias, tree, all),
+        OutputFile::AliasBin => index(
+            alloc,
+            file,
+            &stated_map(alloc, StatedKind::Alias, tree, all)?,
+        ),
+        OutputFile::Softdep => stated_text(alloc, file, StatedKind::Softdep, tree, all),
+        OutputFile::Symbols => stated_text(alloc, file, StatedKind::Symbol, tree, all),
+        OutputFile::SymbolsBin => index(
+            alloc,
+            file,
+            &stated_map(alloc, StatedKind::Symbol, tree, all)?,
+        ),
         OutputFile::BuiltinBin => index(alloc, file, &built_in_map(alloc, builtin)?),
         OutputFile::Unmet => unmet_text(alloc, relation.obstacles()),
     }

@@ -24,7 +24,7 @@ use std::marker::Model;
 
 /// What is stated.
 #[derive(Clone, Copy)]
-pub(crate) enum Kind {
+pub(crate) enum StatedKind {
     Alias,
     Softdep,
     Symbol,
@@ -50,7 +50,7 @@ impl<'a> Model for Statement<'a> {
 /// and has a normal form.
 #[tactic(auto, unfolding(crate::specs::Stated::is_usable_alias))]
 fn usable_alias(alloc: Global, alias: &[u8]) -> Result<Option<Statement<'_>>, AllocError>
-    ensures { IfOk result (λ found. found ≡ (if is_usable_alias alias.now then Some (statement Kind.Alias alias.now) else None)) }
+    ensures { IfOk result (λ found. found ≡ (if is_usable_alias alias.now then Some (statement StatedKind.Alias alias.now) else None)) }
 {
     if !is_graphic(alias) {
         return Ok(None);
@@ -87,7 +87,7 @@ fn is_usable_softdep(text: &[u8]) -> bool
 
 /// Returns the aliases of a module that can be used.
 fn aliases(alloc: Global, facts: &Facts) -> Result<Vec<Statement<'_>>, AllocError>
-    ensures { IfOk result (λ stated. stated.items ≡ map (statement Kind.Alias) (aliases_of facts.now)) }
+    ensures { IfOk result (λ stated. stated.items ≡ map (statement StatedKind.Alias) (aliases_of facts.now)) }
 {
     let mut usable = Vec::new(alloc);
     for alias in facts.aliases.as_slice() {
@@ -100,7 +100,7 @@ fn aliases(alloc: Global, facts: &Facts) -> Result<Vec<Statement<'_>>, AllocErro
 
 /// Returns the texts of a module's softdeps that can be used. They have no keys.
 fn softdeps(alloc: Global, facts: &Facts) -> Result<Vec<Statement<'_>>, AllocError>
-    ensures { IfOk result (λ stated. stated.items ≡ map (statement Kind.Softdep) (softdeps_of facts.now)) }
+    ensures { IfOk result (λ stated. stated.items ≡ map (statement StatedKind.Softdep) (softdeps_of facts.now)) }
 {
     let mut usable = Vec::new(alloc);
     for text in facts.softdeps.as_slice() {
@@ -123,7 +123,7 @@ fn symbol_key(alloc: Global, symbol: &[u8]) -> Result<Blob, AllocError>
 
 /// Returns the names of the symbols that a module exports.
 fn symbols(alloc: Global, facts: &Facts) -> Result<Vec<Statement<'_>>, AllocError>
-    ensures { IfOk result (λ stated. stated.items ≡ map (statement Kind.Symbol) (symbols_of facts.now)) }
+    ensures { IfOk result (λ stated. stated.items ≡ map (statement StatedKind.Symbol) (symbols_of facts.now)) }
 {
     let mut names = Vec::new(alloc);
     for export in facts.exports.as_slice() {
@@ -137,20 +137,24 @@ fn symbols(alloc: Global, facts: &Facts) -> Result<Vec<Statement<'_>>, AllocErro
 }
 
 /// Returns what a module states of a kind.
-fn stated_by(alloc: Global, kind: Kind, facts: &Facts) -> Result<Vec<Statement<'_>>, AllocError>
+fn stated_by(
+    alloc: Global,
+    kind: StatedKind,
+    facts: &Facts,
+) -> Result<Vec<Statement<'_>>, AllocError>
     ensures { IfOk result (λ stated. stated.items ≡ statements kind facts.now) }
 {
     match kind {
-        Kind::Alias => aliases(alloc, facts),
-        Kind::Softdep => softdeps(alloc, facts),
-        Kind::Symbol => symbols(alloc, facts),
+        StatedKind::Alias => aliases(alloc, facts),
+        StatedKind::Softdep => softdeps(alloc, facts),
+        StatedKind::Symbol => symbols(alloc, facts),
     }
 }
 
 /// Collects what the modules of a tree state of a kind.
 fn all_stated(
     alloc: Global,
-    kind: Kind,
+    kind: StatedKind,
     tree: &TreeFacts,
 ) -> Result<Vec<Vec<Statement<'_>>>, AllocError>
     ensures { IfOk result (λ all. AreStated kind tree.now all.items) }
@@ -176,39 +180,39 @@ impl<'a> AllStated<'a> {
         ensures { IfOk result (λ all. AreAllStated tree.now all) }
     {
         Ok(AllStated {
-            aliases: all_stated(alloc, Kind::Alias, tree)?,
-            softdeps: all_stated(alloc, Kind::Softdep, tree)?,
-            symbols: all_stated(alloc, Kind::Symbol, tree)?,
+            aliases: all_stated(alloc, StatedKind::Alias, tree)?,
+            softdeps: all_stated(alloc, StatedKind::Softdep, tree)?,
+            symbols: all_stated(alloc, StatedKind::Symbol, tree)?,
         })
     }
 
     /// Returns what the modules state of a kind.
-    fn of(&self, kind: Kind) -> &[Vec<Statement<'a>>]
+    fn of(&self, kind: StatedKind) -> &[Vec<Statement<'a>>]
         ensures { (tree : List Facts) → AreAllStated tree self.now → AreStated kind tree result.now }
     {
         match kind {
-            Kind::Alias => &self.aliases,
-            Kind::Softdep => &self.softdeps,
-            Kind::Symbol => &self.symbols,
+            StatedKind::Alias => &self.aliases,
+            StatedKind::Softdep => &self.softdeps,
+            StatedKind::Symbol => &self.symbols,
         }
     }
 }
 
 /// Puts a line of the module of this name.
-fn put_line(text: &mut Text, kind: Kind, name: &[u8], stated: &[u8]) -> Result<(), AllocError>
+fn put_line(text: &mut Text, kind: StatedKind, name: &[u8], stated: &[u8]) -> Result<(), AllocError>
     ensures { OnOk result (text.new ≡ with_piece text.old (ended (line_of kind name.now stated.now))) }
 {
     match kind {
-        Kind::Alias => text.put_all(&[b"alias ", stated, b" ", name, b"\n"]),
-        Kind::Softdep => text.put_all(&[b"softdep ", name, b" ", stated, b"\n"]),
-        Kind::Symbol => text.put_all(&[b"alias symbol:", stated, b" ", name, b"\n"]),
+        StatedKind::Alias => text.put_all(&[b"alias ", stated, b" ", name, b"\n"]),
+        StatedKind::Softdep => text.put_all(&[b"softdep ", name, b" ", stated, b"\n"]),
+        StatedKind::Symbol => text.put_all(&[b"alias symbol:", stated, b" ", name, b"\n"]),
     }
 }
 
 /// Puts the lines of the module of this name.
 fn put_lines(
     text: &mut Text,
-    kind: Kind,
+    kind: StatedKind,
     name: &[u8],
     all: &[Statement<'_>],
 ) -> Result<(), AllocError>
@@ -221,20 +225,20 @@ fn put_lines(
 }
 
 /// Returns the heading of a kind's file.
-fn heading(kind: Kind) -> &'static [u8]
+fn heading(kind: StatedKind) -> &'static [u8]
     ensures { result.now ≡ heading kind }
 {
     match kind {
-        Kind::Alias => b"# Aliases extracted from modules themselves.",
-        Kind::Softdep => b"# Soft dependencies extracted from modules themselves.",
-        Kind::Symbol => b"# Aliases for symbols, used by symbol_request().",
+        StatedKind::Alias => b"# Aliases extracted from modules themselves.",
+        StatedKind::Softdep => b"# Soft dependencies extracted from modules themselves.",
+        StatedKind::Symbol => b"# Aliases for symbols, used by symbol_request().",
     }
 }
 
 /// Puts the text of a kind's file.
 fn put_text(
     text: &mut Text,
-    kind: Kind,
+    kind: StatedKind,
     tree: &TreeFacts,
     lists: &[Vec<Statement<'_>>],
 ) -> Result<(), AllocError>
@@ -254,7 +258,7 @@ fn put_text(
 pub(crate) fn stated_text(
     alloc: Global,
     file: OutputFile,
-    kind: Kind,
+    kind: StatedKind,
     tree: &TreeFacts,
     stated: &AllStated<'_>,
 ) -> Result<Blob, OutputFault>
@@ -294,7 +298,7 @@ fn add_values(
 /// the modules that state it. The priority of a value is the module's place in the tree. depmod(8).
 pub(crate) fn stated_map(
     alloc: Global,
-    kind: Kind,
+    kind: StatedKind,
     tree: &TreeFacts,
     stated: &AllStated<'_>,
 ) -> Result<KeyMap, AllocError>

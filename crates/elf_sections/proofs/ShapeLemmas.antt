@@ -4,7 +4,7 @@ use Rattle.std.proofs.Common.{◌≡◌, ℕ, ◌<◌, ◌≤◌, true, false, L
 use Rattle.std.proofs.lemmas.Bool.Decides.{nat_tests}
 use Rattle.km_names.specs.First.{first}
 use Rattle.elf_sections.specs.declared.fault.SectionFault.{SectionFault}
-use Rattle.elf_sections.specs.Shape.{AllInFile, content, contents, each, has_content, header_tests, is_kept, is_table, name_table, name_in, name_table_test, name_test, name_test_in, place_test, section_count, section_header, shape_fault, shape_tests}
+use Rattle.elf_sections.specs.Shape.{AllInFile, content, contents, each, has_content, header_tests, is_kept, is_table, name_table, name_in, name_table_test, name_test, name_test_in, content_test, section_count, section_header, shape_fault, shape_tests}
 use Rattle.elf_sections.specs.Strings.{HasStrings}
 use Rattle.elf_sections.specs.Sections.{IsRead, bytes_of, section_of, sections_of}
 use Rattle.std.proofs.lemmas.List.{length-drop, length-take}
@@ -26,19 +26,19 @@ is_table-numbers b passed = grind (arith, nat_tests)
 pub shape_fault-header : (b : List ℕ) (fault : SectionFault) → first (header_tests b) ≡ Some fault → shape_fault b ≡ Some fault
 unfolding shape_fault shape_tests
 shape_fault-header b fault failed =
-    first-failed (header_tests b ++ each (section_count b) (place_test b)) _ fault (first-failed (header_tests b) _ fault failed)
+    first-failed (header_tests b ++ each (section_count b) (content_test b)) _ fault (first-failed (header_tests b) _ fault failed)
 
 -- Then a section that doesn't lie in the file does.
-pub shape_fault-places : (b : List ℕ) (fault : SectionFault) → first (header_tests b) ≡ None → first (each (section_count b) (place_test b)) ≡ Some fault → shape_fault b ≡ Some fault
+pub shape_fault-places : (b : List ℕ) (fault : SectionFault) → first (header_tests b) ≡ None → first (each (section_count b) (content_test b)) ≡ Some fault → shape_fault b ≡ Some fault
 unfolding shape_fault shape_tests
 shape_fault-places b fault header failed =
-    first-failed (header_tests b ++ each (section_count b) (place_test b)) _ fault (first-passed (header_tests b) _ header ∙ failed)
+    first-failed (header_tests b ++ each (section_count b) (content_test b)) _ fault (first-passed (header_tests b) _ header ∙ failed)
 
 -- After both the names decide.
-pub shape_fault-names : (b : List ℕ) → first (header_tests b) ≡ None → first (each (section_count b) (place_test b)) ≡ None → shape_fault b ≡ first (name_table_test b ∷ each (section_count b) (name_test b))
+pub shape_fault-names : (b : List ℕ) → first (header_tests b) ≡ None → first (each (section_count b) (content_test b)) ≡ None → shape_fault b ≡ first (name_table_test b ∷ each (section_count b) (name_test b))
 unfolding shape_fault shape_tests
 shape_fault-names b header places =
-    first-passed (header_tests b ++ each (section_count b) (place_test b)) _ (first-passed (header_tests b) _ header ∙ places)
+    first-passed (header_tests b ++ each (section_count b) (content_test b)) _ (first-passed (header_tests b) _ header ∙ places)
 
 -- As many sections as the file header says.
 pub length-sections_of : (b : List ℕ) → length (sections_of b) ≡ section_count b

@@ -120,8 +120,8 @@ header_tests b =
     ∷ []
 
 -- The test that the section i lies in the file, and that the first section is of type NULL.
-unfoldable pub place_test : List ℕ → ℕ → Option SectionFault
-place_test b i =
+unfoldable pub content_test : List ℕ → ℕ → Option SectionFault
+content_test b i =
     let h = section_header b i in
     first (
     fault_if (i == 0 && not (h.kind == SHT_NULL)) (BadSection 0)
@@ -143,7 +143,7 @@ name_test b i = name_test_in (contents b (name_table b)) (section_header b i).ki
 -- The tests that a file with sections passes, in order.
 unfoldable pub shape_tests : List ℕ → List (Option SectionFault)
 shape_tests b =
-    header_tests b ++ each (section_count b) (place_test b) ++ name_table_test b ∷ each (section_count b) (name_test b)
+    header_tests b ++ each (section_count b) (content_test b) ++ name_table_test b ∷ each (section_count b) (name_test b)
 
 -- The fault of the sections of a file: the first test that fails.
 unfoldable pub shape_fault : List ℕ → Option SectionFault

@@ -3,7 +3,7 @@
 ghost use Rattle.std.specs.Prelude.{◌≡◌, ◌+◌, ◌<◌, ◌≤◌, ◌⊎◌, length, None, Some, IsTrue, OnOk, IfOk, IfErr};
 ghost use Rattle.std.specs.Result.{result_err};
 ghost use Rattle.km_names.specs.First.{first};
-ghost use Rattle.elf_sections.specs.Shape.{AllInFile, HasTable, IsInFile, content, each, has_content, name_table, name_table_test, name_test, place_test, section_count, section_header, shape_fault, contents};
+ghost use Rattle.elf_sections.specs.Shape.{AllInFile, HasTable, IsInFile, content, each, has_content, name_table, name_table_test, name_test, content_test, section_count, section_header, shape_fault, contents};
 ghost use Rattle.elf_sections.specs.Sections.{IsRead, file_sections, sections_of};
 ghost use Rattle.elf_sections.specs.Strings.{HasStrings};
 
@@ -40,10 +40,10 @@ fn content(bytes: &[u8], kind: u32, offset: u64, size: u64) -> &[u8]
 }
 
 /// Tests that the section `index` lies in the file, and that the first one is of type NULL.
-#[tactic(auto, unfolding(crate::specs::Shape::place_test))]
-fn check_place(bytes: &[u8], index: u16, header: &SectionHeader) -> Result<(), SectionFault>
+#[tactic(auto, unfolding(crate::specs::Shape::content_test))]
+fn check_content(bytes: &[u8], index: u16, header: &SectionHeader) -> Result<(), SectionFault>
     requires { header.now ≡ section_header bytes.now index }
-    ensures fault { result_err result ≡ place_test bytes.now index }
+    ensures fault { result_err result ≡ content_test bytes.now index }
     ensures within { OnOk result (IsInFile bytes.now header.now) }
 {
     if index == 0 && header.kind != SHT_NULL {
@@ -59,14 +59,14 @@ fn check_place(bytes: &[u8], index: u16, header: &SectionHeader) -> Result<(), S
 }
 
 /// Tests that each section lies in the file.
-fn check_places(bytes: &[u8]) -> Result<(), SectionFault>
+fn check_contents(bytes: &[u8]) -> Result<(), SectionFault>
     requires { HasTable bytes.now }
     ensures fault { result_err result
-        ≡ first (each (section_count bytes.now) (place_test bytes.now)) }
+        ≡ first (each (section_count bytes.now) (content_test bytes.now)) }
     ensures within { OnOk result (AllInFile bytes.now) }
 {
     for index in 0..section_count(bytes) {
-        check_place(bytes, index, &section_header(bytes, index))?;
+        check_content(bytes, index, &section_header(bytes, index))?;
     }
     Ok(())
 }
@@ -132,7 +132,7 @@ pub(crate) fn check_shape(bytes: &[u8]) -> Result<(), SectionFault>
         ⊎ (shape_fault bytes.now ≡ Some e)) }
 {
     check_header(bytes)?;
-    check_places(bytes)?;
+    check_contents(bytes)?;
     check_name_table(bytes)?;
     check_names(bytes, section_names(bytes))
 }

@@ -13,7 +13,7 @@ use crate::{LayFault, Layout};
 use elf_object::{Object, RelaPlace};
 use raw_image::Image;
 use std::alloc::Global;
-use x86_relocate::{Overflow, Patch, put};
+use x86_relocate::{Overflow, Patch, write_word};
 
 /// Returns the patch of a relocation, in an image at a base, by the addresses of the symbols.
 #[tactic(auto, unfolding(crate::specs::Laid::patch_of), using(crate::proofs::SymbolLemmas::offset_at, crate::proofs::SymbolLemmas::length_layout, crate::proofs::SymbolLemmas::wrapped_place))]
@@ -58,7 +58,7 @@ fn relocate(
 {
     for i in 0..object.place_count() {
         let patch = patch_of(object, layout, base, addresses, object.place(i));
-        if put(image, &patch).is_err() {
+        if write_word(image, &patch).is_err() {
             return Err(Overflow {
                 section: patch.section,
                 entry: patch.entry,

@@ -11,8 +11,8 @@ use Rattle.index_read.specs.declared.value.Pair.{Pair}
 abbrev pub value_of : Found → Value
 value_of v = (v.priority, v.text)
 
-abbrev pub shown : List Found → List Value
-shown vs = map value_of vs
+abbrev pub found_values : List Found → List Value
+found_values vs = map value_of vs
 
 -- Keys, each with one of its values.
 abbrev pub pair_of : Pair → KeyValue

@@ -10,7 +10,7 @@ ghost use Rattle.index_nodes.specs.Places.{IsPlaceOf, value_at};
 ghost use Rattle.index_format.specs.Nodes.{node_count};
 ghost use Rattle.index_format.specs.Listing.{IsListing};
 ghost use Rattle.index_read.specs.Contents.{contents, values_matching, wild_values};
-ghost use Rattle.index_read.specs.Values.{shown, shown_pairs, IsWild, IsMatching};
+ghost use Rattle.index_read.specs.Values.{found_values, shown_pairs, IsWild, IsMatching};
 
 use crate::reach::reach;
 use crate::room::Room;
@@ -73,8 +73,8 @@ impl Index {
         key: &[u8],
         steps: &mut Steps<L>,
     ) -> Result<Values, AllocError>
-        ensures values { IfOk result (λ found. shown found ≡ at self.now.nodes (root self.now.nodes) key.now) }
-        ensures map { (m : KeyValues) → Holds self.now.nodes m → IfOk result (λ found. shown found ≡ values_of m key.now) }
+        ensures values { IfOk result (λ found. found_values found ≡ at self.now.nodes (root self.now.nodes) key.now) }
+        ensures map { (m : KeyValues) → Holds self.now.nodes m → IfOk result (λ found. found_values found ≡ values_of m key.now) }
         ensures held { Holds self.now.nodes (contents self.now.nodes) }
         ensures cost { steps.new ≡ steps.old + visits self.now.nodes key.now }
         ensures few { steps.new ≤ steps.old + (length key.now + 1) }
@@ -129,9 +129,9 @@ impl Index {
         text: &[u8],
         steps: &mut Steps<L>,
     ) -> Result<Values, AllocError>
-        ensures wild { IfOk result (λ found. IsWild (at self.now.nodes (root self.now.nodes)) text.now (shown found)) }
-        ensures map { (m : KeyValues) → Holds self.now.nodes m → IfOk result (λ found. IsWild (values_of m) text.now (shown found)) }
-        ensures exact { IfOk result (λ found. shown found ≡ wild_values (contents self.now.nodes) text.now) }
+        ensures wild { IfOk result (λ found. IsWild (at self.now.nodes (root self.now.nodes)) text.now (found_values found)) }
+        ensures map { (m : KeyValues) → Holds self.now.nodes m → IfOk result (λ found. IsWild (values_of m) text.now (found_values found)) }
+        ensures exact { IfOk result (λ found. found_values found ≡ wild_values (contents self.now.nodes) text.now) }
         ensures cost { steps.new ≤ steps.old + node_count self.now.nodes }
     {
         let mut found = self.matching(alloc, text, steps)?;
@@ -147,8 +147,8 @@ impl Index {
         text: &[u8],
         steps: &mut Steps<L>,
     ) -> Result<Vec<Value>, AllocError>
-        ensures matching { IfOk result (λ found. IsMatching (at self.now.nodes (root self.now.nodes)) text.now (shown found.items)) }
-        ensures exact { IfOk result (λ found. shown found.items ≡ values_matching (entries (contents self.now.nodes)) text.now) }
+        ensures matching { IfOk result (λ found. IsMatching (at self.now.nodes (root self.now.nodes)) text.now (found_values found.items)) }
+        ensures exact { IfOk result (λ found. found_values found.items ≡ values_matching (entries (contents self.now.nodes)) text.now) }
         ensures cost { steps.new ≤ steps.old + node_count self.now.nodes }
     {
         let mut found = Vec::new(alloc);

@@ -7,7 +7,7 @@ ghost use Rattle.index_format.specs.Walk.{at};
 ghost use Rattle.index_format.specs.Listing.{IsListing};
 ghost use Rattle.index_read.specs.Contents.{contents, wild_values};
 ghost use Rattle.index_read.specs.Lookups.{has_value, text_of_first};
-ghost use Rattle.index_read.specs.Values.{shown, shown_pairs};
+ghost use Rattle.index_read.specs.Values.{found_values, shown_pairs};
 
 use crate::index::Index;
 use crate::value::{Pairs, Values};
@@ -59,7 +59,7 @@ fn first_text_over<'a, L: Ledger>(index: &'a Index, key: &[u8], blank: Blank) ->
 ///
 /// Out of memory.
 pub fn values(alloc: Global, index: &Index, key: &[u8]) -> Result<Values, AllocError>
-    ensures { IfOk result (λ found. shown found ≡ values_of (contents index.now.nodes) key.now) }
+    ensures { IfOk result (λ found. found_values found ≡ values_of (contents index.now.nodes) key.now) }
 {
     values_over::<Brand>(alloc, index, key, Blank::new(1))
 }
@@ -73,7 +73,7 @@ fn values_over<L: Ledger>(
     requires ledger { blank.name ≡ L.name }
     requires parts { blank.parts ≡ L.parts }
     requires some { 0 < blank.parts }
-    ensures { IfOk result (λ found. shown found ≡ values_of (contents index.now.nodes) key.now) }
+    ensures { IfOk result (λ found. found_values found ≡ values_of (contents index.now.nodes) key.now) }
 {
     let mut steps = Steps::<L>::new(blank);
     index.find(alloc, key, &mut steps)
@@ -86,7 +86,7 @@ fn values_over<L: Ledger>(
 ///
 /// Out of memory, as by [`Index::wild`].
 pub fn matching(alloc: Global, index: &Index, text: &[u8]) -> Result<Values, AllocError>
-    ensures { IfOk result (λ found. shown found ≡ wild_values (contents index.now.nodes) text.now) }
+    ensures { IfOk result (λ found. found_values found ≡ wild_values (contents index.now.nodes) text.now) }
 {
     matching_over::<Brand>(alloc, index, text, Blank::new(1))
 }
@@ -100,7 +100,7 @@ fn matching_over<L: Ledger>(
     requires ledger { blank.name ≡ L.name }
     requires parts { blank.parts ≡ L.parts }
     requires some { 0 < blank.parts }
-    ensures { IfOk result (λ found. shown found ≡ wild_values (contents index.now.nodes) text.now) }
+    ensures { IfOk result (λ found. found_values found ≡ wild_values (contents index.now.nodes) text.now) }
 {
     let mut steps = Steps::<L>::new(blank);
     index.wild(alloc, text, &mut steps)

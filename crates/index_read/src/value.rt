@@ -1,7 +1,7 @@
 ghost use Rattle.std.specs.Prelude.{◌≡◌, ◌++◌, map, OnOk};
 ghost use Rattle.index_format.specs.Node.{values};
 ghost use Rattle.index_nodes.specs.Fields.{link_of, IsNodeOf};
-ghost use Rattle.index_read.specs.Values.{shown, shown_pairs};
+ghost use Rattle.index_read.specs.Values.{found_values, shown_pairs};
 
 use crate::room::Room;
 use index_nodes::{Node, Nodes};
@@ -42,7 +42,7 @@ pub(crate) fn push_values(
     room: &mut Room,
 ) -> Result<(), AllocError>
     requires { IsNodeOf nodes.now node.now }
-    ensures { OnOk result (shown found.new.items ≡ shown found.old.items ++ values nodes.now (link_of node.now)) }
+    ensures { OnOk result (found_values found.new.items ≡ found_values found.old.items ++ values nodes.now (link_of node.now)) }
 {
     let mut next = nodes.first_value(node);
     while let Some(place) = next {

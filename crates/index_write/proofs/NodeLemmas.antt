@@ -15,7 +15,7 @@ use Rattle.index_write.specs.declared.node.TreeNode.{TreeNode}
 use Rattle.index_write.specs.declared.node.Span.{Span}
 use Rattle.index_write.specs.Lists.{shown_values}
 use Rattle.index_write.specs.Parts.{Part, bytes_of, span_of, last_of, parts_of}
-use Rattle.index_write.specs.Groups.{entry_shown, shown, at_depth, group_of, groups_of, ended, leading, AllGoOn, part_of, below, part_for, root_part}
+use Rattle.index_write.specs.Groups.{entry_shown, entries_shown, at_depth, group_of, groups_of, ended, leading, AllGoOn, part_of, below, part_for, root_part}
 
 -- A group that can be made into a node: its keys rise, and have at most this many bytes.
 pub record IsReady (most : ℕ) (g : ℕ × List Entry) : Type 0 where
@@ -242,13 +242,13 @@ leading-first d (e ∷ es) first byte is h b =
 
 -- a part of the entries, at a depth
 pub at_depth-take : (d n : ℕ) (es : List KeyEntry) → at_depth d (take n es) ≡ take n (at_depth d es)
-at_depth-take d n es = ap (cut d) (sym (take-map entry_shown n es)) ∙ cut-take d n (shown es)
+at_depth-take d n es = ap (cut d) (sym (take-map entry_shown n es)) ∙ cut-take d n (entries_shown es)
 
 pub at_depth-drop : (d n : ℕ) (es : List KeyEntry) → at_depth d (drop n es) ≡ drop n (at_depth d es)
-at_depth-drop d n es = ap (cut d) (sym (drop-map entry_shown n es)) ∙ cut-drop d n (shown es)
+at_depth-drop d n es = ap (cut d) (sym (drop-map entry_shown n es)) ∙ cut-drop d n (entries_shown es)
 
 pub cut-at_depth : (m d : ℕ) (es : List KeyEntry) → cut m (at_depth d es) ≡ at_depth (d + m) es
-cut-at_depth m d es = cut-cut m d (shown es)
+cut-at_depth m d es = cut-cut m d (entries_shown es)
 
 -- ---- what ends and what goes on
 
@@ -358,8 +358,8 @@ cut-zero : (es : List Entry) → cut 0 es ≡ es
 cut-zero [] = refl
 cut-zero (e ∷ es) = ap (λ xs. e ∷ xs) (cut-zero es)
 
-pub at_depth-zero : (es : List KeyEntry) → at_depth 0 es ≡ shown es
-at_depth-zero es = cut-zero (shown es)
+pub at_depth-zero : (es : List KeyEntry) → at_depth 0 es ≡ entries_shown es
+at_depth-zero es = cut-zero (entries_shown es)
 
 drop_behind : {A : Type 0} (xs ys : List A) → drop (length xs) (xs ++ ys) ≡ ys
 drop_behind [] ys = refl

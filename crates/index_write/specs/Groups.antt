@@ -13,11 +13,11 @@ abbrev pub entry_shown : KeyEntry → Entry
 entry_shown e = (e.key.now, shown_values e.values.now)
 
 -- The entries, and what is left of them at a depth.
-abbrev pub shown : List KeyEntry → List Entry
-shown es = map entry_shown es
+abbrev pub entries_shown : List KeyEntry → List Entry
+entries_shown es = map entry_shown es
 
 abbrev pub at_depth : ℕ → List KeyEntry → List Entry
-at_depth depth es = cut depth (shown es)
+at_depth depth es = cut depth (entries_shown es)
 
 -- A group as the tree has it.
 abbrev pub group_of : Group → ℕ × List Entry

@@ -51,7 +51,7 @@ fn key_text(key: Vec<u8>) -> String
 impl KeyMap {
     ghost use Rattle.index_format.specs.Tree.{Rises};
     ghost use Rattle.index_write.specs.Lists.{IsStorableEntry};
-    ghost use Rattle.index_write.specs.Groups.{shown};
+    ghost use Rattle.index_write.specs.Groups.{entries_shown};
 
     /// Returns the map without keys. It takes no memory.
     pub fn new(alloc: Global) -> KeyMap
@@ -98,7 +98,7 @@ impl KeyMap {
 
     /// Returns the keys in their order, each with its values.
     pub(crate) fn entries(&self, alloc: Global) -> Result<Vec<KeyEntry<'_>>, AllocError>
-        ensures shown { IfOk result (λ v. shown v.items ≡ map.entries self.now) }
+        ensures shown { IfOk result (λ v. entries_shown v.items ≡ map.entries self.now) }
         ensures rises { OnOk result (Rises (map.entries self.now)) }
         ensures sound { OnOk result (AllByRecursion IsStorableEntry (map.entries self.now)) }
     {

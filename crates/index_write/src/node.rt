@@ -2,7 +2,7 @@ ghost use Rattle.std.specs.Prelude.{◌≡◌, ◌≤◌, ◌<◌, ◌+◌, ◌^
 ghost use Rattle.index_format.specs.Tree.{common, common_prefix, ending, groups, tree, Rises};
 ghost use Rattle.index_write.specs.Lists.{shown_values};
 ghost use Rattle.index_write.specs.Parts.{span_of, parts_of};
-ghost use Rattle.index_write.specs.Groups.{shown, at_depth, group_of, groups_of, ended, leading, AllGoOn, part_of, below, part_for, root_part};
+ghost use Rattle.index_write.specs.Groups.{entries_shown, at_depth, group_of, groups_of, ended, leading, AllGoOn, part_of, below, part_for, root_part};
 
 use crate::key_map::StoredValue;
 use std::alloc::{AllocError, Global};
@@ -197,9 +197,9 @@ fn root_of<'e, 'a>(
     entries: &'e [KeyEntry<'a>],
     pending: &mut Vec<Group<'e, 'a>>,
 ) -> Result<TreeNode<'a>, AllocError>
-    requires { Rises (shown entries.now) }
-    ensures node { IfOk result (λ n. part_of n ≡ root_part (shown entries.now)) }
-    ensures pending { OnOk result (groups_of pending.new.items ≡ groups_of pending.old.items ++ groups (shown entries.now)) }
+    requires { Rises (entries_shown entries.now) }
+    ensures node { IfOk result (λ n. part_of n ≡ root_part (entries_shown entries.now)) }
+    ensures pending { OnOk result (groups_of pending.new.items ≡ groups_of pending.old.items ++ groups (entries_shown entries.now)) }
 {
     let start = pending.len();
     push_groups(entries, 0, pending)?;
@@ -217,8 +217,8 @@ pub(crate) fn nodes<'a>(
     alloc: Global,
     entries: &[KeyEntry<'a>],
 ) -> Result<Vec<TreeNode<'a>>, AllocError>
-    requires { Rises (shown entries.now) }
-    ensures { IfOk result (λ v. map part_of v.items ≡ parts_of (tree (shown entries.now))) }
+    requires { Rises (entries_shown entries.now) }
+    ensures { IfOk result (λ v. map part_of v.items ≡ parts_of (tree (entries_shown entries.now))) }
 {
     let mut pending = Vec::new(alloc);
     let mut nodes = Vec::new(alloc);

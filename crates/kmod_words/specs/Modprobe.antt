@@ -8,7 +8,7 @@ use Rattle.kmod_words.specs.declared.modprobe.Choice.{Choice}
 use Rattle.kmod_words.specs.declared.modprobe.Mode.{Mode}
 use Rattle.kmod_words.specs.declared.modprobe.Mode.TheVariants.{Load, DryRun, ShowDepends, ResolveAlias, Remove}
 use Rattle.kmod_words.specs.declared.modprobe.ModprobeWords.{ModprobeWords}
-use Rattle.kmod_words.specs.declared.region.Region.{Region}
+use Rattle.kmod_words.specs.declared.region.AddressRange.{AddressRange}
 
 -- The options and the words of `modprobe`.
 unfoldable pub modprobe_command : App
@@ -56,7 +56,7 @@ goes_with rows ResolveAlias = not (is_given (codes "params") rows)
 goes_with rows (Remove dry_run) = is_some (value_of (codes "system-map") rows) && not (is_some (value_of (codes "image") rows)) && not (is_given (codes "params") rows)
 
 -- What is asked for in this mode, of this version and in this region.
-abbrev pub modprobe_of : List Row → Mode → Text → Region → ModprobeWords
+abbrev pub modprobe_of : List Row → Mode → Text → AddressRange → ModprobeWords
 modprobe_of rows mode version region = record {
   mode = mode;
   all = is_given (codes "all") rows;
@@ -77,7 +77,7 @@ modprobe_of rows mode version region = record {
 
 -- The mode, the version and the region that the matches choose: a mode with which the other options
 -- go, a version without `/`, and a region of modules.
-unfoldable pub chosen : List Row → Option (Mode × Text × Region)
+unfoldable pub chosen : List Row → Option (Mode × Text × AddressRange)
 chosen rows =
     option_and_then (λ mode. option_and_then (λ version. option_and_then (λ region.
     if is_version version && goes_with rows mode then Some (mode, version, region) else None)
@@ -90,8 +90,8 @@ abbrev pub modprobe_asked : List Row → Option ModprobeWords
 modprobe_asked rows = option_map (λ choice. modprobe_of rows choice.0 choice.1 choice.2) (chosen rows)
 
 -- what a choice of the code says
-abbrev pub shown : Choice → Mode × Text × Region
-shown choice = (choice.mode, choice.version.now, choice.region)
+abbrev pub choice_parts : Choice → Mode × Text × AddressRange
+choice_parts choice = (choice.mode, choice.version.now, choice.region)
 
 -- What the words ask `modprobe` for, or nothing if they aren't understood.
 abbrev pub modprobe_request : List Text → Option ModprobeWords

@@ -1,13 +1,13 @@
 ghost use Rattle.std.specs.Prelude.{◌≡◌, IfOk, Option, codes, option_map, unwrap_or};
 ghost use Rattle.clap.specs.Words.{found_of, rows_of};
 ghost use Rattle.kmod_words.specs.Understood.{value_of};
-ghost use Rattle.kmod_words.specs.Modprobe.{modprobe_request, modprobe_asked, modprobe_of, mode_asked, mode_by_flags, goes_with, chosen, shown};
+ghost use Rattle.kmod_words.specs.Modprobe.{modprobe_request, modprobe_asked, modprobe_of, mode_asked, mode_by_flags, goes_with, chosen, choice_parts};
 
 use crate::arguments::{Argument, command};
 use crate::matches::{
     bytes_of, bytes_or, is_given, is_version, texts_of, understood, value_of, words_of,
 };
-use crate::region::{Region, region_or_usual};
+use crate::region::{AddressRange, region_or_usual};
 use clap::ArgMatches;
 use km_names::{Name, Names, PathText, Word};
 use std::alloc::{AllocError, Global};
@@ -111,13 +111,13 @@ fn asked(alloc: Global, matches: &ArgMatches<'_>) -> Result<Option<ModprobeWords
 struct Choice<'a> {
     mode: Mode,
     version: &'a str,
-    region: Region,
+    region: AddressRange,
 }
 
 // Returns the choice that the matches make.
 #[tactic(auto, unfolding(crate::specs::Modprobe::chosen))]
 fn choice_of<'a>(matches: &ArgMatches<'a>) -> Option<Choice<'a>>
-    ensures { option_map shown result ≡ chosen (rows_of (found_of matches.now)) }
+    ensures { option_map choice_parts result ≡ chosen (rows_of (found_of matches.now)) }
 {
     let mode = mode_asked(matches)?;
     let version = value_of(matches, "set-version")?;

@@ -6,18 +6,18 @@ use km_names::{hexadecimal, split_at_byte};
 
 /// A region of addresses: its first address and its number of bytes.
 #[derive(Clone, Copy)]
-pub(crate) struct Region {
+pub(crate) struct AddressRange {
     pub base: u64,
     pub size: u64,
 }
 
 /// Returns the region that a text states, or the usual one if there is no text.
-pub(crate) fn region_or_usual(text: Option<&str>) -> Option<Region>
+pub(crate) fn region_or_usual(text: Option<&str>) -> Option<AddressRange>
     ensures { result ≡ region_or_usual (option_map (λ t. t.now) text.entry) }
 {
     match text {
         Some(text) => region_of(text.as_bytes()),
-        None => Some(Region {
+        None => Some(AddressRange {
             base: 0xffff_ffff_c000_0000,
             size: 0x3f00_0000,
         }),
@@ -26,14 +26,14 @@ pub(crate) fn region_or_usual(text: Option<&str>) -> Option<Region>
 
 // Returns the region of a text `BASE:SIZE`.
 #[tactic(auto, unfolding(crate::specs::Numbers::region_of))]
-fn region_of(text: &[u8]) -> Option<Region>
+fn region_of(text: &[u8]) -> Option<AddressRange>
     ensures { result ≡ region_of text.now }
 {
     let (base, size) = split_at_byte(text, b':');
     let base = prefixed_hexadecimal(base)?;
     let size = prefixed_hexadecimal(size)?;
     if is_region(base, size) {
-        Some(Region { base, size })
+        Some(AddressRange { base, size })
     } else {
         None
     }

@@ -15,7 +15,7 @@ use Rattle.model_loader.specs.declared.fault.LoadFault.TheVariants.{RegionFull, 
 use Rattle.model_loader.specs.Machine.{Machine, entry_face, export_face, facts_export, facts_face, faces, machine_kernel, need_face}
 use Rattle.model_loader.specs.Gap.{gap}
 use Rattle.model_loader.specs.Sound.{IsSound}
-use Rattle.model_loader.specs.Step.{bound_need, entry_at, fault_if, module_base, module_size, name_tests, named_pages, overflow_fault, place_tests, placed_export, refusal, step, symbol_addresses, with_entry}
+use Rattle.model_loader.specs.Step.{bound_need, entry_at, fault_if, module_base, module_size, name_tests, named_pages, overflow_fault, placement_tests, placed_export, refusal, step, symbol_addresses, with_entry}
 use Rattle.model_loader.proofs.StepLemmas.{first-append, refusal-split, step-passed}
 use Rattle.model_loader.proofs.SoundLemmas.{sound-next, needs-same}
 use Rattle.laws_closed_plans.specs.Names.{name_fault, first_name_fault}
@@ -62,7 +62,7 @@ names-are machine m = refl
 pub refused-place : (machine : Machine) (m : Module) → first (name_tests machine m.facts) ≡ None → IfSome (refusal machine m) IsPlaceFault
 unfolding refusal
 refused-place machine m none =
-    subst (λ o. IfSome o IsPlaceFault) (sym (first-append (name_tests machine m.facts) (place_tests machine m) ∙ ap (λ o. option_or o (first (place_tests machine m))) none)) (by_gap (gap machine (module_size m)))
+    subst (λ o. IfSome o IsPlaceFault) (sym (first-append (name_tests machine m.facts) (placement_tests machine m) ∙ ap (λ o. option_or o (first (placement_tests machine m))) none)) (by_gap (gap machine (module_size m)))
   where
     by_word : (o : Option TooWide) → IfSome (first (option_map (λ (o : TooWide). Overflow o.section o.entry) o ∷ [])) IsPlaceFault
     by_word None = tt

@@ -7,7 +7,7 @@ use Rattle.std.specs.Str.{bytes_eq}
 use Rattle.km_names.specs.First.{first}
 use Rattle.laws_closed_plans.specs.Members.{Member}
 use Rattle.symbol_binding.specs.Symbols.{Export, Module, Kernel}
-use Rattle.symbol_binding.specs.Provider.{Owner, ByKernel, ByModule, Provided, export_under, given, of_kernel, of_one, of_first, face_exports, module_exports}
+use Rattle.symbol_binding.specs.Provider.{Owner, ByKernel, ByModule, Provided, export_under, provided_by, of_kernel, of_one, of_first, face_exports, module_exports}
 use Rattle.laws_closed_plans.proofs.ListLemmas.{found, none-found}
 
 -- names that are found equal
@@ -22,13 +22,13 @@ given-export : {M : Type 0} (owner : Owner M) (found_ : Option Export) (v : Prov
 given-export owner None v is = absurd (none-some v is)
 given-export owner (Some e) v is = ap Some (ap (λ p. p.export) (same_Some _ _ is))
 
-pub given-member : {M : Type 0} (owner : Owner M) (es : List Export) (x : List ℕ) (v : Provided M) → given owner es x ≡ Some v → Member v.export es × (v.export.name ≡ x)
+pub given-member : {M : Type 0} (owner : Owner M) (es : List Export) (x : List ℕ) (v : Provided M) → provided_by owner es x ≡ Some v → Member v.export es × (v.export.name ≡ x)
 given-member owner es x v is =
     let h = found (λ (e : Export). bytes_eq e.name x) v.export es (given-export owner (find (λ e. bytes_eq e.name x) es) v is) in
     (h.0, same_name v.export.name x h.1)
 
 -- an exported name is given
-pub given-some : {M : Type 0} (owner : Owner M) (es : List Export) (e : Export) → Member e es → (v : Provided M) × (given owner es e.name ≡ Some v)
+pub given-some : {M : Type 0} (owner : Owner M) (es : List Export) (e : Export) → Member e es → (v : Provided M) × (provided_by owner es e.name ≡ Some v)
 given-some owner es e in' = either owner es e in' (find (λ f. bytes_eq f.name e.name) es) refl
   where
     either : {M : Type 0} (owner : Owner M) (es : List Export) (e : Export) → Member e es → (o : Option Export) → find (λ f. bytes_eq f.name e.name) es ≡ o → (v : Provided M) × (option_map (λ (e : Export). record { owner = owner; export = e }) o ≡ Some v)
@@ -37,7 +37,7 @@ given-some owner es e in' = either owner es e in' (find (λ f. bytes_eq f.name e
         absurd (true≢false (sym (its_name e.name) ∙ none-found (λ f. bytes_eq f.name e.name) e es is in'))
 
 -- what is given has this owner
-pub given-owner : {M : Type 0} (owner : Owner M) (es : List Export) (x : List ℕ) (v : Provided M) → given owner es x ≡ Some v → v.owner ≡ owner
+pub given-owner : {M : Type 0} (owner : Owner M) (es : List Export) (x : List ℕ) (v : Provided M) → provided_by owner es x ≡ Some v → v.owner ≡ owner
 given-owner owner es x v is = of_option owner (find (λ e. bytes_eq e.name x) es) v is
   where
     of_option : {M : Type 0} (owner : Owner M) (o : Option Export) (v : Provided M) → option_map (λ (e : Export). record { owner = owner; export = e }) o ≡ Some v → v.owner ≡ owner
@@ -45,7 +45,7 @@ given-owner owner es x v is = of_option owner (find (λ e. bytes_eq e.name x) es
     of_option owner (Some e) v is = ap (λ p. p.owner) (sym (same_Some _ _ is))
 
 -- owners don't change what is under a name
-export-given : {M : Type 0} (owner : Owner M) (es : List Export) (x : List ℕ) → export_under (given owner es x) ≡ find (λ e. bytes_eq e.name x) es
+export-given : {M : Type 0} (owner : Owner M) (es : List Export) (x : List ℕ) → export_under (provided_by owner es x) ≡ find (λ e. bytes_eq e.name x) es
 export-given owner es x = same owner (find (λ e. bytes_eq e.name x) es)
   where
     same : {M : Type 0} (owner : Owner M) (o : Option Export) → export_under (option_map (λ (e : Export). record { owner = owner; export = e }) o) ≡ o

@@ -15,7 +15,7 @@ use Rattle.std.proofs.lemmas.List.Sorted.{ranks_by, IsPermutation-map, All-permu
 use Rattle.km_names.specs.Path.{module_name}
 use Rattle.mod_tree.specs.Order.{bytes_cmp}
 use Rattle.mod_tree.specs.Tree.{rank}
-use Rattle.mod_tree.specs.Shown.{shown}
+use Rattle.mod_tree.specs.Shown.{referents}
 use Rattle.mod_tree.specs.declared.chosen.Candidate.{Candidate}
 use Rattle.mod_tree.specs.Chosen.{IsCandidate, path_of, is_name, heads, HasChosen}
 use Rattle.mod_tree.proofs.Ascending.{Ascends, ascends-sorted, ascends-map}
@@ -34,29 +34,29 @@ heads-more words list i c all l is prev =
     ∙ ap (λ n. cond (is_name prev n) (heads (Some n) rest) (c.path.now ∷ heads (Some n) rest)) (sym mine.name)
 
 -- of a name that is the one before
-pub head-skip : (search : List (List ℕ)) (done : List (Bor (List ℕ))) (list : List Candidate) (i : ℕ) (c : Candidate) (name : List ℕ) (prev : Option (List ℕ)) → All (IsCandidate search) list → i < length list → c ≡ get_or list i c → name ≡ c.name.items → is_name prev name ≡ true → shown done ++ heads (Some name) (map path_of (drop (i + 1) list)) ≡ shown done ++ heads prev (map path_of (drop i list))
+pub head-skip : (search : List (List ℕ)) (done : List (Bor (List ℕ))) (list : List Candidate) (i : ℕ) (c : Candidate) (name : List ℕ) (prev : Option (List ℕ)) → All (IsCandidate search) list → i < length list → c ≡ get_or list i c → name ≡ c.name.items → is_name prev name ≡ true → referents done ++ heads (Some name) (map path_of (drop (i + 1) list)) ≡ referents done ++ heads prev (map path_of (drop i list))
 head-skip words done list i c name prev all l is e same =
     let rest : List (List ℕ) = map path_of (drop (i + 1) list) in
-    ap (λ hs. shown done ++ hs) (ap (λ n. heads (Some n) rest) e ∙ sym (heads-more words list i c all l is prev ∙ ap (λ b. cond b (heads (Some c.name.items) rest) (c.path.now ∷ heads (Some c.name.items) rest)) (ap (is_name prev) (sym e) ∙ same)))
+    ap (λ hs. referents done ++ hs) (ap (λ n. heads (Some n) rest) e ∙ sym (heads-more words list i c all l is prev ∙ ap (λ b. cond b (heads (Some c.name.items) rest) (c.path.now ∷ heads (Some c.name.items) rest)) (ap (is_name prev) (sym e) ∙ same)))
 
 -- and of another
-pub head-more : (search : List (List ℕ)) (done new : List (Bor (List ℕ))) (list : List Candidate) (i : ℕ) (c : Candidate) (name : List ℕ) (prev : Option (List ℕ)) → All (IsCandidate search) list → i < length list → c ≡ get_or list i c → name ≡ c.name.items → is_name prev name ≡ false → new ≡ done ++ c.path ∷ [] → shown new ++ heads (Some name) (map path_of (drop (i + 1) list)) ≡ shown done ++ heads prev (map path_of (drop i list))
+pub head-more : (search : List (List ℕ)) (done new : List (Bor (List ℕ))) (list : List Candidate) (i : ℕ) (c : Candidate) (name : List ℕ) (prev : Option (List ℕ)) → All (IsCandidate search) list → i < length list → c ≡ get_or list i c → name ≡ c.name.items → is_name prev name ≡ false → new ≡ done ++ c.path ∷ [] → referents new ++ heads (Some name) (map path_of (drop (i + 1) list)) ≡ referents done ++ heads prev (map path_of (drop i list))
 head-more words done new list i c name prev all l is e fresh pushed =
     let rest : List (List ℕ) = map path_of (drop (i + 1) list) in
-    ap (λ (cs : List (Bor (List ℕ))). shown cs ++ heads (Some name) rest) pushed
+    ap (λ (cs : List (Bor (List ℕ))). referents cs ++ heads (Some name) rest) pushed
     ∙ ap (λ cs. cs ++ heads (Some name) rest) (map_push (λ (r : Bor (List ℕ)). r.now) done c.path)
-    ∙ append_assoc (shown done) (c.path.now ∷ []) (heads (Some name) rest)
-    ∙ ap (λ hs. shown done ++ hs) (ap (λ n. c.path.now ∷ heads (Some n) rest) e ∙ sym (heads-more words list i c all l is prev ∙ ap (λ b. cond b (heads (Some c.name.items) rest) (c.path.now ∷ heads (Some c.name.items) rest)) (ap (is_name prev) (sym e) ∙ fresh)))
+    ∙ append_assoc (referents done) (c.path.now ∷ []) (heads (Some name) rest)
+    ∙ ap (λ hs. referents done ++ hs) (ap (λ n. c.path.now ∷ heads (Some n) rest) e ∙ sym (heads-more words list i c all l is prev ∙ ap (λ b. cond b (heads (Some c.name.items) rest) (c.path.now ∷ heads (Some c.name.items) rest)) (ap (is_name prev) (sym e) ∙ fresh)))
 
-pub head-all : (done : List (Bor (List ℕ))) (list : List Candidate) (i : ℕ) (prev : Option (List ℕ)) → length list ≤ i → shown done ≡ shown done ++ heads prev (map path_of (drop i list))
-head-all done list i prev l = sym (ap (λ hs. shown done ++ hs) (at_drop_all (λ (cs : List Candidate). heads prev (map path_of cs)) list i l) ∙ append-nil (shown done))
+pub head-all : (done : List (Bor (List ℕ))) (list : List Candidate) (i : ℕ) (prev : Option (List ℕ)) → length list ≤ i → referents done ≡ referents done ++ heads prev (map path_of (drop i list))
+head-all done list i prev l = sym (ap (λ hs. referents done ++ hs) (at_drop_all (λ (cs : List Candidate). heads prev (map path_of cs)) list i l) ∙ append-nil (referents done))
 
 -- one path more that was made a candidate
-pub path-more : (list : List Candidate) (modules : List (Bor (List ℕ))) (i : ℕ) (m : Bor (List ℕ)) (c : Candidate) → i < length modules → m ≡ get_or modules i m → c.path.now ≡ m.now → map path_of (list ++ c ∷ []) ++ shown (drop (i + 1) modules) ≡ map path_of list ++ shown (drop i modules)
+pub path-more : (list : List Candidate) (modules : List (Bor (List ℕ))) (i : ℕ) (m : Bor (List ℕ)) (c : Candidate) → i < length modules → m ≡ get_or modules i m → c.path.now ≡ m.now → map path_of (list ++ c ∷ []) ++ referents (drop (i + 1) modules) ≡ map path_of list ++ referents (drop i modules)
 path-more list modules i m c l is same =
-    ap (λ ps. ps ++ shown (drop (i + 1) modules)) (map_push path_of list c)
-    ∙ append_assoc (map path_of list) (c.path.now ∷ []) (shown (drop (i + 1) modules))
-    ∙ ap (λ ps. map path_of list ++ ps) (ap (λ p. p ∷ shown (drop (i + 1) modules)) same ∙ sym (at_drop_more shown modules i m l ∙ ap (λ (r : Bor (List ℕ)). r.now ∷ shown (drop (i + 1) modules)) (sym is)))
+    ap (λ ps. ps ++ referents (drop (i + 1) modules)) (map_push path_of list c)
+    ∙ append_assoc (map path_of list) (c.path.now ∷ []) (referents (drop (i + 1) modules))
+    ∙ ap (λ ps. map path_of list ++ ps) (ap (λ p. p ∷ referents (drop (i + 1) modules)) same ∙ sym (at_drop_more referents modules i m l ∙ ap (λ (r : Bor (List ℕ)). r.now ∷ referents (drop (i + 1) modules)) (sym is)))
 
 -- candidates as they are compared
 abbrev pub candidate_cmp : Candidate → Candidate → Ordering

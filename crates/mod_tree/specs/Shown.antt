@@ -4,5 +4,5 @@ use Rattle.std.specs.Prelude.{List, ℕ, map}
 use Rattle.std.specs.Borrow.{Bor}
 
 -- The values that the references of a list point to.
-abbrev pub shown : List (Bor (List ℕ)) → List (List ℕ)
-shown references = map (λ (r : Bor (List ℕ)). r.now) references
+abbrev pub referents : List (Bor (List ℕ)) → List (List ℕ)
+referents references = map (λ (r : Bor (List ℕ)). r.now) references

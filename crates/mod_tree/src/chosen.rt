@@ -1,7 +1,7 @@
 ghost use Rattle.std.specs.Prelude.{◌≡◌, ◌<◌, ℕ, List, map, All, IfOk, None};
 ghost use Rattle.std.specs.List.{position_or_len};
 ghost use Rattle.mod_tree.specs.Tree.{rank as rank_spec, is_folder_of};
-ghost use Rattle.mod_tree.specs.Shown.{shown};
+ghost use Rattle.mod_tree.specs.Shown.{referents};
 ghost use Rattle.mod_tree.specs.Places.{IsPlacesOf};
 ghost use Rattle.mod_tree.specs.Chosen.{IsCandidate, path_of, HasChosen, heads};
 
@@ -24,7 +24,7 @@ pub(crate) fn chosen_paths<'a>(
     modules: &[&'a PathText],
     search: &Search,
 ) -> Result<Vec<&'a [u8]>, AllocError>
-    ensures { IfOk result (λ chosen. HasChosen search.now (shown modules.now) (shown chosen.items)) }
+    ensures { IfOk result (λ chosen. HasChosen search.now (referents modules.now) (referents chosen.items)) }
 {
     let mut list = candidates(alloc, modules, search)?;
     list.sort()?;
@@ -37,7 +37,7 @@ fn candidates<'a>(
     modules: &[&'a PathText],
     search: &Search,
 ) -> Result<Vec<Candidate<'a>>, AllocError>
-    ensures paths { IfOk result (λ list. map path_of list.items ≡ shown modules.now) }
+    ensures paths { IfOk result (λ list. map path_of list.items ≡ referents modules.now) }
     ensures each { IfOk result (λ list. All (IsCandidate search.now) list.items) }
 {
     let places = word_places(alloc, search)?;
@@ -94,7 +94,7 @@ fn folder_place(places: &Places<'_>, path: &[u8]) -> usize
 /// Returns the first path of each name, among candidates in order.
 fn first_of_each<'a>(alloc: Global, list: &[Candidate<'a>]) -> Result<Vec<&'a [u8]>, AllocError>
     ensures { IfOk result (λ chosen. (search : List (List ℕ)) → All (IsCandidate search) list.now
-        → shown chosen.items ≡ heads None (map path_of list.now)) }
+        → referents chosen.items ≡ heads None (map path_of list.now)) }
 {
     let mut chosen = Vec::new(alloc);
     let mut previous: Option<&[u8]> = None;

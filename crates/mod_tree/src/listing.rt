@@ -1,7 +1,7 @@
 ghost use Rattle.std.specs.Prelude.{◌≡◌, ◌<◌, ℕ, List, map, All, IfOk};
 ghost use Rattle.km_names.specs.Lines.{lines_of};
 ghost use Rattle.mod_tree.specs.Tree.{tree_paths};
-ghost use Rattle.mod_tree.specs.Shown.{shown};
+ghost use Rattle.mod_tree.specs.Shown.{referents};
 ghost use Rattle.mod_tree.specs.Places.{IsPlacesOf};
 ghost use Rattle.mod_tree.specs.Listing.{IsListing, listed_path};
 ghost use Rattle.mod_tree.specs.Chosen.{HasChosen};
@@ -24,7 +24,7 @@ pub(crate) fn tree_in_order(
     chosen: &[&[u8]],
     order_file: &[u8],
 ) -> Result<Paths, AllocError>
-    ensures { IfOk result (λ tree. (search paths : List (List ℕ)) → HasChosen search paths (shown chosen.now)
+    ensures { IfOk result (λ tree. (search paths : List (List ℕ)) → HasChosen search paths (referents chosen.now)
         → tree ≡ tree_paths search (lines_of order_file.now) paths) }
 {
     let places = line_places(alloc, order_file)?;
@@ -53,7 +53,7 @@ fn listings<'a>(
     chosen: &[&'a [u8]],
     places: &Places<'_>,
 ) -> Result<Vec<Listing<'a>>, AllocError>
-    ensures paths { IfOk result (λ list. map listed_path list.items ≡ shown chosen.now) }
+    ensures paths { IfOk result (λ list. map listed_path list.items ≡ referents chosen.now) }
     ensures each { IfOk result (λ list. (lines : List (List ℕ)) → IsPlacesOf lines places.now → All (IsListing lines) list.items) }
 {
     let mut list = Vec::new(alloc);

@@ -2,7 +2,7 @@ ghost use Rattle.std.specs.Prelude.{◌≡◌, ◌⊎◌, filter, IfOk, IfErr, o
 ghost use Rattle.std.specs.List.{list_any};
 ghost use Rattle.mod_tree.specs.Tree.{tree_of, is_module_path, is_bad_byte, lesser, bad_path};
 ghost use Rattle.km_names.specs.Path.{is_compressed};
-ghost use Rattle.mod_tree.specs.Shown.{shown};
+ghost use Rattle.mod_tree.specs.Shown.{referents};
 
 use crate::Search;
 use crate::chosen::chosen_paths;
@@ -84,7 +84,7 @@ pub fn choose(
 
 /// Returns the paths of modules among these paths.
 fn module_paths(alloc: Global, paths: &Paths) -> Result<Vec<&PathText>, AllocError>
-    ensures { IfOk result (λ modules. shown modules.items ≡ filter is_module_path paths.now) }
+    ensures { IfOk result (λ modules. referents modules.items ≡ filter is_module_path paths.now) }
 {
     let mut modules = Vec::new(alloc);
     for path in paths.as_slice() {
@@ -110,7 +110,7 @@ fn has_compressed_end(path: &[u8]) -> bool
 
 /// Returns the least path by bytes that has a bad byte.
 fn bad_path<'a>(modules: &[&'a PathText]) -> Option<&'a PathText>
-    ensures { option_copied result ≡ bad_path (shown modules.now) }
+    ensures { option_copied result ≡ bad_path (referents modules.now) }
 {
     let mut least = None;
     let mut at = modules.len();

@@ -27,7 +27,7 @@ use Rattle.model_loader.specs.Gap.{gap, gap_among, is_gap, meets_entry, pages}
 use Rattle.model_loader.specs.Kept.{IsKept}
 use Rattle.model_loader.specs.Sound.{IsPlaced, entry_names, exported_names}
 use Rattle.model_loader.specs.Standing.{export_pair, named_pair, standing, standing_in, standing_of, standing_under}
-use Rattle.model_loader.specs.Step.{fault_if, named_pages, overflow_fault, entry_at, module_base, module_size, place_tests, symbol_addresses, with_entry}
+use Rattle.model_loader.specs.Step.{fault_if, named_pages, overflow_fault, entry_at, module_base, module_size, placement_tests, symbol_addresses, with_entry}
 use Rattle.model_loader.proofs.StandingLemmas.{find-map}
 use Rattle.model_loader.proofs.StepLemmas.{first-append}
 
@@ -131,7 +131,7 @@ unfolding image_size aligned
 size-pages m = page_greater _
 
 -- The gap of a module that isn't refused.
-pub module-gap : (machine : Machine) (m : Module) → first (place_tests machine m) ≡ None → gap machine (module_size m) ≡ Some (module_base machine m)
+pub module-gap : (machine : Machine) (m : Module) → first (placement_tests machine m) ≡ None → gap machine (module_size m) ≡ Some (module_base machine m)
 module-gap machine m none = by-gap (gap machine (module_size m)) none
   where
     by-gap : (o : Option ℕ) → first (fault_if (is_none o) (RegionFull (named_pages (module_size m / 4096))) ∷ option_and_then (overflow_fault machine m) o ∷ []) ≡ None → o ≡ Some (unwrap_or o 0)
@@ -164,7 +164,7 @@ placed-next machine e all here =
     let again : (n : Entry) → IsPlaced machine n → IsPlaced (with_entry machine e) n = λ n is. record { size = is.size; begins = is.begins; whole = is.whole; low = is.low; high = is.high } in
     all-append (IsPlaced (with_entry machine e)) machine.entries e (λ k d less. again (get_or machine.entries k d) (all k d less)) (again e here)
 
-pub kept-next : (machine : Machine) (t next : ExportTable) (m : Module) (e : Entry) (named : List Named) → IsKept machine t → first (place_tests machine m) ≡ None → e ≡ entry_at machine m (module_base machine m) → map named_pair named ≡ map (export_pair (Some e.loaded.name)) e.exports → ((x : List ℕ) → standing_of next x ≡ option_or (standing_of t x) (standing_in x named)) → IsDistinct bytes_eq (entry_names (with_entry machine e)) → IsDistinct bytes_eq (exported_names (with_entry machine e)) → IsKept (with_entry machine e) next
+pub kept-next : (machine : Machine) (t next : ExportTable) (m : Module) (e : Entry) (named : List Named) → IsKept machine t → first (placement_tests machine m) ≡ None → e ≡ entry_at machine m (module_base machine m) → map named_pair named ≡ map (export_pair (Some e.loaded.name)) e.exports → ((x : List ℕ) → standing_of next x ≡ option_or (standing_of t x) (standing_in x named)) → IsDistinct bytes_eq (entry_names (with_entry machine e)) → IsDistinct bytes_eq (exported_names (with_entry machine e)) → IsKept (with_entry machine e) next
 kept-next machine t next m e named kept passed is same entered names distinct = record {
   names = names;
   exports = distinct;

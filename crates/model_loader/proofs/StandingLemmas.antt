@@ -10,7 +10,7 @@ use Rattle.module_facts.specs.declared.facts.Need.{Need as FactsNeed}
 use Rattle.symbol_binding.specs.Symbols.{Export, Need, Face}
 use Rattle.provider_rel.specs.declared.kernel.KernelExport.{KernelExport}
 use Rattle.provider_rel.specs.KernelTable.{seen_export}
-use Rattle.symbol_binding.specs.Provider.{Owner, ByKernel, ByModule, Provided, export_under, given, of_one, face_exports}
+use Rattle.symbol_binding.specs.Provider.{Owner, ByKernel, ByModule, Provided, export_under, provided_by, of_one, face_exports}
 use Rattle.symbol_binding.specs.Table.{table}
 use Rattle.symbol_binding.specs.Unmet.{vmlinux}
 use Rattle.model_loader.specs.declared.entry.PlacedExport.{PlacedExport}
@@ -80,23 +80,23 @@ fused f g None = refl
 fused f g (Some x) = refl
 
 module _ (x : List ℕ) (owner : Owner Face) (exports : List PlacedExport) where
-  given-is : given owner (map export_face exports) x ≡ option_map (λ (e : Export). record { owner = owner; export = e }) (option_map export_face (export_named x exports))
+  given-is : provided_by owner (map export_face exports) x ≡ option_map (λ (e : Export). record { owner = owner; export = e }) (option_map export_face (export_named x exports))
   given-is = ap (option_map (λ (e : Export). record { owner = owner; export = e })) (find-map (λ (e : Export). bytes_eq e.name x) export_face exports)
 
-  given-face : option_map (λ (p : Provided Face). p.export) (given owner (map export_face exports) x) ≡ option_map export_face (export_named x exports)
+  given-face : option_map (λ (p : Provided Face). p.export) (provided_by owner (map export_face exports) x) ≡ option_map export_face (export_named x exports)
   given-face =
       ap (option_map (λ (p : Provided Face). p.export)) given-is
       ∙ fused (λ (p : Provided Face). p.export) (λ (e : Export). record { owner = owner; export = e }) (option_map export_face (export_named x exports))
       ∙ fused (λ (e : Export). e) export_face (export_named x exports)
 
-  given-export : (name : Option (List ℕ)) → option_map (λ (p : Provided Face). p.export) (given owner (map export_face exports) x) ≡ option_map (standing_export x) (option_map (standing name) (export_named x exports))
+  given-export : (name : Option (List ℕ)) → option_map (λ (p : Provided Face). p.export) (provided_by owner (map export_face exports) x) ≡ option_map (standing_export x) (option_map (standing name) (export_named x exports))
   given-export name =
       ap (option_map (λ (p : Provided Face). p.export)) given-is
       ∙ fused (λ (p : Provided Face). p.export) (λ (e : Export). record { owner = owner; export = e }) (option_map export_face (export_named x exports))
       ∙ fused (λ (e : Export). e) export_face (export_named x exports)
       ∙ named-export x name exports
 
-  given-owner : (name : Option (List ℕ)) → owner_name owner ≡ unwrap_or name vmlinux → option_map (λ (p : Provided Face). owner_name p.owner) (given owner (map export_face exports) x) ≡ option_map (λ (s : Standing). unwrap_or s.owner vmlinux) (option_map (standing name) (export_named x exports))
+  given-owner : (name : Option (List ℕ)) → owner_name owner ≡ unwrap_or name vmlinux → option_map (λ (p : Provided Face). owner_name p.owner) (provided_by owner (map export_face exports) x) ≡ option_map (λ (s : Standing). unwrap_or s.owner vmlinux) (option_map (standing name) (export_named x exports))
   given-owner name is = ap (option_map (λ (p : Provided Face). owner_name p.owner)) given-is ∙ owners (export_named x exports)
     where
       owners : (o : Option PlacedExport) → option_map (λ (p : Provided Face). owner_name p.owner) (option_map (λ (e : Export). record { owner = owner; export = e }) (option_map export_face o)) ≡ option_map (λ (s : Standing). unwrap_or s.owner vmlinux) (option_map (standing name) o)
@@ -121,8 +121,8 @@ module _ (machine : Machine) (x : List ℕ) where
   pub under-export : export_under here ≡ option_map (standing_export x) (standing_under machine x)
   unfolding standing_under
   under-export =
-      let kernel : option_map (λ (p : Provided Face). p.export) (given {M = Face} ByKernel (map seen_export machine.kernel.exports) x) ≡ option_map (standing_export x) (option_map (standing None) (export_named x (map kernel_placed machine.kernel.exports))) =
-      ap (λ es. option_map (λ (p : Provided Face). p.export) (given ByKernel es x)) (kernel-faces machine.kernel.exports) ∙ given-export x ByKernel (map kernel_placed machine.kernel.exports) None in
+      let kernel : option_map (λ (p : Provided Face). p.export) (provided_by {M = Face} ByKernel (map seen_export machine.kernel.exports) x) ≡ option_map (standing_export x) (option_map (standing None) (export_named x (map kernel_placed machine.kernel.exports))) =
+      ap (λ es. option_map (λ (p : Provided Face). p.export) (provided_by ByKernel es x)) (kernel-faces machine.kernel.exports) ∙ given-export x ByKernel (map kernel_placed machine.kernel.exports) None in
       first-two (λ (p : Provided Face). p.export) (standing_export x) _ _ _ _ kernel
       (first-same (λ (p : Provided Face). p.export) (standing_export x) entry_face (of_one face_exports x) (λ (e : Entry). option_map (standing (Some e.loaded.name)) (export_named x e.exports))
       (λ e. given-export x (ByModule (entry_face e)) e.exports (Some e.loaded.name)) machine.entries)
@@ -130,8 +130,8 @@ module _ (machine : Machine) (x : List ℕ) where
   pub under-face : export_under here ≡ option_map export_face (placed_under machine x)
   unfolding placed_under
   under-face =
-      let kernel : option_map (λ (p : Provided Face). p.export) (given {M = Face} ByKernel (map seen_export machine.kernel.exports) x) ≡ option_map export_face (export_named x (map kernel_placed machine.kernel.exports)) =
-      ap (λ es. option_map (λ (p : Provided Face). p.export) (given ByKernel es x)) (kernel-faces machine.kernel.exports) ∙ given-face x ByKernel (map kernel_placed machine.kernel.exports) in
+      let kernel : option_map (λ (p : Provided Face). p.export) (provided_by {M = Face} ByKernel (map seen_export machine.kernel.exports) x) ≡ option_map export_face (export_named x (map kernel_placed machine.kernel.exports)) =
+      ap (λ es. option_map (λ (p : Provided Face). p.export) (provided_by ByKernel es x)) (kernel-faces machine.kernel.exports) ∙ given-face x ByKernel (map kernel_placed machine.kernel.exports) in
       first-two (λ (p : Provided Face). p.export) export_face _ _ _ _ kernel
       (first-same (λ (p : Provided Face). p.export) export_face entry_face (of_one face_exports x) (λ (e : Entry). export_named x e.exports)
       (λ e. given-face x (ByModule (entry_face e)) e.exports) machine.entries)
@@ -139,8 +139,8 @@ module _ (machine : Machine) (x : List ℕ) where
   pub under-owner : option_map (λ (p : Provided Face). owner_name p.owner) here ≡ option_map (λ (s : Standing). unwrap_or s.owner vmlinux) (standing_under machine x)
   unfolding standing_under
   under-owner =
-      let kernel : option_map (λ (p : Provided Face). owner_name p.owner) (given {M = Face} ByKernel (map seen_export machine.kernel.exports) x) ≡ option_map (λ (s : Standing). unwrap_or s.owner vmlinux) (option_map (standing None) (export_named x (map kernel_placed machine.kernel.exports))) =
-      ap (λ es. option_map (λ (p : Provided Face). owner_name p.owner) (given ByKernel es x)) (kernel-faces machine.kernel.exports) ∙ given-owner x ByKernel (map kernel_placed machine.kernel.exports) None refl in
+      let kernel : option_map (λ (p : Provided Face). owner_name p.owner) (provided_by {M = Face} ByKernel (map seen_export machine.kernel.exports) x) ≡ option_map (λ (s : Standing). unwrap_or s.owner vmlinux) (option_map (standing None) (export_named x (map kernel_placed machine.kernel.exports))) =
+      ap (λ es. option_map (λ (p : Provided Face). owner_name p.owner) (provided_by ByKernel es x)) (kernel-faces machine.kernel.exports) ∙ given-owner x ByKernel (map kernel_placed machine.kernel.exports) None refl in
       first-two (λ (p : Provided Face). owner_name p.owner) (λ (s : Standing). unwrap_or s.owner vmlinux) _ _ _ _ kernel
       (first-same (λ (p : Provided Face). owner_name p.owner) (λ (s : Standing). unwrap_or s.owner vmlinux) entry_face (of_one face_exports x) (λ (e : Entry). option_map (standing (Some e.loaded.name)) (export_named x e.exports))
       (λ e. given-owner x (ByModule (entry_face e)) e.exports (Some e.loaded.name) refl) machine.entries)

@@ -90,15 +90,15 @@ overflow_fault machine m base =
 
 -- The tests of the place of a module, in order: the region has a gap for it, and all words fit
 -- there.
-abbrev pub place_tests : Machine → Module → List (Option LoadFault)
-place_tests machine m =
+abbrev pub placement_tests : Machine → Module → List (Option LoadFault)
+placement_tests machine m =
     fault_if (is_none (gap machine (module_size m))) (RegionFull (named_pages (module_size m / PAGE)))
     ∷ option_and_then (overflow_fault machine m) (gap machine (module_size m))
     ∷ []
 
 -- The refusal of a module: the first of eight tests that fails.
 unfoldable pub refusal : Machine → Module → Option LoadFault
-refusal machine m = first (name_tests machine m.facts ++ place_tests machine m)
+refusal machine m = first (name_tests machine m.facts ++ placement_tests machine m)
 
 -- An export of a module at the address of its symbol.
 abbrev pub placed_export : Machine → Module → ℕ → FactsExport → PlacedExport

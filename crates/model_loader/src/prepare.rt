@@ -9,7 +9,7 @@ ghost use Rattle.model_loader.specs.Gap.{gap};
 ghost use Rattle.model_loader.specs.Runs.{IsPaged, run_of};
 ghost use Rattle.model_loader.specs.Standing.{Keeps, export_pair, named_pair};
 ghost use Rattle.model_loader.specs.Parts.{HasParts, entry_by};
-ghost use Rattle.model_loader.specs.Step.{entry_at, module_base, module_size, named_pages, overflow_fault, place_tests};
+ghost use Rattle.model_loader.specs.Step.{entry_at, module_base, module_size, named_pages, overflow_fault, placement_tests};
 
 use crate::entry::{Entry, LoadedModule};
 use crate::gap::lowest_gap;
@@ -109,9 +109,9 @@ pub(crate) fn prepare(
         → p.entry ≡ entry_at machine «module».now (module_base machine «module».now)) }
     ensures named { IfOk result (λ p. map named_pair p.named.items ≡ map (export_pair (Some p.entry.loaded.name)) p.entry.exports) }
     ensures passed { OnOk result ((machine : Machine) → HasParts machine region.now entries.now table.now
-        → first (place_tests machine «module».now) ≡ None) }
+        → first (placement_tests machine «module».now) ≡ None) }
     ensures fault { IfErr result (λ e. (machine : Machine) → HasParts machine region.now entries.now table.now
-        → (e ≡ LoadFault.Memory) ⊎ (first (place_tests machine «module».now) ≡ Some e)) }
+        → (e ≡ LoadFault.Memory) ⊎ (first (placement_tests machine «module».now) ≡ Some e)) }
 {
     let size = image_size(&module.object);
     let gap = lowest_gap(alloc, region, entries, size)?;

@@ -40,5 +40,5 @@ abbrev pub line_end : Bool → ℕ
 line_end zero = if zero then 0 else 10
 
 -- The text that is shown of a module at a path, with these fields.
-unfoldable pub shown : List ℕ → List Field → ShowOptions → List ℕ
-shown path fields options = ended (line_end options.zero) (lines_asked options.field path fields)
+unfoldable pub shown_text : List ℕ → List Field → ShowOptions → List ℕ
+shown_text path fields options = ended (line_end options.zero) (lines_asked options.field path fields)

@@ -3,7 +3,7 @@ ghost use Rattle.std.specs.List.{repeat};
 ghost use Rattle.modinfo_fields.specs.declared.piece.Field.{Field};
 ghost use Rattle.modinfo_fields.specs.Fields.{fields_of, values_of_key};
 ghost use Rattle.modinfo_tool.specs.Parameters.{is_parameter};
-ghost use Rattle.modinfo_tool.specs.Show.{labelled, all_lines, values_under, ended, line_end, shown};
+ghost use Rattle.modinfo_tool.specs.Show.{labelled, all_lines, values_under, ended, line_end, shown_text};
 
 use crate::parameters::{is_parameter, parameter_values};
 use km_names::{Blob, Name, PathText, Texts, split_at_byte};
@@ -26,14 +26,14 @@ pub struct ShowOptions {
 /// in order. Then it has one for each parameter, in the order they are first seen in. The value of
 /// a parameter is `NAME:TEXT (TYPE)`, by its first `parm` and its first `parmtype`. With a key it
 /// has only the values of that key.
-#[tactic(auto, unfolding(crate::specs::Show::shown))]
+#[tactic(auto, unfolding(crate::specs::Show::shown_text))]
 pub fn show(
     alloc: Global,
     path: &PathText,
     fields: &FieldList,
     options: &ShowOptions,
 ) -> Result<Blob, AllocError>
-    ensures { IfOk result (λ text. text ≡ shown path.now fields.now options.now) }
+    ensures { IfOk result (λ text. text ≡ shown_text path.now fields.now options.now) }
 {
     let end = line_end(options.zero);
     match &options.field {

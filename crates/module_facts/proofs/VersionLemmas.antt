@@ -14,7 +14,7 @@ use Rattle.km_names.specs.Number.{le}
 use Rattle.km_names.specs.Strings.{first_string}
 use Rattle.name_table.specs.NameTable.{first_place, states}
 use Rattle.module_facts.specs.declared.versions.Version.{Version}
-use Rattle.module_facts.specs.Listed.{shown}
+use Rattle.module_facts.specs.Listed.{version_entry}
 use Rattle.module_facts.specs.Versions.{ended_names, entry, entry_name, extended_list, stated_version, without_last}
 
 -- ---- entries
@@ -27,19 +27,19 @@ range-more n = sym (map-same (range_with_len 0 (n + 1))) ∙ map-range_with_len_
     map-same (x ∷ xs) = ap (λ l. x ∷ l) (map-same xs)
 
 -- an entry with a name is put at the end
-pub entry-given : (bytes : List ℕ) (k : ℕ) (list : List Version) (v : Version) (name : List ℕ) (number : ℕ) → map shown list ≡ filter_map (entry bytes) (range_with_len 0 k) → Some name ≡ entry_name bytes k → number ≡ le bytes (64 * k) 8
-    → shown v ≡ (name, number) → map shown (list ++ v ∷ []) ≡ filter_map (entry bytes) (range_with_len 0 (k + 1))
+pub entry-given : (bytes : List ℕ) (k : ℕ) (list : List Version) (v : Version) (name : List ℕ) (number : ℕ) → map version_entry list ≡ filter_map (entry bytes) (range_with_len 0 k) → Some name ≡ entry_name bytes k → number ≡ le bytes (64 * k) 8
+    → version_entry v ≡ (name, number) → map version_entry (list ++ v ∷ []) ≡ filter_map (entry bytes) (range_with_len 0 (k + 1))
 entry-given bytes k list v name number so_far named is same =
-    map-append shown list (v ∷ [])
-    ∙ ap (λ l. l ++ shown v ∷ []) so_far
+    map-append version_entry list (v ∷ [])
+    ∙ ap (λ l. l ++ version_entry v ∷ []) so_far
     ∙ ap (λ e. filter_map (entry bytes) (range_with_len 0 k) ++ e ∷ []) (same ∙ ap (λ n. (name, n)) is)
     ∙ ap (λ o. filter_map (entry bytes) (range_with_len 0 k) ++ cons_option (option_map (λ (n : List ℕ). (n, le bytes (64 * k) 8)) o) []) named
     ∙ sym (filter_map-append (entry bytes) (range_with_len 0 k) (k ∷ []))
     ∙ ap (filter_map (entry bytes)) (sym (range-more k))
 
 -- one without a name isn't
-pub entry-silent : (bytes : List ℕ) (k : ℕ) (list : List Version) → map shown list ≡ filter_map (entry bytes) (range_with_len 0 k) → None ≡ entry_name bytes k
-    → map shown list ≡ filter_map (entry bytes) (range_with_len 0 (k + 1))
+pub entry-silent : (bytes : List ℕ) (k : ℕ) (list : List Version) → map version_entry list ≡ filter_map (entry bytes) (range_with_len 0 k) → None ≡ entry_name bytes k
+    → map version_entry list ≡ filter_map (entry bytes) (range_with_len 0 (k + 1))
 entry-silent bytes k list so_far named =
     so_far
     ∙ sym (append-nil (filter_map (entry bytes) (range_with_len 0 k)))
@@ -96,26 +96,26 @@ ended_names-none bytes is =
 
 -- before the first extended version
 pub extended-start : (crcs names : List ℕ) (list : List Version) → list ≡ []
-    → extended_list crcs names ≡ map shown list ++ zip (ended_names names) (map (λ j. le crcs (4 * j) 4) (range_with_len 0 (length crcs / 4 - 0)))
+    → extended_list crcs names ≡ map version_entry list ++ zip (ended_names names) (map (λ j. le crcs (4 * j) 4) (range_with_len 0 (length crcs / 4 - 0)))
 unfolding extended_list
 extended-start crcs names list empty =
     let later : ℕ → List (List ℕ × ℕ) = λ n. zip (ended_names names) (map (λ j. le crcs (4 * j) 4) (range_with_len 0 n)) in
     let same : length crcs / 4 ≡ length crcs / 4 - 0 = omega arith in
-    ap later same ∙ ap (λ l. map shown l ++ later (length crcs / 4 - 0)) (sym empty)
+    ap later same ∙ ap (λ l. map version_entry l ++ later (length crcs / 4 - 0)) (sym empty)
 
 -- an extended version is put at the end
-pub extended-given : (all : List (List ℕ × ℕ)) (list : List Version) (v : Version) (rest name : List ℕ) (g : ℕ → ℕ) (k n : ℕ) → k < n → Some name ≡ first_string rest → shown v ≡ (name, g k)
-    → all ≡ map shown list ++ zip (ended_names rest) (map g (range_with_len k (n - k)))
-    → all ≡ map shown (list ++ v ∷ []) ++ zip (ended_names (drop (length name + 1) rest)) (map g (range_with_len (k + 1) (n - (k + 1))))
+pub extended-given : (all : List (List ℕ × ℕ)) (list : List Version) (v : Version) (rest name : List ℕ) (g : ℕ → ℕ) (k n : ℕ) → k < n → Some name ≡ first_string rest → version_entry v ≡ (name, g k)
+    → all ≡ map version_entry list ++ zip (ended_names rest) (map g (range_with_len k (n - k)))
+    → all ≡ map version_entry (list ++ v ∷ []) ++ zip (ended_names (drop (length name + 1) rest)) (map g (range_with_len (k + 1) (n - (k + 1))))
 extended-given all list v rest name g k n less named same so_far =
     let later : List (List ℕ × ℕ) = zip (ended_names (drop (length name + 1) rest)) (map g (range_with_len (k + 1) (n - (k + 1)))) in
     let left : n - k ≡ suc (n - (k + 1)) = omega arith in
     so_far
-    ∙ ap (λ l. map shown list ++ zip l (map g (range_with_len k (n - k)))) (ended_names-cons rest name named)
-    ∙ ap (λ m. map shown list ++ zip (name ∷ ended_names (drop (length name + 1) rest)) (map g (range_with_len k m))) left
-    ∙ sym (append_assoc (map shown list) ((name, g k) ∷ []) later)
-    ∙ ap (λ e. map shown list ++ e ∷ [] ++ later) (sym same)
-    ∙ ap (λ l. l ++ later) (sym (map-append shown list (v ∷ [])))
+    ∙ ap (λ l. map version_entry list ++ zip l (map g (range_with_len k (n - k)))) (ended_names-cons rest name named)
+    ∙ ap (λ m. map version_entry list ++ zip (name ∷ ended_names (drop (length name + 1) rest)) (map g (range_with_len k m))) left
+    ∙ sym (append_assoc (map version_entry list) ((name, g k) ∷ []) later)
+    ∙ ap (λ e. map version_entry list ++ e ∷ [] ++ later) (sym same)
+    ∙ ap (λ l. l ++ later) (sym (map-append version_entry list (v ∷ [])))
 
 zip-none : (xs : List (List ℕ)) → zip xs (map (λ (k : ℕ). k) []) ≡ []
 zip-none [] = refl
@@ -123,23 +123,23 @@ zip-none (x ∷ xs) = refl
 
 -- no name is left
 pub extended-none : (all : List (List ℕ × ℕ)) (list : List Version) (rest : List ℕ) (numbers : List ℕ) → None ≡ first_string rest
-    → all ≡ map shown list ++ zip (ended_names rest) numbers → map shown list ≡ all
+    → all ≡ map version_entry list ++ zip (ended_names rest) numbers → map version_entry list ≡ all
 extended-none all list rest numbers none so_far =
-    sym (so_far ∙ ap (λ l. map shown list ++ zip l numbers) (ended_names-none rest none) ∙ append-nil (map shown list))
+    sym (so_far ∙ ap (λ l. map version_entry list ++ zip l numbers) (ended_names-none rest none) ∙ append-nil (map version_entry list))
 
 -- no number is left
 pub extended-all : (all : List (List ℕ × ℕ)) (list : List Version) (rest : List ℕ) (g : ℕ → ℕ) (k n : ℕ) → n ≤ k
-    → all ≡ map shown list ++ zip (ended_names rest) (map g (range_with_len k (n - k))) → map shown list ≡ all
+    → all ≡ map version_entry list ++ zip (ended_names rest) (map g (range_with_len k (n - k))) → map version_entry list ≡ all
 extended-all all list rest g k n past so_far =
     let left : n - k ≡ 0 = omega arith in
-    sym (so_far ∙ ap (λ m. map shown list ++ zip (ended_names rest) (map g (range_with_len k m))) left ∙ ap (λ l. map shown list ++ l) (zip-none (ended_names rest)) ∙ append-nil (map shown list))
+    sym (so_far ∙ ap (λ m. map version_entry list ++ zip (ended_names rest) (map g (range_with_len k m))) left ∙ ap (λ l. map version_entry list ++ l) (zip-none (ended_names rest)) ∙ append-nil (map version_entry list))
 
 -- ---- the version of a name
 
-find-shown : (name : List ℕ) (list : List Version) → find (λ (e : List ℕ × ℕ). bytes_eq e.0 name) (map shown list) ≡ option_map shown (find (λ (v : Version). bytes_eq v.name.now name) list)
+find-shown : (name : List ℕ) (list : List Version) → find (λ (e : List ℕ × ℕ). bytes_eq e.0 name) (map version_entry list) ≡ option_map version_entry (find (λ (v : Version). bytes_eq v.name.now name) list)
 find-shown name [] = refl
 find-shown name (v ∷ vs) =
-    elim (bytes_eq v.name.now name) as (λ b. cond b (Some (shown v)) (find (λ (e : List ℕ × ℕ). bytes_eq e.0 name) (map shown vs)) ≡ option_map shown (cond b (Some v) (find (λ (x : Version). bytes_eq x.name.now name) vs))) [
+    elim (bytes_eq v.name.now name) as (λ b. cond b (Some (version_entry v)) (find (λ (e : List ℕ × ℕ). bytes_eq e.0 name) (map version_entry vs)) ≡ option_map version_entry (cond b (Some v) (find (λ (x : Version). bytes_eq x.name.now name) vs))) [
       | true ↦ refl
       | false ↦ find-shown name vs
     ]
@@ -171,19 +171,19 @@ lost-from p i (x ∷ xs) h = lost-by (p x) i (position_from p (i + 1) xs) (find 
     lost-by false i later found x h rest = rest h
 
 pub stated-found : (list : List Version) (name : List ℕ) (k : ℕ) → Some k ≡ first_place (map (λ (v : Version). Some v.name.now) list) name
-    → option_map (λ (v : Version). v.number) (slice_get list k) ≡ stated_version (map shown list) name
+    → option_map (λ (v : Version). v.number) (slice_get list k) ≡ stated_version (map version_entry list) name
 unfolding stated_version
 stated-found list name k is =
     let found : find (λ (v : Version). bytes_eq v.name.now name) list ≡ slice_get list k = found-at (λ (v : Version). bytes_eq v.name.now name) list k (is ∙ place-is name list) in
-    number-of (slice_get list k) ∙ ap (λ o. option_map (λ (e : List ℕ × ℕ). e.1) (option_map shown o)) (sym found) ∙ ap (option_map (λ (e : List ℕ × ℕ). e.1)) (sym (find-shown name list))
+    number-of (slice_get list k) ∙ ap (λ o. option_map (λ (e : List ℕ × ℕ). e.1) (option_map version_entry o)) (sym found) ∙ ap (option_map (λ (e : List ℕ × ℕ). e.1)) (sym (find-shown name list))
   where
-    number-of : (o : Option Version) → option_map (λ (v : Version). v.number) o ≡ option_map (λ (e : List ℕ × ℕ). e.1) (option_map shown o)
+    number-of : (o : Option Version) → option_map (λ (v : Version). v.number) o ≡ option_map (λ (e : List ℕ × ℕ). e.1) (option_map version_entry o)
     number-of None = refl
     number-of (Some v) = refl
 
-pub stated-none : (list : List Version) (name : List ℕ) → None ≡ first_place (map (λ (v : Version). Some v.name.now) list) name → None ≡ stated_version (map shown list) name
+pub stated-none : (list : List Version) (name : List ℕ) → None ≡ first_place (map (λ (v : Version). Some v.name.now) list) name → None ≡ stated_version (map version_entry list) name
 unfolding stated_version
 stated-none list name is =
     let lost : find (λ (v : Version). bytes_eq v.name.now name) list ≡ None =
     lost-from (λ (v : Version). bytes_eq v.name.now name) 0 list (is ∙ place-is name list ∙ position_from-zero (λ (v : Version). bytes_eq v.name.now name) list) in
-    sym (ap (option_map (λ (e : List ℕ × ℕ). e.1)) (find-shown name list ∙ ap (option_map shown) lost))
+    sym (ap (option_map (λ (e : List ℕ × ℕ). e.1)) (find-shown name list ∙ ap (option_map version_entry) lost))

@@ -4,5 +4,5 @@ use Rattle.std.specs.Prelude.{ℕ, List}
 use Rattle.module_facts.specs.declared.versions.Version.{Version}
 
 -- An entry of a version list: its name and its number.
-abbrev pub shown : Version → List ℕ × ℕ
-shown v = (v.name.now, v.number)
+abbrev pub version_entry : Version → List ℕ × ℕ
+version_entry v = (v.name.now, v.number)

@@ -3,7 +3,7 @@
 ghost use Rattle.std.specs.Prelude.{◌≡◌, map, Some, IfOk};
 ghost use Rattle.name_table.specs.NameTable.{IsTableOf};
 ghost use Rattle.elf_object.specs.Symbols.{owned_symbol};
-ghost use Rattle.module_facts.specs.Listed.{shown};
+ghost use Rattle.module_facts.specs.Listed.{version_entry};
 ghost use Rattle.module_facts.specs.Needs.{is_need, need_of, needs_of};
 
 use crate::versions::{Versions, stated_version, version_list, version_table};
@@ -32,7 +32,7 @@ fn read_need(
     symbol: SymbolRef,
 ) -> Result<Need, AllocError>
     requires { IsTableOf table.now (map (λ v. Some v.name.now) versions.now) }
-    ensures { IfOk result (λ need. need ≡ need_of (map shown versions.now) i (owned_symbol symbol.entry)) }
+    ensures { IfOk result (λ need. need ≡ need_of (map version_entry versions.now) i (owned_symbol symbol.entry)) }
 {
     Ok(Need {
         name: Name::from_slice(alloc, symbol.name)?,

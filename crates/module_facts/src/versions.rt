@@ -4,7 +4,7 @@ ghost use Rattle.std.specs.Prelude.{◌≡◌, ◌+◌, ◌*◌, ◌/◌, ◌<�
 ghost use Rattle.std.specs.List.{count_by};
 ghost use Rattle.km_names.specs.Limit.{file_limit};
 ghost use Rattle.name_table.specs.NameTable.{IsTableOf};
-ghost use Rattle.module_facts.specs.Listed.{shown};
+ghost use Rattle.module_facts.specs.Listed.{version_entry};
 ghost use Rattle.module_facts.specs.Versions.{are_bad_entries, entry_list, entry_name, extended_bytes, extended_list, is_bad_extended, is_bad_list, stated_version, version_list};
 
 use crate::contents::named_bytes;
@@ -67,7 +67,7 @@ fn are_bad_entries(bytes: &[u8]) -> bool
 #[tactic(auto, unfolding(crate::specs::Versions::entry_list))]
 fn entry_list<'a>(alloc: Global, bytes: &'a [u8]) -> Result<Versions<'a>, AllocError>
     requires { length bytes.now ≤ file_limit }
-    ensures list { IfOk result (λ list. map shown list ≡ entry_list bytes.now) }
+    ensures list { IfOk result (λ list. map version_entry list ≡ entry_list bytes.now) }
     ensures few { IfOk result (λ list. length list ≤ file_limit) }
 {
     let mut list = Versions::new(alloc);
@@ -111,7 +111,7 @@ fn extended_list<'a>(
     names: &'a [u8],
 ) -> Result<Versions<'a>, AllocError>
     requires { length crcs.now ≤ file_limit }
-    ensures list { IfOk result (λ list. map shown list ≡ extended_list crcs.now names.now) }
+    ensures list { IfOk result (λ list. map version_entry list ≡ extended_list crcs.now names.now) }
     ensures few { IfOk result (λ list. length list ≤ file_limit) }
 {
     let mut list = Versions::new(alloc);
@@ -144,7 +144,7 @@ pub(crate) fn version_list<'a>(
     alloc: Global,
     object: &ObjectView<'a>,
 ) -> Result<Versions<'a>, AllocError>
-    ensures list { IfOk result (λ list. map shown list ≡ version_list object.now) }
+    ensures list { IfOk result (λ list. map version_entry list ≡ version_list object.now) }
     ensures few { IfOk result (λ list. length list ≤ file_limit) }
 {
     match extended_sections(object) {
@@ -189,7 +189,7 @@ pub(crate) fn version_table<'a>(
 #[tactic(auto, unfolding(crate::specs::Versions::stated_version))]
 pub(crate) fn stated_version(list: &Versions, table: &NameTable, name: &[u8]) -> Option<u64>
     requires { IsTableOf table.now (map (λ v. Some v.name.now) list.now) }
-    ensures { result ≡ stated_version (map shown list.now) name.now }
+    ensures { result ≡ stated_version (map version_entry list.now) name.now }
 {
     let place = table.place(name)?;
     match list.get(place as usize) {

@@ -2,7 +2,7 @@
 ghost use Rattle.std.specs.Prelude.{◌≡◌, IfOk};
 ghost use Rattle.index_format.specs.Map.{values_of};
 ghost use Rattle.index_read.specs.Contents.{contents, wild_values};
-ghost use Rattle.index_read.specs.Values.{shown};
+ghost use Rattle.index_read.specs.Values.{found_values};
 ghost use Rattle.name_lookup.specs.Maps.{texts};
 
 use index_read::{Index, Values, plain};
@@ -28,7 +28,7 @@ pub(crate) fn names_matching(alloc: Global, index: &Index, name: &[u8]) -> Resul
 
 /// Returns the texts of values as names.
 fn names_of(alloc: Global, values: &Values) -> Result<Names, AllocError>
-    ensures { IfOk result (λ names. names ≡ texts (shown values.now)) }
+    ensures { IfOk result (λ names. names ≡ texts (found_values values.now)) }
 {
     let mut names = Names::new(alloc);
     for value in values.as_slice() {

@@ -6,7 +6,7 @@ use Rattle.elf_object.specs.Object.{FileObject}
 use Rattle.elf_sections.specs.Shape.{each, fault_if}
 use Rattle.km_names.specs.First.{first}
 use Rattle.image_layout.specs.Plain.{Piece, has_place}
-use Rattle.param_apply.specs.declared.kind.Kind.{Kind}
+use Rattle.param_apply.specs.declared.kind.ParamType.{ParamType}
 use Rattle.param_apply.specs.declared.fault.ParamFault.{ParamFault}
 use Rattle.param_apply.specs.declared.fault.ParamFault.TheVariants.{BadValue, BadParamPlace, UnknownParamType}
 use Rattle.param_apply.specs.Kinds.{bytes_of, number_of}
@@ -15,7 +15,7 @@ use Rattle.param_apply.specs.Words.{Parameter, Setting, parameters, settings}
 use Rattle.param_apply.specs.Places.{is_misplaced}
 
 -- The test that a word states a value of its parameter, by the parameter's type.
-abbrev pub value_test : Setting → Parameter → Option Kind → Option ParamFault
+abbrev pub value_test : Setting → Parameter → Option ParamType → Option ParamFault
 value_test s p None = Some (UnknownParamType p.name)
 value_test s p (Some kind) = fault_if (is_none (number_of kind s.text)) (BadValue p.name)
 

@@ -8,7 +8,7 @@ use Rattle.elf_object.specs.Object.{FileObject}
 use Rattle.km_names.specs.Path.{underscored}
 use Rattle.module_facts.specs.Contents.{modinfo_bytes}
 use Rattle.modinfo_fields.specs.Fields.{fields_of, is_text, values_of_key}
-use Rattle.param_apply.specs.declared.kind.Kind.{Kind}
+use Rattle.param_apply.specs.declared.kind.ParamType.{ParamType}
 use Rattle.param_apply.specs.Kinds.{kind_of}
 use Rattle.param_apply.specs.Table.{Entry, entries, table_of}
 
@@ -29,7 +29,7 @@ abbrev pub text_type : List ℕ → List ℕ
 text_type text = after_first (λ b. b == 58) text
 
 -- The type of the parameter of a name, from the first text with the name, if the type is known.
-unfoldable pub kind_named : List (List ℕ) → List ℕ → Option Kind
+unfoldable pub kind_named : List (List ℕ) → List ℕ → Option ParamType
 kind_named texts name =
     option_and_then (λ text. kind_of (text_type text))
     (option_and_then (slice_get texts) (position (λ text. is_same (text_name text) name) texts))
@@ -38,7 +38,7 @@ kind_named texts name =
 pub record Parameter : Type 0 where
   pub name : List ℕ
   pub at : ℕ
-  pub kind : Option Kind
+  pub kind : Option ParamType
 
 abbrev pub parameter : List (List ℕ) → Entry → Parameter
 parameter texts e = record { name = e.name; at = e.at; kind = kind_named texts e.name }

@@ -3,7 +3,7 @@
 use Rattle.std.specs.Prelude.{◌≡◌, ℕ, ◌<◌, ◌||◌, Bool, true, false, List, length, map, take, slice_get, Some, None, get_or}
 use Rattle.std.specs.List.{list_any}
 use Rattle.elf_object.specs.Object.{FileObject}
-use Rattle.param_apply.specs.declared.kind.Kind.{Kind}
+use Rattle.param_apply.specs.declared.kind.ParamType.{ParamType}
 use Rattle.param_apply.specs.declared.claims.Claims.{Claims}
 use Rattle.param_apply.specs.declared.claims.Value.{Value}
 use Rattle.param_apply.specs.Kinds.{number_of, width_of}
@@ -33,7 +33,7 @@ pub record IsWritten (image copy : List ℕ) (c : Claims) (o : FileObject) (para
 
 -- The value is the one that the word states for its parameter.
 pub record IsValueOf (v : Value) (p : Parameter) (s : Setting) : Type 0 where
-  pub kind : Kind
+  pub kind : ParamType
   pub known : p.kind ≡ Some kind
   pub number : number_of kind s.text ≡ Some v.number
   pub width : v.width ≡ width_of kind

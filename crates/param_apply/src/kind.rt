@@ -49,7 +49,7 @@ impl Width {
 
 /// The type of a parameter.
 #[derive(Clone, Copy, Debug)]
-pub(crate) enum Kind {
+pub(crate) enum ParamType {
     /// A number without a sign.
     Unsigned(Width),
     /// A number with a sign.
@@ -60,42 +60,42 @@ pub(crate) enum Kind {
 
 /// Returns the type that a text names.
 #[tactic(auto, unfolding(crate::specs::Kinds::kind_of))]
-pub(crate) fn kind_of(text: &[u8]) -> Option<Kind>
+pub(crate) fn kind_of(text: &[u8]) -> Option<ParamType>
     ensures { result ≡ kind_of text.now }
 {
     if text == b"byte".as_slice() {
-        Some(Kind::Unsigned(Width::One))
+        Some(ParamType::Unsigned(Width::One))
     } else if text == b"ushort".as_slice() {
-        Some(Kind::Unsigned(Width::Two))
+        Some(ParamType::Unsigned(Width::Two))
     } else if text == b"uint".as_slice() {
-        Some(Kind::Unsigned(Width::Four))
+        Some(ParamType::Unsigned(Width::Four))
     } else if text == b"ulong".as_slice() {
-        Some(Kind::Unsigned(Width::Eight))
+        Some(ParamType::Unsigned(Width::Eight))
     } else if text == b"ullong".as_slice() {
-        Some(Kind::Unsigned(Width::Eight))
+        Some(ParamType::Unsigned(Width::Eight))
     } else if text == b"short".as_slice() {
-        Some(Kind::Signed(Width::Two))
+        Some(ParamType::Signed(Width::Two))
     } else if text == b"int".as_slice() {
-        Some(Kind::Signed(Width::Four))
+        Some(ParamType::Signed(Width::Four))
     } else if text == b"long".as_slice() {
-        Some(Kind::Signed(Width::Eight))
+        Some(ParamType::Signed(Width::Eight))
     } else if text == b"bool".as_slice() {
-        Some(Kind::Truth)
+        Some(ParamType::Truth)
     } else {
         None
     }
 }
 
-impl Kind {
+impl ParamType {
     /// Returns the number of bytes of its values.
     pub(crate) fn width(self) -> usize
         ensures width { result ≡ width_of self }
         ensures small { result ≤ 8 }
     {
         match self {
-            Kind::Unsigned(width) => width.bytes(),
-            Kind::Signed(width) => width.bytes(),
-            Kind::Truth => 1,
+            ParamType::Unsigned(width) => width.bytes(),
+            ParamType::Signed(width) => width.bytes(),
+            ParamType::Truth => 1,
         }
     }
 
@@ -104,9 +104,9 @@ impl Kind {
         ensures { result ≡ stated self text.now }
     {
         match self {
-            Kind::Unsigned(width) => unsigned(width, text),
-            Kind::Signed(width) => signed(width, text),
-            Kind::Truth => truth(text),
+            ParamType::Unsigned(width) => unsigned(width, text),
+            ParamType::Signed(width) => signed(width, text),
+            ParamType::Truth => truth(text),
         }
     }
 
@@ -118,7 +118,7 @@ impl Kind {
     {
         match (text, self) {
             (Some(text), kind) => kind.stated(text),
-            (None, Kind::Truth) => Some(1),
+            (None, ParamType::Truth) => Some(1),
             (None, _) => None,
         }
     }

@@ -7,7 +7,7 @@ ghost use Rattle.module_facts.specs.Contents.{modinfo_bytes};
 ghost use Rattle.param_apply.specs.Kinds.{kind_of};
 ghost use Rattle.param_apply.specs.Words.{kind_named, number_named, parameter, text_name, text_type, type_texts};
 
-use crate::kind::{Kind, kind_of};
+use crate::kind::{ParamType, kind_of};
 use crate::table::EntryRef;
 use elf_object::Object;
 use km_names::{Blob, Texts, split_at_byte, underscored};
@@ -22,7 +22,7 @@ use std::marker::Model;
 pub(crate) struct ParamRef<'a> {
     pub(crate) name: &'a [u8],
     pub(crate) at: u64,
-    pub(crate) kind: Option<Kind>,
+    pub(crate) kind: Option<ParamType>,
 }
 
 impl<'a> Model for ParamRef<'a> {
@@ -92,7 +92,7 @@ impl Types {
     }
 
     /// Returns the type in the text at a place, if there is a text and its type is known.
-    fn kind_at(&self, place: Option<u32>) -> Option<Kind>
+    fn kind_at(&self, place: Option<u32>) -> Option<ParamType>
         ensures { result ≡ option_and_then (λ text. kind_of (text_type text)) (option_and_then (slice_get self.now.texts) place) }
     {
         let place = place?;
@@ -102,7 +102,7 @@ impl Types {
     }
 
     /// Returns the type of the parameter of a name.
-    fn kind_named(&self, alloc: Global, name: &[u8]) -> Result<Option<Kind>, AllocError>
+    fn kind_named(&self, alloc: Global, name: &[u8]) -> Result<Option<ParamType>, AllocError>
         ensures { IfOk result (λ kind. kind ≡ kind_named self.now.texts name.now) }
     {
         let place = place_named(alloc, &self.names, name)?;

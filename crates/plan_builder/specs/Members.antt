@@ -54,17 +54,17 @@ chosen_command rules ignored name = if ignored then None else install_command ru
 
 -- The kind of a name that a requested name is resolved to: a module, a name that a command is run
 -- for, a built-in module, or an unknown name.
-pub data Kind : Type 0 where
-  loadable : ℕ → Kind
-  installed : List ℕ → Kind
-  inside : Kind
-  unknown : Kind
+pub data ResolvedKind : Type 0 where
+  loadable : ℕ → ResolvedKind
+  installed : List ℕ → ResolvedKind
+  inside : ResolvedKind
+  unknown : ResolvedKind
 
-abbrev pub kind_unless : Option ℕ → Option (List ℕ) → Bool → Kind
+abbrev pub kind_unless : Option ℕ → Option (List ℕ) → Bool → ResolvedKind
 kind_unless (Some place) command builtin = loadable place
 kind_unless None (Some command) builtin = installed command
 kind_unless None None builtin = if builtin then inside else unknown
 
-abbrev pub kind_of : Sources → Bool → List ℕ → Kind
+abbrev pub kind_of : Sources → Bool → List ℕ → ResolvedKind
 kind_of s ignored name =
     kind_unless (place_of (modules s) name) (chosen_command s.rules ignored name) (has_value s.maps.builtin name)

@@ -20,7 +20,7 @@ use Rattle.plan_builder.specs.declared.obstacle.Obstacle.{Obstacle}
 use Rattle.plan_builder.specs.declared.obstacle.Obstacle.TheVariants.{BadDepLine, NotFound, Missing, Gpl, Version, Namespace, Cycle, Double}
 use Rattle.dependency_lines.specs.Modules.{bad_name, name_at, path_at, places_of}
 use Rattle.plan_builder.specs.Needs.{Sources, modules, before}
-use Rattle.plan_builder.specs.Members.{found_for, planned, Kind, loadable, installed, inside, unknown, kind_of}
+use Rattle.plan_builder.specs.Members.{found_for, planned, ResolvedKind, loadable, installed, inside, unknown, kind_of}
 
 -- A name in its normal form, or the name itself if it has none.
 abbrev pub shown_name : List ℕ → List ℕ
@@ -35,7 +35,7 @@ abbrev pub is_unfound : Sources → List ℕ → Bool
 is_unfound s name = (found s.rules s.maps s.use_blacklist name).list == 0
 
 -- Whether a kind is the unknown one.
-abbrev pub is_unknown_kind : Kind → Bool
+abbrev pub is_unknown_kind : ResolvedKind → Bool
 is_unknown_kind (loadable place) = false
 is_unknown_kind (installed command) = false
 is_unknown_kind inside = false

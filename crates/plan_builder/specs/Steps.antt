@@ -14,7 +14,7 @@ use Rattle.plan_builder.specs.declared.step.PlanStep.{PlanStep}
 use Rattle.plan_builder.specs.declared.step.PlanStep.TheVariants.{Insert, Install, Builtin}
 use Rattle.dependency_lines.specs.Modules.{name_at, path_at, places_of}
 use Rattle.plan_builder.specs.Needs.{Sources, modules, before, after, unloaded}
-use Rattle.plan_builder.specs.Members.{found_for, asked, is_member, Kind, loadable, installed, inside, unknown, kind_of, chosen_command}
+use Rattle.plan_builder.specs.Members.{found_for, asked, is_member, ResolvedKind, loadable, installed, inside, unknown, kind_of, chosen_command}
 use Rattle.plan_builder.specs.Obstacles.{all_names}
 
 -- Texts with a space between each and the next.
@@ -46,7 +46,7 @@ module_step s request x =
     step_unless (chosen_command s.rules (request.ignore_install && is_member s request name) name) name (path_at (modules s) x) (options_of s request name)
 
 -- The step of a member that is no module.
-abbrev pub step_of_kind : Kind → List ℕ → List PlanStep
+abbrev pub step_of_kind : ResolvedKind → List ℕ → List PlanStep
 step_of_kind (loadable place) name = []
 step_of_kind (installed command) name = Install name command ∷ []
 step_of_kind inside name = Builtin name ∷ []

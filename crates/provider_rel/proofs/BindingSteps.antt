@@ -5,8 +5,8 @@ use Rattle.std.proofs.lemmas.List.Elements.{filter_map-append}
 use Rattle.std.specs.List.{cons_option}
 use Rattle.symbol_binding.specs.Symbols.{Face, Need}
 use Rattle.symbol_binding.specs.Needs.{agree}
-use Rattle.provider_rel.specs.declared.unmet.Kind.{Kind}
-use Rattle.provider_rel.specs.declared.unmet.Kind.TheVariants.{Missing, Gpl, Version, Namespace}
+use Rattle.provider_rel.specs.declared.unmet.UnmetKind.{UnmetKind}
+use Rattle.provider_rel.specs.declared.unmet.UnmetKind.TheVariants.{Missing, Gpl, Version, Namespace}
 use Rattle.provider_rel.specs.Items.{Item, owner_under, used_places}
 use Rattle.provider_rel.specs.Kinds.{test_of}
 
@@ -43,7 +43,7 @@ unstated None = refl
 unstated (Some a) = refl
 
 -- where nothing was found, a need is missing at the most
-pub alone : (kind : Kind) (known : Bool) (x : List ℕ) (m : Face) (n : Need) → (kind ≡ Missing → ⊥) → false ≡ test_of kind (cond known None (Some (record { name = x; crc = None; gpl = false; space = [] }))) m n
+pub alone : (kind : UnmetKind) (known : Bool) (x : List ℕ) (m : Face) (n : Need) → (kind ≡ Missing → ⊥) → false ≡ test_of kind (cond known None (Some (record { name = x; crc = None; gpl = false; space = [] }))) m n
 alone Missing known x m n other = absurd (other refl)
 alone Gpl true x m n other = both (not n.weak)
 alone Gpl false x m n other = both (not n.weak)

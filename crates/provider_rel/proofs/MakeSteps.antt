@@ -20,8 +20,8 @@ use Rattle.relation_order.proofs.ReachedLaws.{reached-members}
 use Rattle.relation_order.proofs.Saturation.{kept}
 use Rattle.symbol_binding.specs.Unmet.{unmet, lines, doubles}
 use Rattle.symbol_binding.specs.declared.unbound.Unbound.{Unbound}
-use Rattle.provider_rel.specs.declared.unmet.Kind.{Kind}
-use Rattle.provider_rel.specs.declared.unmet.Kind.TheVariants.{Missing, Gpl, Version, Namespace}
+use Rattle.provider_rel.specs.declared.unmet.UnmetKind.{UnmetKind}
+use Rattle.provider_rel.specs.declared.unmet.UnmetKind.TheVariants.{Missing, Gpl, Version, Namespace}
 use Rattle.provider_rel.specs.Kinds.{test_of, line_of, lines_by}
 use Rattle.provider_rel.proofs.UseLaw.{lines-are}
 use Rattle.provider_rel.proofs.DoubleLaw.{Apart, ModulesApart, double-law}
@@ -120,7 +120,7 @@ unfolding unmet
 all-lines tree kernel names is known l0 l1 l2 l3 l4 l5 same table known_is kernel_apart apart e0 e1 e2 e3 e4 e5 =
     let T = modules_of tree in
     let table' = subst (λ l. IsTableOf names (map item_name l)) same table in
-    let of = λ (kind : Kind). ap (λ l. flat_map (lines_by kind known l names) tree) same ∙ ap (λ b. flat_map (lines_by kind b (items T kernel) names) tree) known_is ∙ lines-are tree kernel names table' kind in
+    let of = λ (kind : UnmetKind). ap (λ l. flat_map (lines_by kind known l names) tree) same ∙ ap (λ b. flat_map (lines_by kind b (items T kernel) names) tree) known_is ∙ lines-are tree kernel names table' kind in
     e5
     ∙ ap (λ l. l ++ item_doubles [] is) (e4 ∙ ap (λ l. l ++ flat_map (lines_by Namespace known is names) tree) (e3 ∙ ap (λ l. l ++ flat_map (lines_by Version known is names) tree) (e2 ∙ ap (λ l. l ++ flat_map (lines_by Gpl known is names) tree) (e1 ∙ ap (λ l. l ++ flat_map (lines_by Missing known is names) tree) e0))))
     ∙ ap (λ l. (((l ++ flat_map (lines_by Gpl known is names) tree) ++ flat_map (lines_by Version known is names) tree) ++ flat_map (lines_by Namespace known is names) tree) ++ item_doubles [] is) (of Missing)

@@ -14,7 +14,7 @@ use Rattle.relation_order.specs.Search.{Inside}
 use Rattle.symbol_binding.specs.Symbols.{Export, Need, Module, Kernel as SeenKernel}
 use Rattle.symbol_binding.specs.Provider.{ByModule, Provided, provider, uses, owning_module, export_under}
 use Rattle.symbol_binding.specs.Unmet.{lines, lines_of, provider_path}
-use Rattle.provider_rel.specs.declared.unmet.Kind.{Kind}
+use Rattle.provider_rel.specs.declared.unmet.UnmetKind.{UnmetKind}
 use Rattle.provider_rel.specs.Faces.{face_of, need_of_facts, module_of, modules_of}
 use Rattle.provider_rel.specs.Tree.{IsTree}
 use Rattle.provider_rel.specs.Relation.{place, uses_at}
@@ -94,7 +94,7 @@ module _ (tree : List Facts) (kernel : SeenKernel) (names : Table) (table : IsTa
   goes-is lists are = fun_ext (λ x. fun_ext (λ y. ap (λ l. has (get_or l x []) y) are ∙ goes-go tree x y))
 
   -- the line of a need
-  line-is : (kind : Kind) (f : Facts) (n : StatedNeed) → line_if kind kernel.known f n (item_under (items (modules_of tree) kernel) (place_of names n.name))
+  line-is : (kind : UnmetKind) (f : Facts) (n : StatedNeed) → line_if kind kernel.known f n (item_under (items (modules_of tree) kernel) (place_of names n.name))
       ≡ cond (test_of kind (export_under (provider (modules_of tree) kernel n.name)) (face_of f) (need_of_facts n)) (line_of kind f.path n.name (provider_path (provider (modules_of tree) kernel n.name)) ∷ []) []
   unfolding line_if
   line-is kind f n =
@@ -103,7 +103,7 @@ module _ (tree : List Facts) (kernel : SeenKernel) (names : Table) (table : IsTa
       ∙ ap (λ by. cond (test_of kind (export_under (provider (modules_of tree) kernel n.name)) (face_of f) (need_of_facts n)) (line_of kind f.path n.name by ∷ []) []) (sym (path-is (modules_of tree) kernel n.name))
 
   -- the lines of a kind
-  pub lines-are : (kind : Kind) → flat_map (lines_by kind kernel.known (items (modules_of tree) kernel) names) tree ≡ lines (test_of kind) (line_of kind) (modules_of tree) kernel
+  pub lines-are : (kind : UnmetKind) → flat_map (lines_by kind kernel.known (items (modules_of tree) kernel) names) tree ≡ lines (test_of kind) (line_of kind) (modules_of tree) kernel
   lines-are kind =
       flat-same (lines_by kind kernel.known (items (modules_of tree) kernel) names) (lines_of (test_of kind) (line_of kind) (modules_of tree) kernel) module_of
       (λ f. flat-filter (λ (n : StatedNeed). line_if kind kernel.known f n (item_under (items (modules_of tree) kernel) (place_of names n.name))) need_of_facts

@@ -8,32 +8,32 @@ use Rattle.name_table.specs.NameTable.{Table, place_of}
 use Rattle.symbol_binding.specs.Needs.{NeedTest, is_missing, is_hidden, is_other_version, is_barred}
 use Rattle.symbol_binding.specs.declared.unbound.Unbound.{Unbound}
 use Rattle.symbol_binding.specs.declared.unbound.Unbound.TheVariants.{Missing as MissingLine, Gpl as GplLine, Version as VersionLine, Namespace as NamespaceLine}
-use Rattle.provider_rel.specs.declared.unmet.Kind.{Kind}
-use Rattle.provider_rel.specs.declared.unmet.Kind.TheVariants.{Missing, Gpl, Version, Namespace}
+use Rattle.provider_rel.specs.declared.unmet.UnmetKind.{UnmetKind}
+use Rattle.provider_rel.specs.declared.unmet.UnmetKind.TheVariants.{Missing, Gpl, Version, Namespace}
 use Rattle.provider_rel.specs.Faces.{face_of, need_of_facts}
 use Rattle.provider_rel.specs.Items.{Item, item_under, seen_under, path_under}
 
 -- The test of a kind.
-abbrev pub test_of : Kind → NeedTest
+abbrev pub test_of : UnmetKind → NeedTest
 test_of Missing = is_missing
 test_of Gpl = is_hidden
 test_of Version = is_other_version
 test_of Namespace = is_barred
 
 -- The line of a kind: of the module at a path, on a name, and its provider.
-abbrev pub line_of : Kind → List ℕ → List ℕ → List ℕ → Unbound
+abbrev pub line_of : UnmetKind → List ℕ → List ℕ → List ℕ → Unbound
 line_of Missing m x by = MissingLine m x
 line_of Gpl m x by = GplLine m x by
 line_of Version m x by = VersionLine m x by
 line_of Namespace m x by = NamespaceLine m x by
 
 -- The line of a kind of a need, by what was found under its name, if it has one.
-unfoldable pub line_if : Kind → Bool → Facts → StatedNeed → Option Item → List Unbound
+unfoldable pub line_if : UnmetKind → Bool → Facts → StatedNeed → Option Item → List Unbound
 line_if kind known f n found =
     if test_of kind (seen_under known n.name found) (face_of f) (need_of_facts n)
     then line_of kind f.path n.name (path_under known found) ∷ []
     else []
 
 -- The lines of a kind of all needs of a module, by the table of names.
-abbrev pub lines_by : Kind → Bool → List Item → Table → Facts → List Unbound
+abbrev pub lines_by : UnmetKind → Bool → List Item → Table → Facts → List Unbound
 lines_by kind known is names f = flat_map (λ (n : StatedNeed). line_if kind known f n (item_under is (place_of names n.name))) f.needs

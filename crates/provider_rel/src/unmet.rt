@@ -16,7 +16,7 @@ use symbol_binding::{Obstacles, Unbound, agree, may_use, sees};
 
 /// The kinds of lines on needs.
 #[derive(Clone, Copy)]
-pub(crate) enum Kind {
+pub(crate) enum UnmetKind {
     Missing,
     Gpl,
     Version,
@@ -24,32 +24,32 @@ pub(crate) enum Kind {
 }
 
 /// Returns whether a need has a line of a kind, if an export was found under its name.
-fn is_unmet_by(kind: Kind, facts: &Facts, need: &Need, item: &ExportItem) -> bool
+fn is_unmet_by(kind: UnmetKind, facts: &Facts, need: &Need, item: &ExportItem) -> bool
     ensures { result ≡ test_of kind (Some item.now.export) (face_of facts.now) (need_of_facts need.now) }
 {
     let seen = sees(facts.free, item.gpl());
     match kind {
-        Kind::Missing => false,
-        Kind::Gpl => !need.weak && !seen,
-        Kind::Version => seen && !agree(need.crc, item.crc()),
-        Kind::Namespace => seen && !may_use(&facts.imports, item.space()),
+        UnmetKind::Missing => false,
+        UnmetKind::Gpl => !need.weak && !seen,
+        UnmetKind::Version => seen && !agree(need.crc, item.crc()),
+        UnmetKind::Namespace => seen && !may_use(&facts.imports, item.space()),
     }
 }
 
 /// Returns whether a need has a line of a kind, if nothing was found under its name.
-fn is_unmet_alone(kind: Kind, need: &Need, known: bool) -> bool
+fn is_unmet_alone(kind: UnmetKind, need: &Need, known: bool) -> bool
     ensures { (facts : Facts) → result ≡ test_of kind (seen_under known need.now.name None) (face_of facts) (need_of_facts need.now) }
 {
     match kind {
-        Kind::Missing => known && !need.weak,
-        Kind::Gpl | Kind::Version | Kind::Namespace => false,
+        UnmetKind::Missing => known && !need.weak,
+        UnmetKind::Gpl | UnmetKind::Version | UnmetKind::Namespace => false,
     }
 }
 
 /// Makes the line of a kind.
 fn line(
     alloc: Global,
-    kind: Kind,
+    kind: UnmetKind,
     path: &PathText,
     symbol: &Name,
     provider: &[u8],
@@ -60,18 +60,18 @@ fn line(
     let symbol = Name::from_slice(alloc, symbol.as_bytes())?;
     let provider = PathText::from_slice(alloc, provider)?;
     Ok(match kind {
-        Kind::Missing => Unbound::Missing { path, symbol },
-        Kind::Gpl => Unbound::Gpl {
+        UnmetKind::Missing => Unbound::Missing { path, symbol },
+        UnmetKind::Gpl => Unbound::Gpl {
             path,
             symbol,
             provider,
         },
-        Kind::Version => Unbound::Version {
+        UnmetKind::Version => Unbound::Version {
             path,
             symbol,
             provider,
         },
-        Kind::Namespace => Unbound::Namespace {
+        UnmetKind::Namespace => Unbound::Namespace {
             path,
             symbol,
             provider,
@@ -91,7 +91,7 @@ fn path_of_none(known: bool) -> &'static [u8]
 fn push_line(
     alloc: Global,
     lines: &mut Obstacles,
-    kind: Kind,
+    kind: UnmetKind,
     facts: &Facts,
     need: &Need,
     found: Option<&ExportItem>,
@@ -113,7 +113,7 @@ fn push_line(
 fn push_lines(
     alloc: Global,
     lines: &mut Obstacles,
-    kind: Kind,
+    kind: UnmetKind,
     facts: &Facts,
     bindings: &Bindings,
     bound: &[Option<u32>],
@@ -133,7 +133,7 @@ fn push_lines(
 pub(crate) fn push_all_lines(
     alloc: Global,
     lines: &mut Obstacles,
-    kind: Kind,
+    kind: UnmetKind,
     tree: &TreeFacts,
     bindings: &Bindings,
 ) -> Result<(), AllocError>

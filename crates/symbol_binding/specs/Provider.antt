@@ -21,16 +21,16 @@ abbrev pub export_under : {M : Type 0} → Option (Provided M) → Option Export
 export_under found = option_map (λ p. p.export) found
 
 -- What this owner provides for a name, from its exports.
-abbrev pub given : {M : Type 0} → Owner M → List Export → List ℕ → Option (Provided M)
-given owner exports x = option_map (λ e. record { owner = owner; export = e }) (find (λ e. bytes_eq e.name x) exports)
+abbrev pub provided_by : {M : Type 0} → Owner M → List Export → List ℕ → Option (Provided M)
+provided_by owner exports x = option_map (λ e. record { owner = owner; export = e }) (find (λ e. bytes_eq e.name x) exports)
 
 -- What the kernel provides for a name.
 abbrev pub of_kernel : {M : Type 0} → Kernel → List ℕ → Option (Provided M)
-of_kernel kernel x = given ByKernel kernel.exports x
+of_kernel kernel x = provided_by ByKernel kernel.exports x
 
 -- What a module provides for a name.
 abbrev pub of_one : {M : Type 0} → (M → List Export) → List ℕ → M → Option (Provided M)
-of_one exports x m = given (ByModule m) (exports m) x
+of_one exports x m = provided_by (ByModule m) (exports m) x
 
 -- What the first exporting module of a list provides for a name.
 abbrev pub of_first : {M : Type 0} → (M → List Export) → List M → List ℕ → Option (Provided M)

@@ -6,7 +6,7 @@ use Rattle.symbol_binding.specs.declared.unbound.Unbound.{Unbound}
 use Rattle.symbol_binding.specs.declared.unbound.Unbound.TheVariants as unbound
 use Rattle.unmet_file.specs.declared.line.Form.{Form}
 use Rattle.unmet_file.specs.declared.line.Form.TheVariants.{Missing, Provided, Double}
-use Rattle.unmet_file.specs.declared.line.Kind.TheVariants.{Gpl, Version, Namespace}
+use Rattle.unmet_file.specs.declared.line.ProvidedKind.TheVariants.{Gpl, Version, Namespace}
 use Rattle.unmet_file.specs.declared.kind.LineKind.TheVariants as kinds
 use Rattle.unmet_file.specs.Line.{first_word, front, rest, two_words, three_words, unmet_line}
 use Rattle.unmet_file.specs.Forms.{form_named, stated}

@@ -6,8 +6,8 @@ use Rattle.symbol_binding.specs.declared.unbound.Unbound.{Unbound}
 use Rattle.symbol_binding.specs.declared.unbound.Unbound.TheVariants as unbound
 use Rattle.unmet_file.specs.declared.line.Form.{Form}
 use Rattle.unmet_file.specs.declared.line.Form.TheVariants.{Missing, Provided, Double}
-use Rattle.unmet_file.specs.declared.line.Kind.{Kind}
-use Rattle.unmet_file.specs.declared.line.Kind.TheVariants.{Gpl, Version, Namespace}
+use Rattle.unmet_file.specs.declared.line.ProvidedKind.{ProvidedKind}
+use Rattle.unmet_file.specs.declared.line.ProvidedKind.TheVariants.{Gpl, Version, Namespace}
 use Rattle.unmet_file.specs.declared.kind.LineKind.TheVariants as kinds
 use Rattle.unmet_file.specs.Line.{first_word, two_words, three_words}
 
@@ -28,12 +28,12 @@ missing_of words = option_map (λ w. unbound.Missing w.0 w.1) (two_words words)
 abbrev pub double_of : List ℕ → Option Unbound
 double_of words = option_map (λ w. unbound.Double w.0 w.1 w.2) (three_words words)
 
-abbrev pub line_of_kind : Kind → List ℕ → List ℕ → List ℕ → Unbound
+abbrev pub line_of_kind : ProvidedKind → List ℕ → List ℕ → List ℕ → Unbound
 line_of_kind Gpl path symbol provider = unbound.Gpl path symbol provider
 line_of_kind Version path symbol provider = unbound.Version path symbol provider
 line_of_kind Namespace path symbol provider = unbound.Namespace path symbol provider
 
-abbrev pub provided_of : Kind → List ℕ → Option Unbound
+abbrev pub provided_of : ProvidedKind → List ℕ → Option Unbound
 provided_of kind words = option_map (λ w. line_of_kind kind w.0 w.1 w.2) (three_words words)
 
 -- What the words after the first state in a line of this form.

@@ -14,14 +14,14 @@ pub(crate) enum Form {
     /// `missing PATH SYMBOL`
     Missing,
     /// `gpl`, `version` or `namespace`, and `PATH SYMBOL PROVIDER`
-    Provided(Kind),
+    Provided(ProvidedKind),
     /// `double SYMBOL FIRST SECOND`
     Double,
 }
 
 /// The kinds of lines that name a provider.
 #[derive(Clone, Copy)]
-pub(crate) enum Kind {
+pub(crate) enum ProvidedKind {
     Gpl,
     Version,
     Namespace,
@@ -46,11 +46,11 @@ fn form_named(word: &[u8]) -> Option<Form>
     if word == LineKind::Missing.word() {
         Some(Form::Missing)
     } else if word == LineKind::Gpl.word() {
-        Some(Form::Provided(Kind::Gpl))
+        Some(Form::Provided(ProvidedKind::Gpl))
     } else if word == LineKind::Version.word() {
-        Some(Form::Provided(Kind::Version))
+        Some(Form::Provided(ProvidedKind::Version))
     } else if word == LineKind::Namespace.word() {
-        Some(Form::Provided(Kind::Namespace))
+        Some(Form::Provided(ProvidedKind::Namespace))
     } else if word == LineKind::Double.word() {
         Some(Form::Double)
     } else {
@@ -94,7 +94,7 @@ fn double(alloc: Global, words: &[u8]) -> Result<Option<Unbound>, AllocError>
     }
 }
 
-fn provided(alloc: Global, kind: Kind, words: &[u8]) -> Result<Option<Unbound>, AllocError>
+fn provided(alloc: Global, kind: ProvidedKind, words: &[u8]) -> Result<Option<Unbound>, AllocError>
     ensures { IfOk result (λ unbound. unbound ≡ provided_of kind words.now) }
 {
     match three_words(words) {
@@ -103,17 +103,17 @@ fn provided(alloc: Global, kind: Kind, words: &[u8]) -> Result<Option<Unbound>, 
             let symbol = Name::from_slice(alloc, symbol)?;
             let provider = PathText::from_slice(alloc, provider)?;
             Ok(Some(match kind {
-                Kind::Gpl => Unbound::Gpl {
+                ProvidedKind::Gpl => Unbound::Gpl {
                     path,
                     symbol,
                     provider,
                 },
-                Kind::Version => Unbound::Version {
+                ProvidedKind::Version => Unbound::Version {
                     path,
                     symbol,
                     provider,
                 },
-                Kind::Namespace => Unbound::Namespace {
+                ProvidedKind::Namespace => Unbound::Namespace {
                     path,
                     symbol,
                     provider,

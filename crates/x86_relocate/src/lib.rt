@@ -2,7 +2,7 @@
 //!
 //! [`value`] is the psABI's table as arithmetic on whole numbers. [`apply`] is one pass over the
 //! patches and takes no memory. Afterwards each patch's bytes hold its word, and every other byte
-//! is as before. [`put`] does the same for one patch, for callers that don't keep a list. The crate
+//! is as before. [`write_word`] does the same for one patch, for callers that don't keep a list. The crate
 //! uses `elf_format` for the types and their widths, `km_names` for the list of patches, and
 //! `raw_image` for the image, which it sees as a list of bytes.
 #![tactic(auto)]
@@ -11,6 +11,6 @@ mod patch;
 mod word;
 mod worked;
 
-pub use patch::{Overflow, Patch, Patches, apply, put};
+pub use patch::{Overflow, Patch, Patches, apply, write_word};
 pub use word::{TooWide, Written, value};
 pub use worked::worked_words;

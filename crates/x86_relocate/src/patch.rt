@@ -66,7 +66,7 @@ fn put_word(image: &mut Image, patch: &Patch) -> Result<(), TooWide>
 /// # Errors
 ///
 /// [`TooWide`] exactly if the word doesn't fit its field. Then the image is as before.
-pub fn put(image: &mut Image, patch: &Patch) -> Result<(), TooWide>
+pub fn write_word(image: &mut Image, patch: &Patch) -> Result<(), TooWide>
     requires known { IsKnown patch.now.kind }
     requires within { IsWithin (length image.old) patch.now }
     ensures outcome { is_ok result ≡ fits patch.now }
@@ -97,7 +97,7 @@ pub fn apply(image: &mut Image, patches: &Patches) -> Result<(), Overflow>
     ensures len { length image.new ≡ length image.old }
 {
     for patch in patches.as_slice() {
-        if put(image, patch).is_err() {
+        if write_word(image, patch).is_err() {
             return Err(Overflow {
                 section: patch.section,
                 entry: patch.entry,

@@ -1,7 +1,7 @@
 use Rattle.std.proofs.Common.{ap, subst, ◌∙◌}
 use Rattle.std.specs.Prelude.{⊤}
 use Rattle.std.proofs.lemmas.Result.{err_from_is_err_and}
-use Rattle.modinfo_tool.specs.Show.{shown}
+use Rattle.modinfo_tool.specs.Show.{shown_text}
 use Rattle.command_modinfo.specs.ModuleInfo.{module_fields}
 use Rattle.km_course.specs.World.{world}
 use Rattle.km_course.specs.Course.{says_any}
@@ -30,5 +30,5 @@ returns g c = λ err.
     next (said c.args.path c.args.options.now) (c.in_ok-sections.ensures (g.O.Out.seen c.args.out.now) err)
     (subst (λ bytes. Follows (λ (x : ⊤). x) (says_any bytes) (world (g.F.Reads.seen c.read_sections.new.files) (g.O.Out.seen c.args.out.now) err) (world (g.F.Reads.seen c.read_sections.new.files) (g.O.Out.seen c.say_any.new.out) err) c.say_any.result)
     (c.as_bytes-2.ensures ∙ c.in_ok-text.ensures
-    ∙ ap (λ path. shown path (module_fields c.in_ok-sections.sections) c.args.options.now) (c.in_ok-named.ensures ∙ c.as_bytes.ensures))
+    ∙ ap (λ path. shown_text path (module_fields c.in_ok-sections.sections) c.args.options.now) (c.in_ok-named.ensures ∙ c.as_bytes.ensures))
     (c.say_any.ensures (g.F.Reads.seen c.read_sections.new.files) err))

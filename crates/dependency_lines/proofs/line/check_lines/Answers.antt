@@ -6,24 +6,24 @@ use Rattle.std.proofs.lemmas.List.{get_or_default}
 use Rattle.index_format.specs.Listing.{KeyValue}
 use Rattle.dependency_lines.specs.declared.listed.Line.{Line}
 use Rattle.dependency_lines.specs.Modules.{bad_among, is_line_of}
-use Rattle.dependency_lines.specs.Tables.{module_of, shown}
+use Rattle.dependency_lines.specs.Tables.{module_of, listed_modules}
 use Rattle.dependency_lines.specs.declared.fault.LineFault.TheVariants.{BadLine}
 use Rattle.dependency_lines.proofs.Finds.{find-here, find-more, option-none}
 use Rattle.dependency_lines.proofs.line.check_lines.Goals as goal
 
-module _ (has : List ℕ → Bool) (ls : List Line) (i : ℕ) (d : Line) (good : Bool) (low : i < length ls) (none : bad_among has (shown (take i ls)) ≡ None) (is : good ≡ is_line_of has (get_or ls i d).name.now (get_or ls i d).text.now) where
+module _ (has : List ℕ → Bool) (ls : List Line) (i : ℕ) (d : Line) (good : Bool) (low : i < length ls) (none : bad_among has (listed_modules (take i ls)) ≡ None) (is : good ≡ is_line_of has (get_or ls i d).name.now (get_or ls i d).text.now) where
   abbrev test : KeyValue → Bool
   test m = not (is_line_of has m.0 m.1.1)
 
-  before : find test (shown (take i ls)) ≡ None
-  before = option-none (λ (m : KeyValue). m.0) (find test (shown (take i ls))) none
+  before : find test (listed_modules (take i ls)) ≡ None
+  before = option-none (λ (m : KeyValue). m.0) (find test (listed_modules (take i ls))) none
 
-  here : good ≡ false → bad_among has (shown ls) ≡ Some (get_or ls i d).name.now
+  here : good ≡ false → bad_among has (listed_modules ls) ≡ Some (get_or ls i d).name.now
   here bad =
       ap (option_map (λ (m : KeyValue). m.0))
       (find-here test module_of ls i (get_or ls i d) low (get_or_default ls i d (get_or ls i d) low) before (ap not (sym is ∙ bad)))
 
-  more : good ≡ true → bad_among has (shown (take (i + 1) ls)) ≡ None
+  more : good ≡ true → bad_among has (listed_modules (take (i + 1) ls)) ≡ None
   more fine =
       ap (option_map (λ (m : KeyValue). m.0))
       (find-more test module_of ls i (get_or ls i d) low (get_or_default ls i d (get_or ls i d) low) before (ap not (sym is ∙ fine)))

@@ -1,5 +1,5 @@
 use Rattle.std.proofs.Common.{◌≡◌, filter, map, take}
-use Rattle.depmod_core.specs.declared.stated.Kind.TheVariants.{Alias}
+use Rattle.depmod_core.specs.declared.stated.StatedKind.TheVariants.{Alias}
 use Rattle.depmod_core.specs.Stated.{is_usable_alias}
 use Rattle.depmod_core.specs.Kinds.{statement}
 use Rattle.depmod_core.proofs.stated.aliases.Given as goal

@@ -1,5 +1,5 @@
 use Rattle.std.proofs.Common.{◌≡◌, filter, map, take}
-use Rattle.depmod_core.specs.declared.stated.Kind.TheVariants.{Softdep}
+use Rattle.depmod_core.specs.declared.stated.StatedKind.TheVariants.{Softdep}
 use Rattle.depmod_core.specs.Stated.{is_usable_softdep}
 use Rattle.depmod_core.specs.Kinds.{statement}
 use Rattle.depmod_core.proofs.stated.softdeps.Given as goal

@@ -10,14 +10,14 @@ use Rattle.image_layout.proofs.laid.relocate.Goals as goal
 pub loop-i-init : goal.loop-i-init
 loop-i-init c = (patched-none c.args.image.now, refl)
 
-pub put-requires-clause-known : goal.put-requires-clause-known
-put-requires-clause-known c =
+pub write_word-requires-clause-known : goal.write_word-requires-clause-known
+write_word-requires-clause-known c =
     let o = c.args.object.now in
     let p = c.place.result.now in
     subst IsKnown (sym (ap (λ patch. patch.kind) c.patch_of-patch.ensures ∙ patch_kind o c.args.base c.args.addresses.now p)) c.place.ensures.inside.known
 
-pub put-requires-clause-within : goal.put-requires-clause-within
-put-requires-clause-within c =
+pub write_word-requires-clause-within : goal.write_word-requires-clause-within
+write_word-requires-clause-within c =
     let o = c.args.object.now in
     let long : length c.loop-i.image ≡ image_size o.sections =
     ap length c.loop-i.invariant.0 ∙ length-patched c.args.image.now (map (patch_of o c.args.base c.args.addresses.now) (take c.loop-i.i o.places)) ∙ c.requires.image in
@@ -31,7 +31,7 @@ returns-then-is_err-clause-overflow c =
     let o = c.args.object.now in
     let f = patch_of o c.args.base c.args.addresses.now in
     let p = c.place.result.now in
-    let wide : fits (f p) ≡ false = ap fits (sym c.patch_of-patch.ensures) ∙ sym c.put.ensures.outcome ∙ c.if-is_err.ensures.negation in
+    let wide : fits (f p) ≡ false = ap fits (sym c.patch_of-patch.ensures) ∙ sym c.write_word.ensures.outcome ∙ c.if-is_err.ensures.negation in
     let first = wide-here f o.places c.loop-i.i p c.place.ensures.place c.loop-i.invariant.1 wide in
     ap (λ patch. Some (overflow_of patch)) c.patch_of-patch.ensures ∙ sym (ap (option_map overflow_of) first)
 
@@ -42,11 +42,11 @@ loop-i-preserved c =
     let p = c.place.result.now in
     let patch = c.patch_of-patch.result in
     let done = map f (take c.loop-i.i o.places) in
-    let put_in : is_ok c.put.result ≡ true = c.if-is_err.ensures.negation in
-    let fit : fits (f p) ≡ true = ap fits (sym c.patch_of-patch.ensures) ∙ sym c.put.ensures.outcome ∙ put_in in
+    let put_in : is_ok c.write_word.result ≡ true = c.if-is_err.ensures.negation in
+    let fit : fits (f p) ≡ true = ap fits (sym c.patch_of-patch.ensures) ∙ sym c.write_word.ensures.outcome ∙ put_in in
     let free : All (λ one. IsApart one patch) done =
     subst (λ q. All (λ one. IsApart one q) done) (sym c.patch_of-patch.ensures) (earlier-apart o c.args.base c.args.addresses.now c.loop-i.i p c.place_count-i-end.ensures.loadable c.place.ensures.place c.requires.fits) in
-    let more = on_ok c.put.result put_in c.put.ensures.more c.args.image.now done free c.loop-i.invariant.0 in
+    let more = on_ok c.write_word.result put_in c.write_word.ensures.more c.args.image.now done free c.loop-i.invariant.0 in
     (more ∙ ap (λ q. patched c.args.image.now (done ++ q ∷ [])) c.patch_of-patch.ensures ∙ ap (patched c.args.image.now) (sym (map-more f o.places c.loop-i.i p c.place.ensures.place)), wide-more f o.places c.loop-i.i p c.place.ensures.place c.loop-i.invariant.1 fit)
 
 pub returns-clause-overflow : goal.returns-clause-overflow

@@ -1,7 +1,7 @@
 use Rattle.std.proofs.Common.{◌≡◌, arith, length, ap, ◌∙◌, sym, subst, [], ◌++◌, map}
 use Rattle.index_format.specs.Tree.{ending, groups, Rises}
 use Rattle.index_write.specs.Parts.{span_of}
-use Rattle.index_write.specs.Groups.{shown, groups_of}
+use Rattle.index_write.specs.Groups.{entries_shown, groups_of}
 use Rattle.index_write.proofs.NodeLemmas.{at_depth-zero, new-groups}
 use Rattle.index_write.proofs.node.root_of.Goals as goal
 
@@ -13,7 +13,7 @@ returns-clause-node c =
     let rest = at_depth-zero c.args.entries.now in
     let now = ap groups_of c.deref.ensures.value ∙ c.in_ok-push_groups.ensures ∙ ap (λ es. groups_of c.args.pending.now.items ++ groups es) rest in
     let start : c.len-start.result ≡ length c.args.pending.now.items = omega arith in
-    let children = new-groups c.args.pending.now.items c.deref.result.now (groups (shown c.args.entries.now)) c.len-start.result now start in
+    let children = new-groups c.args.pending.now.items c.deref.result.now (groups (entries_shown c.args.entries.now)) c.len-start.result now start in
     λ i. record {
       byte = 0;
       prefix = [];

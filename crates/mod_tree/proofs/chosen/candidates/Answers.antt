@@ -2,7 +2,7 @@ use Rattle.std.proofs.Common.{◌++◌, ◌+◌, drop, sym, ap, ◌∙◌, arith
 use Rattle.std.specs.Prelude.{map}
 use Rattle.std.proofs.lemmas.List.Elements.{All-push, All-same}
 use Rattle.km_names.specs.Path.{module_name}
-use Rattle.mod_tree.specs.Shown.{shown}
+use Rattle.mod_tree.specs.Shown.{referents}
 use Rattle.mod_tree.specs.declared.chosen.Candidate.{Candidate}
 use Rattle.mod_tree.specs.Chosen.{IsCandidate, path_of}
 use Rattle.mod_tree.proofs.ChosenSteps.{path-more}
@@ -16,7 +16,7 @@ loop-path-preserved c =
     let path = c.path-item.result in
     let made : Candidate = record { name = c.into_vec-name.result; rank = c.rank.result; path = c.as_bytes-bytes.result } in
     let is : IsCandidate words made = record { name = c.into_vec-name.ensures ∙ c.in_ok-module_name.ensures ∙ ap module_name (sym c.as_bytes-bytes.ensures); rank_is = c.rank.ensures words c.in_ok-places.ensures } in (
-      ap (λ cs. map path_of cs ++ shown (drop (l.path-index + 1) modules)) c.in_ok-push.ensures.items
+      ap (λ cs. map path_of cs ++ referents (drop (l.path-index + 1) modules)) c.in_ok-push.ensures.items
           ∙ path-more l.list.items modules l.path-index path made (omega arith) c.path-item.is c.as_bytes-bytes.ensures
           ∙ l.invariant.0,
       All-same (IsCandidate words) c.push.new.self.items _ c.in_ok-push.ensures.items (All-push (IsCandidate words) l.list.items made l.invariant.1 is),

@@ -1,11 +1,11 @@
 use Rattle.std.proofs.Common.{◌≡◌, ◌≤◌, length, map}
 use Rattle.std.specs.List.{filter_map, range_with_len}
-use Rattle.module_facts.specs.Listed.{shown}
+use Rattle.module_facts.specs.Listed.{version_entry}
 use Rattle.module_facts.specs.Versions.{entry}
 use Rattle.module_facts.proofs.versions.entry_list.Given as goal
 
 abbrev pub invariant-loop-k : goal.invariant-loop-k
 invariant-loop-k l = record {
-  list : map shown l.list ≡ filter_map (entry l.bytes) (range_with_len 0 l.k);
+  list : map version_entry l.list ≡ filter_map (entry l.bytes) (range_with_len 0 l.k);
   few : length l.list ≤ l.k;
 }

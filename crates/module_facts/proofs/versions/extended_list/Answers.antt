@@ -3,7 +3,7 @@ use Rattle.std.proofs.lemmas.List.{length-append}
 use Rattle.std.specs.List.{range_with_len}
 use Rattle.km_names.specs.Number.{le}
 use Rattle.module_facts.specs.declared.versions.Version.{Version}
-use Rattle.module_facts.specs.Listed.{shown}
+use Rattle.module_facts.specs.Listed.{version_entry}
 use Rattle.module_facts.specs.Versions.{extended_list}
 use Rattle.module_facts.proofs.VersionLemmas.{extended-all, extended-given, extended-none, extended-start}
 use Rattle.module_facts.proofs.versions.extended_list.Goals as goal
@@ -21,7 +21,7 @@ loop-k-preserved c =
     let name = c.in-Some.name.now in
     let v : Version = record { name = c.in-Some.name; number = c.from-number.result } in
     let less : k < length crcs / 4 = omega arith in
-    let same : shown v ≡ (name, le crcs (4 * k) 4) = ap (λ n. (name, n)) (c.from-number.ensures ∙ c.le_u32_at.ensures) in
+    let same : version_entry v ≡ (name, le crcs (4 * k) 4) = ap (λ n. (name, n)) (c.from-number.ensures ∙ c.le_u32_at.ensures) in
     record {
       list = rw (c.in_ok-push.ensures.ok, c.after_name-rest.ensures) (extended-given (extended_list crcs c.args.names.now) c.loop-k.list v c.loop-k.rest.now name (λ j. le crcs (4 * j) 4) k (length crcs / 4) less c.in-Some.ensures.string same c.loop-k.invariant.list);
       few = omega (arith, ap length c.in_ok-push.ensures.ok, length-append c.loop-k.list (v ∷ []), c.loop-k.invariant.few);

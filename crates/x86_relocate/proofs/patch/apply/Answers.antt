@@ -11,8 +11,8 @@ past = record { section = 0; entry = 0; at = 0; kind = 0; s = 0; a = pos 0; p = 
 pub loop-patch-init : goal.loop-patch-init
 loop-patch-init c = so_far_none _ _
 
-pub put-requires-clause-within : goal.put-requires-clause-within
-put-requires-clause-within c =
+pub write_word-requires-clause-within : goal.write_word-requires-clause-within
+write_word-requires-clause-within c =
     let i = c.loop-patch.patch-index in
     let items = c.as_slice-patch-items.ensures in
     let inside : i < length c.args.patches.now = rw (← items) c.loop-patch-test.true in
@@ -24,11 +24,11 @@ loop-patch-preserved c =
     let i = c.loop-patch.patch-index in
     let items = c.as_slice-patch-items.ensures in
     let inside : i < length c.args.patches.now = rw (← items) c.loop-patch-test.true in
-    let fit : fits (slice_index_or c.args.patches.now i past) ≡ true = sym (rw items at c.put.ensures.outcome) ∙ c.if-is_err.ensures.negation in
-    so_far_more c.args.image.now c.loop-patch.image c.put.new.image c.args.patches.now i past c.loop-patch.invariant inside (c.requires.known i past inside) (c.requires.within i past inside) c.requires.apart fit (rw items at c.put.ensures.image)
+    let fit : fits (slice_index_or c.args.patches.now i past) ≡ true = sym (rw items at c.write_word.ensures.outcome) ∙ c.if-is_err.ensures.negation in
+    so_far_more c.args.image.now c.loop-patch.image c.write_word.new.image c.args.patches.now i past c.loop-patch.invariant inside (c.requires.known i past inside) (c.requires.within i past inside) c.requires.apart fit (rw items at c.write_word.ensures.image)
 
 pub returns-then-is_err-clause-len : goal.returns-then-is_err-clause-len
-returns-then-is_err-clause-len c = c.put.ensures.len ∙ length_so_far c.loop-patch.invariant
+returns-then-is_err-clause-len c = c.write_word.ensures.len ∙ length_so_far c.loop-patch.invariant
 
 pub returns-clause-len : goal.returns-clause-len
 returns-clause-len c = length_so_far c.loop-patch.invariant

@@ -7,7 +7,7 @@ use Rattle.glob_match.specs.Pattern.{Matches}
 use Rattle.index_read.specs.Keys.{Item, all_items}
 use Rattle.index_read.specs.Searches.{Finds, IsSearching, count_left}
 use Rattle.index_read.specs.declared.search.Search.{Search}
-use Rattle.index_read.specs.Values.{shown}
+use Rattle.index_read.specs.Values.{found_values}
 use Rattle.index_read.proofs.CountLemmas.{count_all, root_counted}
 use Rattle.index_read.proofs.ContentsLemmas.{all_matching}
 use Rattle.index_read.proofs.ListingLemmas.{selection}
@@ -63,7 +63,7 @@ loop-next-init g c =
       accepted = c.start.ensures.accepted;
       is = w.is;
       going = w.going;
-      onward = subst (λ fs. Onward b text w.is (shown fs)) (sym c.new-found.ensures.items) w.onward;
+      onward = subst (λ fs. Onward b text w.is (found_values fs)) (sym c.new-found.ensures.items) w.onward;
       cost = omega (arith, c.start.ensures.cost, root_counted b, owed_first b text (all_items b) s c.in_ok-search.first finds (root_counted b));
     }
 
@@ -75,7 +75,7 @@ returns-in_err-push_values-clause-cost g c =
 pub returns-in_err-next-clause-cost : goal.returns-in_err-next-clause-cost
 returns-in_err-next-clause-cost g c =
     let b = c.args.self.now.nodes in
-    let w = subst (λ o. Matching b c.args.text.now c.loop-next.search o (shown c.loop-next.found.items) c.args.steps.now c.loop-next.steps) c.in-Some.is c.loop-next.invariant in
+    let w = subst (λ o. Matching b c.args.text.now c.loop-next.search o (found_values c.loop-next.found.items) c.args.steps.now c.loop-next.steps) c.in-Some.is c.loop-next.invariant in
     omega (arith, count_all b w.accepted, w.cost, c.next.ensures.cost)
 
 pub loop-next-preserved : goal.loop-next-preserved
@@ -83,18 +83,18 @@ loop-next-preserved g c =
     let b = c.args.self.now.nodes in
     let text = c.args.text.now in
     let s = c.loop-next.search in
-    let found = shown c.loop-next.found.items in
+    let found = found_values c.loop-next.found.items in
     let w = subst (λ o. Matching b text s o found c.args.steps.now c.loop-next.steps) c.in-Some.is c.loop-next.invariant in
     let n = c.in-Some.node in
     let at = w.going in
     let item : Item = (at.key, link_of n) in
     let before = subst (λ xs. Onward b text xs found) at.parts w.onward in
     let decided = c.is_match.ensures text at.key at.searching.over at.read in
-    let after : Onward b text at.left (shown c.if-is_match.found.items) = elim c.if-is_match.branch [
-      | then-is_match+in_ok-push_values v ↦ rw (v.found-is) (on_match b text item at.left found (shown v.push_values.new.found.items) v.in_ok-push_values.ensures (decided.0 v.if-is_match.true) before)
+    let after : Onward b text at.left (found_values c.if-is_match.found.items) = elim c.if-is_match.branch [
+      | then-is_match+in_ok-push_values v ↦ rw (v.found-is) (on_match b text item at.left found (found_values v.push_values.new.found.items) v.in_ok-push_values.ensures (decided.0 v.if-is_match.true) before)
       | else-is_match v ↦ rw (v.found-is) (on_other b text item at.left found (inl (λ m. false≢true (sym v.if-is_match.false ∙ decided.1 m))) before)
     ] in
-    let on = goes b text at.left c.next.new.self c.in_ok-next.next (shown c.if-is_match.found.items) (c.in_ok-next.ensures.finds text at.left at.searching) after in
+    let on = goes b text at.left c.next.new.self c.in_ok-next.next (found_values c.if-is_match.found.items) (c.in_ok-next.ensures.finds text at.left at.searching) after in
     record {
       accepted = w.accepted;
       is = on.is;
@@ -108,7 +108,7 @@ loop-next-smaller g c =
     let b = c.args.self.now.nodes in
     let text = c.args.text.now in
     let s = c.loop-next.search in
-    let w = subst (λ o. Matching b text s o (shown c.loop-next.found.items) c.args.steps.now c.loop-next.steps) c.in-Some.is c.loop-next.invariant in
+    let w = subst (λ o. Matching b text s o (found_values c.loop-next.found.items) c.args.steps.now c.loop-next.steps) c.in-Some.is c.loop-next.invariant in
     let at = w.going in
     subst (λ o. to_do b c.next.new.self c.in_ok-next.next < to_do b s o) (sym c.in-Some.is)
     (fewer b text at.left s c.next.new.self c.in_ok-next.next at.searching (c.in_ok-next.ensures.finds text at.left at.searching))
@@ -122,7 +122,7 @@ pub returns-clause-matching : goal.returns-clause-matching
 returns-clause-matching g c =
     let b = c.args.self.now.nodes in
     let text = c.args.text.now in
-    let found = shown c.loop-next.found.items in
+    let found = found_values c.loop-next.found.items in
     let w = subst (λ o. Matching b text c.loop-next.search o found c.args.steps.now c.loop-next.steps) c.in_default.is c.loop-next.invariant in
     let f = none_left b text w.is found w.going w.onward in
     record {
@@ -135,7 +135,7 @@ pub returns-clause-exact : goal.returns-clause-exact
 returns-clause-exact g c =
     let b = c.args.self.now.nodes in
     let text = c.args.text.now in
-    let found = shown c.loop-next.found.items in
+    let found = found_values c.loop-next.found.items in
     let w = subst (λ o. Matching b text c.loop-next.search o found c.args.steps.now c.loop-next.steps) c.in_default.is c.loop-next.invariant in
     let f = none_left b text w.is found w.going w.onward in
     f.found_is ∙ all_matching b text f.pairs f.chosen

@@ -7,7 +7,7 @@ use Rattle.glob_match.specs.Progress.{HasRead}
 use Rattle.index_read.specs.declared.search.Search.{Search}
 use Rattle.index_read.specs.Keys.{Item, all_items}
 use Rattle.index_read.specs.Searches.{NoneMatches, IsSearching, count_left}
-use Rattle.index_read.specs.Values.{shown}
+use Rattle.index_read.specs.Values.{found_values}
 use Rattle.index_read.proofs.MatchLemmas.{Onward}
 use Rattle.index_read.proofs.index.Index.matching.Given as goal
 
@@ -42,7 +42,7 @@ pub record Matching (b text : List ℕ) (s : Search) (next : Option Node) (found
   pub cost : now + owed b s next ≤ before + length (all_items b)
 
 abbrev pub invariant-loop-next : goal.invariant-loop-next
-invariant-loop-next g l = Matching l.self.nodes l.text l.search l.next (shown l.found.items) l.fn.steps l.steps
+invariant-loop-next g l = Matching l.self.nodes l.text l.search l.next (found_values l.found.items) l.fn.steps l.steps
 
 abbrev pub decreases-loop-next : goal.decreases-loop-next
 decreases-loop-next g l = to_do l.self.nodes l.search l.next

@@ -5,16 +5,16 @@ use Rattle.index_format.specs.Node.{root}
 use Rattle.index_format.specs.Walk.{at}
 use Rattle.index_read.specs.Contents.{wild_values, by_priority as by_rising_priority}
 use Rattle.index_read.proofs.PriorityLemmas.{by_priority-is}
-use Rattle.index_read.specs.Values.{shown, IsWild}
+use Rattle.index_read.specs.Values.{found_values, IsWild}
 use Rattle.index_read.proofs.SelectLemmas.{matching_same}
 use Rattle.index_read.proofs.SortLemmas.{by_priority}
 use Rattle.index_read.proofs.index.Index.wild.Goals as goal
 
 pub returns-clause-wild : goal.returns-clause-wild
 returns-clause-wild g c =
-    subst (λ fs. IsWild (at c.args.self.now.nodes (root c.args.self.now.nodes)) c.args.text.now (shown fs)) (sym c.from_vec.ensures)
+    subst (λ fs. IsWild (at c.args.self.now.nodes (root c.args.self.now.nodes)) c.args.text.now (found_values fs)) (sym c.from_vec.ensures)
     (record {
-      unordered = shown c.in_ok-found.found.items;
+      unordered = found_values c.in_ok-found.found.items;
       matching = c.in_ok-found.ensures.matching;
       ordered = by_priority c.in_ok-found.found.items c.sort_by_key.new.self.items
           (c.in_ok-sort_by_key.ensures.sorted (λ v. v.priority) (always_returns_same _ _ _ (λ a r q k. search rules)))
@@ -24,10 +24,10 @@ returns-clause-wild g c =
 pub returns-clause-map : goal.returns-clause-map
 returns-clause-map g c =
     λ m h.
-    subst (λ fs. IsWild (values_of m) c.args.text.now (shown fs)) (sym c.from_vec.ensures)
+    subst (λ fs. IsWild (values_of m) c.args.text.now (found_values fs)) (sym c.from_vec.ensures)
     (record {
-      unordered = shown c.in_ok-found.found.items;
-      matching = matching_same (at c.args.self.now.nodes (root c.args.self.now.nodes)) (values_of m) c.args.text.now (shown c.in_ok-found.found.items) h.values c.in_ok-found.ensures.matching;
+      unordered = found_values c.in_ok-found.found.items;
+      matching = matching_same (at c.args.self.now.nodes (root c.args.self.now.nodes)) (values_of m) c.args.text.now (found_values c.in_ok-found.found.items) h.values c.in_ok-found.ensures.matching;
       ordered = by_priority c.in_ok-found.found.items c.sort_by_key.new.self.items
           (c.in_ok-sort_by_key.ensures.sorted (λ v. v.priority) (always_returns_same _ _ _ (λ a r q k. search rules)))
           (c.in_ok-sort_by_key.ensures.stable (λ v. v.priority) (always_returns_same _ _ _ (λ a r q k. search rules)));
@@ -38,8 +38,8 @@ unfolding wild_values
 returns-clause-exact g c =
     let found = c.in_ok-found.found.items in
     let ordered = c.sort_by_key.new.self.items in
-    ap shown c.from_vec.ensures
-    ∙ by_priority-is (shown found) (shown ordered)
+    ap found_values c.from_vec.ensures
+    ∙ by_priority-is (found_values found) (found_values ordered)
     (by_priority found ordered
     (c.in_ok-sort_by_key.ensures.sorted (λ v. v.priority) (always_returns_same _ _ _ (λ a r q k. search rules)))
     (c.in_ok-sort_by_key.ensures.stable (λ v. v.priority) (always_returns_same _ _ _ (λ a r q k. search rules))))

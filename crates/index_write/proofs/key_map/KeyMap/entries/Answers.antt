@@ -4,15 +4,15 @@ use Rattle.std.specs.FinMap.{entries}
 use Rattle.std.specs.List.{AllByRecursion}
 use Rattle.index_format.specs.Tree.{Rises}
 use Rattle.index_write.specs.Lists.{entries_of, IsStorableEntry}
-use Rattle.index_write.specs.Groups.{shown}
+use Rattle.index_write.specs.Groups.{entries_shown}
 use Rattle.index_write.proofs.KeyLemmas.{ordered, rises, entries-map_of}
 use Rattle.index_write.proofs.key_map.KeyMap.entries.Goals as goal
 
 pub returns-clause-shown : goal.returns-clause-shown
 returns-clause-shown c =
     let gives = c.into_iter-key-iterator.ensures.into_iter_gives in
-    sym (append-nil (shown c.loop-key.entries.items))
-    ∙ ap (λ it. shown c.loop-key.entries.items ++ entries_of it) (sym c.in-None.ensures.steps.0)
+    sym (append-nil (entries_shown c.loop-key.entries.items))
+    ∙ ap (λ it. entries_shown c.loop-key.entries.items ++ entries_of it) (sym c.in-None.ensures.steps.0)
     ∙ c.loop-key.invariant
     ∙ ap entries_of gives.0
     ∙ sym (entries-map_of c.self.inside.lists.entries (ordered c.self.inside.lists.entries gives.5))

@@ -2,7 +2,7 @@ use Rattle.std.proofs.Common.{◌≡◌, ◌∙◌, sym, ap, length, true, subst
 use Rattle.raw_image.specs.Bytes.{with_bytes}
 use Rattle.x86_relocate.specs.Patched.{IsWithin, bytes_of, fits, word_of}
 use Rattle.x86_relocate.proofs.Applied.{one_more, length_by}
-use Rattle.x86_relocate.proofs.patch.put.Goals as goal
+use Rattle.x86_relocate.proofs.patch.write_word.Goals as goal
 
 pub returns-clause-more : goal.returns-clause-more
 returns-clause-more c =
