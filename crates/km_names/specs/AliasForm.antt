@@ -1,5 +1,5 @@
 -- The normal form of aliases and of their patterns, as kmod keeps them: modprobe.d(5), "alias".
-use Rattle.std.specs.Prelude.{ℕ, List, [], ◌∷◌, ◌++◌, Bool, true, not, ◌&&◌, ◌==◌, if◌then◌else◌, Option, Some, None, map, drop}
+use Rattle.std.specs.Prelude.{ℕ, List, [], ◌∷◌, ◌++◌, Bool, true, not, ◌&&◌, ◌==◌, if◌then◌else◌, Option, Some, None, map, drop, unwrap_or}
 use Rattle.std.specs.List.{slice_split, before_first, position_or_len, list_any, join_with_byte}
 use Rattle.km_names.specs.Path.{underscored}
 
@@ -26,3 +26,7 @@ unfoldable pub normal_alias : List ℕ → Option (List ℕ)
 normal_alias text =
     let parts = slice_split (λ b. b == 93) text in
     if brackets_pair parts then Some (join_with_byte 93 (map underscored_outside parts)) else None
+
+-- A name in its normal form, or as it is if it has none.
+abbrev pub normal_or_itself : List ℕ → List ℕ
+normal_or_itself name = unwrap_or (normal_alias name) name

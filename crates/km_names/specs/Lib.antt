@@ -8,3 +8,4 @@ pub mod Path
 pub mod Space
 pub mod Statements
 pub mod Strings
+pub mod Texts

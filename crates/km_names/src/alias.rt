@@ -1,7 +1,7 @@
 ghost use Rattle.std.specs.Prelude.{◌≡◌, IfOk};
-ghost use Rattle.km_names.specs.AliasForm.{normal_alias};
+ghost use Rattle.km_names.specs.AliasForm.{normal_alias, normal_or_itself};
 
-use crate::Alias;
+use crate::{Alias, Name};
 use std::alloc::{AllocError, Global};
 
 /// Returns the normal form of an alias or of a pattern of aliases: each `-` outside brackets
@@ -27,4 +27,14 @@ pub fn normal_alias(alloc: Global, text: &[u8]) -> Result<Option<Alias>, AllocEr
         return Ok(None);
     }
     Ok(Some(Alias::from_vec(normal)))
+}
+
+/// Returns a name in its normal form as an alias, or as it is if it has none.
+pub fn normal_or_itself(alloc: Global, name: &[u8]) -> Result<Name, AllocError>
+    ensures { IfOk result (λ normal. normal ≡ normal_or_itself name.now) }
+{
+    match normal_alias(alloc, name)? {
+        Some(normal) => Ok(Name::from_vec(normal.into_vec())),
+        None => Name::from_slice(alloc, name),
+    }
 }

@@ -1,5 +1,6 @@
-ghost use Rattle.std.specs.Prelude.{◌≡◌, ◌≤◌, ◌↔◌, ◌==◌, [], ◌∷◌, ◌++◌, length, IsNone, OnOk, OnErr, IfOk, slice_get, option_copied};
+ghost use Rattle.std.specs.Prelude.{◌≡◌, ◌≤◌, ◌↔◌, ◌==◌, [], ◌∷◌, ◌++◌, length, map, IsNone, OnOk, OnErr, IfOk, slice_get, option_copied};
 ghost use Rattle.std.specs.List.{flat_map};
+ghost use Rattle.km_names.specs.Texts.{spaced};
 
 use bstr::BStr;
 use std::alloc::{AllocError, Global};
@@ -85,6 +86,22 @@ impl<K> Bytes<K> {
         let mut bytes = Vec::with_capacity(alloc, total_length(pieces))?;
         for piece in pieces {
             bytes.extend_from_slice(piece)?;
+        }
+        Ok(Bytes::from_vec(bytes))
+    }
+
+    /// Returns the bytes of these pieces, with a space between each and the next. It takes memory
+    /// once, for all.
+    pub fn spaced(alloc: Global, pieces: &[&[u8]]) -> Result<Self, AllocError>
+        ensures { IfOk result (λ b. b ≡ spaced (map (λ piece. piece.now) pieces.now)) }
+    {
+        let length = total_length(pieces).saturating_add(pieces.len());
+        let mut bytes = Vec::with_capacity(alloc, length)?;
+        for i in 0..pieces.len() {
+            if i > 0 {
+                bytes.push(b' ')?;
+            }
+            bytes.extend_from_slice(pieces[i])?;
         }
         Ok(Bytes::from_vec(bytes))
     }

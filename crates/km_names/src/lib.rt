@@ -3,8 +3,8 @@
 //! passed for a name.
 //!
 //! The crate uses std, `byteorder` for the numbers, `memchr` for the ends of lines and strings, and
-//! `bstr` to show bytes. Each list keeps its allocator. Only `push` and `extend` of a list can be
-//! refused, when memory runs out, and then the list is as it was.
+//! `bstr` to show bytes. Each list keeps its allocator. Only `push`, `extend` and `append` of a
+//! list can be refused, when memory runs out, and then the list is as it was.
 #![tactic(auto)]
 
 mod alias;
@@ -20,9 +20,10 @@ mod space;
 mod split;
 mod statement;
 mod string;
+mod texts;
 mod word;
 
-pub use alias::normal_alias;
+pub use alias::{normal_alias, normal_or_itself};
 pub use ascii::{hexadecimal, is_graphic};
 pub use bytes::{Alias, AliasKind, Blob, BlobKind, Bytes, Name, NameKind, PathKind, PathText};
 pub use conf::{ConfFault, ConfFile, ConfFiles, Line, Lines, TreeIndex};
@@ -35,4 +36,5 @@ pub use space::{split_word, trimmed, words};
 pub use split::split_at_byte;
 pub use statement::{Statement, parse_files};
 pub use string::{first_string, string_at};
+pub use texts::{cycle_text, not_found_text};
 pub use word::Word;

@@ -54,6 +54,15 @@ impl<T: Drop> List<T> {
         Ok(())
     }
 
+    /// Puts the items of another list at the end. If they are refused, they are dropped and the list
+    /// is as before.
+    pub fn append(&mut self, mut more: List<T>) -> Result<(), AllocError>
+        ensures ok { OnOk result (self.new ≡ self.old ++ more) }
+        ensures err { OnErr result (self.new ≡ self.old) }
+    {
+        self.elements.append(&mut more.elements)
+    }
+
     /// Returns the item at place `i`, from 0.
     pub fn get(&self, i: usize) -> Option<&T>
         ensures item { option_copied result ≡ slice_get self.now i }
