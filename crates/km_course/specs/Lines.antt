@@ -1,7 +1,7 @@
 -- The lines that the program writes on err. Each is the program's name, a text and a line end.
 use Rattle.std.specs.Prelude.{ℕ, List, [], ◌∷◌, ◌++◌, codes}
-use Rattle.std.specs.List.{flat_map}
 use Rattle.std.specs.Fmt.{decimal}
+use Rattle.km_names.specs.Texts.{cycle_text, not_found_text}
 use Rattle.km_course.specs.declared.refusal.Refusal.{Refusal}
 use Rattle.km_course.specs.declared.refusal.Refusal.TheVariants.{BadModule, Compressed, Cycle, NotFound, Obstacle, BadIndex, BadLine, InstallChosen, KernelWithoutAddress, ListedNotFound, ListedRefused, LoadRefused, ParamsRefused, InUse, RemoveChosen, TooManyModules, TooManyDependencies, TooManyDoubles, OutputTooLarge, BadPath, InnerOutputFull}
 use Rattle.km_course.specs.declared.end.End.{End}
@@ -35,17 +35,12 @@ out_of_memory = line (codes "out of memory")
 abbrev pub usage : List ℕ
 usage = line (codes "usage: kmod depmod|modprobe|modinfo|trial|static-nodes|builtin-alias WORDS")
 
--- Names along a cycle: each leads to the next, and the last to the first, which is named again.
-abbrev pub cycle_text : List (List ℕ) → List ℕ
-cycle_text [] = []
-cycle_text (first ∷ rest) = flat_map (λ name. name ++ codes " -> ") (first ∷ rest) ++ first
-
 -- The text of a refusal.
 abbrev pub refusal_text : Refusal → List ℕ
 refusal_text (BadModule path text) = path ++ (codes ": " ++ text)
 refusal_text (Compressed path) = path ++ codes ": compressed"
-refusal_text (Cycle names) = codes "cycle " ++ cycle_text names
-refusal_text (NotFound name) = codes "not found " ++ name
+refusal_text (Cycle names) = cycle_text names
+refusal_text (NotFound name) = not_found_text name
 refusal_text (Obstacle text) = text
 refusal_text (BadIndex file text) = file ++ (codes ": " ++ text)
 refusal_text (BadLine file number) = file ++ (codes ": bad line " ++ decimal number)

@@ -1,8 +1,8 @@
-ghost use Rattle.std.specs.Prelude.{◌≡◌, ◌++◌, IfOk, OnOk, codes};
+ghost use Rattle.std.specs.Prelude.{◌≡◌, ◌++◌, IfOk, codes};
 ghost use Rattle.std.specs.Fmt.{decimal};
-ghost use Rattle.km_course.specs.Lines.{cycle_text, refusal_text};
+ghost use Rattle.km_course.specs.Lines.{refusal_text};
 
-use km_names::{Blob, Bytes, Name, Names, PathText};
+use km_names::{Blob, Bytes, Name, Names, PathText, cycle_text, not_found_text};
 use std::alloc::{AllocError, Global};
 
 /// Why a command is refused with status 1: one variant for each line of its own. A missing file and
@@ -61,8 +61,8 @@ impl Refusal {
         match self {
             Refusal::BadModule { path, text } => faulty(alloc, b"", path, text),
             Refusal::Compressed { path } => named(alloc, b"", path, b": compressed"),
-            Refusal::Cycle { names } => cycle(alloc, names),
-            Refusal::NotFound { name } => named(alloc, b"not found ", name, b""),
+            Refusal::Cycle { names } => cycle_text(alloc, names),
+            Refusal::NotFound { name } => not_found_text(alloc, name),
             Refusal::Obstacle { text } => named(alloc, b"", text, b""),
             Refusal::BadIndex { file, text } => faulty(alloc, b"", file, text),
             Refusal::BadLine { file, number } => bad_line(alloc, file, *number),
@@ -123,27 +123,4 @@ fn bad_line(alloc: Global, file: &PathText, number: u32) -> Result<Blob, AllocEr
 {
     let number = format!(in alloc; "{number}")?;
     Blob::concat(alloc, &[file.as_bytes(), b": bad line ", number.as_bytes()])
-}
-
-/// Returns the text for a cycle of modules.
-fn cycle(alloc: Global, names: &Names) -> Result<Blob, AllocError>
-    ensures { IfOk result (λ text. text ≡ codes "cycle " ++ cycle_text names.now) }
-{
-    let mut text = Blob::from_slice(alloc, b"cycle ")?;
-    push_cycle(&mut text, names)?;
-    Ok(text)
-}
-
-/// Puts the names along a cycle at the end, an arrow between each two, and the first one again.
-fn push_cycle(text: &mut Blob, names: &Names) -> Result<(), AllocError>
-    ensures { OnOk result (text.new ≡ text.old ++ cycle_text names.now) }
-{
-    for name in names.as_slice() {
-        text.extend(name.as_bytes())?;
-        text.extend(b" -> ")?;
-    }
-    match names.get(0) {
-        Some(first) => text.extend(first.as_bytes()),
-        None => Ok(()),
-    }
 }
