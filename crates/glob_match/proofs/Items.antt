@@ -2,7 +2,7 @@
 use Rattle.std.proofs.Common.{◌≡◌, ◌≢◌, ◌≤◌, ◌<◌, ◌-◌, ◌==◌, ◌↔◌, ◌⊎◌, inl, inr, refl, ℕ, List, [], ◌∷◌, length, take, drop, slice_index_or, false, arith}
 use Rattle.std.proofs.lemmas.Bool.Decides.{nat_tests}
 use Rattle.std.proofs.lemmas.Grind.{common_steps}
-use Rattle.glob_match.specs.Pattern.{Lists}
+use Rattle.glob_pattern.specs.Pattern.{Lists}
 use Rattle.glob_match.specs.Front.{BeginsWith}
 
 -- The end of a list from a place on, as a slice gives it.

@@ -1,4 +1,4 @@
-pub mod DecisionLemmas
+pub mod MatchLemmas
 pub mod Items
 pub mod Rules
 pub mod Tries

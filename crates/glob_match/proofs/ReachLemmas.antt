@@ -3,10 +3,10 @@ use Rattle.std.proofs.Common.{◌≡◌, refl, sym, ap, ◌∙◌, ⊎_elim, ℕ
 use Rattle.std.proofs.lemmas.Bool.{and_parts, and_from, and_right, or_left, or_right, cases_lt, le-leb, lt-leb, false≢true}
 use Rattle.std.proofs.Math.Seq.{take-suc}
 use Rattle.std.proofs.lemmas.List.{take_all}
-use Rattle.glob_match.specs.Decision.{Part, parts_take, some_end}
-use Rattle.glob_match.specs.Decision.Part.{Many, One}
+use Rattle.glob_pattern.specs.Parts.{Part, parts_take, some_end}
+use Rattle.glob_pattern.specs.Parts.Part.{Many, One}
 use Rattle.glob_match.specs.Progress.{reaches}
-use Rattle.glob_match.proofs.DecisionLemmas.{not_same}
+use Rattle.glob_pattern.proofs.DecisionLemmas.{not_same}
 use Rattle.glob_match.specs.Words.{moved, any_up_to}
 
 -- ---- one more part of one byte

@@ -7,16 +7,16 @@ use Rattle.std.proofs.lemmas.Bool.{false≢true, le-leb, lt-leb, and_right, case
 use Rattle.std.proofs.lemmas.Bool.Decides.{nat_tests}
 use Rattle.std.proofs.lemmas.Nat.Bits.{bit_at-suc, bit_at-zero}
 use Rattle.std.proofs.lemmas.List.{append-nil}
-use Rattle.glob_match.specs.Pattern.{Matches, star, question, bracket, closing, bang, dash}
-use Rattle.glob_match.specs.Decision.{Part, parts_from, parts_take, is_listed, is_in_set, is_match}
-use Rattle.glob_match.specs.Decision.Part.{Many, One}
+use Rattle.glob_pattern.specs.Pattern.{Matches, star, question, bracket, closing, bang, dash}
+use Rattle.glob_pattern.specs.Parts.{Part, parts_from, parts_take, is_listed, is_in_set}
+use Rattle.glob_pattern.specs.Parts.Part.{Many, One}
 use Rattle.glob_match.specs.Words.{HasBits, HasPlaces, is_between, moved, any_up_to, bit}
 use Rattle.glob_match.specs.Progress.{Stands, IsOpen, reaches, pending_items, flip}
 use Rattle.glob_match.specs.declared.place.Place.{Place}
 use Rattle.glob_match.specs.declared.place.Place.TheVariants.{Outside, Opened, Inside}
 use Rattle.glob_match.specs.declared.place.Pending.{Pending}
 use Rattle.glob_match.specs.declared.place.Pending.TheVariants.{Nothing, Low}
-use Rattle.glob_match.proofs.DecisionLemmas.{decides, not_same}
+use Rattle.glob_pattern.proofs.DecisionLemmas.{is_taken, decides, not_same}
 use Rattle.glob_match.proofs.WordLemmas.{bit_once}
 use Rattle.glob_match.proofs.ReachLemmas.{reaches-one, reaches-run, reaches-end, reaches-none}
 
@@ -218,21 +218,19 @@ module _ (text bytes : List ℕ) (same : (n : ℕ) → slice_index bytes n ≡ s
 -- ---- what was read
 
 -- Outside of a set the test of a match asks whether the parts take the text.
-outside_match : (text pattern : List ℕ) (parts : List Part) → IsRead pattern parts None → is_match pattern text ≡ parts_take parts text
-unfolding is_match
+outside_match : (text pattern : List ℕ) (parts : List Part) → IsRead pattern parts None → is_taken pattern text ≡ parts_take parts text
 outside_match text pattern parts read =
     ap (λ o. option_map_or (λ ps. parts_take ps text) o false) (ap (parts_from None) (sym (append-nil pattern)) ∙ read [])
     ∙ ap (λ ps. parts_take ps text) (append-nil parts)
 
-inside_match : (text pattern items : List ℕ) (parts : List Part) → IsRead pattern parts (Some items) → is_match pattern text ≡ false
-unfolding is_match
+inside_match : (text pattern items : List ℕ) (parts : List Part) → IsRead pattern parts (Some items) → is_taken pattern text ≡ false
 inside_match text pattern items parts read =
     ap (λ o. option_map_or (λ ps. parts_take ps text) o false) (ap (parts_from None) (sym (append-nil pattern)) ∙ read [])
 
 -- The pattern matches if its place is outside of a set, and the end of the text is reached.
 pub outside_decides : (text pattern : List ℕ) (first : ℕ) (reached listed : List ℕ) (answer : Bool) → Stands text pattern Outside first reached listed → ((test : ℕ → Bool) → HasPlaces first reached test → answer ≡ test (length text)) → Decides answer (Matches pattern text)
 outside_decides text pattern first reached listed answer s is =
-    let e : answer ≡ is_match pattern text = is (reaches s.parts text) s.places ∙ reaches-end s.parts text ∙ sym (outside_match text pattern s.parts (subst (IsRead pattern s.parts) s.set s.read)) in
+    let e : answer ≡ is_taken pattern text = is (reaches s.parts text) s.places ∙ reaches-end s.parts text ∙ sym (outside_match text pattern s.parts (subst (IsRead pattern s.parts) s.set s.read)) in
     subst (λ t. Decides t (Matches pattern text)) (sym e) (decides pattern text)
 
 pub opened_never : (text pattern : List ℕ) (first : ℕ) (reached listed : List ℕ) → Stands text pattern Opened first reached listed → ¬ Matches pattern text
@@ -245,7 +243,6 @@ inside_never text pattern first reached listed negated pending s m =
 
 -- No place is reached, so nothing that begins with the pattern matches.
 pub lost : (text pattern : List ℕ) (first : ℕ) (reached listed : List ℕ) (place : Place) → Stands text pattern place first reached listed → HasBits reached (λ n. false) → (rest : List ℕ) → ¬ Matches (pattern ++ rest) text
-unfolding is_match
 lost text pattern first reached listed place s none rest m =
     let e = ap (λ o. option_map_or (λ ps. parts_take ps text) o false) (s.read rest) in
     no_parts (parts_from s.open_set rest) (sym e ∙ (decides (pattern ++ rest) text).1 m)

@@ -3,7 +3,7 @@ use Rattle.std.proofs.Common.{◌≡◌, ◌≢◌, ◌<◌, refl, sym, subst, �
 use Rattle.std.proofs.lemmas.List.{take-append-drop}
 use Rattle.std.proofs.Math.Seq.{drop-append_seam}
 use Rattle.std.proofs.lemmas.List.Elements.{Contains-append_right}
-use Rattle.glob_match.specs.Pattern.{Matches, Has, star, question, bracket, closing, empty, run, any, set, itself}
+use Rattle.glob_pattern.specs.Pattern.{Matches, Has, star, question, bracket, closing, empty, run, any, set, itself}
 use Rattle.glob_match.specs.Front.{Closes, IsFirst, IsMet, IsRun, IsTaken}
 use Rattle.glob_match.specs.declared.element.Element.{Element}
 use Rattle.glob_match.specs.declared.element.Element.TheVariants.{Run, Any, Set, Byte}

@@ -5,7 +5,7 @@ use Rattle.std.proofs.Common.{ap}
 use Rattle.std.proofs.lemmas.List.{drop-drop}
 use Rattle.std.proofs.Math.Seq.{drop-nil}
 use Rattle.glob_match.specs.Front.{IsRun, IsTaken}
-use Rattle.glob_match.specs.Pattern.{Matches}
+use Rattle.glob_pattern.specs.Pattern.{Matches}
 
 -- Before the first run: nothing was decided yet.
 pub record TriesOnce (pattern text rest left : List ℕ) : Type 0 where

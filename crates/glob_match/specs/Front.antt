@@ -1,7 +1,7 @@
 -- What the front of a set's items, and of a pattern, means for the whole, as the code uses it.
 -- It belongs to the code: no public meaning rests on it.
 use Rattle.std.specs.Prelude.{◌≡◌, ◌≢◌, ◌≤◌, ◌<◌, ◌↔◌, ◌⊎◌, ℕ, List, ◌∷◌, ◌++◌, length, drop, Contains}
-use Rattle.glob_match.specs.Pattern.{Lists, Has, Matches, star, question, bracket, closing}
+use Rattle.glob_pattern.specs.Pattern.{Lists, Has, Matches, star, question, bracket, closing}
 use Rattle.glob_match.specs.declared.element.Element.{Element}
 use Rattle.glob_match.specs.declared.element.Element.TheVariants.{Run, Any, Set, Byte}
 use Rattle.glob_match.specs.declared.meeting.Meeting.{Meeting}

@@ -1,5 +1,4 @@
 pub mod Front
-pub mod Pattern
 pub mod Decision
 pub mod Words
 pub mod States

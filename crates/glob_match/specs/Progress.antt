@@ -2,8 +2,8 @@
 -- The contract of `Progress` cites it; no lookup does.
 use Rattle.std.specs.Prelude.{◌≡◌, ℕ, ◌+◌, ◌-◌, ◌/◌, ◌≤◌, ◌&&◌, ◌||◌, not, nat_le, Bool, List, [], ◌∷◌, ◌++◌, length, take, drop, slice_index, vec_len, Option, Some, None, if◌then◌else◌}
 use Rattle.std.specs.Option.{option_map}
-use Rattle.glob_match.specs.Pattern.{dash}
-use Rattle.glob_match.specs.Decision.{Part, parts_from, parts_take, is_listed, is_in_set}
+use Rattle.glob_pattern.specs.Pattern.{dash}
+use Rattle.glob_pattern.specs.Parts.{Part, parts_from, parts_take, is_listed, is_in_set}
 use Rattle.glob_match.specs.Words.{HasBits, HasPlaces}
 use Rattle.glob_match.specs.States.{IsKept}
 use Rattle.glob_match.specs.declared.place.Place.{Place}

@@ -1,6 +1,6 @@
 ghost use Rattle.std.specs.Prelude.{◌↔◌, ◌∷◌, ℕ, List, IsTrue, MatchOption, Contains};
 ghost use Rattle.glob_match.specs.Front.{Closes, IsFirst, IsMet};
-ghost use Rattle.glob_match.specs.Pattern.{Matches, closing};
+ghost use Rattle.glob_pattern.specs.Pattern.{Matches, closing};
 
 use crate::set::has;
 

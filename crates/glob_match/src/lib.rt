@@ -1,9 +1,9 @@
 //! Wildcard patterns over bytes: `*`, `?` and sets in brackets, as fnmatch(3) and glob(7) describe
-//! them. [`matches`] decides exactly the relation `Matches` in `specs/` and takes no memory.
+//! them. [`matches`] decides exactly the relation `Matches` of `glob_pattern` and takes no memory.
 //!
 //! [`Progress`] reads a pattern byte by byte over one text, and decides the same relation for each
 //! front of it. It can be saved, so that patterns that begin alike are matched together. The crate
-//! uses only std.
+//! uses `glob_pattern` for the relation.
 #![tactic(auto)]
 
 mod element;

@@ -1,5 +1,5 @@
 ghost use Rattle.std.specs.Prelude.{◌≡◌, ℕ, ◌+◌, ◌<◌, ◌^◌, List, [], ◌∷◌, ◌++◌, IfOk, OnOk, IsTrue, ◌↔◌, length};
-ghost use Rattle.glob_match.specs.Pattern.{Matches};
+ghost use Rattle.glob_pattern.specs.Pattern.{Matches};
 ghost use Rattle.glob_match.specs.Progress.{IsOver, HasRead, WasRead, IsSaved, IsWhole};
 
 use crate::place::Place;

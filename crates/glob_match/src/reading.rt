@@ -1,7 +1,7 @@
 // One byte of a pattern, by what it does to the places of a text that the pattern reaches.
 ghost use Rattle.std.specs.Prelude.{◌≡◌, ℕ, ◌+◌, ◌≤◌, ◌&&◌, ◌||◌, nat_le, Bool, List, [], ◌∷◌, ◌++◌, length, slice_index, OnOk, IfOk};
-ghost use Rattle.glob_match.specs.Pattern.{closing};
-ghost use Rattle.glob_match.specs.Decision.{is_listed};
+ghost use Rattle.glob_pattern.specs.Pattern.{closing};
+ghost use Rattle.glob_pattern.specs.Parts.{is_listed};
 ghost use Rattle.glob_match.specs.Words.{is_between, HasBits, HasPlaces, moved};
 ghost use Rattle.glob_match.specs.States.{IsKept, SamePlaces};
 ghost use Rattle.glob_match.specs.Progress.{Stands, IsText, IsOpen, pending_items};

@@ -1,6 +1,6 @@
 ghost use Rattle.std.specs.Prelude.{◌≡◌, ◌↔◌, IsTrue};
 ghost use Rattle.glob_match.specs.Decision.{is_match};
-ghost use Rattle.glob_match.specs.Pattern.{Matches};
+ghost use Rattle.glob_pattern.specs.Pattern.{Matches};
 
 use crate::meeting::{Meeting, meet};
 

@@ -1,6 +1,6 @@
 ghost use Rattle.std.specs.Prelude.{◌≡◌, ◌↔◌, ◌<◌, [], IsTrue, MatchOption};
 ghost use Rattle.glob_match.specs.Front.{BeginsWith};
-ghost use Rattle.glob_match.specs.Pattern.{Has, Lists};
+ghost use Rattle.glob_pattern.specs.Pattern.{Has, Lists};
 
 /// Returns the first range of a set's items, from its lowest to its highest byte, and the items
 /// after it. A single byte is the range from itself to itself. The result is `None` if there is no

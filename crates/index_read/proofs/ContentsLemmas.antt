@@ -20,9 +20,9 @@ use Rattle.index_read.specs.Keys.{Item, all_items}
 use Rattle.index_read.specs.Contents.{entry_of, contents, values_matching}
 use Rattle.index_read.proofs.OrderLemmas.{AllAfter, ItemsRise, items-rise, equal_keys, self_equal, sel, sel-none, all_weaker}
 use Rattle.index_read.proofs.ListingLemmas.{sel-all}
-use Rattle.glob_match.specs.Pattern.{Matches}
+use Rattle.glob_pattern.specs.Pattern.{Matches}
 use Rattle.glob_match.specs.Decision.{is_match}
-use Rattle.glob_match.proofs.DecisionLemmas.{decides}
+use Rattle.glob_match.proofs.MatchLemmas.{decides}
 use Rattle.index_read.proofs.ListingLemmas.{Chosen, none, taken, passed, bare, pairs_of}
 use Rattle.index_read.proofs.MatchLemmas.{values_in}
 use Rattle.index_read.specs.Firsts.{firsts_of}

@@ -4,7 +4,7 @@ use Rattle.std.proofs.lemmas.List.{append-nil, map-append}
 use Rattle.index_format.specs.Map.{Value}
 use Rattle.index_format.specs.Listing.{KeyValue}
 use Rattle.index_format.specs.Node.{values}
-use Rattle.glob_match.specs.Pattern.{Matches}
+use Rattle.glob_pattern.specs.Pattern.{Matches}
 use Rattle.index_read.specs.Keys.{Item, all_items}
 use Rattle.index_read.specs.Searches.{NoneMatches}
 use Rattle.index_read.proofs.ListingLemmas.{Chosen, taken, passed, bare, chosen-append, chosen-none, pairs_of}

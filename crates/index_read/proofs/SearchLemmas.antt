@@ -8,7 +8,7 @@ use Rattle.index_format.specs.Nodes.{IsNode, top, below as below_node}
 use Rattle.index_nodes.specs.Fields.{link_of, IsNodeOf}
 use Rattle.index_nodes.specs.declared.node.Node.{Node}
 use Rattle.index_nodes.proofs.SoundNodes.{node_sound, child_below}
-use Rattle.glob_match.specs.Pattern.{Matches}
+use Rattle.glob_pattern.specs.Pattern.{Matches}
 use Rattle.glob_match.specs.Progress.{IsWhole, IsOver, HasRead, WasRead}
 use Rattle.glob_match.specs.declared.progress.Saved.{Saved}
 use Rattle.index_read.specs.declared.search.Branch.{Branch}

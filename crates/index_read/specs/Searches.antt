@@ -5,7 +5,7 @@ use Rattle.std.specs.List.{AllByRecursion}
 use Rattle.index_format.specs.Link.{place_of}
 use Rattle.index_nodes.specs.Fields.{link_of, IsNodeOf}
 use Rattle.index_nodes.specs.declared.node.Node.{Node}
-use Rattle.glob_match.specs.Pattern.{Matches}
+use Rattle.glob_pattern.specs.Pattern.{Matches}
 use Rattle.glob_match.specs.Progress.{IsWhole, IsOver, HasRead, WasRead, IsSaved}
 use Rattle.glob_match.specs.declared.progress.Progress.{Progress}
 use Rattle.glob_match.specs.declared.progress.Saved.{Saved}

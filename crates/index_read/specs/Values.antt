@@ -3,7 +3,7 @@
 use Rattle.std.specs.Prelude.{◌≡◌, ℕ, List, map}
 use Rattle.index_format.specs.Map.{Value}
 use Rattle.index_format.specs.Listing.{KeyValue, IsSelection, IsByPriority}
-use Rattle.glob_match.specs.Pattern.{Matches}
+use Rattle.glob_pattern.specs.Pattern.{Matches}
 use Rattle.index_read.specs.declared.value.Value.{Value as Found}
 use Rattle.index_read.specs.declared.value.Pair.{Pair}
 

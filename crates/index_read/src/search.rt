@@ -3,7 +3,7 @@ ghost use Rattle.index_format.specs.Check.{index_fault};
 ghost use Rattle.index_format.specs.Node.{prefix};
 ghost use Rattle.index_format.specs.Nodes.{IsNode};
 ghost use Rattle.index_nodes.specs.Fields.{IsNodeOf};
-ghost use Rattle.glob_match.specs.Pattern.{Matches};
+ghost use Rattle.glob_pattern.specs.Pattern.{Matches};
 ghost use Rattle.glob_match.specs.Progress.{IsWhole, IsOver, HasRead};
 ghost use Rattle.index_read.specs.Keys.{Item, all_items};
 ghost use Rattle.index_read.specs.Searches.{IsSearching, Finds, Descends, Enters, Reads, count_left, count_after};

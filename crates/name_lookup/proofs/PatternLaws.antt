@@ -7,8 +7,10 @@ use Rattle.std.specs.Str.{bytes_eq}
 use Rattle.std.specs.Cmp.Lexicographic.{pointwise}
 use Rattle.std.proofs.lemmas.Bool.{true≢false}
 use Rattle.std.proofs.Math.Dec.{eqb-suc-zero}
-use Rattle.glob_match.specs.Decision.{is_match, Part, One, parts_from, parts_take}
-use Rattle.glob_match.specs.Pattern.{star, question, bracket}
+use Rattle.glob_match.specs.Decision.{is_match}
+use Rattle.glob_match.proofs.MatchLemmas.{is_match-parts}
+use Rattle.glob_pattern.specs.Parts.{Part, One, parts_from, parts_take}
+use Rattle.glob_pattern.specs.Pattern.{star, question, bracket}
 use Rattle.name_lookup.specs.Wildcards.{is_wildcard}
 
 -- neither of two tests passes
@@ -36,20 +38,23 @@ takes-none c None = refl
 takes-none c (Some ps) = refl
 
 match-first : (c : ℕ) (p : List ℕ) (y : ℕ) (ys : List ℕ) → is_wildcard c ≡ false → is_match (c ∷ p) (y ∷ ys) ≡ ((y == c) && is_match p ys)
-unfolding is_match
-match-first c p y ys plain = ap (λ parts. option_map_or (λ ps. parts_take ps (y ∷ ys)) parts false) (front-part c p plain) ∙ takes-first c y ys (parts_from None p)
+match-first c p y ys plain =
+    is_match-parts (c ∷ p) (y ∷ ys)
+    ∙ ap (λ parts. option_map_or (λ ps. parts_take ps (y ∷ ys)) parts false) (front-part c p plain)
+    ∙ takes-first c y ys (parts_from None p)
+    ∙ ap (λ t. (y == c) && t) (sym (is_match-parts p ys))
 
 match-none : (c : ℕ) (p : List ℕ) → is_wildcard c ≡ false → is_match (c ∷ p) [] ≡ false
-unfolding is_match
-match-none c p plain = ap (λ parts. option_map_or (λ ps. parts_take ps []) parts false) (front-part c p plain) ∙ takes-none c (parts_from None p)
+match-none c p plain =
+    is_match-parts (c ∷ p) []
+    ∙ ap (λ parts. option_map_or (λ ps. parts_take ps []) parts false) (front-part c p plain)
+    ∙ takes-none c (parts_from None p)
 
 match-empty : (y : ℕ) (ys : List ℕ) → is_match [] (y ∷ ys) ≡ false
-unfolding is_match
-match-empty y ys = eqb-suc-zero (length ys)
+match-empty y ys = is_match-parts [] (y ∷ ys) ∙ eqb-suc-zero (length ys)
 
 empty-matches : is_match [] [] ≡ true
-unfolding is_match
-empty-matches = refl
+empty-matches = is_match-parts [] []
 
 and-more : (a b c : Bool) → (a && (b && c)) ≡ ((a && b) && c)
 and-more true b c = refl

@@ -2,7 +2,7 @@
 -- It belongs to the code: no public meaning rests on it. glob(7).
 use Rattle.std.specs.Prelude.{◌≡◌, ℕ, ◌==◌, ◌||◌, Bool, true, false, List, ◌++◌}
 use Rattle.std.specs.List.{list_any}
-use Rattle.glob_match.specs.Pattern.{star, question, bracket}
+use Rattle.glob_pattern.specs.Pattern.{star, question, bracket}
 
 -- Whether a byte is a wildcard, or opens a set. In a pattern without such bytes each byte is
 -- itself.

@@ -3,7 +3,7 @@ use Rattle.std.proofs.lemmas.Bool.{false≢true}
 use Rattle.std.proofs.lemmas.Bool.Decides.{nat_tests}
 use Rattle.std.proofs.lemmas.List.{nil_from_length}
 use Rattle.glob_match.specs.Front.{IsFirst}
-use Rattle.glob_match.specs.Pattern.{empty}
+use Rattle.glob_pattern.specs.Pattern.{empty}
 use Rattle.glob_match.proofs.Rules.{is_run, is_taken, none_at_end, not_met}
 use Rattle.glob_match.proofs.meeting.meet.Goals as goal
 use Rattle.glob_match.proofs.meeting.meet.Goals.{in_default-split_first-via-in-Some-split_first+else-is_met, in_default-split_first-via-in_default-split_first}

@@ -1,5 +1,5 @@
 use Rattle.std.proofs.Common.{refl, [], ◌∷◌}
-use Rattle.glob_match.specs.Pattern.{dash}
+use Rattle.glob_pattern.specs.Pattern.{dash}
 use Rattle.glob_match.proofs.ReadLemmas.{pend, low_decided, range_decided}
 use Rattle.glob_match.proofs.reading.add_item.Goals as goal
 

@@ -1,5 +1,5 @@
 use Rattle.std.proofs.Common.{◌≡◌, refl, sym, ap, subst, ◌∙◌, ◌||◌, ◌==◌, ◌+◌, ℕ, Bool, true, false, slice_index}
-use Rattle.glob_match.specs.Pattern.{dash}
+use Rattle.glob_pattern.specs.Pattern.{dash}
 use Rattle.glob_match.specs.Words.{HasBits, is_between}
 use Rattle.glob_match.proofs.ReadLemmas.{same_bits, same_between}
 use Rattle.glob_match.proofs.reading.add_pending.Goals as goal

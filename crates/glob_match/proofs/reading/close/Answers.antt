@@ -1,5 +1,5 @@
 use Rattle.std.proofs.Common.{subst, ◌&&◌, ◌||◌, ◌+◌, ℕ, Bool, nat_le, slice_index}
-use Rattle.glob_match.specs.Decision.{is_listed}
+use Rattle.glob_pattern.specs.Parts.{is_listed}
 use Rattle.glob_match.specs.Words.{HasBits, HasPlaces, moved}
 use Rattle.glob_match.specs.States.{SamePlaces}
 use Rattle.glob_match.specs.Progress.{flip, pending_items}

@@ -1,6 +1,6 @@
 use Rattle.std.proofs.Common.{◌≢◌, ap, subst, ◌∙◌, ◌&&◌, ◌==◌, ℕ, nat_le, slice_index, arith, rules}
 use Rattle.std.proofs.lemmas.Bool.{le-leb, and_from}
-use Rattle.glob_match.specs.Pattern.{star, question, bracket}
+use Rattle.glob_pattern.specs.Pattern.{star, question, bracket}
 use Rattle.glob_match.specs.Words.{HasPlaces, is_between, moved, any_up_to}
 use Rattle.glob_match.proofs.ReadLemmas.{star_read, bracket_read, question_read, byte_read, same_between}
 use Rattle.glob_match.proofs.reading.read_outside.Goals as goal

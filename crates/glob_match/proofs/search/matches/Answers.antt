@@ -1,4 +1,4 @@
-use Rattle.glob_match.proofs.DecisionLemmas.{decided}
+use Rattle.glob_match.proofs.MatchLemmas.{decided}
 use Rattle.glob_match.proofs.search.matches.Goals as goal
 
 pub returns-clause-test : goal.returns-clause-test

@@ -1,5 +1,5 @@
 use Rattle.std.proofs.Common.{◌↔◌, length}
-use Rattle.glob_match.specs.Pattern.{Lists}
+use Rattle.glob_pattern.specs.Pattern.{Lists}
 use Rattle.glob_match.proofs.set.lists.Given as goal
 
 abbrev pub invariant-loop-low : goal.invariant-loop-low

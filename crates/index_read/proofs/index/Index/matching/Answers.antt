@@ -3,7 +3,7 @@ use Rattle.std.proofs.lemmas.Bool.{false≢true}
 use Rattle.index_format.specs.Map.{Value}
 use Rattle.index_nodes.specs.Fields.{link_of}
 use Rattle.index_nodes.specs.declared.node.Node.{Node}
-use Rattle.glob_match.specs.Pattern.{Matches}
+use Rattle.glob_pattern.specs.Pattern.{Matches}
 use Rattle.index_read.specs.Keys.{Item, all_items}
 use Rattle.index_read.specs.Searches.{Finds, IsSearching, count_left}
 use Rattle.index_read.specs.declared.search.Search.{Search}

@@ -1,14 +1,14 @@
--- The test of a match decides the relation.
-use Rattle.std.proofs.Common.{◌≡◌, ◌≢◌, ◌≤◌, suc, ◌==◌, ◌||◌, ◌↔◌, inl, inr, refl, sym, subst, ap, ◌∙◌, ℕ, Bool, true, false, cond, nat_le, List, [], ◌∷◌, ◌++◌, length, Option, Some, None, Contains, IsTrue, MatchBool, arith, append_assoc}
+-- The parts of a pattern decide the relation.
+use Rattle.std.proofs.Common.{◌≡◌, ◌≢◌, ◌≤◌, suc, ◌==◌, ◌||◌, inl, inr, refl, sym, subst, ap, ◌∙◌, ℕ, Bool, true, false, cond, nat_le, List, [], ◌∷◌, ◌++◌, length, Option, Some, None, Contains, MatchBool, arith, append_assoc}
 use Rattle.std.specs.Bool.{Decides}
 use Rattle.std.specs.Option.{option_map, option_map_or}
 use Rattle.std.proofs.lemmas.Bool.{false≢true, and_parts}
-use Rattle.std.proofs.lemmas.Bool.Decides.{nat_tests, Decides-not, Decides-and, Decides-or, same_from_decides}
+use Rattle.std.proofs.lemmas.Bool.Decides.{nat_tests, Decides-not, Decides-and, Decides-or}
 use Rattle.std.proofs.lemmas.List.{nil_from_length, append-nil}
 use Rattle.std.proofs.lemmas.List.Elements.{Contains-append_cases}
-use Rattle.glob_match.specs.Pattern.{Lists, Has, Matches, empty, run, any, set, itself, star, question, bracket, closing, bang, dash}
-use Rattle.glob_match.specs.Decision.{is_listed, is_in_set, Part, parts_from, some_end, parts_take, is_match}
-use Rattle.glob_match.specs.Decision.Part.{Many, One}
+use Rattle.glob_pattern.specs.Pattern.{Lists, Has, Matches, empty, run, any, set, itself, star, question, bracket, closing, bang, dash}
+use Rattle.glob_pattern.specs.Parts.{is_listed, is_in_set, Part, parts_from, some_end, parts_take}
+use Rattle.glob_pattern.specs.Parts.Part.{Many, One}
 
 -- ---- sets
 
@@ -186,12 +186,20 @@ by_parts : (o : Option (List Part)) (text : List ℕ) → option_map_or (λ ps. 
 by_parts None text e = absurd (false≢true e)
 by_parts (Some ps) text e = (ps, refl, e)
 
-pub decides : (pattern text : List ℕ) → Decides (is_match pattern text) (Matches pattern text)
-unfolding is_match
+-- Whether the parts of the pattern take the text.
+abbrev pub is_taken : List ℕ → List ℕ → Bool
+is_taken pattern text = option_map_or (λ ps. parts_take ps text) (parts_from None pattern) false
+
+pub decides : (pattern text : List ℕ) → Decides (is_taken pattern text) (Matches pattern text)
 decides pattern text = (
   λ e. let p = by_parts (parts_from None pattern) text e in gives None pattern tt p.0 text p.1 p.2,
   λ m. let t = taken m in rw (t.are) (t.take_it),
 )
 
-pub decided : (answer : Bool) (pattern text : List ℕ) → (IsTrue answer ↔ Matches pattern text) → answer ≡ is_match pattern text
-decided answer pattern text h = same_from_decides answer (is_match pattern text) (h.0, h.1) (decides pattern text)
+by_answer : {P : Type 0} (answer : Bool) → Decides answer P → Dec P
+by_answer true d = yes (d.0 refl)
+by_answer false d = no (λ p. false≢true (d.1 p))
+
+-- A text matches a pattern, or doesn't.
+pub decision : (pattern text : List ℕ) → Dec (Matches pattern text)
+decision pattern text = by_answer (is_taken pattern text) (decides pattern text)
