@@ -10,10 +10,11 @@ pub mod Obstacles
 pub mod RuleLaws
 pub mod PlaceNames
 pub mod PlanTests
+pub mod PlanTexts
+pub mod Texts
 pub mod Repeats
 pub mod SoftSteps
 pub mod StepLaws
 pub mod StepModules
 pub mod StepPlaces
-pub mod Texts
 pub mod Troubled

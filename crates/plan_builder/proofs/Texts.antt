@@ -1,6 +1,6 @@
 -- Texts with spaces between, as the lines of modules.unmet have them.
 use Rattle.std.proofs.Common.{◌≡◌, ℕ, List, [], ◌∷◌, ◌++◌, ap, append-nil}
-use Rattle.plan_builder.specs.Steps.{spaced}
+use Rattle.km_names.specs.Texts.{spaced}
 use Rattle.unmet_file.specs.Line.{two_text, three_text}
 
 pub spaced-three : (word a b : List ℕ) → spaced (word ∷ a ∷ b ∷ []) ≡ two_text word (two_text a b)

@@ -1,10 +1,10 @@
 -- Why a request has no plan: the first test that fails. The first line of modules.unmet of each
 -- kind counts, with lines on missing symbols first. modprobe(8).
-use Rattle.std.specs.Prelude.{ℕ, ◌==◌, ◌&&◌, ◌||◌, Bool, true, false, List, [], ◌∷◌, map, Option, Some, None, unwrap_or, option_map}
+use Rattle.std.specs.Prelude.{ℕ, ◌==◌, ◌&&◌, ◌||◌, Bool, true, false, List, [], ◌∷◌, map, Option, Some, None, option_map}
 use Rattle.std.specs.List.{find, list_any, flat_map}
 use Rattle.std.specs.Str.{bytes_eq}
 use Rattle.km_names.specs.First.{first}
-use Rattle.km_names.specs.AliasForm.{normal_alias}
+use Rattle.km_names.specs.AliasForm.{normal_or_itself}
 use Rattle.index_format.specs.Listing.{KeyValue}
 use Rattle.symbol_binding.specs.declared.unbound.Unbound.{Unbound}
 use Rattle.symbol_binding.specs.declared.unbound.Unbound.TheVariants as lines
@@ -22,13 +22,9 @@ use Rattle.dependency_lines.specs.Modules.{bad_name, name_at, path_at, places_of
 use Rattle.plan_builder.specs.Needs.{Sources, modules, before}
 use Rattle.plan_builder.specs.Members.{found_for, planned, ResolvedKind, loadable, installed, inside, unknown, kind_of}
 
--- A name in its normal form, or the name itself if it has none.
-abbrev pub shown_name : List ℕ → List ℕ
-shown_name name = unwrap_or (normal_alias name) name
-
 -- A name that isn't found.
 abbrev pub not_found : List ℕ → Obstacle
-not_found name = NotFound (shown_name name)
+not_found name = NotFound (normal_or_itself name)
 
 -- Whether all lists of a name are empty.
 abbrev pub is_unfound : Sources → List ℕ → Bool

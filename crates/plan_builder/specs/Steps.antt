@@ -3,6 +3,7 @@ use Rattle.std.specs.Prelude.{ℕ, ◌==◌, ◌&&◌, not, List, [], ◌∷◌,
 use Rattle.std.specs.List.{flat_map, range_with_len}
 use Rattle.std.specs.Option.{option_map_or}
 use Rattle.std.specs.Str.{bytes_eq}
+use Rattle.km_names.specs.Texts.{spaced}
 use Rattle.modprobe_conf.specs.declared.rule.Rule.{Rule}
 use Rattle.modprobe_conf.specs.declared.rule.Rule.TheVariants.{Options}
 use Rattle.name_table.specs.FirstSeen.{is_among}
@@ -16,10 +17,6 @@ use Rattle.dependency_lines.specs.Modules.{name_at, path_at, places_of}
 use Rattle.plan_builder.specs.Needs.{Sources, modules, before, after, unloaded}
 use Rattle.plan_builder.specs.Members.{found_for, asked, is_member, ResolvedKind, loadable, installed, inside, unknown, kind_of, chosen_command}
 use Rattle.plan_builder.specs.Obstacles.{all_names}
-
--- Texts with a space between each and the next.
-abbrev pub spaced : List (List ℕ) → List ℕ
-spaced texts = drop 1 (flat_map (λ text. 32 ∷ text) texts)
 
 -- The parameters that a rule has for the module of this name.
 abbrev pub rule_options : List ℕ → Rule → List (List ℕ)

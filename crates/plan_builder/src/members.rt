@@ -9,14 +9,14 @@ ghost use Rattle.dependency_lines.specs.Modules.{places_of, name_at};
 ghost use Rattle.plan_builder.specs.Needs.{modules as modules_spec, unloaded};
 ghost use Rattle.plan_builder.specs.Planner.{sources_of, texts};
 ghost use Rattle.plan_builder.specs.Members.{founds_of, is_member_of, chosen_command, install_command, command_of};
-ghost use Rattle.plan_builder.specs.Obstacles.{is_unfound, is_unknown, all_names, not_found, shown_name};
+ghost use Rattle.plan_builder.specs.Obstacles.{is_unfound, is_unknown, all_names, not_found};
 
 use crate::needs::push_all;
 use crate::obstacle::Obstacle;
 use crate::planner::Planner;
 use crate::rule_table::RuleTable;
 use dependency_lines::Modules;
-use km_names::{Name, Names, normal_alias};
+use km_names::{Name, Names, normal_or_itself};
 use modprobe_conf::Rule;
 use name_lookup::Found;
 use name_table::NameSet;
@@ -48,17 +48,8 @@ fn not_found(alloc: Global, name: &Name) -> Result<Obstacle, AllocError>
     ensures { IfOk result (λ o. o ≡ not_found name.now) }
 {
     Ok(Obstacle::NotFound {
-        name: shown_name(alloc, name)?,
+        name: normal_or_itself(alloc, name.as_bytes())?,
     })
-}
-
-fn shown_name(alloc: Global, name: &Name) -> Result<Name, AllocError>
-    ensures { IfOk result (λ shown. shown ≡ shown_name name.now) }
-{
-    match normal_alias(alloc, name.as_bytes())? {
-        Some(normal) => Name::from_slice(alloc, normal.as_bytes()),
-        None => Name::from_slice(alloc, name.as_bytes()),
-    }
 }
 
 /// Tests that all that was found is known.

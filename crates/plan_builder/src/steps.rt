@@ -7,7 +7,7 @@ ghost use Rattle.plan_builder.specs.Needs.{modules};
 ghost use Rattle.plan_builder.specs.Members.{found_for, is_member};
 ghost use Rattle.plan_builder.specs.Planner.{sources_of};
 ghost use Rattle.plan_builder.specs.Tables.{byte_texts};
-ghost use Rattle.plan_builder.specs.Steps.{spaced, rule_options, options_of, module_step, own_step, own_step_unless, own_steps};
+ghost use Rattle.plan_builder.specs.Steps.{rule_options, options_of, module_step, own_step, own_step_unless, own_steps};
 ghost use Rattle.plan_builder.specs.Ends.{RisingEnds, steps_by};
 
 use crate::members::{chosen_command, insert_all, member_names};
@@ -21,20 +21,6 @@ use name_lookup::Found;
 use name_table::NameSet;
 use plan_order::GroupedOrder;
 use std::alloc::{AllocError, Global};
-
-/// Texts with a space between each and the next.
-pub(crate) fn spaced(alloc: Global, texts: &[&[u8]]) -> Result<Blob, AllocError>
-    ensures { IfOk result (λ text. text ≡ spaced (byte_texts texts.now)) }
-{
-    let mut text = Blob::new(alloc);
-    for i in 0..texts.len() {
-        if i > 0 {
-            text.push(b' ')?;
-        }
-        text.extend(texts[i])?;
-    }
-    Ok(text)
-}
 
 /// Returns the parameters that rules have for the module of this name.
 fn rule_texts<'a>(
@@ -91,7 +77,7 @@ impl Stepping<'_> {
         if !self.request.options.is_empty() && self.members.contains(name) {
             texts.push(self.request.options.as_bytes())?;
         }
-        spaced(self.alloc, &texts)
+        Blob::spaced(self.alloc, &texts)
     }
 
     /// Returns whether commands are ignored for the module of this name.

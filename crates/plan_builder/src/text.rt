@@ -1,14 +1,9 @@
 // The texts of obstacles.
-ghost use Rattle.std.specs.Prelude.{◌≡◌, ◌∷◌, ◌++◌, [], codes, take, IfOk, OnOk};
-ghost use Rattle.std.specs.List.{flat_map};
-ghost use Rattle.plan_builder.specs.Steps.{spaced};
-ghost use Rattle.plan_builder.specs.Tables.{byte_texts};
-ghost use Rattle.plan_builder.specs.Text.{obstacle_text, round};
+ghost use Rattle.std.specs.Prelude.{◌≡◌, IfOk};
 ghost use Rattle.unmet_file.specs.Line.{first_word, two_text, three_text};
 
 use crate::obstacle::Obstacle;
-use crate::steps::spaced;
-use km_names::{Blob, Name, Names, PathText};
+use km_names::{Blob, Name, PathText, cycle_text, not_found_text};
 use std::alloc::{AllocError, Global};
 use unmet_file::LineKind;
 
@@ -22,8 +17,10 @@ impl Obstacle {
         ensures { IfOk result (λ text. text ≡ obstacle_text self.now) }
     {
         match self {
-            Obstacle::BadDepLine { name } => two(alloc, b"bad dependency line", name.as_bytes()),
-            Obstacle::NotFound { name } => two(alloc, b"not found", name.as_bytes()),
+            Obstacle::BadDepLine { name } => {
+                Blob::concat(alloc, &[b"bad dependency line ", name.as_bytes()])
+            }
+            Obstacle::NotFound { name } => not_found_text(alloc, name),
             Obstacle::Missing { path, symbol } => missing(alloc, path, symbol),
             Obstacle::Gpl {
                 path,
@@ -51,22 +48,12 @@ impl Obstacle {
     }
 }
 
-fn two(alloc: Global, word: &[u8], a: &[u8]) -> Result<Blob, AllocError>
-    ensures { IfOk result (λ text. text ≡ spaced (word.now ∷ a.now ∷ [])) }
-{
-    spaced(alloc, &[word, a])
-}
-
 /// Returns the text of a line on a symbol that nobody exports.
 fn missing(alloc: Global, path: &PathText, symbol: &Name) -> Result<Blob, AllocError>
     ensures { IfOk result (λ text. text ≡ two_text (first_word LineKind.Missing) (two_text path.now symbol.now)) }
 {
-    three(
-        alloc,
-        LineKind::Missing.word(),
-        path.as_bytes(),
-        symbol.as_bytes(),
-    )
+    let word = LineKind::Missing.word();
+    three(alloc, word, path.as_bytes(), symbol.as_bytes())
 }
 
 /// Returns the text of a line that names a provider.
@@ -109,43 +96,11 @@ fn double(
 fn three(alloc: Global, word: &[u8], a: &[u8], b: &[u8]) -> Result<Blob, AllocError>
     ensures { IfOk result (λ text. text ≡ two_text word.now (two_text a.now b.now)) }
 {
-    spaced(alloc, &[word, a, b])
+    Blob::spaced(alloc, &[word, a, b])
 }
 
 fn four(alloc: Global, word: &[u8], a: &[u8], b: &[u8], c: &[u8]) -> Result<Blob, AllocError>
     ensures { IfOk result (λ text. text ≡ two_text word.now (three_text a.now b.now c.now)) }
 {
-    spaced(alloc, &[word, a, b, c])
-}
-
-/// Returns the text of a cycle: its names, and the first again.
-fn cycle_text(alloc: Global, names: &Names) -> Result<Blob, AllocError>
-    ensures { IfOk result (λ text. text ≡ spaced (codes "cycle" ∷ round names.now)) }
-{
-    let mut texts = Vec::new(alloc);
-    texts.push(b"cycle".as_slice())?;
-    push_arrows(&mut texts, names)?;
-    push_first(&mut texts, names)?;
-    spaced(alloc, &texts)
-}
-
-/// Adds names, with an arrow after each.
-fn push_arrows<'a>(texts: &mut Vec<&'a [u8]>, names: &'a Names) -> Result<(), AllocError>
-    ensures { OnOk result (byte_texts texts.new.items ≡ byte_texts texts.old.items ++ flat_map (λ name. name ∷ codes "->" ∷ []) names.now) }
-{
-    for name in names.as_slice() {
-        texts.push(name.as_bytes())?;
-        texts.push(b"->".as_slice())?;
-    }
-    Ok(())
-}
-
-/// Adds the first of some names, if there is one.
-fn push_first<'a>(texts: &mut Vec<&'a [u8]>, names: &'a Names) -> Result<(), AllocError>
-    ensures { OnOk result (byte_texts texts.new.items ≡ byte_texts texts.old.items ++ take 1 names.now) }
-{
-    if let Some(name) = names.get(0) {
-        texts.push(name.as_bytes())?;
-    }
-    Ok(())
+    Blob::spaced(alloc, &[word, a, b, c])
 }
