@@ -1,12 +1,14 @@
 -- What is reached from an item, by marks for each item.
-use Rattle.std.proofs.Common.{◌≡◌, ℕ, zero, suc, ◌+◌, ◌-◌, ◌*◌, ◌^◌, ◌<◌, ◌≤◌, true, false, eqb, List, [], ◌∷◌, ◌++◌, length, get_or, take, set, sym, refl, ap, ◌∙◌, subst, inl, inr, arith}
-use Rattle.std.specs.Prelude.{◌||◌, ◌⊎◌, filter, map, All}
+use Rattle.std.proofs.Common.{◌≡◌, ℕ, zero, suc, ◌+◌, ◌-◌, ◌*◌, ◌^◌, ◌<◌, ◌≤◌, Bool, true, false, cond, eqb, List, [], ◌∷◌, ◌++◌, length, get_or, take, set, sym, refl, ap, ◌∙◌, subst, inl, inr, arith}
+use Rattle.std.specs.Prelude.{◌||◌, ◌⊎◌, ◌≢◌, filter, map, All}
 use Rattle.std.specs.Global.{Vec}
 use Rattle.std.proofs.lemmas.Bool.{true≢false, or_cases, or_left, or_right, eqb-true, eq-eqb, cases_eq, false_from_ne_true}
 use Rattle.std.proofs.lemmas.List.{ext_get_or, take_more, take_all, get_or_default, get_or-map as get_or-map_at, length-map, nil_from_length}
 use Rattle.std.proofs.Math.ListN.{get_or-map}
 use Rattle.std.proofs.lemmas.List.FromFn.{length-range_with_len, get_or-map-range_with_len}
 use Rattle.std.proofs.lemmas.List.Sums.{length-filter, count_by-le-length}
+use Rattle.std.proofs.lemmas.List.Elements.{All-more}
+use Rattle.std.proofs.lemmas.List.Kept.{AllPairs-filter}
 use Rattle.std.proofs.lemmas.Nat.{mul-le}
 use Rattle.std.proofs.lemmas.Map.Steps.{length-le_from_distinct_below}
 use Rattle.relation_order.specs.Sets.{Relation, has, below, goes}
@@ -18,7 +20,7 @@ use Rattle.relation_order.specs.Closures.{closure, closures}
 use Rattle.relation_order.specs.Rows.{has_mark, marked_in, row_at, AreReached, Fitting}
 use Rattle.relation_order.proofs.Lists.{has-range, range-has, all-has, has-at, goes-at}
 use Rattle.relation_order.proofs.MarkSteps.{marks-in_order}
-use Rattle.relation_order.proofs.Saturation.{filter-same}
+use Rattle.relation_order.proofs.Saturation.{filter-same, keeps}
 use Rattle.relation_order.proofs.ReachedLaws.{reached-step, reached-further, reached-only, reached-members}
 use Rattle.relation_order.proofs.LeastLaws.{push-has, least-members, least-distinct, least-after}
 use Rattle.relation_order.proofs.Complete.{all-listed_from_empty}
@@ -173,6 +175,40 @@ pub marks-inside : (r : Relation) (n : ℕ) (order : List ℕ) → order ≡ lea
 marks-inside r n order is none words x marks y h =
     let w = range-has 0 n y (reached-only r (below n) x (λ z. has (below n) z ≡ true) (λ z m g. m) (λ z v u m g. m) y (sym (marks y) ∙ h)) in
     all-in r n order is none y (omega arith)
+
+-- what is marked in a row of some is marked in another
+abbrev pub AreIn : List ℕ → List (Vec ℕ) → Type 0
+AreIn words rows = All (λ (row : Vec ℕ). (y : ℕ) → has_mark row.items y ≡ true → has_mark words y ≡ true) rows
+
+pub in-more : (words more : List ℕ) (rows : List (Vec ℕ)) (i : ℕ) (row d : Vec ℕ) → i < length rows → row ≡ get_or rows i d → ((y : ℕ) → has_mark more y ≡ (has_mark words y || has_mark row.items y)) → AreIn words (take i rows) → AreIn more (take (i + 1) rows)
+in-more words more rows i row d l is marks all =
+    All-more (λ (row : Vec ℕ). (y : ℕ) → has_mark row.items y ≡ true → has_mark more y ≡ true) rows i d l
+    (λ k e m y h. marks y ∙ or_left _ _ (all k e m y h))
+    (λ y h. marks y ∙ or_right _ _ (ap (λ (v : Vec ℕ). has_mark v.items y) is ∙ h))
+
+-- an order without the items that no row marks shows the same of the rows
+filter-in : (p q : ℕ → Bool) → ((y : ℕ) → p y ≡ true → q y ≡ true) → (xs : List ℕ) → filter p (filter q xs) ≡ filter p xs
+filter-in p q up [] = refl
+filter-in p q up (x ∷ xs) = go (q x) refl (filter-in p q up xs)
+  where
+    go : (b : Bool) → q x ≡ b → filter p (filter q xs) ≡ filter p xs → filter p (cond b (x ∷ filter q xs) (filter q xs)) ≡ cond (p x) (x ∷ filter p xs) (filter p xs)
+    go true e rest = ap (λ ys. cond (p x) (x ∷ ys) ys) rest
+    go false e rest = rest ∙ sym (ap (λ b. cond b (x ∷ filter p xs) (filter p xs)) (false_from_ne_true (p x) (λ t. true≢false (sym (up x t) ∙ e))))
+
+pub in-part : (words order : List ℕ) (rows : List (Vec ℕ)) → AreIn words rows → map (marked_in (filter (has_mark words) order)) rows ≡ map (marked_in order) rows
+in-part words order [] all = refl
+in-part words order (row ∷ rows) all =
+    ap (λ l. l ∷ map (marked_in (filter (has_mark words) order)) rows) (filter-in (has_mark row.items) (has_mark words) (all 0 row (omega arith)) order)
+    ∙ ap (λ ls. marked_in order row ∷ ls) (in-part words order rows (λ k d l. all (suc k) d (omega arith)))
+
+pub in-fitting : (words order : List ℕ) (rows : List (Vec ℕ)) → AreIn words rows → Fitting rows order → Fitting rows (filter (has_mark words) order)
+in-fitting words order rows all f =
+    record {
+      order_long = omega (arith, length-filter (has_mark words) order, count_by-le-length (has_mark words) order, f.order_long);
+      order_once = AllPairs-filter (λ x y. x ≢ y) (has_mark words) order f.order_once;
+      rows_long = f.rows_long;
+      in_order = λ k d l y h. keeps (has_mark words) order y (all k d l y h) (f.in_order k d l y h);
+    }
 
 -- as many as are marked in a row are in the closure that it stands for
 pub count-row : (rows : List (Vec ℕ)) (order : List ℕ) (view : List (List ℕ)) (i count : ℕ) (row : Vec ℕ) (words : List ℕ) → Fitting rows order → view ≡ map (marked_in order) rows → i < length rows → row ≡ get_or rows i row → words ≡ row.items → count ≡ length (filter (has_mark words) (below (64 * length words))) → (count ≡ length (get_or view i [])) × (count ≤ length rows)

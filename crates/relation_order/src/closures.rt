@@ -9,7 +9,7 @@ ghost use Rattle.relation_order.specs.Least.{least_order};
 ghost use Rattle.relation_order.specs.Cycle.{cycle};
 ghost use Rattle.relation_order.specs.Search.{Inside};
 ghost use Rattle.relation_order.specs.Closures.{closures};
-ghost use Rattle.relation_order.specs.Rows.{has_mark, row_at, AreReached, Fitting};
+ghost use Rattle.relation_order.specs.Rows.{has_mark, marked_in, row_at, AreReached, Fitting};
 
 use std::alloc::{AllocError, Global};
 use std::marker::Model;
@@ -23,6 +23,7 @@ const WORD_BITS: usize = 64;
 #[derive(Drop)]
 pub struct Closures {
     rows: Vec<Vec<u64>>,
+    // The items that are in a closure, in the least order.
     order: Vec<usize>,
 }
 
@@ -53,8 +54,10 @@ impl Closures {
         let mut rows = empty_rows(alloc, lists.len())?;
         for i in 0..order.len() {
             let x = order[i];
-            rows[x] = row_of(alloc, lists, &rows, &order[..i], x)?;
+            rows[x] = row_of(alloc, lists, &rows, x)?;
         }
+        // Most items are in no closure, and are never looked at again.
+        let order = marked_anywhere(alloc, &rows, &order)?;
         Ok(Closures { rows, order })
     }
 
@@ -98,50 +101,34 @@ fn unmarked_row(alloc: Global, count: usize) -> Result<Vec<u64>, AllocError>
     vec![in alloc; 0; count.div_ceil(WORD_BITS)]
 }
 
-// Makes a row with marks for some items below a number.
-fn row_with(alloc: Global, count: usize, items: &[usize]) -> Result<Vec<u64>, AllocError>
-    requires { All (λ y. y < count) items.now }
-    ensures { IfOk result (λ row. (y : ℕ) → has_mark row.items y ≡ has items.now y) }
-{
-    let mut row = unmarked_row(alloc, count)?;
-    for y in items {
-        mark(&mut row, *y);
-    }
-    Ok(row)
-}
-
-// Makes the row of what is reached from an item, by the rows of the items before it. All items that
-// it goes to are among these. The last is looked at first: mostly it has reached those that come
-// before it, which need not be added again.
+// Makes the row of what is reached from an item, by the rows of those that it goes to. One that is
+// reached already isn't added again.
 fn row_of(
     alloc: Global,
     lists: &[Vec<usize>],
     rows: &[Vec<u64>],
-    before: &[usize],
     x: usize,
 ) -> Result<Vec<u64>, AllocError>
     requires inside { Inside (length lists.now) lists.now }
     requires place { x < length lists.now }
     requires rows { length rows.now ≡ length lists.now }
     requires rows_long { All (λ row. length row.items ≤ div_ceil (length lists.now) 64) rows.now }
-    requires before { All (λ y. y < length lists.now) before.now }
-    requires known { (y : ℕ) → has before.now y ≡ true
+    requires known { (y : ℕ) → goes lists.now x y ≡ true
         → AreReached (goes lists.now) (length lists.now) (row_at rows.now y) y }
-    requires direct { (y : ℕ) → goes lists.now x y ≡ true → has before.now y ≡ true }
     ensures long { IfOk result (λ row. length row.items ≤ div_ceil (length lists.now) 64) }
     ensures reached { IfOk result
         (λ row. AreReached (goes lists.now) (length lists.now) row.items x) }
 {
-    if lists[x].is_empty() {
+    let items = lists[x].as_slice();
+    if items.is_empty() {
         return Ok(Vec::new(alloc));
     }
-    let direct = row_with(alloc, lists.len(), &lists[x])?;
     let mut row = unmarked_row(alloc, lists.len())?;
-    let mut at = before.len();
+    let mut at = items.len();
     while at > 0 {
         at -= 1;
-        let y = before[at];
-        if is_missing(&direct, &row, y) {
+        let y = items[at];
+        if !is_marked(&row, y) {
             add_row(&mut row, &rows[y], y);
         }
     }
@@ -156,13 +143,6 @@ fn is_marked(row: &[u64], item: usize) -> bool
         Some(word) => (*word >> (item % WORD_BITS)) & 1 == 1,
         None => false,
     }
-}
-
-// Returns whether an item is marked in a row and not in another.
-fn is_missing(direct: &[u64], row: &[u64], item: usize) -> bool
-    ensures { result ≡ (has_mark direct.now item && not (has_mark row.now item)) }
-{
-    is_marked(direct, item) && !is_marked(row, item)
 }
 
 // Marks an item.
@@ -183,9 +163,37 @@ fn add_row(row: &mut Vec<u64>, other: &[u64], item: usize)
         ≡ (has_mark row.old.items y || (y == item || has_mark other.now y)) }
 {
     mark(row, item);
+    add_marks(row, other);
+}
+
+// Marks all that are marked in another row.
+fn add_marks(row: &mut Vec<u64>, other: &[u64])
+    requires { length other.now ≤ length row.old.items }
+    ensures long { length row.new.items ≡ length row.old.items }
+    ensures marks { (y : ℕ) → has_mark row.new.items y
+        ≡ (has_mark row.old.items y || has_mark other.now y) }
+{
     for k in 0..other.len() {
         row[k] |= other[k];
     }
+}
+
+// Lists the items of an order that are marked in one of the rows.
+fn marked_anywhere(
+    alloc: Global,
+    rows: &[Vec<u64>],
+    order: &[usize],
+) -> Result<Vec<usize>, AllocError>
+    requires { All (λ row. length row.items ≤ div_ceil (length rows.now) 64) rows.now }
+    ensures same { IfOk result
+        (λ found. map (marked_in found.items) rows.now ≡ map (marked_in order.now) rows.now) }
+    ensures fitting { IfOk result (λ found. Fitting rows.now order.now → Fitting rows.now found.items) }
+{
+    let mut all = unmarked_row(alloc, rows.len())?;
+    for row in rows {
+        add_marks(&mut all, row);
+    }
+    marked_items(alloc, order, &all)
 }
 
 // Lists the marked items of an order.

@@ -1,6 +1,6 @@
 use Rattle.std.proofs.Common.{◌≡◌, ℕ, cond, length, ltb, get_or}
 use Rattle.std.specs.Prelude.{bit_or}
-use Rattle.relation_order.proofs.closures.add_row.Given as goal
+use Rattle.relation_order.proofs.closures.add_marks.Given as goal
 
 abbrev pub invariant-loop-k : goal.invariant-loop-k
 invariant-loop-k l =
