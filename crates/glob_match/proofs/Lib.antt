@@ -6,3 +6,4 @@ pub mod WordLemmas
 pub mod ReachLemmas
 pub mod ReadLemmas
 pub mod StateLemmas
+pub mod RunLemmas

@@ -132,6 +132,33 @@ reaches-run ps text (suc n) =
     ap (λ t. t && parts_take (ps ++ Many ∷ []) (take (suc n) text)) out ∙ ap (λ t. t && any_up_to (reaches ps text) (suc n)) (sym out))
     (cases_lt n (length text))
 
+-- The places after a `*` go on to the end.
+goes_on : (ps : List Part) (text : List ℕ) (n : ℕ) → suc n ≤ length text → reaches (ps ++ Many ∷ []) text n ≡ true → reaches (ps ++ Many ∷ []) text (suc n) ≡ true
+goes_on ps text n le e =
+    let here = and_parts (nat_le n (length text)) _ (sym (reaches-run ps text n) ∙ e) in
+    reaches-run ps text (suc n) ∙ and_from _ _ (below_end (suc n) text le) (or_left (any_up_to (reaches ps text) n) _ here.1)
+
+up_to_same : (ps : List Part) (text : List ℕ) (n : ℕ) → n ≤ length text → any_up_to (reaches (ps ++ Many ∷ []) text) n ≡ reaches (ps ++ Many ∷ []) text n
+up_to_same ps text zero le = refl
+up_to_same ps text (suc n) le =
+    ap (λ t. t || reaches (ps ++ Many ∷ []) text (suc n)) (up_to_same ps text n (omega (arith, le)))
+    ∙ absorbed (reaches (ps ++ Many ∷ []) text n) (reaches (ps ++ Many ∷ []) text (suc n)) (goes_on ps text n le)
+  where
+    absorbed : (a b : Bool) → (a ≡ true → b ≡ true) → (a || b) ≡ b
+    absorbed true b h = sym (h refl)
+    absorbed false b h = refl
+
+-- A second part of any bytes changes nothing.
+pub reaches-twice : (ps : List Part) (text : List ℕ) (n : ℕ) → reaches ((ps ++ Many ∷ []) ++ Many ∷ []) text n ≡ reaches (ps ++ Many ∷ []) text n
+reaches-twice ps text n =
+    ⊎_elim
+    (λ past.
+    let out = past_end n text past in
+    ap (λ t. t && parts_take ((ps ++ Many ∷ []) ++ Many ∷ []) (take n text)) out ∙ ap (λ t. t && parts_take (ps ++ Many ∷ []) (take n text)) (sym out))
+    (λ within.
+    reaches-run (ps ++ Many ∷ []) text n ∙ ap (λ t. t && any_up_to (reaches (ps ++ Many ∷ []) text) n) (below_end n text within) ∙ up_to_same ps text n within)
+    (cases_lt (length text) n)
+
 -- All of the text.
 pub reaches-end : (ps : List Part) (text : List ℕ) → reaches ps text (length text) ≡ parts_take ps text
 reaches-end ps text =

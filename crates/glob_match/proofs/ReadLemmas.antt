@@ -18,7 +18,7 @@ use Rattle.glob_match.specs.declared.place.Pending.{Pending}
 use Rattle.glob_match.specs.declared.place.Pending.TheVariants.{Nothing, Low}
 use Rattle.glob_pattern.proofs.DecisionLemmas.{is_taken, decides, not_same}
 use Rattle.glob_match.proofs.WordLemmas.{bit_once}
-use Rattle.glob_match.proofs.ReachLemmas.{reaches-one, reaches-run, reaches-end, reaches-none}
+use Rattle.glob_match.proofs.ReachLemmas.{reaches-one, reaches-run, reaches-twice, reaches-end, reaches-none}
 
 -- The pattern was read: these are its parts, and these the items of its open set.
 abbrev pub IsRead : List ℕ → List Part → Option (List ℕ) → Type 0
@@ -81,6 +81,31 @@ module _ (text pattern : List ℕ) (first : ℕ) (reached listed : List ℕ) (s 
     places = same_places next new _ _ (λ n. sym (reaches-run s.parts text n)) (more (reaches s.parts text) s.places);
     set = refl;
   }
+
+  -- So many `*` more change nothing.
+  more_stars : (next : ℕ) (new others : List ℕ) (rest : List ℕ) → ((n : ℕ) → n < length rest → slice_index rest n ≡ star) → (read : List ℕ) (parts : List Part) → IsRead read (parts ++ Many ∷ []) None → HasPlaces next new (reaches (parts ++ Many ∷ []) text) → Stands text (read ++ rest) Outside next new others
+  more_stars next new others [] stars read parts is places = record {
+    parts = parts ++ Many ∷ [];
+    open_set = None;
+    read = subst (λ p. IsRead p (parts ++ Many ∷ []) None) (sym (append-nil read)) is;
+    places = places;
+    set = refl;
+  }
+  more_stars next new others (x ∷ rest) stars read parts is places =
+      let first : x ≡ star = stars 0 (omega arith) in
+      subst (λ p. Stands text p Outside next new others) (append_assoc read (x ∷ []) rest)
+      (more_stars next new others rest (λ n lt. stars (suc n) (omega (arith, lt))) (read ++ x ∷ []) (parts ++ Many ∷ [])
+      (subst (λ b. IsRead (read ++ b ∷ []) ((parts ++ Many ∷ []) ++ Many ∷ []) None) (sym first) (read_part read (parts ++ Many ∷ []) (Many ∷ []) None None star is (λ r. refl)))
+      (same_places next new _ _ (λ n. sym (reaches-twice parts text n)) places))
+
+  pub stars_read : (next : ℕ) (new others run : List ℕ) → 0 < length run → ((n : ℕ) → n < length run → slice_index run n ≡ star) → ((test : ℕ → Bool) → HasPlaces first reached test → HasPlaces next new (λ n. nat_le n (length text) && any_up_to test n)) → Stands text (pattern ++ run) Outside next new others
+  stars_read next new others [] some stars more = absurd (omega (arith, some))
+  stars_read next new others (x ∷ rest) some stars more =
+      let one : x ≡ star = stars 0 (omega arith) in
+      subst (λ p. Stands text p Outside next new others) (append_assoc pattern (x ∷ []) rest)
+      (more_stars next new others rest (λ n lt. stars (suc n) (omega (arith, lt))) (pattern ++ x ∷ []) s.parts
+      (subst (λ b. IsRead (pattern ++ b ∷ []) (s.parts ++ Many ∷ []) None) (sym one) (read_part pattern s.parts (Many ∷ []) None None star outside (λ r. refl)))
+      (same_places next new _ _ (λ n. sym (reaches-run s.parts text n)) (more (reaches s.parts text) s.places)))
 
   pub bracket_read : (others : List ℕ) → Stands text (pattern ++ bracket ∷ []) Opened first reached others
   bracket_read others = record {

@@ -3,3 +3,4 @@ pub mod Decision
 pub mod Words
 pub mod States
 pub mod Progress
+pub mod Runs

@@ -11,10 +11,12 @@ mod meeting;
 mod place;
 mod progress;
 mod reading;
+mod runs;
 mod search;
 mod set;
 mod state;
 mod words;
 
 pub use progress::{Progress, Saved};
+pub use runs::Runs;
 pub use search::matches;

@@ -1,9 +1,11 @@
-ghost use Rattle.std.specs.Prelude.{◌≡◌, ℕ, ◌+◌, ◌<◌, ◌^◌, List, [], ◌∷◌, ◌++◌, IfOk, OnOk, IsTrue, ◌↔◌, length};
+ghost use Rattle.std.specs.Prelude.{◌≡◌, ℕ, ◌+◌, ◌-◌, ◌<◌, ◌≤◌, ◌^◌, take, drop, List, [], ◌∷◌, ◌++◌, IfOk, OnOk, IsTrue, ◌↔◌, length};
 ghost use Rattle.glob_pattern.specs.Pattern.{Matches};
+ghost use Rattle.glob_match.specs.Runs.{AreRuns};
 ghost use Rattle.glob_match.specs.Progress.{IsOver, HasRead, WasRead, IsSaved, IsWhole};
 
 use crate::place::Place;
 use crate::reading::read;
+use crate::runs::Runs;
 use crate::state::State;
 use crate::words::{BITS, has, is_empty};
 use std::alloc::{AllocError, Global};
@@ -77,6 +79,39 @@ impl Progress {
     {
         self.place = read(self.place, &mut self.state, &self.bytes, self.size, byte)?;
         Ok(())
+    }
+
+    /// Reads the bytes of a file from a place on: one, or a run of `*` that costs as much. Returns
+    /// the place after them.
+    ///
+    /// # Errors
+    ///
+    /// Out of memory. What was read is unknown then.
+    pub fn push_next(
+        &mut self,
+        file: &[u8],
+        from: usize,
+        to: usize,
+        runs: &Runs,
+    ) -> Result<usize, AllocError>
+        requires whole { IsWhole self.old }
+        requires runs { AreRuns file.now runs.now }
+        requires order { from < to }
+        requires within { to ≤ length file.now }
+        ensures whole { OnOk result (IsWhole self.new) }
+        ensures over { OnOk result ((text : List ℕ) → IsOver self.old text → IsOver self.new text) }
+        ensures more { IfOk result (λ next. from < next) }
+        ensures high { IfOk result (λ next. next ≤ to) }
+        ensures read { IfOk result (λ next. (text pattern : List ℕ) → IsOver self.old text → HasRead self.old text pattern → HasRead self.new text (pattern ++ take (next - from) (drop from file.now))) }
+    {
+        if let Place::Outside = self.place
+            && file[from] == b'*'
+        {
+            self.state.fill(self.size)?;
+            return Ok(runs.end(file, from + 1, to));
+        }
+        self.push(file[from])?;
+        Ok(from + 1)
     }
 
     /// Returns whether the pattern so far matches the text.

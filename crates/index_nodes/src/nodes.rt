@@ -1,4 +1,4 @@
-ghost use Rattle.std.specs.Prelude.{◌≡◌, ◌+◌, ◌≤◌, ◌<◌, ◌∷◌, [], ℕ, Some, None, IfOk, OnOk, IfErr, IfNone, IfSome, slice_get};
+ghost use Rattle.std.specs.Prelude.{◌≡◌, ◌+◌, ◌-◌, ◌≤◌, ◌<◌, ◌∷◌, [], ℕ, length, take, drop, Some, None, IfOk, OnOk, IfErr, IfNone, IfSome, slice_get};
 ghost use Rattle.index_format.specs.Node.{root, prefix, child, values};
 ghost use Rattle.index_format.specs.Check.{index_fault};
 ghost use Rattle.index_format.specs.Nodes.{IsNode};
@@ -11,7 +11,9 @@ use crate::fault::IndexFault;
 use crate::fields::node_at;
 use crate::node::{Node, NodeRef};
 use crate::place::Place;
-use crate::read::{child_link, first_place, next_link, next_place, prefix_of, text_at};
+use crate::read::{
+    child_link, first_place, next_link, next_place, prefix_of, prefix_range, text_at,
+};
 use crate::steps::Steps;
 use crate::text_ends::TextEnds;
 use km_names::{Blob, be_u32_at};
@@ -82,6 +84,23 @@ impl Nodes {
         ensures { result.now ≡ prefix self.now (link_of node.now) }
     {
         prefix_of(self.bytes.as_bytes(), node)
+    }
+
+    /// Returns where the prefix of a node begins in the file and where it ends.
+    pub fn prefix_range(&self, node: &Node) -> (usize, usize)
+        requires { IsNodeOf self.now node.now }
+        ensures order { result.0 ≤ result.1 }
+        ensures within { result.1 ≤ length self.now }
+        ensures prefix { take (result.1 - result.0) (drop result.0 self.now) ≡ prefix self.now (link_of node.now) }
+    {
+        prefix_range(self.bytes.as_bytes(), node)
+    }
+
+    /// Returns the bytes of the file, in which the ranges of prefixes are.
+    pub fn bytes(&self) -> &[u8]
+        ensures { result.now ≡ self.now }
+    {
+        self.bytes.as_bytes()
     }
 
     /// Returns the name of the child of a node for a byte, or `None` exactly if that child is

@@ -1,5 +1,5 @@
 // What the fields of a sound node have.
-ghost use Rattle.std.specs.Prelude.{◌≡◌, ◌+◌, ◌≤◌, ◌<◌, ◌∷◌, [], ℕ, length, drop, true, Some, None, IfNone, IfSome, MatchOption, slice_get};
+ghost use Rattle.std.specs.Prelude.{◌≡◌, ◌+◌, ◌-◌, ◌≤◌, ◌<◌, ◌∷◌, [], ℕ, length, take, drop, true, Some, None, IfNone, IfSome, MatchOption, slice_get};
 ghost use Rattle.index_format.specs.Link.{has_children};
 ghost use Rattle.index_format.specs.Node.{prefix, child, values, first_byte, last_byte};
 ghost use Rattle.index_format.specs.Check.{children_fit, whole_values, values_fit};
@@ -16,16 +16,26 @@ use km_names::{be_u32_at, split_at_byte};
 /// The bytes of a number.
 const NUMBER_SIZE: usize = 4;
 
+/// Returns where the prefix of a node begins in the file and where it ends.
+pub(crate) fn prefix_range(bytes: &[u8], node: &Node) -> (usize, usize)
+    requires { HasFields bytes.now node.now }
+    ensures order { result.0 ≤ result.1 }
+    ensures within { result.1 ≤ length bytes.now }
+    ensures prefix { take (result.1 - result.0) (drop result.0 bytes.now) ≡ prefix bytes.now node.now.link }
+{
+    if node.link & HAS_PREFIX == 0 {
+        return (0, 0);
+    }
+    (place(node.link) as usize, node.children - 1)
+}
+
 /// Returns the prefix of a node.
 pub(crate) fn prefix_of<'b>(bytes: &'b [u8], node: &Node) -> &'b [u8]
     requires { HasFields bytes.now node.now }
     ensures { result.now ≡ prefix bytes.now node.now.link }
 {
-    if node.link & HAS_PREFIX == 0 {
-        return &[];
-    }
-    let start = place(node.link) as usize;
-    &bytes[start..node.children - 1]
+    let (start, end) = prefix_range(bytes, node);
+    &bytes[start..end]
 }
 
 /// Returns the first and the last byte for which a node has offsets of children, or `None` if it

@@ -1,6 +1,7 @@
 -- A search over the nodes of an index, level by level.
 use Rattle.std.proofs.Common.{◌≡◌, refl, sym, ap, subst, ◌∙◌, ℕ, zero, suc, ◌+◌, ◌-◌, ◌<◌, ◌≤◌, List, [], ◌∷◌, ◌++◌, length, vec_len, take, drop, Option, Some, None, arith, append_assoc, length-append}
-use Rattle.std.proofs.lemmas.List.{append-nil, take_at, take_all}
+use Rattle.std.proofs.lemmas.List.{append-nil, drop-drop, take_at, take_all}
+use Rattle.std.proofs.Math.Seq.{take-add}
 use Rattle.index_format.specs.Link.{place_of}
 use Rattle.index_format.specs.Node.{root, prefix, child}
 use Rattle.index_format.specs.Check.{index_fault}
@@ -167,6 +168,22 @@ root_lost b accepted text link name lost =
 
 pub lost_more : (text front more : List ℕ) → IsLost text front → IsLost text (front ++ more)
 lost_more text front more lost rest m = lost (more ++ rest) (subst (λ k. Matches k text) (append_assoc front more rest) m)
+
+-- ---- bytes of the file, from a place up to another
+
+pub no_part : (b : List ℕ) (at : ℕ) → take (at - at) (drop at b) ≡ []
+no_part b at =
+    let none : at - at ≡ 0 = omega arith in
+    ap (λ n. take n (drop at b)) none
+
+-- Two parts, one after the other.
+pub part_more : (b : List ℕ) (start at next : ℕ) → start ≤ at → at ≤ next → take (next - start) (drop start b) ≡ take (at - start) (drop start b) ++ take (next - at) (drop at b)
+part_more b start at next low high =
+    let size : next - start ≡ (at - start) + (next - at) = omega (arith, low, high) in
+    let there : start + (at - start) ≡ at = omega (arith, low) in
+    ap (λ n. take n (drop start b)) size
+    ∙ take-add (at - start) (next - at) (drop start b)
+    ∙ ap (λ bs. take (at - start) (drop start b) ++ take (next - at) bs) (drop-drop (at - start) start b ∙ ap (λ n. drop n b) there)
 
 -- ---- a search that goes on
 

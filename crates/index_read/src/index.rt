@@ -17,6 +17,7 @@ use crate::room::Room;
 use crate::search::Search;
 use crate::value::{Pairs, Value, Values, push_pairs, push_values};
 use crate::walk::KeyWalk;
+use glob_match::Runs;
 use index_nodes::{IndexFault, Nodes, Place, Steps};
 use km_names::Blob;
 use std::alloc::{AllocError, Global};
@@ -153,13 +154,14 @@ impl Index {
     {
         let mut found = Vec::new(alloc);
         let mut room = Room::new();
-        let (mut search, first) = Search::start(alloc, &self.nodes, text, steps)?;
+        let mut runs = Runs::new(alloc);
+        let (mut search, first) = Search::start(alloc, &self.nodes, text, &mut runs, steps)?;
         let mut next = first;
         while let Some(node) = next {
             if search.is_match() {
                 push_values(alloc, &self.nodes, &node, &mut found, &mut room)?;
             }
-            next = search.next(&self.nodes, steps)?;
+            next = search.next(&self.nodes, &mut runs, steps)?;
         }
         Ok(found)
     }

@@ -1,18 +1,22 @@
-ghost use Rattle.std.specs.Prelude.{◌≡◌, ℕ, ◌+◌, ◌≤◌, ◌∷◌, ◌++◌, List, [], IfOk, OnOk, IsTrue, ◌↔◌, None, true, false};
+ghost use Rattle.std.specs.Prelude.{◌≡◌, ℕ, ◌+◌, ◌-◌, ◌≤◌, ◌∷◌, ◌++◌, List, [], length, take, drop, IfOk, OnOk, IsTrue, ◌↔◌, None, true, false};
 ghost use Rattle.index_format.specs.Check.{index_fault};
 ghost use Rattle.index_format.specs.Node.{prefix};
 ghost use Rattle.index_format.specs.Nodes.{IsNode};
-ghost use Rattle.index_nodes.specs.Fields.{IsNodeOf};
+ghost use Rattle.index_nodes.specs.Fields.{link_of, IsNodeOf};
 ghost use Rattle.glob_pattern.specs.Pattern.{Matches};
 ghost use Rattle.glob_match.specs.Progress.{IsWhole, IsOver, HasRead};
+ghost use Rattle.glob_match.specs.Runs.{AreRuns};
 ghost use Rattle.index_read.specs.Keys.{Item, all_items};
 ghost use Rattle.index_read.specs.Searches.{IsSearching, Finds, Descends, Enters, Reads, count_left, count_after};
 
 use crate::room::Room;
-use glob_match::{Progress, Saved};
+use glob_match::{Progress, Runs, Saved};
 use index_nodes::{Node, NodeRef, Nodes, Steps};
 use std::alloc::{AllocError, Global};
 use std::sync::ledger::Ledger;
+
+/// The bytes of a prefix that is long. No module has such an alias.
+const LONG: usize = 1024;
 
 /// A node whose children are visited: the byte from which on they are still to come, and how far
 /// its key can match.
@@ -36,15 +40,39 @@ pub(crate) struct Search {
     pub(crate) room: Room,
 }
 
-/// Reads more bytes of a key, as long as the text can match. Returns whether it still can.
-fn read_all(progress: &mut Progress, bytes: &[u8], room: &mut Room) -> Result<bool, AllocError>
+/// Reads one more byte of a key. Returns whether the text can still match.
+fn read_byte(progress: &mut Progress, byte: u8, room: &mut Room) -> Result<bool, AllocError>
     requires { IsWhole progress.old }
     ensures whole { OnOk result (IsWhole progress.new) }
     ensures over { OnOk result ((text : List ℕ) → IsOver progress.old text → IsOver progress.new text) }
-    ensures read { IfOk result (λ alive. (text pattern : List ℕ) → IsOver progress.old text → HasRead progress.old text pattern → Reads text (pattern ++ bytes.now) progress.new alive) }
+    ensures read { IfOk result (λ alive. (text pattern : List ℕ) → IsOver progress.old text → HasRead progress.old text pattern → Reads text (pattern ++ byte ∷ []) progress.new alive) }
 {
-    for byte in bytes {
-        progress.push(*byte)?;
+    progress.push(byte)?;
+    room.take_byte(progress.words())?;
+    Ok(!progress.is_lost())
+}
+
+/// Reads bytes of the file, from a place up to another, as long as the text can match. Returns
+/// whether it still can.
+fn read_range(
+    progress: &mut Progress,
+    file: &[u8],
+    range: (usize, usize),
+    runs: &Runs,
+    room: &mut Room,
+) -> Result<bool, AllocError>
+    requires whole { IsWhole progress.old }
+    requires runs { AreRuns file.now runs.now }
+    requires order { range.0 ≤ range.1 }
+    requires within { range.1 ≤ length file.now }
+    ensures whole { OnOk result (IsWhole progress.new) }
+    ensures over { OnOk result ((text : List ℕ) → IsOver progress.old text → IsOver progress.new text) }
+    ensures read { IfOk result (λ alive. (text pattern : List ℕ) → IsOver progress.old text → HasRead progress.old text pattern → Reads text (pattern ++ take (range.1 - range.0) (drop range.0 file.now)) progress.new alive) }
+{
+    let (start, end) = range;
+    let mut at = start;
+    while at < end {
+        at = progress.push_next(file, at, end, runs)?;
         room.take_byte(progress.words())?;
         if progress.is_lost() {
             return Ok(false);
@@ -53,28 +81,55 @@ fn read_all(progress: &mut Progress, bytes: &[u8], room: &mut Room) -> Result<bo
     Ok(true)
 }
 
+/// Reads the prefix of a node. The runs of the file are found before the first long one. Returns
+/// whether the text can still match.
+fn read_prefix(
+    progress: &mut Progress,
+    nodes: &Nodes,
+    node: &Node,
+    runs: &mut Runs,
+    room: &mut Room,
+) -> Result<bool, AllocError>
+    requires node { IsNodeOf nodes.now node.now }
+    requires whole { IsWhole progress.old }
+    requires runs { AreRuns nodes.now runs.old }
+    ensures whole { OnOk result (IsWhole progress.new) }
+    ensures runs { OnOk result (AreRuns nodes.now runs.new) }
+    ensures over { OnOk result ((text : List ℕ) → IsOver progress.old text → IsOver progress.new text) }
+    ensures read { IfOk result (λ alive. (text pattern : List ℕ) → IsOver progress.old text → HasRead progress.old text pattern → Reads text (pattern ++ prefix nodes.now (link_of node.now)) progress.new alive) }
+{
+    let range = nodes.prefix_range(node);
+    if range.1 - range.0 > LONG {
+        runs.find(nodes.bytes())?;
+    }
+    read_range(progress, nodes.bytes(), range, runs, room)
+}
+
 /// Reads the byte that leads to a node, and its prefix. Returns the node if the text can still
 /// match.
 fn enter<L: Ledger>(
     progress: &mut Progress,
     nodes: &Nodes,
     child: (u8, NodeRef),
+    runs: &mut Runs,
     room: &mut Room,
     steps: &mut Steps<L>,
 ) -> Result<Option<Node>, AllocError>
     requires node { IsNode nodes.now child.1 }
     requires whole { IsWhole progress.old }
+    requires runs { AreRuns nodes.now runs.old }
     ensures cost { steps.new ≤ steps.old + 1 }
     ensures whole { OnOk result (IsWhole progress.new) }
+    ensures runs { OnOk result (AreRuns nodes.now runs.new) }
     ensures over { OnOk result ((text : List ℕ) → IsOver progress.old text → IsOver progress.new text) }
     ensures enters { IfOk result (λ o. (text pattern : List ℕ) → IsOver progress.old text → HasRead progress.old text pattern → Enters nodes.now text ((pattern ++ child.0 ∷ []) ++ prefix nodes.now child.1) child.1 progress.new o) }
 {
     let (byte, at) = child;
-    if !read_all(progress, &[byte], room)? {
+    if !read_byte(progress, byte, room)? {
         return Ok(None);
     }
     let node = nodes.node(&at, steps);
-    if read_all(progress, nodes.prefix(&node), room)? {
+    if read_prefix(progress, nodes, &node, runs, room)? {
         Ok(Some(node))
     } else {
         Ok(None)
@@ -87,8 +142,11 @@ impl Search {
         alloc: Global,
         nodes: &Nodes,
         text: &[u8],
+        runs: &mut Runs,
         steps: &mut Steps<L>,
     ) -> Result<(Search, Option<Node>), AllocError>
+        requires { AreRuns nodes.now runs.old }
+        ensures runs { OnOk result (AreRuns nodes.now runs.new) }
         ensures cost { steps.new ≤ steps.old + 1 }
         ensures finds { IfOk result (λ r. Finds nodes.now text.now (all_items nodes.now) r.0 r.1) }
         ensures accepted { index_fault nodes.now ≡ None }
@@ -96,7 +154,7 @@ impl Search {
         let node = nodes.node(&nodes.root(), steps);
         let mut progress = Progress::new(alloc, text)?;
         let mut room = Room::of_steps();
-        let alive = read_all(&mut progress, nodes.prefix(&node), &mut room)?;
+        let alive = read_prefix(&mut progress, nodes, &node, runs, &mut room)?;
         let mut search = Search {
             progress,
             levels: Vec::new(alloc),
@@ -137,10 +195,13 @@ impl Search {
     pub(crate) fn next<L: Ledger>(
         &mut self,
         nodes: &Nodes,
+        runs: &mut Runs,
         steps: &mut Steps<L>,
     ) -> Result<Option<Node>, AllocError>
+        requires runs { AreRuns nodes.now runs.old }
         requires accepted { index_fault nodes.now ≡ None }
         requires searching { (text : List ℕ) × ((is : List Item) × IsSearching nodes.now text self.old is) }
+        ensures runs { OnOk result (AreRuns nodes.now runs.new) }
         ensures finds { IfOk result (λ o. (text : List ℕ) (is : List Item) → IsSearching nodes.now text self.old is → Finds nodes.now text is self.new o) }
         ensures cost { steps.new + count_after result nodes.now self.new.levels.items ≤ steps.old + count_left nodes.now self.old.levels.items }
     {
@@ -157,7 +218,7 @@ impl Search {
                 key: level.key,
             })?;
             let progress = &mut self.progress;
-            if let Some(node) = enter(progress, nodes, child, &mut self.room, steps)? {
+            if let Some(node) = enter(progress, nodes, child, runs, &mut self.room, steps)? {
                 self.descend(&node)?;
                 return Ok(Some(node));
             }

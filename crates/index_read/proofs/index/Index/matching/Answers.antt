@@ -60,6 +60,7 @@ loop-next-init g c =
     let finds = c.in_ok-search.ensures.finds in
     let w : Goes b text s c.in_ok-search.first [] = goes b text (all_items b) s c.in_ok-search.first [] finds (λ ps c. record { pairs = ps; chosen = c; found_is = refl }) in
     record {
+      known = c.in_ok-search.ensures.runs;
       accepted = c.start.ensures.accepted;
       is = w.is;
       going = w.going;
@@ -75,7 +76,7 @@ returns-in_err-push_values-clause-cost g c =
 pub returns-in_err-next-clause-cost : goal.returns-in_err-next-clause-cost
 returns-in_err-next-clause-cost g c =
     let b = c.args.self.now.nodes in
-    let w = subst (λ o. Matching b c.args.text.now c.loop-next.search o (found_values c.loop-next.found.items) c.args.steps.now c.loop-next.steps) c.in-Some.is c.loop-next.invariant in
+    let w = subst (λ o. Matching b c.args.text.now c.loop-next.search o (found_values c.loop-next.found.items) c.loop-next.runs c.args.steps.now c.loop-next.steps) c.in-Some.is c.loop-next.invariant in
     omega (arith, count_all b w.accepted, w.cost, c.next.ensures.cost)
 
 pub loop-next-preserved : goal.loop-next-preserved
@@ -84,7 +85,7 @@ loop-next-preserved g c =
     let text = c.args.text.now in
     let s = c.loop-next.search in
     let found = found_values c.loop-next.found.items in
-    let w = subst (λ o. Matching b text s o found c.args.steps.now c.loop-next.steps) c.in-Some.is c.loop-next.invariant in
+    let w = subst (λ o. Matching b text s o found c.loop-next.runs c.args.steps.now c.loop-next.steps) c.in-Some.is c.loop-next.invariant in
     let n = c.in-Some.node in
     let at = w.going in
     let item : Item = (at.key, link_of n) in
@@ -96,6 +97,7 @@ loop-next-preserved g c =
     ] in
     let on = goes b text at.left c.next.new.self c.in_ok-next.next (found_values c.if-is_match.found.items) (c.in_ok-next.ensures.finds text at.left at.searching) after in
     record {
+      known = c.in_ok-next.ensures.runs;
       accepted = w.accepted;
       is = on.is;
       going = on.going;
@@ -108,7 +110,7 @@ loop-next-smaller g c =
     let b = c.args.self.now.nodes in
     let text = c.args.text.now in
     let s = c.loop-next.search in
-    let w = subst (λ o. Matching b text s o (found_values c.loop-next.found.items) c.args.steps.now c.loop-next.steps) c.in-Some.is c.loop-next.invariant in
+    let w = subst (λ o. Matching b text s o (found_values c.loop-next.found.items) c.loop-next.runs c.args.steps.now c.loop-next.steps) c.in-Some.is c.loop-next.invariant in
     let at = w.going in
     subst (λ o. to_do b c.next.new.self c.in_ok-next.next < to_do b s o) (sym c.in-Some.is)
     (fewer b text at.left s c.next.new.self c.in_ok-next.next at.searching (c.in_ok-next.ensures.finds text at.left at.searching))
@@ -123,7 +125,7 @@ returns-clause-matching g c =
     let b = c.args.self.now.nodes in
     let text = c.args.text.now in
     let found = found_values c.loop-next.found.items in
-    let w = subst (λ o. Matching b text c.loop-next.search o found c.args.steps.now c.loop-next.steps) c.in_default.is c.loop-next.invariant in
+    let w = subst (λ o. Matching b text c.loop-next.search o found c.loop-next.runs c.args.steps.now c.loop-next.steps) c.in_default.is c.loop-next.invariant in
     let f = none_left b text w.is found w.going w.onward in
     record {
       pairs = f.pairs;
@@ -136,6 +138,9 @@ returns-clause-exact g c =
     let b = c.args.self.now.nodes in
     let text = c.args.text.now in
     let found = found_values c.loop-next.found.items in
-    let w = subst (λ o. Matching b text c.loop-next.search o found c.args.steps.now c.loop-next.steps) c.in_default.is c.loop-next.invariant in
+    let w = subst (λ o. Matching b text c.loop-next.search o found c.loop-next.runs c.args.steps.now c.loop-next.steps) c.in_default.is c.loop-next.invariant in
     let f = none_left b text w.is found w.going w.onward in
     f.found_is ∙ all_matching b text f.pairs f.chosen
+
+pub start-requires : goal.start-requires
+start-requires g c = c.new-runs.ensures c.args.self.now.nodes

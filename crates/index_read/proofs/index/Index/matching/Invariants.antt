@@ -4,6 +4,8 @@ use Rattle.index_format.specs.Map.{Value}
 use Rattle.index_nodes.specs.Fields.{link_of, IsNodeOf}
 use Rattle.index_nodes.specs.declared.node.Node.{Node}
 use Rattle.glob_match.specs.Progress.{HasRead}
+use Rattle.glob_match.specs.Runs.{AreRuns}
+use Rattle.glob_match.specs.declared.runs.Runs.{Runs}
 use Rattle.index_read.specs.declared.search.Search.{Search}
 use Rattle.index_read.specs.Keys.{Item, all_items}
 use Rattle.index_read.specs.Searches.{NoneMatches, IsSearching, count_left}
@@ -34,7 +36,8 @@ to_do b s None = 0
 to_do b s (Some n) = count_left b s.levels.items + 1
 
 -- the values so far with those of the nodes that are left
-pub record Matching (b text : List ℕ) (s : Search) (next : Option Node) (found : List Value) (before now : ℕ) : Type 0 where
+pub record Matching (b text : List ℕ) (s : Search) (next : Option Node) (found : List Value) (runs : Runs) (before now : ℕ) : Type 0 where
+  pub known : AreRuns b runs
   pub accepted : index_fault b ≡ None
   pub is : List Item
   pub going : IsGoing b text s next is
@@ -42,7 +45,7 @@ pub record Matching (b text : List ℕ) (s : Search) (next : Option Node) (found
   pub cost : now + owed b s next ≤ before + length (all_items b)
 
 abbrev pub invariant-loop-next : goal.invariant-loop-next
-invariant-loop-next g l = Matching l.self.nodes l.text l.search l.next (found_values l.found.items) l.fn.steps l.steps
+invariant-loop-next g l = Matching l.self.nodes l.text l.search l.next (found_values l.found.items) l.runs l.fn.steps l.steps
 
 abbrev pub decreases-loop-next : goal.decreases-loop-next
 decreases-loop-next g l = to_do l.self.nodes l.search l.next

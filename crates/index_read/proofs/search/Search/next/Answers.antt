@@ -10,6 +10,7 @@ use Rattle.index_read.proofs.search.Search.next.Goals as goal
 pub loop-level-init : goal.loop-level-init
 loop-level-init g c = record {
   on = λ text is s. record { skipped = []; left = is; parts = refl; none = tt; searching = s };
+  known = c.requires.runs;
   cost = omega arith;
 }
 
@@ -51,6 +52,7 @@ loop-level-preserved-in_default-next_child g c =
           seek_up b text is now h ps l last _ refl refl
           (c.truncate.ensures.items ∙ top_before now.saved.items last.before last.words count last.saved_is (omega (arith, c.len.ensures, c.words.ensures, last.read.size, now.saved.ok.0, words_within b text ps l now.saved.items h.left last)))
           (no_child b c.requires.accepted l last.node last.key c.in_default-next_child.ensures.none);
+      known = c.loop-level.invariant.known;
       cost = omega (arith, c.loop-level.invariant.cost, all, count_push b ps l);
     }
 
@@ -203,6 +205,7 @@ loop-level-preserved g c =
           let over = c.in_ok-restore.ensures.over text h.searching.over in
           let lost = rw (c.in_default-2.is) at (c.in_ok-node.ensures.enters text last.key over (c.in_ok-restore.ensures.read text last.key was)) in
           seek_on b text is now h ps l last c.requires.accepted byte at e.some e.from e.first e.top _ c.in_ok-node.ensures.whole (c.in_ok-node.ensures.over text over) c.in_ok-push.ensures.items refl lost;
+      known = c.in_ok-node.ensures.runs;
       cost = omega (arith, all, levels, fewer, count_push b ps l, count_push b ps (after_branch l byte), c.loop-level.invariant.cost, c.in_ok-node.ensures.cost);
     }
 

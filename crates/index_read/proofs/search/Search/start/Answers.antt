@@ -3,7 +3,7 @@ use Rattle.std.proofs.lemmas.List.{append-nil}
 use Rattle.index_format.specs.Node.{prefix}
 use Rattle.index_nodes.specs.Fields.{link_of}
 use Rattle.glob_match.specs.Progress.{IsWhole, IsOver, HasRead}
-use Rattle.index_read.specs.Searches.{IsLost, Waits, bottom, above, branch_of, below}
+use Rattle.index_read.specs.Searches.{Waits, bottom, above, branch_of, below}
 use Rattle.index_read.proofs.SearchLemmas.{root_parts, root_lost}
 use Rattle.index_read.proofs.search.Search.start.Goals as goal
 
@@ -12,7 +12,7 @@ returns-then-not-alive-clause-finds g c =
     let b = c.args.nodes.now in
     let text = c.args.text.now in
     let lost = rw (c.if-not-alive.true) at (c.in_ok-alive.ensures.read text [] c.in_ok-progress.ensures.over c.in_ok-progress.ensures.read) in
-    root_lost b c.root.ensures.accepted text (link_of c.node-node.result) (c.node-node.ensures.name ∙ c.root.ensures.root) (subst (IsLost text) c.prefix.ensures lost)
+    root_lost b c.root.ensures.accepted text (link_of c.node-node.result) (c.node-node.ensures.name ∙ c.root.ensures.root) lost
 
 pub returns-clause-finds : goal.returns-clause-finds
 returns-clause-finds g c =
@@ -22,7 +22,7 @@ returns-clause-finds g c =
     let key = prefix b (link_of n) in
     let d = c.in_ok-descend.ensures in
     let over = c.in_ok-alive.ensures.over text c.in_ok-progress.ensures.over in
-    let read = subst (HasRead c.read_all.new.progress text) c.prefix.ensures (rw (c.if-not-alive.false) at (c.in_ok-alive.ensures.read text [] c.in_ok-progress.ensures.over c.in_ok-progress.ensures.read)) in
+    let read = rw (c.if-not-alive.false) at (c.in_ok-alive.ensures.read text [] c.in_ok-progress.ensures.over c.in_ok-progress.ensures.read) in
     record {
       skipped = [];
       key = key;
