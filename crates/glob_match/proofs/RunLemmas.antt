@@ -1,7 +1,7 @@
 -- Runs of `*` in a file, as parts of a pattern.
 use Rattle.std.proofs.Common.{◌≡◌, subst, ◌∙◌, ℕ, zero, suc, ◌+◌, ◌-◌, ◌<◌, ◌≤◌, List, [], ◌∷◌, length, take, drop, slice_index, arith}
 use Rattle.std.proofs.lemmas.List.{get_or-drop, get_or-take, length-drop, length-take, drop_more}
-use Rattle.glob_match.specs.Pattern.{star}
+use Rattle.glob_pattern.specs.Pattern.{star}
 use Rattle.glob_match.specs.Runs.{IsRun}
 
 -- One byte of the file.

@@ -1,7 +1,7 @@
 -- Runs of `*` in the bytes of a file.
 -- The contract of `Progress` cites it; no lookup does.
 use Rattle.std.specs.Prelude.{◌≡◌, ℕ, ◌*◌, ◌<◌, ◌≤◌, List, slice_index, vec_len}
-use Rattle.glob_match.specs.Pattern.{star}
+use Rattle.glob_pattern.specs.Pattern.{star}
 use Rattle.glob_match.specs.declared.runs.Runs.{Runs}
 use Rattle.glob_match.specs.declared.runs.TheConstants.{BLOCK}
 
