@@ -16,7 +16,7 @@ use Rattle.provider_rel.specs.declared.kernel.KernelExport.{KernelExport}
 use Rattle.provider_rel.specs.Faces.{face_of, module_of, modules_of, kernel_of}
 use Rattle.provider_rel.specs.Relation.{uses_at}
 use Rattle.model_loader.specs.declared.region.Region.{Region}
-use Rattle.model_loader.specs.Machine.{Machine, faces, machine_kernel, new_machine}
+use Rattle.model_loader.specs.Machine.{Machine, new_machine}
 use Rattle.model_loader.specs.Step.{refusal}
 use Rattle.model_loader.specs.Sound.{IsSound}
 use Rattle.laws_closed_plans.specs.Members.{Member}
@@ -30,7 +30,8 @@ use Rattle.laws_closed_plans.proofs.ProviderLemmas.{same_name}
 use Rattle.laws_closed_plans.proofs.UnmetLemmas.{all-member}
 use Rattle.laws_closed_plans.proofs.PlanLemmas.{IsReady, step-clear}
 use Rattle.laws_closed_plans.proofs.LineLemmas.{names-suffice, names_of as seen_names}
-use Rattle.laws_closed_plans.proofs.LoadLemmas.{seen, names-are, refused-place, have-loaded, loads-sound, load-append, loads-stop}
+use Rattle.laws_closed_plans.proofs.LoadLemmas.{seen, refused-place, have-loaded, loads-sound, load-append, loads-stop}
+use Rattle.laws_closed_plans.proofs.TableLemmas.{faces, machine_kernel, names-seen}
 
 -- the modules of files, as those who bind symbols see them
 abbrev modules : List Module → List SeenModule
@@ -132,7 +133,7 @@ module _ (tree : List Facts) (kernel : Kernel) (deps : Lines) (addressed : Kerne
       let clear = step-clear (modules_of tree) (kernel_of kernel) (modules listed) (modules plan) (modules before) (module_of m.facts) ready at in
       let here : name_fault (machine_kernel machine) (faces machine) (face_of m.facts) ≡ None =
       subst (λ k. name_fault k (faces machine) (face_of m.facts) ≡ None) (sym (h.kernel ∙ planned.same_table)) (subst (λ fs. name_fault (kernel_of kernel) fs (face_of m.facts) ≡ None) (sym stands) clear) in
-      refused-place machine m (names-are machine m ∙ here)
+      refused-place machine m (names-seen machine m.facts ∙ here)
 
   split-loaded : (before : List Module) (machine : Machine) → load_all start.0 before ≡ Ok machine → IsLoaded addressed region (listed ++ before) machine
   split-loaded before machine is =

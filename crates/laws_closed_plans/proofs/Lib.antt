@@ -5,6 +5,7 @@ pub mod NameLemmas
 pub mod OneExporter
 pub mod PlanLemmas
 pub mod LineLemmas
+pub mod TableLemmas
 pub mod LoadLemmas
 pub mod BindingLemmas
 pub mod InstanceLemmas

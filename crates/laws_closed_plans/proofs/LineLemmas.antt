@@ -17,11 +17,11 @@ use Rattle.relation_order.proofs.Lists.{has-range}
 use Rattle.symbol_binding.specs.Symbols.{Need, Module, Kernel}
 use Rattle.symbol_binding.specs.Provider.{ByKernel, ByModule, Provided, of_kernel, of_first, module_exports, of_unknown, owning_module, provider, uses}
 use Rattle.symbol_binding.specs.Unmet.{unmet}
-use Rattle.symbol_binding.specs.Table.{is_named}
 use Rattle.symbol_binding.specs.declared.unbound.Unbound.{Unbound}
 use Rattle.symbol_binding.specs.declared.unbound.Unbound.TheVariants.{Missing, Gpl, Version, Namespace, Double}
 use Rattle.provider_rel.specs.Relation.{place, uses_at, name_at}
 use Rattle.provider_rel.proofs.ClosedLaw.{closure-first}
+use Rattle.laws_closed_plans.specs.Names.{is_named}
 use Rattle.laws_closed_plans.specs.Members.{Member}
 use Rattle.laws_closed_plans.specs.Plan.{faces_of, is_at, collides, IsStep, IsClosed}
 use Rattle.laws_closed_plans.specs.Lines.{Lines, meets, AreClosed, AreLinesOf}

@@ -8,11 +8,12 @@ use Rattle.km_names.specs.First.{first}
 use Rattle.module_facts.specs.declared.facts.Export.{Export as FactsExport}
 use Rattle.module_facts.specs.declared.module.Module.{Module}
 use Rattle.symbol_binding.specs.Symbols.{Export, Need, Face}
+use Rattle.provider_rel.specs.Faces.{export_of_facts}
 use Rattle.x86_relocate.specs.declared.patch.Overflow.{Overflow as TooWide}
 use Rattle.image_layout.specs.Laid.{overflow}
 use Rattle.model_loader.specs.declared.fault.LoadFault.{LoadFault}
 use Rattle.model_loader.specs.declared.fault.LoadFault.TheVariants.{RegionFull, Overflow}
-use Rattle.model_loader.specs.Machine.{Machine, entry_face, export_face, facts_export, facts_face, faces, machine_kernel, need_face}
+use Rattle.model_loader.specs.Machine.{Machine, entry_face, export_face, facts_face, need_face}
 use Rattle.model_loader.specs.Gap.{gap}
 use Rattle.model_loader.specs.Sound.{IsSound}
 use Rattle.model_loader.specs.Step.{bound_need, entry_at, fault_if, module_base, module_size, name_tests, named_pages, overflow_fault, placement_tests, placed_export, refusal, step, symbol_addresses, with_entry}
@@ -21,14 +22,15 @@ use Rattle.model_loader.proofs.SoundLemmas.{sound-next, needs-same}
 use Rattle.laws_closed_plans.specs.Names.{name_fault, first_name_fault}
 use Rattle.laws_closed_plans.specs.Loads.{load_all, unless_refused, IsPlaceFault, full, overflow as too_wide}
 use Rattle.laws_closed_plans.proofs.ListLemmas.{first-pass}
+use Rattle.laws_closed_plans.proofs.TableLemmas.{faces, machine_kernel, names-seen}
 
 -- what is seen of modules
 abbrev pub seen : List Module → List Face
 seen ms = map (λ m. facts_face m.facts) ms
 
-exports-same : (machine : Machine) (m : Module) (base : ℕ) (es : List FactsExport) → map export_face (map (placed_export machine m base) es) ≡ map facts_export es
+exports-same : (machine : Machine) (m : Module) (base : ℕ) (es : List FactsExport) → map export_face (map (placed_export machine m base) es) ≡ map export_of_facts es
 exports-same machine m base [] = refl
-exports-same machine m base (e ∷ es) = ap (λ rest. facts_export e ∷ rest) (exports-same machine m base es)
+exports-same machine m base (e ∷ es) = ap (λ rest. export_of_facts e ∷ rest) (exports-same machine m base es)
 
 face_with : Module → List Export → List Need → Face
 face_with m es ns = record { name = m.facts.name; exports = es; needs = ns; free = m.facts.free; imports = m.facts.imports }
@@ -38,7 +40,7 @@ entry-face : (machine : Machine) (m : Module) (base : ℕ) → entry_face (entry
 unfolding entry_at face_with
 entry-face machine m base =
     ap (λ es. face_with m es (map need_face (map bound_need m.facts.needs))) (exports-same machine m base m.facts.exports)
-    ∙ ap (face_with m (map facts_export m.facts.exports)) (needs-same m.facts.needs)
+    ∙ ap (face_with m (map export_of_facts m.facts.exports)) (needs-same m.facts.needs)
 
 -- a machine after a load that isn't refused
 pub record IsNext (machine : Machine) (m : Module) (next : Machine) : Type 0 where
@@ -52,11 +54,6 @@ step-next machine m next is = go (refusal machine m) refl is
     go : (r : Option LoadFault) → refusal machine m ≡ r → option_map_or Err r (Ok (with_entry machine (entry_at machine m (module_base machine m)))) ≡ Ok next → IsNext machine m next
     go None none is = record { passed = none; is = cc }
     go (Some f) none is = absurd cc
-
--- the tests of the names of a module are those of what is seen of it
-pub names-are : (machine : Machine) (m : Module) → first (name_tests machine m.facts) ≡ name_fault (machine_kernel machine) (faces machine) (facts_face m.facts)
-unfolding name_fault
-names-are machine m = refl
 
 -- a module that passes them is refused for its place alone
 pub refused-place : (machine : Machine) (m : Module) → first (name_tests machine m.facts) ≡ None → IfSome (refusal machine m) IsPlaceFault
@@ -86,7 +83,7 @@ loaded-one machine m ms mid next at rest =
     let more : faces mid ≡ faces machine ++ facts_face m.facts ∷ [] =
     ap faces n.is ∙ map-append entry_face machine.entries (e ∷ []) ∙ ap (λ f. faces machine ++ f ∷ []) (entry-face machine m (module_base machine m)) in
     let here : name_fault (machine_kernel machine) (faces machine) (facts_face m.facts) ≡ None =
-    sym (names-are machine m) ∙ (refusal-split machine m n.passed).0 in
+    sym (names-seen machine m.facts) ∙ (refusal-split machine m n.passed).0 in
     let later : first_name_fault (machine_kernel machine) (faces machine ++ facts_face m.facts ∷ []) (seen ms) ≡ None =
     subst (λ k. first_name_fault k (faces machine ++ facts_face m.facts ∷ []) (seen ms) ≡ None) kernel (subst (λ fs. first_name_fault (machine_kernel mid) fs (seen ms) ≡ None) more rest.passed) in
     record {

@@ -6,19 +6,18 @@ use Rattle.laws_closed_plans.specs.Members.{Member}
 use Rattle.symbol_binding.specs.Symbols.{Export, Need, Face, Kernel}
 use Rattle.symbol_binding.specs.Provider.{Provided, export_under}
 use Rattle.symbol_binding.specs.Needs.{NeedTest, is_missing, is_hidden, is_other_version, is_barred}
-use Rattle.symbol_binding.specs.Table.{table, is_named, first_need, taken}
 use Rattle.model_loader.specs.declared.fault.LoadFault.{LoadFault}
 use Rattle.model_loader.specs.declared.fault.LoadFault.TheVariants.{AlreadyLoaded, MissingSymbol, GplOnly, VersionDiffers, NotImported, ExportTaken}
-use Rattle.model_loader.specs.Step.{fault_if, owner_name}
-use Rattle.laws_closed_plans.specs.Names.{need_fault, export_fault, name_fault, first_name_fault}
+use Rattle.model_loader.specs.Step.{fault_if}
+use Rattle.laws_closed_plans.specs.Names.{need_fault, export_fault, name_fault, first_name_fault, is_named, owner_name, seen_table}
 use Rattle.model_loader.proofs.SoundLemmas.{Passes}
 use Rattle.laws_closed_plans.proofs.ListLemmas.{first-none, first-pass, first-each, each-first, find-none, none-found}
 
 -- each test of its names passes
 pub record IsPassed (kernel : Kernel) (loaded : List Face) (m : Face) : Type 0 where
   pub fresh : is_named loaded m.name ≡ false
-  pub needs : (n : Need) → Member n m.needs → Passes (export_under (table kernel loaded n.name)) m n
-  pub untaken : (e : Export) → Member e m.exports → table kernel loaded e.name ≡ None
+  pub needs : (n : Need) → Member n m.needs → Passes (export_under (seen_table kernel loaded n.name)) m n
+  pub untaken : (e : Export) → Member e m.exports → seen_table kernel loaded e.name ≡ None
 
 pub mapped-none : {X Y : Type 0} (f : X → Y) (o : Option X) → option_map f o ≡ None → o ≡ None
 mapped-none f None none = refl
@@ -28,19 +27,19 @@ unfaulted : (b : Bool) (f : LoadFault) → fault_if b f ≡ None → b ≡ false
 unfaulted true f none = absurd (none-some f (sym none))
 unfaulted false f none = refl
 
-need_fault-pass : (kernel : Kernel) (loaded : List Face) (m : Face) (test : NeedTest) (fault : List ℕ → LoadFault) → ((n : Need) → Member n m.needs → test (export_under (table kernel loaded n.name)) m n ≡ false) → need_fault kernel loaded m test fault ≡ None
+need_fault-pass : (kernel : Kernel) (loaded : List Face) (m : Face) (test : NeedTest) (fault : List ℕ → LoadFault) → ((n : Need) → Member n m.needs → test (export_under (seen_table kernel loaded n.name)) m n ≡ false) → need_fault kernel loaded m test fault ≡ None
 need_fault-pass kernel loaded m test fault fails =
-    ap (λ o. option_map fault (option_map (λ (n : Need). n.name) o)) (find-none (λ n. test (export_under (table kernel loaded n.name)) m n) m.needs fails)
+    ap (option_map (λ (n : Need). fault n.name)) (find-none (λ n. test (export_under (seen_table kernel loaded n.name)) m n) m.needs fails)
 
-need_fault-passed : (kernel : Kernel) (loaded : List Face) (m : Face) (test : NeedTest) (fault : List ℕ → LoadFault) (n : Need) → need_fault kernel loaded m test fault ≡ None → Member n m.needs → test (export_under (table kernel loaded n.name)) m n ≡ false
+need_fault-passed : (kernel : Kernel) (loaded : List Face) (m : Face) (test : NeedTest) (fault : List ℕ → LoadFault) (n : Need) → need_fault kernel loaded m test fault ≡ None → Member n m.needs → test (export_under (seen_table kernel loaded n.name)) m n ≡ false
 need_fault-passed kernel loaded m test fault n none in' =
-    none-found (λ n. test (export_under (table kernel loaded n.name)) m n) n m.needs (mapped-none (λ (n : Need). n.name) (find (λ n. test (export_under (table kernel loaded n.name)) m n) m.needs) (mapped-none fault (first_need kernel loaded m test) none)) in'
+    none-found (λ n. test (export_under (seen_table kernel loaded n.name)) m n) n m.needs (mapped-none (λ (n : Need). fault n.name) (find (λ n. test (export_under (seen_table kernel loaded n.name)) m n) m.needs) none) in'
 
 -- a module that passes each test has no fault
 pub fault-pass : (kernel : Kernel) (loaded : List Face) (m : Face) → IsPassed kernel loaded m → name_fault kernel loaded m ≡ None
 unfolding name_fault
 fault-pass kernel loaded m passed =
-    first-pass _ _ (ap (λ b. fault_if b AlreadyLoaded) passed.fresh) (first-pass _ _ (need_fault-pass kernel loaded m is_missing MissingSymbol (λ n in'. (passed.needs n in').missing)) (first-pass _ _ (need_fault-pass kernel loaded m is_hidden GplOnly (λ n in'. (passed.needs n in').hidden)) (first-pass _ _ (need_fault-pass kernel loaded m is_other_version VersionDiffers (λ n in'. (passed.needs n in').other_version)) (first-pass _ _ (need_fault-pass kernel loaded m is_barred NotImported (λ n in'. (passed.needs n in').barred)) (first-pass _ [] (first-each (export_fault kernel loaded) m.exports (λ e in'. ap (λ o. option_map (λ (t : List ℕ × Provided Face). ExportTaken t.0 (owner_name t.1.owner)) (option_map (λ (p : Provided Face). (e.name, p)) o)) (passed.untaken e in'))) refl)))))
+    first-pass _ _ (ap (λ b. fault_if b AlreadyLoaded) passed.fresh) (first-pass _ _ (need_fault-pass kernel loaded m is_missing MissingSymbol (λ n in'. (passed.needs n in').missing)) (first-pass _ _ (need_fault-pass kernel loaded m is_hidden GplOnly (λ n in'. (passed.needs n in').hidden)) (first-pass _ _ (need_fault-pass kernel loaded m is_other_version VersionDiffers (λ n in'. (passed.needs n in').other_version)) (first-pass _ _ (need_fault-pass kernel loaded m is_barred NotImported (λ n in'. (passed.needs n in').barred)) (first-pass _ [] (first-each (export_fault kernel loaded) m.exports (λ e in'. ap (option_map (λ (p : Provided Face). ExportTaken e.name (owner_name p.owner))) (passed.untaken e in'))) refl)))))
 
 -- a module that has no fault passes each test
 pub fault-passed : (kernel : Kernel) (loaded : List Face) (m : Face) → name_fault kernel loaded m ≡ None → IsPassed kernel loaded m
@@ -60,7 +59,7 @@ fault-passed kernel loaded m none =
         other_version = need_fault-passed kernel loaded m is_other_version VersionDiffers n h4.0 in';
         barred = need_fault-passed kernel loaded m is_barred NotImported n h5.0 in';
       };
-      untaken = λ e in'. mapped-none (λ (p : Provided Face). (e.name, p)) (table kernel loaded e.name) (mapped-none (λ (t : List ℕ × Provided Face). ExportTaken t.0 (owner_name t.1.owner)) (taken kernel loaded e) (each-first (export_fault kernel loaded) e m.exports h6.0 in'));
+      untaken = λ e in'. mapped-none (λ (p : Provided Face). ExportTaken e.name (owner_name p.owner)) (seen_table kernel loaded e.name) (each-first (export_fault kernel loaded) e m.exports h6.0 in');
     }
 
 -- each step of modules that were loaded in turn passed

@@ -9,10 +9,9 @@ use Rattle.laws_closed_plans.specs.Members.{Member}
 use Rattle.symbol_binding.specs.Symbols.{Export, Face, Module, Kernel}
 use Rattle.symbol_binding.specs.Provider.{ByModule, Provided, export_under, of_kernel, of_one, of_first, face_exports, module_exports}
 use Rattle.symbol_binding.specs.Unmet.{vmlinux, unmet}
-use Rattle.symbol_binding.specs.Table.{table, is_named}
 use Rattle.symbol_binding.specs.declared.unbound.Unbound.{Unbound}
 use Rattle.symbol_binding.specs.declared.unbound.Unbound.TheVariants.{Double}
-use Rattle.laws_closed_plans.specs.Names.{first_name_fault}
+use Rattle.laws_closed_plans.specs.Names.{first_name_fault, is_named, seen_table}
 use Rattle.laws_closed_plans.specs.Plan.{faces_of, is_at, stands, collides}
 use Rattle.laws_closed_plans.proofs.ListLemmas.{first-none, each-first, none_passes, Precedes, Member-order, Member-right, Member-map, split_at}
 use Rattle.laws_closed_plans.proofs.ProviderLemmas.{its_name, given-member, export-face}
@@ -20,7 +19,7 @@ use Rattle.laws_closed_plans.proofs.UnmetLemmas.{double-modules, double-kernel}
 use Rattle.laws_closed_plans.proofs.NameLemmas.{fault-passed, all-passed}
 
 -- nothing stands under a name: no loaded module exports it
-pub none-exports : (kernel : Kernel) (loaded : List Module) (x : List ℕ) (p : Module) (v : Provided Module) → table kernel (faces_of loaded) x ≡ None → Member p loaded → of_one module_exports x p ≡ Some v → ⊥
+pub none-exports : (kernel : Kernel) (loaded : List Module) (x : List ℕ) (p : Module) (v : Provided Module) → seen_table kernel (faces_of loaded) x ≡ None → Member p loaded → of_one module_exports x p ≡ Some v → ⊥
 none-exports kernel loaded x p v none in' gives =
     let h = first-none (of_kernel kernel x) (of_first face_exports (faces_of loaded) x ∷ []) none in
     let face = each-first (of_one face_exports x) p.face (faces_of loaded) (first-none (of_first face_exports (faces_of loaded) x) [] h.1).0 (Member-map (λ (m : Module). m.face) p loaded in') in
@@ -33,7 +32,7 @@ listed-order kernel listed x p q v w loaded order gives_p gives_q =
     ap faces_of order.split ∙ map-append (λ (m : Module). m.face) order.front (q ∷ order.back) in
     let passed = fault-passed kernel (faces_of order.front) q.face (all-passed kernel [] (faces_of order.front) q.face (faces_of order.back) (rw split at loaded)) in
     let e = given-member (ByModule q) q.face.exports x w gives_q in
-    let free : table kernel (faces_of order.front) x ≡ None = rw e.1 at (passed.untaken w.export e.0) in
+    let free : seen_table kernel (faces_of order.front) x ≡ None = rw e.1 at (passed.untaken w.export e.0) in
     none-exports kernel order.front x p v free order.early gives_p
 
 -- two of them that export one name are one

@@ -5,8 +5,7 @@ use Rattle.std.proofs.lemmas.List.{map-append}
 use Rattle.laws_closed_plans.specs.Members.{Member}
 use Rattle.symbol_binding.specs.Symbols.{Export, Need, Face, Module, Kernel}
 use Rattle.symbol_binding.specs.Provider.{ByModule, Provided, export_under, of_kernel, of_one, of_first, face_exports, module_exports, of_unknown, owning_module, provider, uses}
-use Rattle.symbol_binding.specs.Table.{table}
-use Rattle.laws_closed_plans.specs.Names.{name_fault, first_name_fault}
+use Rattle.laws_closed_plans.specs.Names.{name_fault, first_name_fault, seen_table}
 use Rattle.laws_closed_plans.specs.Plan.{faces_of, IsStep, IsClosed, ClosedPlansPass}
 use Rattle.model_loader.proofs.SoundLemmas.{Passes}
 use Rattle.laws_closed_plans.proofs.ListLemmas.{Member-left, Member-right, Member-cases, Member-map, Member-filter_map, first-pass, first-each, each-first}
@@ -78,12 +77,12 @@ same-first tree kernel listed plan before m n ready step needed no_kernel = by_t
         of_first-only module_exports (listed ++ before) n.name p.0 v behind p.2 (λ q w in' gives. one-loaded tree kernel listed plan before m n.name q p.0 w v ready step in' behind gives p.2) ∙ sym is
 
 -- what a need of a step's module is looked up to is its provider's export
-pub table-provider : (tree : List Module) (kernel : Kernel) (listed plan before : List Module) (m : Module) (n : Need) → IsReady tree kernel listed plan → IsStep plan before m → Member n m.face.needs → export_under (table kernel (faces_of (listed ++ before)) n.name) ≡ export_under (provider tree kernel n.name)
+pub table-provider : (tree : List Module) (kernel : Kernel) (listed plan before : List Module) (m : Module) (n : Need) → IsReady tree kernel listed plan → IsStep plan before m → Member n m.face.needs → export_under (seen_table kernel (faces_of (listed ++ before)) n.name) ≡ export_under (provider tree kernel n.name)
 table-provider tree kernel listed plan before m n ready step needed =
     export-first (of_kernel kernel n.name) (of_kernel kernel n.name) (of_first face_exports (faces_of (listed ++ before)) n.name ∷ []) (of_first module_exports tree n.name ∷ of_unknown kernel n.name ∷ []) (export-kernel _ _ kernel n.name) (λ no_kernel. export-first (of_first face_exports (faces_of (listed ++ before)) n.name) (of_first module_exports tree n.name) [] (of_unknown kernel n.name ∷ []) (export-faces (listed ++ before) n.name ∙ ap export_under (same-first tree kernel listed plan before m n ready step needed no_kernel)) (λ none. rw ready.known refl))
 
 -- nothing stands under the exports of a step's module
-pub exports-untaken : (tree : List Module) (kernel : Kernel) (listed plan before : List Module) (m : Module) (e : Export) → IsReady tree kernel listed plan → IsStep plan before m → Member e m.face.exports → table kernel (faces_of (listed ++ before)) e.name ≡ None
+pub exports-untaken : (tree : List Module) (kernel : Kernel) (listed plan before : List Module) (m : Module) (e : Export) → IsReady tree kernel listed plan → IsStep plan before m → Member e m.face.exports → seen_table kernel (faces_of (listed ++ before)) e.name ≡ None
 exports-untaken tree kernel listed plan before m e ready step in' =
     let no_module : of_first module_exports (listed ++ before) e.name ≡ None =
     first-each (of_one module_exports e.name) (listed ++ before) (λ q in''. by_module q in'' (of_one module_exports e.name q) refl) in

@@ -5,11 +5,10 @@ use Rattle.std.specs.Str.{bytes_eq}
 use Rattle.symbol_binding.specs.Symbols.{Face, Module, Kernel}
 use Rattle.symbol_binding.specs.Provider.{uses}
 use Rattle.symbol_binding.specs.Unmet.{vmlinux, unmet, belongs}
-use Rattle.symbol_binding.specs.Table.{is_named}
 use Rattle.symbol_binding.specs.declared.unbound.Unbound.{Unbound}
 use Rattle.symbol_binding.specs.declared.unbound.Unbound.TheVariants.{Missing, Gpl, Version, Namespace, Double}
 use Rattle.laws_closed_plans.specs.Members.{Member}
-use Rattle.laws_closed_plans.specs.Names.{first_name_fault}
+use Rattle.laws_closed_plans.specs.Names.{first_name_fault, is_named}
 
 -- The faces of modules.
 abbrev pub faces_of : List Module → List Face

@@ -5,8 +5,7 @@ use Rattle.std.specs.List.{list_any, list_all}
 use Rattle.symbol_binding.specs.Symbols.{Module, Kernel}
 use Rattle.symbol_binding.specs.Provider.{uses}
 use Rattle.symbol_binding.specs.Unmet.{unmet, belongs}
-use Rattle.symbol_binding.specs.Table.{is_named}
-use Rattle.laws_closed_plans.specs.Names.{first_name_fault}
+use Rattle.laws_closed_plans.specs.Names.{first_name_fault, is_named}
 use Rattle.laws_closed_plans.specs.Plan.{faces_of, collides}
 
 -- Whether each module is new among the modules before it.

@@ -18,21 +18,17 @@ use Rattle.x86_relocate.specs.declared.patch.Overflow.{Overflow as TooWide}
 use Rattle.model_loader.specs.declared.fault.LoadFault.TheVariants.{Overflow, Memory}
 use Rattle.model_loader.specs.FaultText.{load_fault_from}
 use Rattle.model_loader.specs.declared.entry.PlacedExport.{PlacedExport}
+use Rattle.model_loader.specs.declared.standing.Standing.{Standing}
 use Rattle.model_loader.specs.declared.standing.ExportTable.{ExportTable}
-use Rattle.model_loader.specs.Machine.{Machine, placed_under}
+use Rattle.model_loader.specs.Machine.{Machine}
 use Rattle.model_loader.specs.NeedTests.{given_by, kept_address}
-use Rattle.model_loader.specs.Standing.{Keeps, standing_of}
+use Rattle.model_loader.specs.Standing.{Keeps}
 use Rattle.model_loader.specs.Parts.{entry_by, placed_by}
 use Rattle.model_loader.specs.Step.{need_address, given_address, given_addresses, symbol_addresses, module_size, placed_export, entry_at, bound_need, overflow_fault}
-use Rattle.model_loader.proofs.StandingLemmas.{of_placed, of_standing, under-placed}
 
 pub map-same : {X Y : Type 0} (f g : X → Y) → ((x : X) → f x ≡ g x) → (xs : List X) → map f xs ≡ map g xs
 map-same f g same [] = refl
 map-same f g same (x ∷ xs) = ap (λ y. y ∷ map f xs) (same x) ∙ ap (λ ys. g x ∷ ys) (map-same f g same xs)
-
-by-parts : {X Y : Type 0} (f : Y → ℕ) (g : X → Y) (o : Option X) → option_map_or (λ x. f (g x)) o 0 ≡ option_map_or f (option_map g o) 0
-by-parts f g None = refl
-by-parts f g (Some x) = refl
 
 of-same : {X : Type 0} (f g : X → ℕ) → ((x : X) → f x ≡ g x) → (o : Option X) → option_map_or f o 0 ≡ option_map_or g o 0
 of-same f g same None = refl
@@ -41,11 +37,7 @@ of-same f g same (Some x) = same x
 module _ (machine : Machine) (t : ExportTable) (keeps : Keeps t machine) where
   address-kept : (f : Facts) (n : Need) → kept_address t f n ≡ need_address machine f n
   address-kept f n =
-      let value : Bool × ℕ → ℕ = λ p. cond (is_seen f.free p.0) p.1 0 in
-      by-parts value of_standing (standing_of t n.name)
-      ∙ ap (λ o. option_map_or value (option_map of_standing o) 0) (keeps.at n.name)
-      ∙ ap (λ o. option_map_or value o 0) (sym (under-placed machine n.name))
-      ∙ sym (by-parts value of_placed (placed_under machine n.name))
+      ap (λ o. option_map_or (λ (s : Standing). cond (is_seen f.free s.gpl) s.address 0) o 0) (keeps.at n.name)
 
   pub given-is : (m : Module) → map (given_by t m.facts m.facts.needs) (range_with_len 0 (length m.object.symbols)) ≡ given_addresses machine m
   unfolding given_addresses

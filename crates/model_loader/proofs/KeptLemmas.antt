@@ -22,11 +22,11 @@ use Rattle.model_loader.specs.declared.region.Region.{Region}
 use Rattle.model_loader.specs.declared.standing.Standing.{Standing}
 use Rattle.model_loader.specs.declared.standing.Named.{Named}
 use Rattle.model_loader.specs.declared.standing.ExportTable.{ExportTable}
-use Rattle.model_loader.specs.Machine.{Machine, export_named, kernel_placed}
+use Rattle.model_loader.specs.Machine.{Machine, export_named, kernel_placed, standing, table}
 use Rattle.model_loader.specs.Gap.{gap, gap_among, is_gap, meets_entry, pages}
 use Rattle.model_loader.specs.Kept.{IsKept}
 use Rattle.model_loader.specs.Sound.{IsPlaced, entry_names, exported_names}
-use Rattle.model_loader.specs.Standing.{export_pair, named_pair, standing, standing_in, standing_of, standing_under}
+use Rattle.model_loader.specs.Standing.{export_pair, named_pair, standing_in, standing_of}
 use Rattle.model_loader.specs.Step.{fault_if, named_pages, overflow_fault, entry_at, module_base, module_size, placement_tests, symbol_addresses, with_entry}
 use Rattle.model_loader.proofs.StandingLemmas.{find-map}
 use Rattle.model_loader.proofs.StepLemmas.{first-append}
@@ -61,8 +61,8 @@ module _ (machine : Machine) (e : Entry) (x : List ℕ) where
   or-assoc None b c = refl
   or-assoc (Some y) b c = refl
 
-  pub under-next : standing_under (with_entry machine e) x ≡ option_or (standing_under machine x) (of_entry e)
-  unfolding standing_under
+  pub under-next : table (with_entry machine e) x ≡ option_or (table machine x) (of_entry e)
+  unfolding table
   under-next =
       let kernel = option_map (standing None) (export_named x (map kernel_placed machine.kernel.exports)) in
       let old = first (map of_entry machine.entries) in
@@ -172,7 +172,7 @@ kept-next machine t next m e named kept passed is same entered names distinct = 
     at = λ x.
         entered x
         ∙ ap (λ o. option_or o (standing_in x named)) (kept.keeps.at x)
-        ∙ ap (option_or (standing_under machine x)) (standing_in-is x (Some e.loaded.name) named e.exports same)
+        ∙ ap (option_or (table machine x)) (standing_in-is x (Some e.loaded.name) named e.exports same)
         ∙ sym (under-next machine e x);
   };
   placed = placed-next machine e kept.placed (subst (IsPlaced machine) (sym is) (placed-new machine m (module_base machine m) (module-gap machine m passed)));

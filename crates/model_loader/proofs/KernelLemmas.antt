@@ -12,9 +12,8 @@ use Rattle.model_loader.specs.declared.fault.MachineFault.TheVariants.{KernelWit
 use Rattle.model_loader.specs.declared.standing.Standing.{Standing}
 use Rattle.model_loader.specs.declared.standing.Named.{Named}
 use Rattle.model_loader.specs.declared.standing.ExportTable.{ExportTable}
-use Rattle.model_loader.specs.Machine.{export_named, kernel_placed}
-use Rattle.model_loader.specs.Machine.{kernel_fault}
-use Rattle.model_loader.specs.Standing.{export_pair, named_pair, standing, standing_of}
+use Rattle.model_loader.specs.Machine.{export_named, kernel_fault, kernel_placed, standing}
+use Rattle.model_loader.specs.Standing.{export_pair, named_pair, standing_of}
 
 -- What exports of the kernel keep of a name.
 abbrev pub kernel_standing : List KernelExport → List ℕ → Option Standing

@@ -20,9 +20,9 @@ use Rattle.model_loader.specs.declared.entry.Entry.{Entry}
 use Rattle.model_loader.specs.declared.standing.Standing.{Standing}
 use Rattle.model_loader.specs.declared.standing.ExportTable.{ExportTable}
 use Rattle.model_loader.specs.Kept.{IsKept}
-use Rattle.model_loader.specs.Machine.{Machine, export_named, kernel_placed}
+use Rattle.model_loader.specs.Machine.{Machine, export_named, kernel_placed, standing, table}
 use Rattle.model_loader.specs.Sound.{entry_names, exported_names}
-use Rattle.model_loader.specs.Standing.{standing, standing_of, standing_under}
+use Rattle.model_loader.specs.Standing.{standing_of}
 use Rattle.model_loader.specs.Use.{AreUses, binds, is_met_by, uses_entry}
 use Rattle.model_loader.specs.Uses.{AreBoundPlaces, below, bound_place, is_bound_at, is_met_named, is_owner, is_place, met_place, owner_place, stated_names}
 use Rattle.model_loader.proofs.StepLemmas.{first-append}
@@ -43,8 +43,8 @@ module _ (machine : Machine) (j : ℕ) (e : Entry) (at : slice_get machine.entri
       ∙ ap (λ o. option_or o (first (standing_by x e ∷ []))) none
       ∙ ap (λ (o : Option PlacedExport). first (option_map (standing (Some e.loaded.name)) o ∷ [])) is)
 
-  stands : IsDistinct bytes_eq (exported_names machine) → (x : List ℕ) (p : PlacedExport) → export_named x e.exports ≡ Some p → standing_under machine x ≡ Some (standing (Some e.loaded.name) p)
-  unfolding standing_under
+  stands : IsDistinct bytes_eq (exported_names machine) → (x : List ℕ) (p : PlacedExport) → export_named x e.exports ≡ Some p → table machine x ≡ Some (standing (Some e.loaded.name) p)
+  unfolding table
   stands distinct x p is =
       let out = parts x (map (λ (k : KernelExport). k.name) machine.kernel.exports) (flat_map names_of (remove machine.entries j)) (unlisted-without machine j e at distinct x p is) in
       let before : unlisted x (flat_map names_of (take j machine.entries)) =
@@ -81,8 +81,8 @@ module _ (machine : Machine) (j : ℕ) (e : Entry) (at : slice_get machine.entri
       subst (unlisted e.loaded.name) (sym (map-append name_of (take j machine.entries) (drop (suc j) machine.entries)))
       (unlisted-cut e.loaded.name before (e.loaded.name ∷ []) after (ap (λ b. b || false) (same-name e.loaded.name)) (subst (IsDistinct bytes_eq) split distinct))
 
-  other : IsDistinct bytes_eq (entry_names machine) → (x : List ℕ) → export_named x e.exports ≡ None → Other (standing_under machine x)
-  unfolding standing_under
+  other : IsDistinct bytes_eq (entry_names machine) → (x : List ℕ) → export_named x e.exports ≡ None → Other (table machine x)
+  unfolding table
   other distinct x none =
       subst Other (sym (stood-without machine j e at x none))
       (by (export_named x (map kernel_placed machine.kernel.exports)) (first (map (standing_by x) (remove machine.entries j))) (other-entries x (remove machine.entries j) (alone distinct)))
@@ -103,10 +103,10 @@ module _ (machine : Machine) (j : ℕ) (e : Entry) (at : slice_get machine.entri
   met-is : (t : ExportTable) → IsKept machine t → (free : Bool) (n : BoundNeed) → option_map_or (λ (x : PlacedExport). is_seen free x.gpl) (export_named n.name e.exports) false ≡ is_met_named t free e.loaded.name n
   met-is t kept free n = by (export_named n.name e.exports) refl ∙ sym (ap (met free) (kept.keeps.at n.name))
     where
-      by : (o : Option PlacedExport) → export_named n.name e.exports ≡ o → option_map_or (λ (x : PlacedExport). is_seen free x.gpl) (export_named n.name e.exports) false ≡ met free (standing_under machine n.name)
+      by : (o : Option PlacedExport) → export_named n.name e.exports ≡ o → option_map_or (λ (x : PlacedExport). is_seen free x.gpl) (export_named n.name e.exports) false ≡ met free (table machine n.name)
       by None is =
           ap (λ (o : Option PlacedExport). option_map_or (λ (x : PlacedExport). is_seen free x.gpl) o false) is
-          ∙ sym (unmet free (standing_under machine n.name) (other kept.names n.name is))
+          ∙ sym (unmet free (table machine n.name) (other kept.names n.name is))
       by (Some p) is =
           ap (λ (o : Option PlacedExport). option_map_or (λ (x : PlacedExport). is_seen free x.gpl) o false) is
           ∙ sym (ap (met free) (stands kept.exports n.name p is) ∙ ap (λ b. b && is_seen free p.gpl) ((bytes_eq-Decides e.loaded.name e.loaded.name).1 refl))

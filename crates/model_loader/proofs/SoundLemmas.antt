@@ -1,6 +1,6 @@
 -- A load keeps a machine sound.
 use Rattle.std.proofs.Common.{◌≡◌, ◌≤◌, ◌<◌, ◌+◌, ◌∙◌, ◌⊎◌, inl, inr, ℕ, zero, suc, Bool, true, false, List, [], ◌∷◌, ◌++◌, Option, Some, None, refl, sym, ap, subst, arith, length, map, get_or, append_assoc, append-nil}
-use Rattle.std.specs.Prelude.{find, option_map, All, AllPairs, not, ◌&&◌, nat_lt, flat_map}
+use Rattle.std.specs.Prelude.{find, option_map, unwrap_or, All, AllPairs, not, ◌&&◌, nat_lt, flat_map}
 use Rattle.std.specs.List.{IsDistinct, AllByRecursion, list_any}
 use Rattle.std.specs.Str.{bytes_eq}
 use Rattle.std.proofs.lemmas.Bool.{cases_Bool, false≢true, or_parts}
@@ -8,6 +8,7 @@ use Rattle.std.proofs.lemmas.Bool.Decides.{nat_tests}
 use Rattle.std.proofs.lemmas.Cmp.{nat_list_eq_equiv}
 use Rattle.std.proofs.lemmas.List.{map-append}
 use Rattle.std.proofs.lemmas.List.Concat.{flat_map-append}
+use Rattle.std.proofs.lemmas.List.Elements.{All-map}
 use Rattle.std.proofs.lemmas.List.Folds.{list_any-append}
 use Rattle.std.proofs.lemmas.Map.Keys.{IsDistinct-push, IsDistinct-head, IsDistinct-tail}
 use Rattle.km_names.specs.First.{first}
@@ -17,20 +18,19 @@ use Rattle.module_facts.specs.declared.module.Module.{Module}
 use Rattle.symbol_binding.specs.Symbols.{Export, Need, Face}
 use Rattle.provider_rel.specs.declared.kernel.Kernel.{Kernel as KernelTable}
 use Rattle.provider_rel.specs.declared.kernel.KernelExport.{KernelExport}
-use Rattle.symbol_binding.specs.Provider.{Provided, export_under}
 use Rattle.symbol_binding.specs.Needs.{NeedTest, sees, may_use, agree, is_missing, is_hidden, is_other_version, is_barred}
-use Rattle.symbol_binding.specs.Table.{table, first_need, is_named}
+use Rattle.symbol_binding.specs.Unmet.{vmlinux}
 use Rattle.model_loader.specs.declared.entry.PlacedExport.{PlacedExport}
 use Rattle.model_loader.specs.declared.entry.Entry.{Entry}
 use Rattle.model_loader.specs.declared.fault.LoadFault.{LoadFault}
 use Rattle.model_loader.specs.declared.fault.LoadFault.TheVariants.{AlreadyLoaded, MissingSymbol, GplOnly, VersionDiffers, NotImported, ExportTaken}
 use Rattle.model_loader.specs.declared.region.Region.{Region}
-use Rattle.model_loader.specs.Machine.{Machine, entry_face, export_named, facts_export, facts_face, facts_need, faces, kernel_placed, machine_kernel, need_face, new_machine}
+use Rattle.model_loader.specs.declared.standing.Standing.{Standing}
+use Rattle.model_loader.specs.Machine.{Machine, bound_export, entry_face, export_named, facts_face, facts_need, is_loaded, kernel_placed, need_face, new_machine, standing, table}
 use Rattle.model_loader.specs.Gap.{meets_entry}
 use Rattle.model_loader.specs.Sound.{Agrees, AreApart, AreBoundAfter, IsBound, IsEntryOf, IsSound, entry_names, exported_names}
-use Rattle.model_loader.specs.Standing.{standing, standing_export, standing_under}
-use Rattle.model_loader.specs.Step.{bound_need, entry_at, fault_if, module_base, module_size, name_tests, need_test, owner_name, placed_export, refusal, symbol_addresses, taken_test, with_entry}
-use Rattle.model_loader.proofs.StandingLemmas.{under-export, same_name}
+use Rattle.model_loader.specs.Step.{bound_need, entry_at, fault_if, module_base, module_size, name_tests, need_test, placed_export, refusal, symbol_addresses, taken_test, with_entry}
+use Rattle.model_loader.proofs.StandingLemmas.{same_name}
 use Rattle.model_loader.proofs.StepLemmas.{refusal-split}
 use Rattle.model_loader.proofs.KeptLemmas.{all-append, gap-at, length-laid, module-gap, placed-new, placed-next}
 use Rattle.model_loader.proofs.ListedLemmas.{flip, names_of, unlisted}
@@ -99,37 +99,37 @@ needs-same (n ∷ ns) = ap (λ rest. facts_need n ∷ rest) (needs-same ns)
 
 module _ (machine : Machine) (m : Module) (passed : first (name_tests machine m.facts) ≡ None) where
   abbrev under : List ℕ → Option Export
-  under x = export_under (table (machine_kernel machine) (faces machine) x)
+  under x = bound_export machine x
 
-  abbrev fails_at : NeedTest → Need → Bool
-  fails_at test n = test (under n.name) (facts_face m.facts) n
+  abbrev fails_at : NeedTest → FactsNeed → Bool
+  fails_at test n = test (under n.name) (facts_face m.facts) (facts_need n)
 
-  no_need : (test : NeedTest) (fault : List ℕ → LoadFault) → need_test machine m.facts test fault ≡ None → All (λ n. fails_at test n ≡ false) (facts_face m.facts).needs
+  no_need : (test : NeedTest) (fault : List ℕ → LoadFault) → need_test machine m.facts test fault ≡ None → All (λ n. fails_at test n ≡ false) m.facts.needs
   no_need test fault none =
-      nowhere (fails_at test) (facts_face m.facts).needs
-      (mapped-none (λ (n : Need). n.name) (find (fails_at test) (facts_face m.facts).needs)
-      (mapped-none fault (first_need (machine_kernel machine) (faces machine) (facts_face m.facts) test) none))
+      nowhere (fails_at test) m.facts.needs (mapped-none (λ (n : FactsNeed). fault n.name) (find (fails_at test) m.facts.needs) none)
 
-  all-none : (fault_if (is_named (faces machine) m.facts.name) AlreadyLoaded ≡ None) × (need_test machine m.facts is_missing MissingSymbol ≡ None) × (need_test machine m.facts is_hidden GplOnly ≡ None) × (need_test machine m.facts is_other_version VersionDiffers ≡ None) × (need_test machine m.facts is_barred NotImported ≡ None) × (first (map (taken_test machine) (map facts_export m.facts.exports)) ≡ None)
+  all-none : (fault_if (is_loaded machine m.facts.name) AlreadyLoaded ≡ None) × (need_test machine m.facts is_missing MissingSymbol ≡ None) × (need_test machine m.facts is_hidden GplOnly ≡ None) × (need_test machine m.facts is_other_version VersionDiffers ≡ None) × (need_test machine m.facts is_barred NotImported ≡ None) × (first (map (taken_test machine) m.facts.exports) ≡ None)
   all-none =
-      six-none (fault_if (is_named (faces machine) m.facts.name) AlreadyLoaded) (need_test machine m.facts is_missing MissingSymbol) (need_test machine m.facts is_hidden GplOnly) (need_test machine m.facts is_other_version VersionDiffers) (need_test machine m.facts is_barred NotImported) (first (map (taken_test machine) (map facts_export m.facts.exports))) passed
+      six-none (fault_if (is_loaded machine m.facts.name) AlreadyLoaded) (need_test machine m.facts is_missing MissingSymbol) (need_test machine m.facts is_hidden GplOnly) (need_test machine m.facts is_other_version VersionDiffers) (need_test machine m.facts is_barred NotImported) (first (map (taken_test machine) m.facts.exports)) passed
 
-  pub named_none : is_named (faces machine) m.facts.name ≡ false
-  named_none = by_test (is_named (faces machine) m.facts.name) all-none.0
+  pub named_none : is_loaded machine m.facts.name ≡ false
+  named_none = by_test (is_loaded machine m.facts.name) all-none.0
     where
       by_test : (b : Bool) → fault_if b AlreadyLoaded ≡ None → b ≡ false
       by_test false none = refl
       by_test true none = absurd cc
 
   pub needs-pass : All (λ n. Passes (under n.name) (facts_face m.facts) n) (facts_face m.facts).needs
-  needs-pass k d less = record {
-    missing = no_need is_missing MissingSymbol all-none.1 k d less;
-    hidden = no_need is_hidden GplOnly all-none.2 k d less;
-    other_version = no_need is_other_version VersionDiffers all-none.3 k d less;
-    barred = no_need is_barred NotImported all-none.4 k d less;
-  }
+  needs-pass =
+      All-map (λ n. Passes (under n.name) (facts_face m.facts) n) facts_need m.facts.needs
+      (λ k d less. record {
+        missing = no_need is_missing MissingSymbol all-none.1 k d less;
+        hidden = no_need is_hidden GplOnly all-none.2 k d less;
+        other_version = no_need is_other_version VersionDiffers all-none.3 k d less;
+        barred = no_need is_barred NotImported all-none.4 k d less;
+      })
 
-  pub exports-pass : first (map (taken_test machine) (map facts_export m.facts.exports)) ≡ None
+  pub exports-pass : first (map (taken_test machine) m.facts.exports) ≡ None
   exports-pass = all-none.5
 
   pub entry-of : (base : ℕ) → IsEntryOf machine m (entry_at machine m base)
@@ -224,8 +224,8 @@ unexported-entries x (e ∷ es) none =
     let h = first-none (option_map (standing (Some e.loaded.name)) (export_named x e.exports)) _ none in
     join x (names_of e) (flat_map names_of es) (unexported-by x e.exports (mapped-none (standing (Some e.loaded.name)) (export_named x e.exports) h.0)) (unexported-entries x es h.1)
 
-unexported : (machine : Machine) (x : List ℕ) → standing_under machine x ≡ None → unlisted x (exported_names machine)
-unfolding standing_under
+unexported : (machine : Machine) (x : List ℕ) → table machine x ≡ None → unlisted x (exported_names machine)
+unfolding table
 unexported machine x none =
     let kernel = option_map (standing None) (export_named x (map kernel_placed machine.kernel.exports)) in
     let entries = first (map (λ (e : Entry). option_map (standing (Some e.loaded.name)) (export_named x e.exports)) machine.entries) in
@@ -235,14 +235,12 @@ unexported machine x none =
     (unexported-kernel x machine.kernel.exports (mapped-none (standing None) (export_named x (map kernel_placed machine.kernel.exports)) h.0))
     (unexported-entries x machine.entries k.0)
 
-untaken : (machine : Machine) (es : List FactsExport) → first (map (taken_test machine) (map facts_export es)) ≡ None → Each (λ x. unlisted x (exported_names machine)) (map (λ (e : FactsExport). e.name) es)
+untaken : (machine : Machine) (es : List FactsExport) → first (map (taken_test machine) es) ≡ None → Each (λ x. unlisted x (exported_names machine)) (map (λ (e : FactsExport). e.name) es)
 untaken machine [] none = tt
 untaken machine (e ∷ es) none =
-    let h = first-none (taken_test machine (facts_export e)) _ none in
-    let found = table (machine_kernel machine) (faces machine) e.name in
-    let nothing : found ≡ None = mapped-none (λ (p : Provided Face). (e.name, p)) found (mapped-none (λ (t : List ℕ × Provided Face). ExportTaken t.0 (owner_name t.1.owner)) (option_map (λ (p : Provided Face). (e.name, p)) found) h.0) in
-    let under_none : standing_under machine e.name ≡ None = mapped-none (standing_export e.name) (standing_under machine e.name) (sym (under-export machine e.name) ∙ ap export_under nothing) in
-    (unexported machine e.name under_none, untaken machine es h.1)
+    let h = first-none (taken_test machine e) _ none in
+    let nothing = mapped-none (λ (s : Standing). ExportTaken e.name (unwrap_or s.owner vmlinux)) (table machine e.name) h.0 in
+    (unexported machine e.name nothing, untaken machine es h.1)
 
 own-distinct : (es : List FactsExport) → AllPairs (λ (a b : FactsExport). a.name ≡ b.name → ⊥) es → IsDistinct bytes_eq (map (λ (e : FactsExport). e.name) es)
 unfolding IsDistinct
@@ -264,10 +262,10 @@ kernel-distinct (e ∷ es) apart =
     head [] all = tt
     head (f ∷ fs) all = (other_names e.name f.name (all 0 f (omega arith)), head fs (λ k d less. all (suc k) d (omega arith)))
 
-unnamed : (es : List Entry) (x : List ℕ) → is_named (map entry_face es) x ≡ false → unlisted x (map (λ (e : Entry). e.loaded.name) es)
+unnamed : (es : List Entry) (x : List ℕ) → list_any (λ (e : Entry). bytes_eq e.loaded.name x) es ≡ false → unlisted x (map (λ (e : Entry). e.loaded.name) es)
 unnamed [] x none = refl
 unnamed (e ∷ es) x none =
-    let h = or_parts (bytes_eq e.loaded.name x) (is_named (map entry_face es) x) none in
+    let h = or_parts (bytes_eq e.loaded.name x) (list_any (λ (n : Entry). bytes_eq n.loaded.name x) es) none in
     rw (flip x e.loaded.name, h.0) (unnamed es x h.1)
 
 -- The image of a gap meets no other.

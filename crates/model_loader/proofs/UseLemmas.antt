@@ -14,22 +14,20 @@ use Rattle.module_facts.specs.declared.facts.Need.{Need as FactsNeed}
 use Rattle.module_facts.specs.declared.module.Module.{Module}
 use Rattle.symbol_binding.specs.Symbols.{Export, Need}
 use Rattle.provider_rel.specs.declared.kernel.KernelExport.{KernelExport}
-use Rattle.symbol_binding.specs.Provider.{export_under}
 use Rattle.symbol_binding.specs.Needs.{is_seen}
-use Rattle.symbol_binding.specs.Table.{table}
 use Rattle.image_layout.specs.Symbols.{address, addresses}
 use Rattle.image_layout.specs.Laid.{laid}
 use Rattle.model_loader.specs.declared.entry.PlacedExport.{PlacedExport}
 use Rattle.model_loader.specs.declared.entry.BoundNeed.{BoundNeed}
 use Rattle.model_loader.specs.declared.entry.Entry.{Entry}
-use Rattle.model_loader.specs.Machine.{Machine, entry_face, export_face, export_named, faces, kernel_placed, machine_kernel, need_face, placed_under}
+use Rattle.model_loader.specs.declared.standing.Standing.{Standing}
+use Rattle.model_loader.specs.Machine.{Machine, bound_export, entry_face, export_named, kernel_placed, need_face, standing, standing_export, table}
 use Rattle.model_loader.specs.Sound.{AreApart, AreBoundAfter, IsEntryOf, IsSound, exported_names}
 use Rattle.model_loader.specs.Step.{bound_need, entry_at, given_address, given_addresses, module_size, need_address}
 use Rattle.model_loader.specs.Use.{IsUnused, is_met_by, uses_entry, without}
-use Rattle.model_loader.proofs.StandingLemmas.{under-face}
 use Rattle.model_loader.proofs.StepLemmas.{first-append}
-use Rattle.model_loader.proofs.ListedLemmas.{after_it, exports-without, names-without, names_of, none-named, parts, unlisted, unlisted-without}
-use Rattle.model_loader.proofs.WithoutLemmas.{placed-without}
+use Rattle.model_loader.proofs.ListedLemmas.{after_it, exports-without, names-without, names_of, parts, unlisted, unlisted-without}
+use Rattle.model_loader.proofs.WithoutLemmas.{none-standing, placed-without, standing_by}
 use Rattle.model_loader.proofs.PlaceLemmas.{item, none≢some}
 use Rattle.model_loader.proofs.EntryLemmas.{map-same}
 
@@ -39,8 +37,8 @@ Each P [] = Unit {0}
 Each P (x ∷ xs) = P x × Each P xs
 
 -- What is under a name, by a list of entries.
-abbrev pub named_in : List ℕ → List Entry → Option PlacedExport
-named_in x es = first (map (λ (n : Entry). export_named x n.exports) es)
+abbrev pub named_in : List ℕ → List Entry → Option Standing
+named_in x es = first (map (standing_by x) es)
 
 -- No entry of a list exports what this one exports.
 abbrev pub Alone : Entry → List Entry → Type 0
@@ -48,21 +46,23 @@ Alone e es = (x : List ℕ) (p : PlacedExport) → export_named x e.exports ≡ 
 
 -- What was under a name and what is there without an entry: the same; or the export of that entry,
 -- and nothing.
-abbrev Cut : Entry → List ℕ → Option PlacedExport → Option PlacedExport → Type 0
-Cut e x old new = (new ≡ old) ⊎ ((p : PlacedExport) × (export_named x e.exports ≡ Some p) × (old ≡ Some p) × (new ≡ None))
+abbrev Cut : Entry → List ℕ → Option Standing → Option Standing → Type 0
+Cut e x old new =
+    (new ≡ old) ⊎ ((p : PlacedExport) × (export_named x e.exports ≡ Some p) × (old ≡ Some (standing (Some e.loaded.name) p)) × (new ≡ None))
 
-cut-cons : (e : Entry) (x : List ℕ) (o : Option PlacedExport) (xs ys : List (Option PlacedExport)) → Cut e x (first xs) (first ys) → Cut e x (first (o ∷ xs)) (first (o ∷ ys))
+cut-cons : (e : Entry) (x : List ℕ) (o : Option Standing) (xs ys : List (Option Standing)) → Cut e x (first xs) (first ys) → Cut e x (first (o ∷ xs)) (first (o ∷ ys))
 cut-cons e x None xs ys cut = cut
 cut-cons e x (Some p) xs ys cut = inl refl
 
 cut-in : (e : Entry) (x : List ℕ) (before mid : List Entry) → Alone e mid → Cut e x (named_in x (before ++ e ∷ mid)) (named_in x (before ++ mid))
 cut-in e x (a ∷ before) mid alone =
-    cut-cons e x (export_named x a.exports) (map (λ (n : Entry). export_named x n.exports) (before ++ e ∷ mid)) (map (λ (n : Entry). export_named x n.exports) (before ++ mid)) (cut-in e x before mid alone)
+    cut-cons e x (standing_by x a) (map (standing_by x) (before ++ e ∷ mid)) (map (standing_by x) (before ++ mid)) (cut-in e x before mid alone)
 cut-in e x [] mid alone = by (export_named x e.exports) refl
   where
-    by : (o : Option PlacedExport) → export_named x e.exports ≡ o → Cut e x (first (export_named x e.exports ∷ map (λ (n : Entry). export_named x n.exports) mid)) (named_in x mid)
-    by None is = inl (sym (ap (λ (o : Option PlacedExport). first (o ∷ map (λ (n : Entry). export_named x n.exports) mid)) is))
-    by (Some p) is = inr (p, is, ap (λ (o : Option PlacedExport). first (o ∷ map (λ (n : Entry). export_named x n.exports) mid)) is, alone x p is)
+    by : (o : Option PlacedExport) → export_named x e.exports ≡ o → Cut e x (first (standing_by x e ∷ map (standing_by x) mid)) (named_in x mid)
+    by None is = inl (sym (ap (λ (o : Option PlacedExport). first (option_map (standing (Some e.loaded.name)) o ∷ map (standing_by x) mid)) is))
+    by (Some p) is =
+        inr (p, is, ap (λ (o : Option PlacedExport). first (option_map (standing (Some e.loaded.name)) o ∷ map (standing_by x) mid)) is, alone x p is)
 
 -- The entry of a module, by what its undefined symbols stand for.
 abbrev entry_given : Module → ℕ → List ℕ → Entry
@@ -86,13 +86,13 @@ module _ (machine : Machine) (before mid : List Entry) (e : Entry) (alone : Alon
   abbrev new : Machine
   new = record machine { entries = before ++ mid }
 
-  under : (x : List ℕ) → Cut e x (placed_under old x) (placed_under new x)
-  unfolding placed_under
+  under : (x : List ℕ) → Cut e x (table old x) (table new x)
+  unfolding table
   under x =
-      cut-cons e x (export_named x (map kernel_placed machine.kernel.exports)) (named_in x (before ++ e ∷ mid) ∷ []) (named_in x (before ++ mid) ∷ [])
+      cut-cons e x (option_map (standing None) (export_named x (map kernel_placed machine.kernel.exports))) (named_in x (before ++ e ∷ mid) ∷ []) (named_in x (before ++ mid) ∷ [])
       (one (named_in x (before ++ e ∷ mid)) (named_in x (before ++ mid)) (cut-in e x before mid alone))
     where
-      one : (a b : Option PlacedExport) → Cut e x a b → Cut e x (first (a ∷ [])) (first (b ∷ []))
+      one : (a b : Option Standing) → Cut e x a b → Cut e x (first (a ∷ [])) (first (b ∷ []))
       one None None cut = cut
       one (Some p) None cut = cut
       one None (Some p) cut = cut
@@ -125,14 +125,14 @@ module _ (machine : Machine) (before mid : List Entry) (e : Entry) (alone : Alon
     unseen_faces (n ∷ ns) none zero d less = unmet n (or_parts (is_met_by u e n) (list_any (is_met_by u e) ns) none).0
     unseen_faces (n ∷ ns) none (suc k) d less = unseen_faces ns (or_parts (is_met_by u e n) (list_any (is_met_by u e) ns) none).1 k d (omega arith)
 
-    abbrev seen_address : Option PlacedExport → ℕ
-    seen_address o = option_map_or (λ p. cond (is_seen m.facts.free p.gpl) p.address 0) o 0
+    abbrev seen_address : Option Standing → ℕ
+    seen_address o = option_map_or (λ s. cond (is_seen m.facts.free s.gpl) s.address 0) o 0
 
     -- The address of each need is as it was.
     address-same : (n : FactsNeed) → Unseen n.name → need_address old m.facts n ≡ need_address new m.facts n
-    address-same n unseen = by (placed_under old n.name) (placed_under new n.name) (under n.name)
+    address-same n unseen = by (table old n.name) (table new n.name) (under n.name)
       where
-        by : (a b : Option PlacedExport) → Cut e n.name a b → seen_address a ≡ seen_address b
+        by : (a b : Option Standing) → Cut e n.name a b → seen_address a ≡ seen_address b
         by a b (inl same) = ap seen_address (sym same)
         by a b (inr gone) =
             ap seen_address gone.2
@@ -154,27 +154,24 @@ module _ (machine : Machine) (before mid : List Entry) (e : Entry) (alone : Alon
         (λ k. found-same k m.facts.needs (unseen_facts m.facts.needs (ap (list_any (is_met_by u e)) (sym needs-are) ∙ unused)))
         (range_with_len 0 (length m.object.symbols))
 
-    abbrev found_in : Machine → List ℕ → Option Export
-    found_in n x = export_under (table (machine_kernel n) (faces n) x)
-
     -- An export that is seen is there without the entry too.
-    stays : (x : List ℕ) → Unseen x → (f : Export) → found_in old x ≡ Some f → is_seen u.free f.gpl ≡ true → found_in new x ≡ Some f
+    stays : (x : List ℕ) → Unseen x → (f : Export) → bound_export old x ≡ Some f → is_seen u.free f.gpl ≡ true → bound_export new x ≡ Some f
     stays x unseen f found seen = by (under x)
       where
-        by : Cut e x (placed_under old x) (placed_under new x) → found_in new x ≡ Some f
-        by (inl same) = under-face new x ∙ ap (option_map export_face) same ∙ sym (under-face old x) ∙ found
+        by : Cut e x (table old x) (table new x) → bound_export new x ≡ Some f
+        by (inl same) = ap (option_map (standing_export x)) same ∙ found
         by (inr gone) =
-            let is_it : ◌≡◌ {A = Option Export} (Some (export_face gone.0)) (Some f) = sym (ap (option_map export_face) gone.2) ∙ sym (under-face old x) ∙ found in
+            let is_it : ◌≡◌ {A = Option Export} (Some (standing_export x (standing (Some e.loaded.name) gone.0))) (Some f) = sym (ap (option_map (standing_export x)) gone.2) ∙ found in
             let gpl : gone.0.gpl ≡ f.gpl = ap (λ (o : Option Export). option_map_or (λ (y : Export). y.gpl) o true) is_it in
             absurd (false≢true (sym (unseen gone.0 gone.1) ∙ ap (is_seen u.free) gpl ∙ seen))
 
     -- What is there without the entry was there before.
-    stood : (x : List ℕ) (f : Export) → found_in new x ≡ Some f → found_in old x ≡ Some f
+    stood : (x : List ℕ) (f : Export) → bound_export new x ≡ Some f → bound_export old x ≡ Some f
     stood x f found = by (under x)
       where
-        by : Cut e x (placed_under old x) (placed_under new x) → found_in old x ≡ Some f
-        by (inl same) = under-face old x ∙ ap (option_map export_face) (sym same) ∙ sym (under-face new x) ∙ found
-        by (inr gone) = absurd (none≢some (sym (ap (option_map export_face) gone.3) ∙ sym (under-face new x) ∙ found))
+        by : Cut e x (table old x) (table new x) → bound_export old x ≡ Some f
+        by (inl same) = ap (option_map (standing_export x)) (sym same) ∙ found
+        by (inr gone) = absurd (none≢some (sym (ap (option_map (standing_export x)) gone.3) ∙ found))
 
     pub entry-stays : IsEntryOf new m u
     entry-stays =
@@ -201,22 +198,22 @@ bound-hole machine before mid e (m ∷ ms) [] alone later unused all = absurd al
 bound-hole machine before mid e (m ∷ ms) (u ∷ rest) alone later unused all =
     let more : Alone e (mid ++ u ∷ []) =
     λ x p at.
-    ap first (map-append (λ (n : Entry). export_named x n.exports) mid (u ∷ []))
-    ∙ first-append (map (λ (n : Entry). export_named x n.exports) mid) (export_named x u.exports ∷ [])
-    ∙ ap (λ o. option_or o (first (export_named x u.exports ∷ []))) (alone x p at)
-    ∙ ap (λ (o : Option PlacedExport). first (o ∷ [])) (head-none (export_named x u.exports) (map (λ (n : Entry). export_named x n.exports) rest) (later x p at)) in
-    let rest_later : Alone e rest = λ x p at. tail-none (export_named x u.exports) (map (λ (n : Entry). export_named x n.exports) rest) (later x p at) in (
+    ap first (map-append (standing_by x) mid (u ∷ []))
+    ∙ first-append (map (standing_by x) mid) (standing_by x u ∷ [])
+    ∙ ap (λ o. option_or o (first (standing_by x u ∷ []))) (alone x p at)
+    ∙ ap (λ (o : Option Standing). first (o ∷ [])) (head-none (standing_by x u) (map (standing_by x) rest) (later x p at)) in
+    let rest_later : Alone e rest = λ x p at. tail-none (standing_by x u) (map (standing_by x) rest) (later x p at) in (
       entry-stays machine before mid e alone m u all.0 unused.0,
       subst (λ l. AreBoundAfter machine l ms rest) (sym (append_assoc before mid (u ∷ [])))
           (bound-hole machine before (mid ++ u ∷ []) e ms rest more rest_later unused.1
           (subst (λ l. AreBoundAfter machine l ms rest) (append_assoc before (e ∷ mid) (u ∷ [])) all.1)),
     )
   where
-    head-none : (o : Option PlacedExport) (os : List (Option PlacedExport)) → first (o ∷ os) ≡ None → o ≡ None
+    head-none : (o : Option Standing) (os : List (Option Standing)) → first (o ∷ os) ≡ None → o ≡ None
     head-none None os none = refl
     head-none (Some p) os none = none
 
-    tail-none : (o : Option PlacedExport) (os : List (Option PlacedExport)) → first (o ∷ os) ≡ None → first os ≡ None
+    tail-none : (o : Option Standing) (os : List (Option Standing)) → first (o ∷ os) ≡ None → first os ≡ None
     tail-none None os none = none
     tail-none (Some p) os none = absurd (none≢some (sym none))
 
@@ -256,16 +253,10 @@ unused-after machine j e at unused =
     ∙ ap (λ o. nat_lt j k && option_map_or (λ user. option_map_or (uses_entry user) (slice_get machine.entries j) false) o false) (sym is)
     ∙ unused k)
 
-none-in : (x : List ℕ) (es : List Entry) → unlisted x (flat_map names_of es) → named_in x es ≡ None
-none-in x [] none = refl
-none-in x (e ∷ es) none =
-    let h = parts x (names_of e) (flat_map names_of es) none in
-    ap (λ (o : Option PlacedExport). first (o ∷ map (λ (n : Entry). export_named x n.exports) es)) (none-named x e.exports h.0) ∙ none-in x es h.1
-
 alone-after : (machine : Machine) (j : ℕ) (e : Entry) → slice_get machine.entries j ≡ Some e → IsDistinct bytes_eq (exported_names machine) → Alone e (drop (suc j) machine.entries)
 alone-after machine j e at distinct x p is =
     let none = unlisted-without machine j e at distinct x p is in
-    none-in x (drop (suc j) machine.entries)
+    none-standing x (drop (suc j) machine.entries)
     (parts x (flat_map names_of (take j machine.entries)) (after_it machine j e at)
     (subst (unlisted x) (flat_map-append names_of (take j machine.entries) (drop (suc j) machine.entries))
     (parts x (map (λ (y : KernelExport). y.name) machine.kernel.exports) (flat_map names_of (remove machine.entries j)) none).1)).1

@@ -7,14 +7,13 @@ use Rattle.std.specs.Str.{bytes_eq}
 use Rattle.std.proofs.lemmas.Bool.{or_parts}
 use Rattle.km_names.specs.First.{first}
 use Rattle.provider_rel.specs.declared.kernel.KernelExport.{KernelExport}
-use Rattle.symbol_binding.specs.Table.{table}
 use Rattle.model_loader.specs.declared.entry.PlacedExport.{PlacedExport}
 use Rattle.model_loader.specs.declared.entry.Entry.{Entry}
 use Rattle.model_loader.specs.declared.standing.Standing.{Standing}
 use Rattle.model_loader.specs.declared.standing.ExportTable.{ExportTable}
 use Rattle.model_loader.specs.Kept.{IsKept}
-use Rattle.model_loader.specs.Standing.{standing, standing_of, standing_under}
-use Rattle.model_loader.specs.Machine.{Machine, export_named, kernel_placed}
+use Rattle.model_loader.specs.Standing.{standing_of}
+use Rattle.model_loader.specs.Machine.{Machine, export_named, kernel_placed, standing, table}
 use Rattle.model_loader.specs.Sound.{IsPlaced, exported_names}
 use Rattle.model_loader.specs.Use.{without}
 use Rattle.model_loader.proofs.ListedLemmas.{exports-without, flip, names-without, names_of, none-named, parts, unlisted, unlisted-without}
@@ -48,8 +47,8 @@ none-standing x (e ∷ es) none =
     let h = parts x (names_of e) (flat_map names_of es) none in
     ap (λ (o : Option PlacedExport). first (option_map (standing (Some e.loaded.name)) o ∷ map (standing_by x) es)) (none-named x e.exports h.0) ∙ none-standing x es h.1
 
-unlisted-none : (machine : Machine) (x : List ℕ) → unlisted x (exported_names machine) → standing_under machine x ≡ None
-unfolding standing_under
+unlisted-none : (machine : Machine) (x : List ℕ) → unlisted x (exported_names machine) → table machine x ≡ None
+unfolding table
 unlisted-none machine x none =
     let h = parts x (map (λ (e : KernelExport). e.name) machine.kernel.exports) (flat_map names_of machine.entries) none in
     ap (λ (o : Option PlacedExport). first (option_map (standing None) o ∷ first (map (standing_by x) machine.entries) ∷ [])) (none-kernel x machine.kernel.exports h.0)
@@ -66,21 +65,21 @@ hole-same f (y ∷ ys) (suc j) e at none = again (f y) (map f (remove ys j)) (ma
     again None xs zs same = same
     again (Some s) xs zs same = refl
 
-pub stood-without : (machine : Machine) (j : ℕ) (e : Entry) → slice_get machine.entries j ≡ Some e → (x : List ℕ) → export_named x e.exports ≡ None → standing_under machine x ≡ standing_under (without machine j) x
-unfolding standing_under
+pub stood-without : (machine : Machine) (j : ℕ) (e : Entry) → slice_get machine.entries j ≡ Some e → (x : List ℕ) → export_named x e.exports ≡ None → table machine x ≡ table (without machine j) x
+unfolding table
 stood-without machine j e at x is =
     ap (λ (o : Option Standing). first (option_map (standing None) (export_named x (map kernel_placed machine.kernel.exports)) ∷ o ∷ []))
     (sym (hole-same (standing_by x) machine.entries j e at (ap (option_map (standing (Some e.loaded.name))) is)))
 
-standing-without : (machine : Machine) (j : ℕ) (e : Entry) → slice_get machine.entries j ≡ Some e → IsDistinct bytes_eq (exported_names machine) → (x : List ℕ) → cond (is_some (export_named x e.exports)) None (standing_under machine x) ≡ standing_under (without machine j) x
+standing-without : (machine : Machine) (j : ℕ) (e : Entry) → slice_get machine.entries j ≡ Some e → IsDistinct bytes_eq (exported_names machine) → (x : List ℕ) → cond (is_some (export_named x e.exports)) None (table machine x) ≡ table (without machine j) x
 standing-without machine j e at distinct x = by (export_named x e.exports) refl
   where
-    by : (o : Option PlacedExport) → export_named x e.exports ≡ o → cond (is_some (export_named x e.exports)) None (standing_under machine x) ≡ standing_under (without machine j) x
+    by : (o : Option PlacedExport) → export_named x e.exports ≡ o → cond (is_some (export_named x e.exports)) None (table machine x) ≡ table (without machine j) x
     by (Some p) is =
-        ap (λ o. cond (is_some o) None (standing_under machine x)) is
+        ap (λ o. cond (is_some o) None (table machine x)) is
         ∙ sym (unlisted-none (without machine j) x (unlisted-without machine j e at distinct x p is))
     by None is =
-        ap (λ o. cond (is_some o) None (standing_under machine x)) is
+        ap (λ o. cond (is_some o) None (table machine x)) is
         ∙ stood-without machine j e at x is
 
 pub slice-at : {X : Type 0} (xs : List X) (j : ℕ) (x : X) → j < length xs → x ≡ get_or xs j x → slice_get xs j ≡ Some x

@@ -1,21 +1,22 @@
 -- A machine: the symbols of a kernel with their addresses, a region for modules, and the modules
 -- that were loaded, oldest first. The kernel's struct module, include/linux/module.h, and
 -- find_symbol, kernel/module/main.c.
-use Rattle.std.specs.Prelude.{ℕ, List, [], ◌∷◌, map, find, Option, is_none, option_map, unwrap_or}
+use Rattle.std.specs.Prelude.{ℕ, Bool, List, [], ◌∷◌, map, find, Option, None, Some, is_none, option_map, unwrap_or}
+use Rattle.std.specs.List.{list_any}
 use Rattle.std.specs.Str.{bytes_eq}
 use Rattle.km_names.specs.First.{first}
-use Rattle.symbol_binding.specs.Symbols.{Export, Need, Face, Kernel}
+use Rattle.symbol_binding.specs.Symbols.{Export, Need, Face}
 use Rattle.provider_rel.specs.declared.kernel.Kernel.{Kernel as KernelTable}
 use Rattle.provider_rel.specs.declared.kernel.KernelExport.{KernelExport}
-use Rattle.provider_rel.specs.Faces.{kernel_of}
 -- A module that isn't loaded, by its facts, as symbol binding sees it.
-pub use Rattle.provider_rel.specs.Faces.{export_of_facts as facts_export, need_of_facts as facts_need, face_of as facts_face}
+pub use Rattle.provider_rel.specs.Faces.{need_of_facts as facts_need, face_of as facts_face}
 use Rattle.model_loader.specs.declared.fault.MachineFault.{MachineFault}
 use Rattle.model_loader.specs.declared.fault.MachineFault.TheVariants.{KernelWithoutAddress}
 use Rattle.model_loader.specs.declared.entry.PlacedExport.{PlacedExport}
 use Rattle.model_loader.specs.declared.entry.BoundNeed.{BoundNeed}
 use Rattle.model_loader.specs.declared.entry.Entry.{Entry}
 use Rattle.model_loader.specs.declared.region.Region.{Region}
+use Rattle.model_loader.specs.declared.standing.Standing.{Standing}
 
 -- A machine. Each export of its kernel has an address.
 pub record Machine : Type 0 where
@@ -47,11 +48,9 @@ entry_face e = record {
   imports = e.imports;
 }
 
-abbrev pub faces : Machine → List Face
-faces machine = map entry_face machine.entries
-
-abbrev pub machine_kernel : Machine → Kernel
-machine_kernel machine = kernel_of machine.kernel
+-- Whether a module of this name is loaded.
+abbrev pub is_loaded : Machine → List ℕ → Bool
+is_loaded machine name = list_any (λ e. bytes_eq e.loaded.name name) machine.entries
 
 -- An export of the kernel at its address.
 abbrev pub kernel_placed : KernelExport → PlacedExport
@@ -61,11 +60,24 @@ kernel_placed e = record { name = e.name; crc = e.crc; gpl = e.gpl; space = e.sp
 abbrev pub export_named : List ℕ → List PlacedExport → Option PlacedExport
 export_named x exports = find (λ e. bytes_eq e.name x) exports
 
--- What a name is bound to: the kernel's export, and otherwise the export of the module that was
--- loaded first.
-unfoldable pub placed_under : Machine → List ℕ → Option PlacedExport
-placed_under machine x =
+-- What the table of a machine has of an export of an owner, which is a module by its name or the
+-- kernel.
+abbrev pub standing : Option (List ℕ) → PlacedExport → Standing
+standing owner e = record { crc = e.crc; gpl = e.gpl; space = e.space; address = e.address; owner = owner }
+
+-- The table of a machine: what a name is bound to, with its address and its owner. It is the
+-- kernel's export, and otherwise the export of the module that was loaded first.
+unfoldable pub table : Machine → List ℕ → Option Standing
+table machine x =
     first (
-    export_named x (map kernel_placed machine.kernel.exports)
-    ∷ first (map (λ e. export_named x e.exports) machine.entries)
+    option_map (standing None) (export_named x (map kernel_placed machine.kernel.exports))
+    ∷ first (map (λ e. option_map (standing (Some e.loaded.name)) (export_named x e.exports)) machine.entries)
     ∷ [])
+
+-- The export of this name, by what a table has of it.
+abbrev pub standing_export : List ℕ → Standing → Export
+standing_export x s = record { name = x; crc = s.crc; gpl = s.gpl; space = s.space }
+
+-- The export that a name is bound to.
+abbrev pub bound_export : Machine → List ℕ → Option Export
+bound_export machine x = option_map (standing_export x) (table machine x)

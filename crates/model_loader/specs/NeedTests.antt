@@ -6,8 +6,8 @@ use Rattle.module_facts.specs.declared.facts.Export.{Export as FactsExport}
 use Rattle.module_facts.specs.declared.facts.Need.{Need as FactsNeed}
 use Rattle.module_facts.specs.declared.facts.Facts.{Facts}
 use Rattle.model_loader.specs.declared.standing.ExportTable.{ExportTable}
-use Rattle.model_loader.specs.Machine.{facts_face, facts_need}
-use Rattle.model_loader.specs.Standing.{standing_export, standing_of}
+use Rattle.model_loader.specs.Machine.{facts_face, facts_need, standing_export}
+use Rattle.model_loader.specs.Standing.{standing_of}
 use Rattle.symbol_binding.specs.Unmet.{vmlinux}
 use Rattle.symbol_binding.specs.Needs.{NeedTest, is_seen, is_missing, is_hidden, is_other_version, is_barred}
 use Rattle.model_loader.specs.declared.needs.Check.{Check}

@@ -4,18 +4,16 @@ use Rattle.std.specs.List.{IsDistinct}
 use Rattle.std.specs.Str.{bytes_eq}
 use Rattle.module_facts.specs.declared.module.Module.{Module}
 use Rattle.symbol_binding.specs.Symbols.{Export, Need, Face}
-use Rattle.symbol_binding.specs.Provider.{export_under}
 use Rattle.symbol_binding.specs.Needs.{sees, may_use, agree}
-use Rattle.symbol_binding.specs.Table.{table}
 use Rattle.model_loader.specs.declared.entry.Entry.{Entry}
-use Rattle.model_loader.specs.Machine.{Machine, entry_face, faces, machine_kernel}
+use Rattle.model_loader.specs.Machine.{Machine, bound_export, entry_face}
 use Rattle.model_loader.specs.Step.{entry_at}
 
 -- A need is bound in a machine: its name has an export, the module sees it and may use it, and its
 -- version agrees.
 pub record IsBound (machine : Machine) (m : Face) (n : Need) : Type 0 where
   pub export : Export
-  pub found : export_under (table (machine_kernel machine) (faces machine) n.name) ≡ Some export
+  pub found : bound_export machine n.name ≡ Some export
   pub seen : sees m export ≡ true
   pub agreeing : agree n.crc export.crc ≡ true
   pub allowed : may_use m export ≡ true
@@ -24,8 +22,7 @@ pub record IsBound (machine : Machine) (m : Face) (n : Need) : Type 0 where
 -- the module may use it.
 abbrev pub Agrees : Machine → Face → Need → Type 0
 Agrees machine m n =
-    (e : Export) → export_under (table (machine_kernel machine) (faces machine) n.name) ≡ Some e → sees m e ≡ true
-    → (agree n.crc e.crc ≡ true) × (may_use m e ≡ true)
+    (e : Export) → bound_export machine n.name ≡ Some e → sees m e ≡ true → (agree n.crc e.crc ≡ true) × (may_use m e ≡ true)
 
 -- An entry is a module's over a machine, and each strong need of the module is bound there.
 pub record IsEntryOf (machine : Machine) (m : Module) (e : Entry) : Type 0 where

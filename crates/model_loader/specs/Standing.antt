@@ -1,32 +1,13 @@
 -- What a machine keeps of each exported name, so that a name is looked up in one step.
 -- It belongs to the code: no public meaning rests on it.
-use Rattle.std.specs.Prelude.{◌≡◌, ℕ, List, [], ◌∷◌, map, find, Option, None, Some, option_map}
+use Rattle.std.specs.Prelude.{◌≡◌, ℕ, List, find, Option, option_map}
 use Rattle.std.specs.HashMap.{get_by}
 use Rattle.std.specs.Str.{bytes_eq}
-use Rattle.km_names.specs.First.{first}
-use Rattle.symbol_binding.specs.Symbols.{Export}
 use Rattle.model_loader.specs.declared.entry.PlacedExport.{PlacedExport}
 use Rattle.model_loader.specs.declared.standing.Standing.{Standing}
 use Rattle.model_loader.specs.declared.standing.Named.{Named}
 use Rattle.model_loader.specs.declared.standing.ExportTable.{ExportTable}
-use Rattle.model_loader.specs.Machine.{Machine, export_named, kernel_placed}
-
--- What is kept of an export of an owner, which is a module by its name or the kernel.
-abbrev pub standing : Option (List ℕ) → PlacedExport → Standing
-standing owner e = record { crc = e.crc; gpl = e.gpl; space = e.space; address = e.address; owner = owner }
-
--- What is kept of a name: of the kernel's export, and otherwise of the export of the module that
--- was loaded first.
-unfoldable pub standing_under : Machine → List ℕ → Option Standing
-standing_under machine x =
-    first (
-    option_map (standing None) (export_named x (map kernel_placed machine.kernel.exports))
-    ∷ first (map (λ e. option_map (standing (Some e.loaded.name)) (export_named x e.exports)) machine.entries)
-    ∷ [])
-
--- The export of this name, from what is kept of it.
-abbrev pub standing_export : List ℕ → Standing → Export
-standing_export x s = record { name = x; crc = s.crc; gpl = s.gpl; space = s.space }
+use Rattle.model_loader.specs.Machine.{Machine, standing, table}
 
 -- What a table has for a name.
 abbrev pub standing_of : ExportTable → List ℕ → Option Standing
@@ -38,7 +19,7 @@ standing_in x named = option_map (λ n. n.standing) (find (λ n. bytes_eq n.name
 
 -- The table has what a machine keeps of each name.
 pub record Keeps (t : ExportTable) (machine : Machine) : Type 0 where
-  pub at : (x : List ℕ) → standing_of t x ≡ standing_under machine x
+  pub at : (x : List ℕ) → standing_of t x ≡ table machine x
 
 -- A name with what is kept of it, as a pair.
 abbrev pub named_pair : Named → List ℕ × Standing

@@ -9,10 +9,7 @@ use Rattle.module_facts.specs.declared.facts.Export.{Export as FactsExport}
 use Rattle.module_facts.specs.declared.facts.Need.{Need as FactsNeed}
 use Rattle.module_facts.specs.declared.facts.Facts.{Facts}
 use Rattle.module_facts.specs.declared.module.Module.{Module}
-use Rattle.symbol_binding.specs.Symbols.{Export, Face}
-use Rattle.symbol_binding.specs.Provider.{Owner, ByKernel, ByModule}
 use Rattle.symbol_binding.specs.Needs.{NeedTest, is_seen, is_missing, is_hidden, is_other_version, is_barred}
-use Rattle.symbol_binding.specs.Table.{is_named, first_need, taken}
 use Rattle.symbol_binding.specs.Unmet.{vmlinux}
 use Rattle.x86_relocate.specs.declared.patch.Overflow.{Overflow as TooWide}
 use Rattle.image_layout.specs.Offsets.{image_size}
@@ -23,7 +20,7 @@ use Rattle.model_loader.specs.declared.fault.LoadFault.TheVariants.{AlreadyLoade
 use Rattle.model_loader.specs.declared.entry.PlacedExport.{PlacedExport}
 use Rattle.model_loader.specs.declared.entry.BoundNeed.{BoundNeed}
 use Rattle.model_loader.specs.declared.entry.Entry.{Entry}
-use Rattle.model_loader.specs.Machine.{Machine, faces, machine_kernel, facts_face, placed_under}
+use Rattle.model_loader.specs.Machine.{Machine, bound_export, facts_face, facts_need, is_loaded, table}
 use Rattle.model_loader.specs.Gap.{gap}
 
 -- A test that fails with this fault if the condition holds.
@@ -34,7 +31,7 @@ fault_if failed fault = if failed then Some fault else None
 -- otherwise 0.
 abbrev pub need_address : Machine → Facts → FactsNeed → ℕ
 need_address machine f n =
-    option_map_or (λ e. if is_seen f.free e.gpl then e.address else 0) (placed_under machine n.name) 0
+    option_map_or (λ s. if is_seen f.free s.gpl then s.address else 0) (table machine n.name) 0
 
 -- The address of the symbol k if it is defined elsewhere: the address of the need that it states.
 -- Symbol 0 and `_GLOBAL_OFFSET_TABLE_` state none, and have 0.
@@ -57,30 +54,24 @@ module_size m = image_size m.object.sections
 abbrev pub named_pages : ℕ → ℕ
 named_pages n = if nat_lt n (2 ^ 64) then n else 2 ^ 64 - 1
 
--- The owner of an export in a refusal.
-abbrev pub owner_name : Owner Face → List ℕ
-owner_name ByKernel = vmlinux
-owner_name (ByModule m) = m.name
-
 -- The test that no need of a module fails the test of needs.
 abbrev pub need_test : Machine → Facts → NeedTest → (List ℕ → LoadFault) → Option LoadFault
 need_test machine f test fault =
-    option_map fault (first_need (machine_kernel machine) (faces machine) (facts_face f) test)
+    option_map (λ n. fault n.name) (find (λ n. test (bound_export machine n.name) (facts_face f) (facts_need n)) f.needs)
 
 -- The test that the name of an export isn't bound yet.
-abbrev pub taken_test : Machine → Export → Option LoadFault
-taken_test machine e =
-    option_map (λ t. ExportTaken t.0 (owner_name t.1.owner)) (taken (machine_kernel machine) (faces machine) e)
+abbrev pub taken_test : Machine → FactsExport → Option LoadFault
+taken_test machine e = option_map (λ s. ExportTaken e.name (unwrap_or s.owner vmlinux)) (table machine e.name)
 
 -- The tests of the names of a module, in order.
 abbrev pub name_tests : Machine → Facts → List (Option LoadFault)
 name_tests machine f =
-    fault_if (is_named (faces machine) f.name) AlreadyLoaded
+    fault_if (is_loaded machine f.name) AlreadyLoaded
     ∷ need_test machine f is_missing MissingSymbol
     ∷ need_test machine f is_hidden GplOnly
     ∷ need_test machine f is_other_version VersionDiffers
     ∷ need_test machine f is_barred NotImported
-    ∷ first (map (taken_test machine) (facts_face f).exports)
+    ∷ first (map (taken_test machine) f.exports)
     ∷ []
 
 -- The first word of a module at a base that doesn't fit.

@@ -1,9 +1,9 @@
 // The tests of a module's needs.
 
 ghost use Rattle.std.specs.Prelude.{◌≡◌, ◌⊎◌, None, Some, OnOk, IfErr, find, option_map, option_copied};
-ghost use Rattle.model_loader.specs.Machine.{Machine, facts_face, facts_need};
+ghost use Rattle.model_loader.specs.Machine.{Machine, facts_face, facts_need, standing_export};
 ghost use Rattle.model_loader.specs.NeedTests.{fault_of, need_fails, test_of};
-ghost use Rattle.model_loader.specs.Standing.{Keeps, standing_export};
+ghost use Rattle.model_loader.specs.Standing.{Keeps};
 ghost use Rattle.model_loader.specs.Step.{need_test};
 
 use crate::LoadFault;

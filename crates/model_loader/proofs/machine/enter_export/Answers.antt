@@ -2,8 +2,7 @@ use Rattle.std.proofs.Common.{◌∙◌, inr, ap, None, Some, cond}
 use Rattle.std.specs.Prelude.{is_none}
 use Rattle.std.specs.Option.{option_or}
 use Rattle.std.specs.Str.{bytes_eq}
-use Rattle.model_loader.specs.Machine.{kernel_placed}
-use Rattle.model_loader.specs.Standing.{standing}
+use Rattle.model_loader.specs.Machine.{kernel_placed, standing}
 use Rattle.model_loader.proofs.KernelLemmas.{entered-export}
 use Rattle.model_loader.proofs.machine.enter_export.Goals as goal
 

@@ -1,7 +1,7 @@
 use Rattle.std.proofs.Common.{◌≡◌, ℕ, List, None, take, map}
 use Rattle.std.specs.Prelude.{find, is_none, option_map}
-use Rattle.model_loader.specs.Machine.{export_named, kernel_placed}
-use Rattle.model_loader.specs.Standing.{standing, standing_of}
+use Rattle.model_loader.specs.Machine.{export_named, kernel_placed, standing}
+use Rattle.model_loader.specs.Standing.{standing_of}
 use Rattle.model_loader.proofs.machine.kernel_table.Given as goal
 
 abbrev pub invariant-loop-export : goal.invariant-loop-export

@@ -4,16 +4,15 @@ use Rattle.std.specs.List.{list_any}
 use Rattle.std.specs.Str.{bytes_eq}
 use Rattle.model_loader.specs.declared.entry.Entry.{Entry}
 use Rattle.km_names.specs.First.{first}
-use Rattle.symbol_binding.specs.Table.{is_named}
 use Rattle.model_loader.specs.declared.fault.LoadFault.TheVariants.{AlreadyLoaded}
-use Rattle.model_loader.specs.Machine.{faces}
+use Rattle.model_loader.specs.Machine.{is_loaded}
 use Rattle.model_loader.proofs.NameLemmas.{exports-taken, fails, is_named-fault, later, named-is, not_named, passes}
 use Rattle.model_loader.proofs.names.check_names.Goals as goal
 
 pub returns-then-is_loaded-clause-fault : goal.returns-then-is_loaded-clause-fault
 returns-then-is_loaded-clause-fault c = λ machine are keeps.
     let f = c.args.facts.now in
-    let named : is_named (faces machine) f.name ≡ true = named-is machine c.args.entries.now f.name are ∙ ap (λ n. list_any (λ (e : Entry). bytes_eq e.loaded.name n) c.args.entries.now) (sym c.as_bytes.ensures) ∙ sym c.is_loaded.ensures ∙ c.if-is_loaded.true in
+    let named : is_loaded machine f.name ≡ true = named-is machine c.args.entries.now f.name are ∙ ap (λ n. list_any (λ (e : Entry). bytes_eq e.loaded.name n) c.args.entries.now) (sym c.as_bytes.ensures) ∙ sym c.is_loaded.ensures ∙ c.if-is_loaded.true in
     fails _ _ AlreadyLoaded (inr (is_named-fault machine f named))
 
 pub returns-in_err-check-clause-fault : goal.returns-in_err-check-clause-fault

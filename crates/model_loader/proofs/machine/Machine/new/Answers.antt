@@ -1,13 +1,13 @@
 use Rattle.std.proofs.Common.{◌∙◌, List, sym, subst, arith}
 use Rattle.model_loader.specs.declared.entry.Entry.{Entry}
 use Rattle.model_loader.specs.Kept.{IsKept}
-use Rattle.model_loader.specs.Standing.{standing_under}
+use Rattle.model_loader.specs.Machine.{table}
 use Rattle.model_loader.proofs.KernelLemmas.{first-alone}
 use Rattle.model_loader.proofs.SoundLemmas.{exports-new, names-new}
 use Rattle.model_loader.proofs.machine.Machine.new.Goals as goal
 
 pub invariant_of-result : goal.invariant_of-result
-unfolding standing_under
+unfolding table
 invariant_of-result c =
     subst (λ (es : List Entry). IsKept (record { kernel = c.args.kernel; region = c.args.region; entries = es }) c.in_ok-table.table) (sym c.new.ensures.items)
     (record {
