@@ -29,7 +29,6 @@ use Rattle.module_facts.proofs.SoundLemmas.{IsSound-passed}
 use Rattle.mod_tree.specs.Tree.{is_module_path, tree_of}
 use Rattle.symbol_binding.specs.Symbols.{Kernel as SeenKernel, Module}
 use Rattle.symbol_binding.specs.Unmet.{doubles}
-use Rattle.provider_rel.specs.declared.fault.KernelFault.{KernelFault}
 use Rattle.provider_rel.specs.declared.kernel.KernelExport.{KernelExport}
 use Rattle.provider_rel.specs.Faces.{module_of, modules_of}
 use Rattle.provider_rel.specs.KernelTable.{IsTable, exports_of_map, exports_of_symvers}
@@ -114,7 +113,7 @@ by-first {X} {Y} P stage next files only ended gone = by_outcome (stage.run file
 
 -- ---- the kernel
 
-was-tabled : (file : List ℕ) (o : Result (List KernelExport) KernelFault) (table : Table) → table_outcome file o ≡ value table → (table.known ≡ true) × (o ≡ Ok table.exports)
+was-tabled : (file : List ℕ) (o : Result (List KernelExport) ℕ) (table : Table) → table_outcome file o ≡ value table → (table.known ≡ true) × (o ≡ Ok table.exports)
 unfolding table_outcome
 was-tabled file (Ok exports) table came =
     let same : ◌≡◌ {A = Table} (record { known = true; exports = exports }) table = cc in
@@ -122,7 +121,7 @@ was-tabled file (Ok exports) table came =
 was-tabled file (Err fault) table came = cc
 
 -- the table that a file states
-stated-came : (files : Contents) (file : List ℕ) (state : List ℕ → Result (List KernelExport) KernelFault) (table : Table) → ((bytes : List ℕ) (es : List KernelExport) → state bytes ≡ Ok es → IsTable es) → ((reads file >>= λ bytes. given (table_outcome file (state bytes))).run files).outcome ≡ value table → (table.known ≡ true) × IsTable table.exports
+stated-came : (files : Contents) (file : List ℕ) (state : List ℕ → Result (List KernelExport) ℕ) (table : Table) → ((bytes : List ℕ) (es : List KernelExport) → state bytes ≡ Ok es → IsTable es) → ((reads file >>= λ bytes. given (table_outcome file (state bytes))).run files).outcome ≡ value table → (table.known ≡ true) × IsTable table.exports
 stated-came files file state table apart came =
     let h = goes-on (reads file) (λ bytes. given (table_outcome file (state bytes))) files table came in
     let t = was-tabled file (state h.mid) table (given-came (table_outcome file (state h.mid)) table (after ((reads file).run files).acts files) h.rest) in

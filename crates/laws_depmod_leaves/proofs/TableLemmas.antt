@@ -6,7 +6,6 @@ use Rattle.km_outside.specs.Contents.{Contents}
 use Rattle.km_course.specs.Course.{Outcome, after, ◌>>=◌, given, reads}
 use Rattle.km_course.specs.Course.Outcome.{value, end}
 use Rattle.km_course.specs.declared.end.End.TheVariants.{NoFile}
-use Rattle.provider_rel.specs.declared.fault.KernelFault.{KernelFault}
 use Rattle.provider_rel.specs.declared.kernel.Kernel.{Kernel}
 use Rattle.provider_rel.specs.declared.kernel.KernelExport.{KernelExport}
 use Rattle.provider_rel.specs.Faces.{kernel_of}
@@ -27,12 +26,12 @@ use Rattle.laws_depmod_leaves.specs.Loads.{AreOfOneTable, LeftForLoads}
 use Rattle.laws_depmod_leaves.proofs.ReadLemmas.{kernel_with-known}
 
 -- the file that states a table
-record IsStated (files : Contents) (file : List ℕ) (state : List ℕ → Result (List KernelExport) KernelFault) (table : Table) : Type 0 where
+record IsStated (files : Contents) (file : List ℕ) (state : List ℕ → Result (List KernelExport) ℕ) (table : Table) : Type 0 where
   bytes : List ℕ
   there : get files file ≡ Some bytes
   states : table_outcome file (state bytes) ≡ value table
 
-was-stated : (files : Contents) (file : List ℕ) (state : List ℕ → Result (List KernelExport) KernelFault) (table : Table) → ((reads file >>= λ bytes. given (table_outcome file (state bytes))).run files).outcome ≡ value table → IsStated files file state table
+was-stated : (files : Contents) (file : List ℕ) (state : List ℕ → Result (List KernelExport) ℕ) (table : Table) → ((reads file >>= λ bytes. given (table_outcome file (state bytes))).run files).outcome ≡ value table → IsStated files file state table
 was-stated files file state table came =
     let h = goes-on (reads file) (λ bytes. given (table_outcome file (state bytes))) files table came in
     record {
@@ -45,19 +44,19 @@ same-value : (a b : Table) → ◌≡◌ {A = Outcome Table} (value a) (value b)
 same-value a b is = cc
 
 -- the table of what is stated doesn't tell at which path it stands
-same-stated : (file other : List ℕ) (stated : Result (List KernelExport) KernelFault) (a b : Table) → table_outcome file stated ≡ value a → table_outcome other stated ≡ value b → a ≡ b
+same-stated : (file other : List ℕ) (stated : Result (List KernelExport) ℕ) (a b : Table) → table_outcome file stated ≡ value a → table_outcome other stated ≡ value b → a ≡ b
 unfolding table_outcome
 same-stated file other (Ok exports) a b at_file at_other = same-value a b (sym at_file ∙ at_other)
 same-stated file other (Err fault) a b at_file at_other = absurd cc
 
 -- of the same bytes it is the same table
-one-table : (held left : Contents) (file other : List ℕ) (state : List ℕ → Result (List KernelExport) KernelFault) (a b : Table) → get held file ≡ get left other → IsStated held file state a → IsStated left other state b → a ≡ b
+one-table : (held left : Contents) (file other : List ℕ) (state : List ℕ → Result (List KernelExport) ℕ) (a b : Table) → get held file ≡ get left other → IsStated held file state a → IsStated left other state b → a ≡ b
 one-table held left file other state a b same in_held in_left =
     let some : ◌≡◌ {A = Option (List ℕ)} (Some in_held.bytes) (Some in_left.bytes) = sym in_held.there ∙ same ∙ in_left.there in
     let bytes : in_held.bytes ≡ in_left.bytes = cc in
     same-stated file other (state in_left.bytes) a b (ap (λ bs. table_outcome file (state bs)) (sym bytes) ∙ in_held.states) in_left.states
 
-was-addressed : (file : List ℕ) (exported : Table) (stated : Result (List KernelExport) KernelFault) (table : Table) → addressed_outcome file exported.known stated ≡ value table → (table.known ≡ exported.known) × (stated ≡ Ok table.exports)
+was-addressed : (file : List ℕ) (exported : Table) (stated : Result (List KernelExport) ℕ) (table : Table) → addressed_outcome file exported.known stated ≡ value table → (table.known ≡ exported.known) × (stated ≡ Ok table.exports)
 unfolding addressed_outcome
 was-addressed file exported (Ok es) table came =
     let same : ◌≡◌ {A = Table} (record { known = exported.known; exports = es }) table = cc in

@@ -28,8 +28,6 @@ use Rattle.module_facts.specs.Faults.{fact_fault}
 use Rattle.module_facts.specs.FaultText.{module_fault_text}
 use Rattle.modprobe_conf.specs.declared.rule.Rule.{Rule}
 use Rattle.modprobe_conf.specs.Rules.{rules_of}
-use Rattle.provider_rel.specs.declared.fault.KernelFault.{KernelFault}
-use Rattle.provider_rel.specs.declared.fault.KernelFault.TheVariants as table_faults
 use Rattle.provider_rel.specs.declared.kernel.Kernel.{Kernel}
 use Rattle.provider_rel.specs.declared.kernel.KernelExport.{KernelExport}
 use Rattle.provider_rel.specs.Faces.{kernel_of}
@@ -150,17 +148,15 @@ module _ (held : Contents) (asked : ModprobeWords) where
 
   -- ---- the kernel's tables
 
-  other-table : (file : List ℕ) (stated : Result (List KernelExport) KernelFault) → ((number : ℕ) → Other (Refused (BadLine file number))) → (e : End) → table_outcome file stated ≡ end e → Other e
+  other-table : (file : List ℕ) (stated : Result (List KernelExport) ℕ) → ((number : ℕ) → Other (Refused (BadLine file number))) → (e : End) → table_outcome file stated ≡ end e → Other e
   unfolding table_outcome
   other-table file (Ok exports) own e is = absurd (no-end _ e is)
-  other-table file (Err (table_faults.BadKernelLine number)) own e is = so-ends Other (Refused (BadLine file number)) e (own number) is
-  other-table file (Err table_faults.Memory) own e is = so-ends Other (Refused (BadLine file 0)) e (own 0) is
+  other-table file (Err number) own e is = so-ends Other (Refused (BadLine file number)) e (own number) is
 
-  other-addressed_table : (file : List ℕ) (known : Bool) (stated : Result (List KernelExport) KernelFault) → ((number : ℕ) → Other (Refused (BadLine file number))) → (e : End) → addressed_outcome file known stated ≡ end e → Other e
+  other-addressed_table : (file : List ℕ) (known : Bool) (stated : Result (List KernelExport) ℕ) → ((number : ℕ) → Other (Refused (BadLine file number))) → (e : End) → addressed_outcome file known stated ≡ end e → Other e
   unfolding addressed_outcome
   other-addressed_table file known (Ok exports) own e is = absurd (no-end _ e is)
-  other-addressed_table file known (Err (table_faults.BadKernelLine number)) own e is = so-ends Other (Refused (BadLine file number)) e (own number) is
-  other-addressed_table file known (Err table_faults.Memory) own e is = so-ends Other (Refused (BadLine file 0)) e (own 0) is
+  other-addressed_table file known (Err number) own e is = so-ends Other (Refused (BadLine file number)) e (own number) is
 
   other-map : (file : List ℕ) → ((number : ℕ) → Other (Refused (BadLine file number))) → EndsIn Other (reads_map file)
   other-map file own =

@@ -3,14 +3,14 @@ use Rattle.std.proofs.Common.{◌≡◌, ℕ, ◌+◌, Bool, true, false, ◌&&�
 use Rattle.std.proofs.lemmas.Iterator.Adapters.{position_from-zero}
 use Rattle.std.specs.List.{cons_option, position_from, filter_map}
 use Rattle.std.specs.Option.{is_none}
+use Rattle.std.specs.Result.{result_err}
 use Rattle.km_names.specs.Lines.{lines_of}
-use Rattle.provider_rel.specs.declared.fault.KernelFault.{KernelFault}
-use Rattle.provider_rel.specs.declared.fault.KernelFault.TheVariants.{BadKernelLine}
-use Rattle.provider_rel.specs.TableLines.{is_blank, is_refused, table_fault, stated}
+use Rattle.km_names.specs.Statements.{unless_fault}
+use Rattle.provider_rel.specs.TableLines.{is_blank, is_refused, refused_line, stated}
 
--- the fault of lines, of which the first has a number
-pub fault_at : {X : Type 0} → (List ℕ → Option X) → ℕ → List (List ℕ) → Option KernelFault
-fault_at read number lines = option_map (λ n. BadKernelLine n) (position_from (is_refused read) number lines)
+-- the number of the first of some lines that is refused, of which the first line has a number
+pub refused_from : {X : Type 0} → (List ℕ → Option X) → ℕ → List (List ℕ) → Option ℕ
+refused_from read number lines = position_from (is_refused read) number lines
 
 counted : (p : List ℕ → Bool) (k : ℕ) (xs : List (List ℕ)) → position_from p (k + 1) xs ≡ option_map (λ i. i + 1) (position_from p k xs)
 counted p k [] = refl
@@ -20,35 +20,34 @@ counted p k (x ∷ xs) =
       | false ↦ counted p (k + 1) xs
     ]
 
-numbered : (o : Option ℕ) → option_map (λ i. BadKernelLine (i + 1)) o ≡ option_map (λ n. BadKernelLine n) (option_map (λ i. i + 1) o)
-numbered None = refl
-numbered (Some i) = refl
-
--- the fault of a table is that of its lines from 1
-pub fault-begins : {X : Type 0} (read : List ℕ → Option X) (bytes : List ℕ) → fault_at read 1 (lines_of bytes) ≡ table_fault read bytes
-unfolding table_fault fault_at
-fault-begins read bytes =
+-- the number of a table is that of its lines from 1
+pub refused-begins : {X : Type 0} (read : List ℕ → Option X) (bytes : List ℕ) → refused_from read 1 (lines_of bytes) ≡ refused_line read bytes
+unfolding refused_line refused_from
+refused-begins read bytes =
     let lines = lines_of bytes in
-    ap (option_map (λ n. BadKernelLine n)) (counted (is_refused read) 0 lines)
-    ∙ sym (numbered (position_from (is_refused read) 0 lines))
-    ∙ ap (option_map (λ i. BadKernelLine (i + 1))) (sym (position_from-zero (is_refused read) lines))
+    counted (is_refused read) 0 lines ∙ ap (option_map (λ i. i + 1)) (sym (position_from-zero (is_refused read) lines))
 
--- no line, no fault
-pub fault-none : {X : Type 0} (read : List ℕ → Option X) (number : ℕ) → fault_at read number [] ≡ None
-unfolding fault_at
-fault-none read number = refl
+-- of no lines none is refused
+pub refused-none : {X : Type 0} (read : List ℕ → Option X) (number : ℕ) → refused_from read number [] ≡ None
+unfolding refused_from
+refused-none read number = refl
 
 -- a line that isn't refused
-pub fault-passed : {X : Type 0} (read : List ℕ → Option X) (number : ℕ) (line : List ℕ) (lines : List (List ℕ)) → is_refused read line ≡ false → fault_at read number (line ∷ lines) ≡ fault_at read (number + 1) lines
-unfolding fault_at
-fault-passed read number line lines passed =
-    ap (λ b. option_map (λ n. BadKernelLine n) (cond b (Some number) (position_from (is_refused read) (number + 1) lines))) passed
+pub refused-passed : {X : Type 0} (read : List ℕ → Option X) (number : ℕ) (line : List ℕ) (lines : List (List ℕ)) → is_refused read line ≡ false → refused_from read number (line ∷ lines) ≡ refused_from read (number + 1) lines
+unfolding refused_from
+refused-passed read number line lines passed =
+    ap (λ b. cond b (Some number) (position_from (is_refused read) (number + 1) lines)) passed
 
 -- a line that is
-pub fault-refused : {X : Type 0} (read : List ℕ → Option X) (number : ℕ) (line : List ℕ) (lines : List (List ℕ)) → is_refused read line ≡ true → fault_at read number (line ∷ lines) ≡ Some (BadKernelLine number)
-unfolding fault_at
-fault-refused read number line lines refused =
-    ap (λ b. option_map (λ n. BadKernelLine n) (cond b (Some number) (position_from (is_refused read) (number + 1) lines))) refused
+pub refused-here : {X : Type 0} (read : List ℕ → Option X) (number : ℕ) (line : List ℕ) (lines : List (List ℕ)) → is_refused read line ≡ true → refused_from read number (line ∷ lines) ≡ Some number
+unfolding refused_from
+refused-here read number line lines refused =
+    ap (λ b. cond b (Some number) (position_from (is_refused read) (number + 1) lines)) refused
+
+-- the refusal of what is stated unless a line is refused
+pub refusal_of : {X F : Type 0} (o : Option F) (x : X) → result_err (unless_fault o x) ≡ o
+refusal_of None x = refl
+refusal_of (Some fault) x = refl
 
 closed : (b : Bool) → (b && false) ≡ false
 closed true = refl

@@ -7,8 +7,7 @@ use Rattle.km_names.specs.Statements.{unless_fault}
 use Rattle.name_table.specs.NameTable.{Table, IsTableOf}
 use Rattle.symbol_binding.specs.Symbols.{Export}
 use Rattle.provider_rel.specs.declared.kernel.KernelExport.{KernelExport}
-use Rattle.provider_rel.specs.declared.fault.KernelFault.{KernelFault}
-use Rattle.provider_rel.specs.TableLines.{table_fault, stated}
+use Rattle.provider_rel.specs.TableLines.{refused_line, stated}
 use Rattle.provider_rel.specs.MapLines.{MapSymbol, map_line, address_of}
 use Rattle.provider_rel.specs.SymversLines.{SymversExport, symvers_line}
 
@@ -62,21 +61,22 @@ stated_export l = record { name = l.name; crc = Some l.crc; address = None; gpl 
 abbrev pub export_of_line : SymversExport → Option KernelExport
 export_of_line l = if bytes_eq l.owner (codes "vmlinux") then Some (stated_export l) else None
 
--- The exports that a System.map states, or its first line that is refused.
-unfoldable pub exports_of_map : List ℕ → Result (List KernelExport) KernelFault
+-- The exports that a System.map states, or the number of its first line that is refused.
+unfoldable pub exports_of_map : List ℕ → Result (List KernelExport) ℕ
 exports_of_map bytes =
     let symbols = stated map_line bytes in
-    unless_fault (table_fault map_line bytes) (with_addresses symbols (first_of_each (filter_map export_of_symbol symbols)))
+    unless_fault (refused_line map_line bytes) (with_addresses symbols (first_of_each (filter_map export_of_symbol symbols)))
 
--- The exports that a Module.symvers states, or its first line that is refused.
-unfoldable pub exports_of_symvers : List ℕ → Result (List KernelExport) KernelFault
+-- The exports that a Module.symvers states, or the number of its first line that is refused.
+unfoldable pub exports_of_symvers : List ℕ → Result (List KernelExport) ℕ
 exports_of_symvers bytes =
-    unless_fault (table_fault symvers_line bytes) (first_of_each (filter_map export_of_line (stated symvers_line bytes)))
+    unless_fault (refused_line symvers_line bytes) (first_of_each (filter_map export_of_line (stated symvers_line bytes)))
 
--- Exports with the addresses that a System.map states, or its first line that is refused.
-unfoldable pub exports_with_addresses : List ℕ → List KernelExport → Result (List KernelExport) KernelFault
+-- Exports with the addresses that a System.map states, or the number of its first line that is
+-- refused.
+unfoldable pub exports_with_addresses : List ℕ → List KernelExport → Result (List KernelExport) ℕ
 exports_with_addresses bytes exports =
-    unless_fault (table_fault map_line bytes) (with_addresses (stated map_line bytes) exports)
+    unless_fault (refused_line map_line bytes) (with_addresses (stated map_line bytes) exports)
 
 -- An export as symbol binding sees it.
 abbrev pub seen_export : KernelExport → Export

@@ -4,7 +4,7 @@ ghost use Rattle.std.specs.List.{filter_map};
 ghost use Rattle.km_names.specs.Limit.{file_limit};
 ghost use Rattle.provider_rel.specs.KernelTable.{IsTable, AreFirst, first_of_each, with_export, with_its_address, with_addresses, exported_name, export_of_entry, stated_export, export_of_symbol, export_of_line};
 
-use crate::map::Symbols;
+use crate::map::SystemMap;
 use crate::symvers::SymversLine;
 use crate::{KernelExport, KernelExports};
 use km_names::Name;
@@ -43,7 +43,7 @@ fn exported_name(name: &[u8]) -> Option<&[u8]>
 }
 
 /// Makes the export of an entry of this name, at the address that symbols state for it.
-fn entry_export(alloc: Global, name: &[u8], symbols: &Symbols) -> Result<KernelExport, AllocError>
+fn entry_export(alloc: Global, name: &[u8], symbols: &SystemMap) -> Result<KernelExport, AllocError>
     ensures { IfOk result (λ export. export ≡ with_its_address symbols.now (export_of_entry name.now)) }
 {
     Ok(KernelExport {
@@ -58,7 +58,7 @@ fn entry_export(alloc: Global, name: &[u8], symbols: &Symbols) -> Result<KernelE
 /// Makes the exports that symbols of a map state, the first of each name, at their addresses.
 pub(crate) fn exports_of_symbols(
     alloc: Global,
-    symbols: &Symbols,
+    symbols: &SystemMap,
 ) -> Result<KernelExports, AllocError>
     requires { length symbols.now ≤ file_limit }
     ensures list { IfOk result (λ list. list ≡ with_addresses symbols.now (first_of_each (filter_map export_of_symbol symbols.now))) }
@@ -121,7 +121,7 @@ pub(crate) fn exports_of_lines(
 fn with_address(
     alloc: Global,
     export: &KernelExport,
-    symbols: &Symbols,
+    symbols: &SystemMap,
 ) -> Result<KernelExport, AllocError>
     ensures { IfOk result (λ copy. copy ≡ with_its_address symbols.now export.now) }
 {
@@ -142,7 +142,7 @@ fn with_address(
 pub(crate) fn with_all_addresses(
     alloc: Global,
     exports: &KernelExports,
-    symbols: &Symbols,
+    symbols: &SystemMap,
 ) -> Result<KernelExports, AllocError>
     requires { IsTable exports.now }
     ensures list { IfOk result (λ list. list ≡ with_addresses symbols.now exports.now) }

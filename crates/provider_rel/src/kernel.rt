@@ -1,15 +1,16 @@
 // What a kernel exports.
-ghost use Rattle.std.specs.Prelude.{◌≡◌, ◌≤◌, ◌⊎◌, [], true, false, length, IfOk, IfErr, Ok, Err, OnOk, OnErr};
+ghost use Rattle.std.specs.Prelude.{◌≡◌, ◌≤◌, ◌⊎◌, [], true, false, length, option_map, IfOk, IfErr, Ok, Some, OnOk, OnErr};
+ghost use Rattle.std.specs.Result.{result_err};
 ghost use Rattle.km_names.specs.Limit.{file_limit};
-ghost use Rattle.provider_rel.specs.KernelTable.{IsTable, exports_of_map, exports_of_symvers, exports_with_addresses};
+ghost use Rattle.provider_rel.specs.KernelTable.{IsTable, exports_of_map, exports_of_symvers, exports_with_addresses, with_addresses};
 
 use crate::KernelFault;
 use crate::exports::{exports_of_lines, exports_of_symbols, with_all_addresses};
 use crate::lines::read_lines;
-use crate::map::Symbols;
+use crate::map::SystemMap;
 use crate::symvers::SymversLine;
 use km_names::{List, Name};
-use std::alloc::Global;
+use std::alloc::{AllocError, Global};
 
 /// A symbol that a kernel exports. The kernel's EXPORT_SYMBOL, include/linux/export.h.
 #[derive(Debug, Drop)]
@@ -59,15 +60,16 @@ impl Kernel {
     /// # Errors
     ///
     /// `BadKernelLine` exactly at the first line that isn't understood, or `Memory`.
-    #[tactic(auto, unfolding(crate::specs::KernelTable::exports_of_map))]
+    #[tactic(auto, using(crate::proofs::LineSteps::refusal_of), unfolding(crate::specs::KernelTable::exports_of_map))]
     pub fn from_map(alloc: Global, bytes: &[u8]) -> Result<Kernel, KernelFault>
         requires { length bytes.now ≤ file_limit }
         ensures known { IfOk result (λ kernel. kernel.known ≡ true) }
         ensures exports { IfOk result (λ kernel. exports_of_map bytes.now ≡ Ok kernel.exports) }
-        ensures err { IfErr result (λ fault. (fault ≡ KernelFault.Memory) ⊎ (exports_of_map bytes.now ≡ Err fault)) }
+        ensures err { IfErr result (λ fault. (fault ≡ KernelFault.Memory)
+            ⊎ (option_map KernelFault.BadKernelLine (result_err (exports_of_map bytes.now)) ≡ Some fault)) }
     {
-        let symbols = Symbols::read(alloc, bytes)?;
-        let exports = exports_of_symbols(alloc, &symbols)?;
+        let map = SystemMap::read(alloc, bytes)?;
+        let exports = exports_of_symbols(alloc, &map)?;
         Ok(Kernel {
             known: true,
             exports,
@@ -81,12 +83,13 @@ impl Kernel {
     /// # Errors
     ///
     /// `BadKernelLine` exactly at the first line that isn't understood, or `Memory`.
-    #[tactic(auto, unfolding(crate::specs::KernelTable::exports_of_symvers))]
+    #[tactic(auto, using(crate::proofs::LineSteps::refusal_of), unfolding(crate::specs::KernelTable::exports_of_symvers))]
     pub fn from_symvers(alloc: Global, bytes: &[u8]) -> Result<Kernel, KernelFault>
         requires { length bytes.now ≤ file_limit }
         ensures known { IfOk result (λ kernel. kernel.known ≡ true) }
         ensures exports { IfOk result (λ kernel. exports_of_symvers bytes.now ≡ Ok kernel.exports) }
-        ensures err { IfErr result (λ fault. (fault ≡ KernelFault.Memory) ⊎ (exports_of_symvers bytes.now ≡ Err fault)) }
+        ensures err { IfErr result (λ fault. (fault ≡ KernelFault.Memory)
+            ⊎ (option_map KernelFault.BadKernelLine (result_err (exports_of_symvers bytes.now)) ≡ Some fault)) }
     {
         let lines: Vec<SymversLine> = read_lines(alloc, bytes)?;
         let exports = exports_of_lines(alloc, &lines)?;
@@ -102,18 +105,30 @@ impl Kernel {
     /// # Errors
     ///
     /// `BadKernelLine` exactly at the first line that isn't understood, or `Memory`.
-    #[tactic(auto, unfolding(crate::specs::KernelTable::exports_with_addresses))]
+    #[tactic(auto, using(crate::proofs::LineSteps::refusal_of), unfolding(crate::specs::KernelTable::exports_with_addresses))]
     pub fn add_addresses(&mut self, bytes: &[u8]) -> Result<(), KernelFault>
         requires { length bytes.now ≤ file_limit }
         ensures known { self.new.known ≡ self.old.known }
         ensures exports { OnOk result (exports_with_addresses bytes.now self.old.exports ≡ Ok self.new.exports) }
         ensures kept { OnErr result (self.new ≡ self.old) }
         ensures err { IfErr result (λ fault. (fault ≡ KernelFault.Memory)
-            ⊎ (exports_with_addresses bytes.now self.old.exports ≡ Err fault)) }
+            ⊎ (option_map KernelFault.BadKernelLine
+            (result_err (exports_with_addresses bytes.now self.old.exports)) ≡ Some fault)) }
+    {
+        let map = SystemMap::read(self.exports.allocator(), bytes)?;
+        self.set_addresses(&map)?;
+        Ok(())
+    }
+
+    /// Gives the exports the addresses that the symbols of a System.map state. If it has none for a
+    /// name, an address stays as it was. If it is out of memory, all are as before.
+    pub fn set_addresses(&mut self, map: &SystemMap) -> Result<(), AllocError>
+        ensures known { self.new.known ≡ self.old.known }
+        ensures exports { OnOk result (self.new.exports ≡ with_addresses map.now self.old.exports) }
+        ensures kept { OnErr result (self.new ≡ self.old) }
     {
         let alloc = self.exports.allocator();
-        let symbols = Symbols::read(alloc, bytes)?;
-        self.exports = with_all_addresses(alloc, &self.exports, &symbols)?;
+        self.exports = with_all_addresses(alloc, &self.exports, map)?;
         Ok(())
     }
 }

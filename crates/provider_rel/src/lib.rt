@@ -29,6 +29,7 @@ mod unmet;
 pub use fault::{KernelFault, RelationFault};
 pub use kernel::{Kernel, KernelExport, KernelExports};
 use km_names::List;
+pub use map::SystemMap;
 use module_facts::Facts;
 pub use provider::Provider;
 pub use relation::{Order, Relation};

@@ -1,8 +1,8 @@
 // The lines of a table of a kernel.
-ghost use Rattle.std.specs.Prelude.{◌≡◌, ◌≤◌, ◌⊎◌, ℕ, List, Option, Some, None, length, IfOk, IfErr, OnOk};
+ghost use Rattle.std.specs.Prelude.{◌≡◌, ◌≤◌, ◌⊎◌, ℕ, List, Option, Some, None, option_map, length, IfOk, IfErr, OnOk};
 ghost use Rattle.km_names.specs.Limit.{file_limit};
 ghost use Rattle.km_names.specs.Space.{is_space};
-ghost use Rattle.provider_rel.specs.TableLines.{is_blank, table_fault, stated};
+ghost use Rattle.provider_rel.specs.TableLines.{is_blank, refused_line, stated};
 
 use crate::KernelFault;
 use km_names::first_line;
@@ -26,8 +26,9 @@ pub(crate) fn read_lines<'a, L: TableLine<'a>>(
     requires { length bytes.now ≤ file_limit }
     ensures ok { IfOk result (λ lines. lines.items ≡ stated L.read bytes.now) }
     ensures short { IfOk result (λ lines. length lines.items ≤ length bytes.now) }
-    ensures passed { OnOk result (table_fault L.read bytes.now ≡ None) }
-    ensures err { IfErr result (λ fault. (fault ≡ KernelFault.Memory) ⊎ (table_fault L.read bytes.now ≡ Some fault)) }
+    ensures passed { OnOk result (refused_line L.read bytes.now ≡ None) }
+    ensures err { IfErr result (λ fault. (fault ≡ KernelFault.Memory)
+        ⊎ (option_map KernelFault.BadKernelLine (refused_line L.read bytes.now) ≡ Some fault)) }
 {
     let mut lines = Vec::new(alloc);
     let mut rest = bytes;

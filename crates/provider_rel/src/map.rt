@@ -1,8 +1,8 @@
 // The symbols of a System.map and their addresses.
-ghost use Rattle.std.specs.Prelude.{◌≡◌, ◌≤◌, ◌⊎◌, length, map, option_copied, option_and_then, slice_get, None, Some, IfOk, IfErr, OnOk};
+ghost use Rattle.std.specs.Prelude.{◌≡◌, ◌≤◌, ◌⊎◌, length, map, option_copied, option_and_then, option_map, slice_get, None, Some, IfOk, IfErr, OnOk};
 ghost use Rattle.km_names.specs.Limit.{file_limit};
 ghost use Rattle.name_table.specs.NameTable.{IsTableOf};
-ghost use Rattle.provider_rel.specs.TableLines.{table_fault, stated};
+ghost use Rattle.provider_rel.specs.TableLines.{refused_line, stated};
 ghost use Rattle.provider_rel.specs.MapLines.{map_line, global_name, any_name, symbol_of, address_of};
 
 use crate::KernelFault;
@@ -78,16 +78,16 @@ impl<'a> MapLine<'a> {
     }
 }
 
-/// The symbols of a System.map, with two tables: the place of the first symbol of each name, and of
-/// its first global one. Contracts see the list of the symbols.
+/// A System.map: its symbols, with two tables: the place of the first symbol of each name, and of
+/// its first global one. Contracts see the list of the symbols. nm(1).
 #[derive(Drop)]
-pub(crate) struct Symbols<'a> {
+pub struct SystemMap<'a> {
     lines: Vec<MapLine<'a>>,
     globals: NameTable<'a>,
     all: NameTable<'a>,
 }
 
-impl<'a> Model for Symbols<'a> {
+impl<'a> Model for SystemMap<'a> {
     ghost use Rattle.std.specs.Prelude.{List};
     ghost use Rattle.provider_rel.specs.MapLines.{MapSymbol, AreTables};
 
@@ -122,19 +122,24 @@ fn table_of_all<'a>(alloc: Global, lines: &[MapLine<'a>]) -> Result<NameTable<'a
     Ok(table)
 }
 
-impl<'a> Symbols<'a> {
-    /// Reads the symbols that a System.map states, unless a line is refused.
-    pub(crate) fn read(alloc: Global, bytes: &'a [u8]) -> Result<Symbols<'a>, KernelFault>
+impl<'a> SystemMap<'a> {
+    /// Reads the symbols that a System.map states. A blank line states nothing.
+    ///
+    /// # Errors
+    ///
+    /// `BadKernelLine` exactly at the first line that isn't understood, or `Memory`.
+    pub fn read(alloc: Global, bytes: &'a [u8]) -> Result<SystemMap<'a>, KernelFault>
         requires { length bytes.now ≤ file_limit }
         ensures ok { IfOk result (λ symbols. symbols ≡ stated map_line bytes.now) }
         ensures short { IfOk result (λ symbols. length symbols ≤ file_limit) }
-        ensures passed { OnOk result (table_fault map_line bytes.now ≡ None) }
-        ensures err { IfErr result (λ fault. (fault ≡ KernelFault.Memory) ⊎ (table_fault map_line bytes.now ≡ Some fault)) }
+        ensures passed { OnOk result (refused_line map_line bytes.now ≡ None) }
+        ensures err { IfErr result (λ fault. (fault ≡ KernelFault.Memory)
+            ⊎ (option_map KernelFault.BadKernelLine (refused_line map_line bytes.now) ≡ Some fault)) }
     {
         let lines: Vec<MapLine<'a>> = read_lines(alloc, bytes)?;
         let globals = table_of_globals(alloc, &lines)?;
         let all = table_of_all(alloc, &lines)?;
-        Ok(Symbols {
+        Ok(SystemMap {
             lines,
             globals,
             all,

@@ -1,15 +1,18 @@
 -- The stages of a kernel's table.
 use Rattle.std.proofs.Common.{◌≡◌, ℕ, true, false, List, [], sym, ap, subst, ◌∙◌, inl, inr}
-use Rattle.std.specs.Prelude.{Option, Some, None, Result, Ok, Err, ◌⊎◌}
+use Rattle.std.specs.Prelude.{Option, Some, None, option_map, Result, Ok, Err, ◌⊎◌}
+use Rattle.std.specs.Result.{result_err}
 use Rattle.provider_rel.specs.declared.fault.KernelFault.{KernelFault}
 use Rattle.provider_rel.specs.declared.fault.KernelFault.TheVariants.{BadKernelLine, Memory}
 use Rattle.provider_rel.specs.declared.kernel.Kernel.{Kernel}
 use Rattle.provider_rel.specs.declared.kernel.KernelExport.{KernelExport}
 use Rattle.provider_rel.specs.KernelTable.{exports_of_map, exports_of_symvers}
 use Rattle.km_course.specs.Course.{Stage, given, gives}
-use Rattle.km_course.specs.Course.Outcome.{value}
+use Rattle.km_course.specs.Course.Outcome.{value, end}
 use Rattle.km_course.specs.World.{World}
 use Rattle.km_course.specs.Follows.{Answers, Follows}
+use Rattle.km_course.specs.declared.end.End.TheVariants.{Refused}
+use Rattle.km_course.specs.declared.refusal.Refusal.TheVariants.{BadLine}
 use Rattle.km_course.specs.declared.stop.Stop.{Stop}
 use Rattle.km_course.proofs.Steps.{gave}
 use Rattle.stages_files.specs.KernelTable.{Table, table_of, table_outcome, table_stop, unknown_table, reads_map, reads_symvers, reads_kernel}
@@ -22,18 +25,20 @@ abbrev pub symvers_read : List ℕ → List ℕ → Stage Table
 symvers_read file bytes = given (table_outcome file (exports_of_symvers bytes))
 
 -- a table that was read
-pub tabled : (file : List ℕ) (stated : Result (List KernelExport) KernelFault) (kernel : Kernel) → kernel.known ≡ true → stated ≡ Ok kernel.exports → table_outcome file stated ≡ value (table_of kernel)
+pub tabled : (file : List ℕ) (stated : Result (List KernelExport) ℕ) (kernel : Kernel) → kernel.known ≡ true → stated ≡ Ok kernel.exports → table_outcome file stated ≡ value (table_of kernel)
 unfolding table_outcome
 tabled file stated kernel known is =
     ap (table_outcome file) is ∙ ap (λ k. value (record { known = k; exports = kernel.exports })) (sym known)
 
 -- a fault of a table is its first line that isn't understood, or out of memory
-pub tabled_not : (file : List ℕ) (stated : Result (List KernelExport) KernelFault) (fault : KernelFault) (stop : Stop) → (fault ≡ Memory) ⊎ (stated ≡ Err fault) → stop ≡ table_stop file fault → Answers table_of (table_outcome file stated) (Err stop)
+pub tabled_not : (file : List ℕ) (stated : Result (List KernelExport) ℕ) (fault : KernelFault) (stop : Stop) → (fault ≡ Memory) ⊎ (option_map BadKernelLine (result_err stated) ≡ Some fault) → stop ≡ table_stop file fault → Answers table_of (table_outcome file stated) (Err stop)
 unfolding table_outcome
 tabled_not file stated Memory stop cause is = subst (λ s. Answers table_of (table_outcome file stated) (Err s)) (sym is) tt
 tabled_not file stated (BadKernelLine line) stop (inl m) is = cc
-tabled_not file stated (BadKernelLine line) stop (inr f) is =
-    subst (λ s. Answers table_of (table_outcome file stated) (Err s)) (sym is) (ap (table_outcome file) f)
+tabled_not file (Ok exports) (BadKernelLine line) stop (inr f) is = cc
+tabled_not file (Err number) (BadKernelLine line) stop (inr f) is =
+    let same : number ≡ line = cc in
+    subst (λ s. Answers table_of (table_outcome file (Err number)) (Err s)) (sym is) (ap (λ n. end (Refused (BadLine file n))) same)
 
 -- what the choice of a file comes to
 pub by_map : (map symvers : Option (List ℕ)) (file : List ℕ) (old new : World) (r : Result Kernel Stop) → map ≡ Some file → Follows table_of (reads_map file) old new r → Follows table_of (reads_kernel map symvers) old new r

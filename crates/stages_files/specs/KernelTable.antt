@@ -12,7 +12,6 @@ use Rattle.km_course.specs.Course.Outcome.{value, end}
 use Rattle.km_course.specs.declared.end.End.TheVariants.{Refused}
 use Rattle.km_course.specs.declared.stop.Stop.{Stop}
 use Rattle.km_course.specs.declared.stop.Stop.TheVariants.{Ended, Memory as Wanting}
-use Rattle.km_course.specs.declared.refusal.Refusal.{Refusal}
 use Rattle.km_course.specs.declared.refusal.Refusal.TheVariants.{BadLine}
 
 -- A kernel's table: whether its exports are known, and the exports.
@@ -32,16 +31,11 @@ seen_kernel table = record { known = table.known; exports = map seen_export tabl
 abbrev pub unknown_table : Table
 unknown_table = record { known = false; exports = [] }
 
--- The refusal of a line of a table that isn't understood. No table has the fault of memory.
-abbrev pub line_refusal : List ℕ → KernelFault → Refusal
-line_refusal file (BadKernelLine number) = BadLine file number
-line_refusal file Memory = BadLine file 0
-
--- The outcome of a file that states these exports: its table, or the refusal of its first line that
--- isn't understood.
-unfoldable pub table_outcome : List ℕ → Result (List KernelExport) KernelFault → Outcome Table
+-- The outcome of a file that states these exports, or whose first line that isn't understood has
+-- this number: its table, or the refusal of the line.
+unfoldable pub table_outcome : List ℕ → Result (List KernelExport) ℕ → Outcome Table
 table_outcome file (Ok exports) = value (record { known = true; exports = exports })
-table_outcome file (Err fault) = end (Refused (line_refusal file fault))
+table_outcome file (Err number) = end (Refused (BadLine file number))
 
 -- The stop of a command for a fault of a file's table.
 abbrev pub table_stop : List ℕ → KernelFault → Stop

@@ -3,20 +3,19 @@ use Rattle.std.proofs.Common.{◌≡◌, ℕ, List, ap, subst}
 use Rattle.std.specs.Prelude.{Option, Some, None, Ok, map}
 use Rattle.std.specs.List.{filter_map}
 use Rattle.km_names.specs.Statements.{unless_fault}
-use Rattle.provider_rel.specs.declared.fault.KernelFault.{KernelFault}
 use Rattle.provider_rel.specs.declared.kernel.KernelExport.{KernelExport}
 use Rattle.provider_rel.specs.Faces.{kernel_of}
 use Rattle.provider_rel.specs.KernelTable.{IsTable, first_of_each, with_addresses, export_of_line, export_of_symbol, exports_of_map, exports_of_symvers, exports_with_addresses, seen_export}
 use Rattle.provider_rel.specs.MapLines.{map_line}
 use Rattle.provider_rel.specs.SymversLines.{symvers_line}
-use Rattle.provider_rel.specs.TableLines.{table_fault, stated}
+use Rattle.provider_rel.specs.TableLines.{refused_line, stated}
 use Rattle.provider_rel.proofs.ExportSteps.{addresses-apart}
 use Rattle.stages_files.specs.KernelTable.{Table, seen_kernel}
 use Rattle.stages_loads.specs.Tables.{firsts-apart, kernel_with}
 use Rattle.stages_loads.proofs.TableSteps.{firsts-same}
 
 -- what is stated where nothing is refused
-unless-ok : (o : Option KernelFault) (es stated_es : List KernelExport) → unless_fault o es ≡ Ok stated_es → es ≡ stated_es
+unless-ok : (o : Option ℕ) (es stated_es : List KernelExport) → unless_fault o es ≡ Ok stated_es → es ≡ stated_es
 unless-ok None es stated_es is = cc
 unless-ok (Some fault) es stated_es is = cc
 
@@ -25,7 +24,7 @@ pub symvers-apart : (bytes : List ℕ) (es : List KernelExport) → exports_of_s
 unfolding exports_of_symvers
 symvers-apart bytes es is =
     let firsts = filter_map export_of_line (stated symvers_line bytes) in
-    subst IsTable (unless-ok (table_fault symvers_line bytes) (first_of_each firsts) es is) (record { distinct = firsts-apart firsts })
+    subst IsTable (unless-ok (refused_line symvers_line bytes) (first_of_each firsts) es is) (record { distinct = firsts-apart firsts })
 
 -- and so do those of a System.map
 pub map-apart : (bytes : List ℕ) (es : List KernelExport) → exports_of_map bytes ≡ Ok es → IsTable es
@@ -33,14 +32,14 @@ unfolding exports_of_map
 map-apart bytes es is =
     let symbols = stated map_line bytes in
     let firsts = filter_map export_of_symbol symbols in
-    subst IsTable (unless-ok (table_fault map_line bytes) (with_addresses symbols (first_of_each firsts)) es is)
+    subst IsTable (unless-ok (refused_line map_line bytes) (with_addresses symbols (first_of_each firsts)) es is)
     (addresses-apart symbols (first_of_each firsts) (record { distinct = firsts-apart firsts }))
 
 -- addresses change no name
 pub addressed-apart : (bytes : List ℕ) (exports es : List KernelExport) → IsTable exports → exports_with_addresses bytes exports ≡ Ok es → IsTable es
 unfolding exports_with_addresses
 addressed-apart bytes exports es apart is =
-    subst IsTable (unless-ok (table_fault map_line bytes) (with_addresses (stated map_line bytes) exports) es is) (addresses-apart (stated map_line bytes) exports apart)
+    subst IsTable (unless-ok (refused_line map_line bytes) (with_addresses (stated map_line bytes) exports) es is) (addresses-apart (stated map_line bytes) exports apart)
 
 -- the kernel of such a table has its exports
 pub kernel_with-exports : (table : Table) → IsTable table.exports → (kernel_with table).exports ≡ table.exports

@@ -3,11 +3,14 @@ use Rattle.std.proofs.Common.{◌≡◌, ℕ, suc, ◌<◌, Bool, true, false, n
 use Rattle.std.proofs.Props.{props}
 use Rattle.std.specs.Prelude.{Option, Some, None, option_map, Result, Ok, Err, ◌⊎◌, filter}
 use Rattle.std.specs.Str.{bytes_eq}
+use Rattle.km_names.specs.Statements.{unless_fault}
 use Rattle.provider_rel.specs.declared.fault.KernelFault.{KernelFault}
 use Rattle.provider_rel.specs.declared.fault.KernelFault.TheVariants.{BadKernelLine, Memory}
 use Rattle.provider_rel.specs.declared.kernel.Kernel.{Kernel}
 use Rattle.provider_rel.specs.declared.kernel.KernelExport.{KernelExport}
-use Rattle.provider_rel.specs.KernelTable.{IsTable, first_of_each, exports_of_map, exports_with_addresses}
+use Rattle.provider_rel.specs.KernelTable.{IsTable, first_of_each, exports_of_map, exports_with_addresses, with_addresses}
+use Rattle.provider_rel.specs.MapLines.{MapSymbol, map_line}
+use Rattle.provider_rel.specs.TableLines.{refused_line, stated}
 use Rattle.provider_rel.proofs.NameSteps.{bytes-same}
 use Rattle.model_loader.specs.declared.region.Region.{Region}
 use Rattle.model_loader.specs.declared.fault.MachineFault.{MachineFault}
@@ -20,7 +23,7 @@ use Rattle.km_course.specs.declared.end.End.TheVariants.{Refused}
 use Rattle.km_course.specs.declared.refusal.Refusal.TheVariants.{KernelWithoutAddress}
 use Rattle.km_course.specs.declared.stop.Stop.{Stop}
 use Rattle.stages_files.specs.KernelTable.{Table, table_of, table_outcome, table_stop, reads_symvers}
-use Rattle.stages_loads.specs.Tables.{addressed_outcome, kernel_with, machine_outcome, unplaced}
+use Rattle.stages_loads.specs.Tables.{addressed_outcome, kernel_with, machine_outcome, table_of_map, unplaced}
 
 -- the stage after the Module.symvers was read
 abbrev pub both_added : List ℕ → List ℕ → Table → Stage Table
@@ -38,18 +41,35 @@ both_read map symvers bytes = given (table_outcome map (exports_of_map bytes)) >
 abbrev pub made : Region → Table → Stage Machine
 made region table = given (machine_outcome table region (unplaced table.exports))
 
--- a kernel with addresses
-pub addressed : (file : List ℕ) (known : Bool) (stated : Result (List KernelExport) KernelFault) (kernel : Kernel) → kernel.known ≡ known → stated ≡ Ok kernel.exports → addressed_outcome file known stated ≡ value (table_of kernel)
-unfolding addressed_outcome
-addressed file known stated kernel same is =
-    ap (addressed_outcome file known) is ∙ ap (λ k. value (record { known = k; exports = kernel.exports })) (sym same)
+-- a System.map that was understood
+pub mapped : (file bytes : List ℕ) (symbols : List MapSymbol) → symbols ≡ stated map_line bytes → refused_line map_line bytes ≡ None → table_outcome file (exports_of_map bytes) ≡ value (table_of_map symbols)
+unfolding table_outcome exports_of_map
+mapped file bytes symbols is passed =
+    ap (λ refused. table_outcome file (unless_fault refused (table_of_map (stated map_line bytes)).exports)) passed
+    ∙ ap (λ ss. value (table_of_map ss)) (sym is)
 
-pub addressed_not : (file : List ℕ) (known : Bool) (stated : Result (List KernelExport) KernelFault) (fault : KernelFault) (stop : Stop) → (fault ≡ Memory) ⊎ (stated ≡ Err fault) → stop ≡ table_stop file fault → Answers table_of (addressed_outcome file known stated) (Err stop)
-unfolding addressed_outcome
-addressed_not file known stated Memory stop cause is = subst (λ s. Answers table_of (addressed_outcome file known stated) (Err s)) (sym is) tt
-addressed_not file known stated (BadKernelLine line) stop (inl m) is = cc
-addressed_not file known stated (BadKernelLine line) stop (inr f) is =
-    subst (λ s. Answers table_of (addressed_outcome file known stated) (Err s)) (sym is) (ap (addressed_outcome file known) f)
+line-is : (refused : Option ℕ) (line : ℕ) → option_map BadKernelLine refused ≡ Some (BadKernelLine line) → refused ≡ Some line
+line-is None line is = cc
+line-is (Some number) line is =
+    let same : number ≡ line = cc in ap Some same
+
+-- a fault of a System.map is its first line that isn't understood, or out of memory
+pub mapped_not : (file bytes : List ℕ) (fault : KernelFault) (stop : Stop) → (fault ≡ Memory) ⊎ (option_map BadKernelLine (refused_line map_line bytes) ≡ Some fault) → stop ≡ table_stop file fault → Answers table_of_map (table_outcome file (exports_of_map bytes)) (Err stop)
+unfolding table_outcome exports_of_map
+mapped_not file bytes Memory stop cause is =
+    subst (λ s. Answers table_of_map (table_outcome file (exports_of_map bytes)) (Err s)) (sym is) tt
+mapped_not file bytes (BadKernelLine line) stop (inl m) is = cc
+mapped_not file bytes (BadKernelLine line) stop (inr f) is =
+    subst (λ s. Answers table_of_map (table_outcome file (exports_of_map bytes)) (Err s)) (sym is)
+    (ap (λ refused. table_outcome file (unless_fault refused (table_of_map (stated map_line bytes)).exports)) (line-is (refused_line map_line bytes) line f))
+
+-- a kernel with the addresses of a System.map that was understood
+pub addressed : (file bytes : List ℕ) (symbols : List MapSymbol) (exported kernel : Kernel) → symbols ≡ stated map_line bytes → refused_line map_line bytes ≡ None → kernel.known ≡ exported.known → kernel.exports ≡ with_addresses symbols exported.exports → addressed_outcome file exported.known (exports_with_addresses bytes exported.exports) ≡ value (table_of kernel)
+unfolding addressed_outcome exports_with_addresses
+addressed file bytes symbols exported kernel is passed known exports =
+    ap (λ refused. addressed_outcome file exported.known (unless_fault refused (with_addresses (stated map_line bytes) exported.exports))) passed
+    ∙ ap (λ es. value (record { known = exported.known; exports = es })) (ap (λ ss. with_addresses ss exported.exports) (sym is) ∙ sym exports)
+    ∙ ap (λ k. value (record { known = k; exports = kernel.exports })) (sym known)
 
 -- where no other has a name, none is left out
 none-out : (e : KernelExport) (es : List KernelExport) → ((k : ℕ) (d : KernelExport) → k < length es → e.name ≡ (get_or es k d).name → ⊥) → filter (λ (o : KernelExport). not (bytes_eq o.name e.name)) es ≡ es

@@ -1,23 +1,24 @@
 -- The machine that a kernel's tables make: its exports at their addresses, and no module. nm(1);
 -- the kernel's Documentation/kbuild/modules.rst, "Module.symvers".
 use Rattle.std.specs.Prelude.{◌≡◌, ℕ, true, not, Bool, List, [], ◌∷◌, AllPairs, filter, find, Option, is_none, Some, None, Result, Ok, Err}
+use Rattle.std.specs.List.{filter_map}
 use Rattle.std.specs.Str.{bytes_eq}
 use Rattle.std.proofs.Common.{get_or, ap, sym, ◌∙◌, arith}
 use Rattle.std.proofs.lemmas.Bool.{false≢true}
 use Rattle.std.proofs.lemmas.List.Elements.{filter_passes}
 use Rattle.std.proofs.lemmas.List.Kept.{AllPairs-cons, AllPairs-filter}
-use Rattle.provider_rel.specs.declared.fault.KernelFault.{KernelFault}
 use Rattle.provider_rel.specs.declared.kernel.Kernel.{Kernel}
 use Rattle.provider_rel.specs.declared.kernel.KernelExport.{KernelExport}
-use Rattle.provider_rel.specs.KernelTable.{first_of_each, exports_of_map, exports_with_addresses}
+use Rattle.provider_rel.specs.KernelTable.{first_of_each, export_of_symbol, exports_of_map, exports_with_addresses, with_addresses}
+use Rattle.provider_rel.specs.MapLines.{MapSymbol}
 use Rattle.provider_rel.proofs.NameSteps.{bytes-refl}
 use Rattle.model_loader.specs.declared.region.Region.{Region}
 use Rattle.model_loader.specs.Machine.{Machine, new_machine}
 use Rattle.km_course.specs.Course.{Outcome, Stage, ◌>>=◌, given, reads}
 use Rattle.km_course.specs.Course.Outcome.{value, end}
 use Rattle.km_course.specs.declared.end.End.TheVariants.{Refused}
-use Rattle.km_course.specs.declared.refusal.Refusal.TheVariants.{KernelWithoutAddress}
-use Rattle.stages_files.specs.KernelTable.{Table, line_refusal, table_outcome, reads_map, reads_symvers}
+use Rattle.km_course.specs.declared.refusal.Refusal.TheVariants.{BadLine, KernelWithoutAddress}
+use Rattle.stages_files.specs.KernelTable.{Table, table_outcome, reads_map, reads_symvers}
 
 -- a name that passes as another isn't this one
 other-name : (e o : KernelExport) → not (bytes_eq o.name e.name) ≡ true → e.name ≡ o.name → ⊥
@@ -53,11 +54,19 @@ unfoldable pub machine_outcome : Table → Region → Option KernelExport → Ou
 machine_outcome table region None = value (new_machine (kernel_with table) region)
 machine_outcome table region (Some e) = end (Refused (KernelWithoutAddress e.name))
 
--- What a file that states these addresses of exports results in: the table with them, or the
--- refusal of its first line that isn't understood.
-unfoldable pub addressed_outcome : List ℕ → Bool → Result (List KernelExport) KernelFault → Outcome Table
+-- The table of a System.map with these symbols. It belongs to the code: no public meaning rests on
+-- it.
+abbrev pub table_of_map : List MapSymbol → Table
+table_of_map symbols = record {
+  known = true;
+  exports = with_addresses symbols (first_of_each (filter_map export_of_symbol symbols));
+}
+
+-- What a file that states these addresses of exports, or whose first line that isn't understood has
+-- this number, results in: the table with them, or the refusal of the line.
+unfoldable pub addressed_outcome : List ℕ → Bool → Result (List KernelExport) ℕ → Outcome Table
 addressed_outcome file known (Ok exports) = value (record { known = known; exports = exports })
-addressed_outcome file known (Err fault) = end (Refused (line_refusal file fault))
+addressed_outcome file known (Err number) = end (Refused (BadLine file number))
 
 -- The exports of a kernel at their addresses. If a Module.symvers is named, they are its exports,
 -- and otherwise the System.map's. The System.map is read and understood before the Module.symvers

@@ -1,17 +1,19 @@
 // The machine that a kernel's tables make.
-ghost use Rattle.std.specs.Prelude.{◌≤◌, Some, length};
+ghost use Rattle.std.specs.Prelude.{◌≡◌, ◌≤◌, None, Some, IfOk, OnOk, length};
 ghost use Rattle.km_names.specs.Limit.{file_limit};
 ghost use Rattle.km_course.specs.Follows.{Answers};
 ghost use Rattle.km_course.specs.FollowsOn.{FollowsOnFiles, FollowsOnFilesAs, Returns};
-ghost use Rattle.provider_rel.specs.KernelTable.{exports_of_map, exports_with_addresses};
+ghost use Rattle.provider_rel.specs.KernelTable.{exports_of_map};
+ghost use Rattle.provider_rel.specs.MapLines.{map_line};
+ghost use Rattle.provider_rel.specs.TableLines.{refused_line, stated};
 ghost use Rattle.stages_files.specs.KernelTable.{table_of, table_outcome};
-ghost use Rattle.stages_loads.specs.Tables.{addressed_outcome, machine_outcome, reads_addressed, reads_machine, unplaced};
+ghost use Rattle.stages_loads.specs.Tables.{machine_outcome, reads_addressed, reads_machine, table_of_map, unplaced};
 
 use km_course::{Refusal, Stop, read_needed};
 use km_names::{Blob, PathText};
 use km_outside::Reads;
 use model_loader::{Machine, MachineFault, Region};
-use provider_rel::Kernel;
+use provider_rel::{Kernel, SystemMap};
 use stages_files::{read_map, read_symvers, stop_of_table};
 use std::alloc::Global;
 
@@ -49,8 +51,8 @@ fn read_addressed<F: Reads>(
     }
 }
 
-/// Reads the exports of the Module.symvers at the addresses of the System.map, which is understood
-/// before.
+/// Reads the exports of the Module.symvers at the addresses of the System.map, which is read and
+/// understood before.
 fn read_both<F: Reads>(
     alloc: Global,
     system_map: PathText,
@@ -61,33 +63,21 @@ fn read_both<F: Reads>(
         F.seen files.old files.new result }
 {
     let bytes = read_needed(alloc, files, &system_map)?;
-    check_map(alloc, &system_map, &bytes)?;
-    let kernel = read_symvers(alloc, symvers, files)?;
-    with_addresses(kernel, system_map, &bytes)
+    let map = understood_map(alloc, system_map, &bytes)?;
+    let mut kernel = read_symvers(alloc, symvers, files)?;
+    kernel.set_addresses(&map)?;
+    Ok(kernel)
 }
 
-/// Returns the table of a System.map of these bytes, or the refusal of the file at the path.
-fn check_map(alloc: Global, file: &PathText, bytes: &Blob) -> Result<Kernel, Stop>
+/// Returns the System.map of these bytes, or the refusal of the file at the path.
+fn understood_map<'a>(alloc: Global, file: PathText, bytes: &'a Blob) -> Result<SystemMap<'a>, Stop>
     requires { length bytes.now ≤ file_limit }
-    ensures { Answers table_of (table_outcome file.now (exports_of_map bytes.now)) result }
+    ensures answer { Answers table_of_map (table_outcome file (exports_of_map bytes.now)) result }
+    ensures symbols { IfOk result (λ map. map ≡ stated map_line bytes.now) }
+    ensures passed { OnOk result (refused_line map_line bytes.now ≡ None) }
 {
-    match Kernel::from_map(alloc, bytes.as_bytes()) {
-        Ok(kernel) => Ok(kernel),
-        Err(fault) => {
-            let file = PathText::from_slice(alloc, file.as_bytes())?;
-            Err(stop_of_table(fault, file))
-        }
-    }
-}
-
-/// Returns the kernel with the addresses that a System.map of these bytes has, or the refusal of
-/// the file at the path.
-fn with_addresses(mut kernel: Kernel, file: PathText, bytes: &Blob) -> Result<Kernel, Stop>
-    requires { length bytes.now ≤ file_limit }
-    ensures { Answers table_of (addressed_outcome file kernel.known (exports_with_addresses bytes.now kernel.exports)) result }
-{
-    match kernel.add_addresses(bytes.as_bytes()) {
-        Ok(()) => Ok(kernel),
+    match SystemMap::read(alloc, bytes.as_bytes()) {
+        Ok(map) => Ok(map),
         Err(fault) => Err(stop_of_table(fault, file)),
     }
 }

@@ -1,5 +1,5 @@
 use Rattle.provider_rel.proofs.SymbolSteps.{symbol-global, symbol-any}
-use Rattle.provider_rel.proofs.map.Symbols.symbol.Goals as goal
+use Rattle.provider_rel.proofs.map.SystemMap.symbol.Goals as goal
 
 pub returns-in-Some : goal.returns-in-Some
 returns-in-Some c =
