@@ -1,6 +1,6 @@
 -- The lines of modules.unmet: the obstacles to loading modules of a tree. This file of depmod is
 -- this project's own. depmod(8) warns of missing symbols and other versions with `-e`.
-use Rattle.std.specs.Prelude.{ℕ, Bool, false, List, [], ◌∷◌, ◌++◌, length, take, slice_get, map, filter, flat_map, codes, Option, is_some, if◌then◌else◌}
+use Rattle.std.specs.Prelude.{ℕ, ◌&&◌, ◌||◌, Bool, false, List, [], ◌∷◌, ◌++◌, length, take, slice_get, map, filter, flat_map, codes, Option, is_some, if◌then◌else◌}
 use Rattle.std.specs.List.{range_with_len}
 use Rattle.std.specs.Option.{option_map_or}
 use Rattle.std.specs.Str.{bytes_eq}
@@ -68,3 +68,8 @@ belongs path (Gpl m x by) = bytes_eq m path
 belongs path (Version m x by) = bytes_eq m path
 belongs path (Namespace m x by) = bytes_eq m path
 belongs path (Double x a b) = false
+
+-- Whether a double line is an obstacle to a plan: one of its paths is planned, and both are there.
+abbrev pub collides : (List ℕ → Bool) → (List ℕ → Bool) → Unbound → Bool
+collides there planned (Double x a b) = (planned a || planned b) && there a && there b
+collides there planned line = false
