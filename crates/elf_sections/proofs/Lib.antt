@@ -1,3 +1,4 @@
+pub mod NearLemmas
 pub mod Positions
 pub mod ShapeLemmas
 pub mod StringLemmas

@@ -1,19 +1,17 @@
 -- What the tests of a file's shape say.
-use Rattle.std.proofs.lemmas.Bool.{ne_eqb, and_from}
-use Rattle.std.proofs.Common.{◌≡◌, ℕ, ◌<◌, ◌≤◌, true, false, List, [], ◌∷◌, ◌++◌, Bool, length, take, drop, get_or, map, if◌then◌else◌, Some, None, refl, sym, ap, ◌∙◌, arith, ◌+◌, ◌==◌, not, ◌&&◌, Bool}
+use Rattle.std.proofs.Common.{◌≡◌, ℕ, ◌<◌, ◌≤◌, true, false, List, [], ◌∷◌, ◌++◌, Bool, length, take, drop, get_or, if◌then◌else◌, Some, None, refl, sym, ap, ◌∙◌, arith, ◌+◌, Bool}
 use Rattle.std.proofs.lemmas.Bool.Decides.{nat_tests}
 use Rattle.km_names.specs.First.{first}
 use Rattle.elf_sections.specs.declared.fault.SectionFault.{SectionFault}
-use Rattle.elf_sections.specs.Shape.{AllInFile, content, contents, each, has_content, header_tests, is_kept, is_table, name_table, name_in, name_table_test, name_test, name_test_in, content_test, section_count, section_header, shape_fault, shape_tests}
+use Rattle.elf_sections.specs.Shape.{AllInFile, content, contents, each, has_content, header_tests, is_table, name_table, name_in, name_table_test, name_test, name_test_in, content_test, section_count, section_header, shape_fault, shape_tests}
 use Rattle.elf_sections.specs.Strings.{HasStrings}
 use Rattle.elf_sections.specs.Sections.{IsRead, bytes_of, section_of, sections_of}
 use Rattle.std.proofs.lemmas.List.{length-drop, length-take}
 use Rattle.std.proofs.lemmas.List.FromFn.{get_or-map-range_with_len, length-map-range_with_len}
-use Rattle.std.proofs.lemmas.Option.{get_or_from_slice_get, slice_get-get_or, slice_get_within}
+use Rattle.std.proofs.lemmas.Option.{slice_get-get_or}
 use Rattle.std.specs.Bool.{IsTrue}
 use Rattle.std.specs.Option.{IfSome}
-use Rattle.elf_format.specs.declared.section.TheConstants.{SHT_NOBITS, SHT_NULL}
-use Rattle.std.specs.List.{range_with_len, slice_get}
+use Rattle.std.specs.List.{slice_get}
 use Rattle.elf_sections.specs.declared.section.Section.{Section}
 use Rattle.elf_sections.proofs.TestLemmas.{first-failed, first-passed}
 
