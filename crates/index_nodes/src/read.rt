@@ -57,6 +57,22 @@ pub(crate) fn range_of(bytes: &[u8], node: &Node) -> Option<(u8, u8)>
     }
 }
 
+/// Returns the offset of the child of a node for a byte of its range, whose first byte is `first`.
+#[inline(always)]
+fn link_in(bytes: &[u8], node: &Node, first: u8, byte: u8) -> Option<u32>
+    requires fields { HasFields bytes.now node.now }
+    requires fit { children_fit bytes.now node.now.link ≡ true }
+    requires children { has_children node.now.link ≡ true }
+    requires first { first_byte bytes.now node.now.link ≡ first }
+    requires from { first ≤ byte }
+    requires to { byte ≤ last_byte bytes.now node.now.link }
+    ensures { result ≡ child bytes.now node.now.link byte }
+{
+    let at = node.children + 2 + NUMBER_SIZE * usize::from(byte - first);
+    let link = be_u32_at(bytes, at);
+    if place(link) == 0 { None } else { Some(link) }
+}
+
 /// Returns the offset of the child of a node for a byte.
 pub(crate) fn child_link(bytes: &[u8], node: &Node, byte: u8) -> Option<u32>
     requires fields { HasFields bytes.now node.now }
@@ -67,9 +83,7 @@ pub(crate) fn child_link(bytes: &[u8], node: &Node, byte: u8) -> Option<u32>
     if byte < first || last < byte {
         return None;
     }
-    let at = node.children + 2 + NUMBER_SIZE * usize::from(byte - first);
-    let link = be_u32_at(bytes, at);
-    if place(link) == 0 { None } else { Some(link) }
+    link_in(bytes, node, first, byte)
 }
 
 /// Returns the first child of a node for a byte from `from` on, with its byte.
@@ -84,7 +98,7 @@ pub(crate) fn next_link(bytes: &[u8], node: &Node, from: u8) -> Option<(u8, u32)
 {
     let (first, last) = range_of(bytes, node)?;
     for byte in from.max(first)..last + 1 {
-        if let Some(link) = child_link(bytes, node, byte) {
+        if let Some(link) = link_in(bytes, node, first, byte) {
             return Some((byte, link));
         }
     }

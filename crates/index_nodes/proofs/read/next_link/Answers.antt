@@ -6,6 +6,7 @@ use Rattle.index_nodes.proofs.read.next_link.Goals as goal
 pub loop-byte-init : goal.loop-byte-init
 loop-byte-init c =
     let e = c.max-byte.ensures in record {
+      low = omega (arith, e);
       after = omega (arith, e);
       none = λ k from lt. child_below_range c.args.bytes.now c.args.node.now.link k (omega (arith, e, from, lt, c.in_ok-first.ensures.first));
     }
