@@ -1,7 +1,8 @@
 -- The nodes of an index with their keys.
-use Rattle.std.proofs.Common.{◌≡◌, refl, sym, ap, subst, ◌∙◌, ⊎_elim, ℕ, zero, suc, ◌+◌, ◌-◌, ◌<◌, ◌≤◌, List, [], ◌∷◌, ◌++◌, length, take, Option, Some, None, arith, append_assoc, length-append}
+use Rattle.std.proofs.Common.{◌≡◌, refl, sym, ap, subst, ◌∙◌, ⊎_elim, ℕ, zero, suc, ◌+◌, ◌-◌, ◌<◌, ◌≤◌, List, [], ◌∷◌, ◌++◌, length, take, get_or, Option, Some, None, arith, append_assoc, length-append}
 use Rattle.std.proofs.lemmas.Bool.{cases_eq}
-use Rattle.std.proofs.lemmas.List.{append-nil, take-take, take_at, take_all, length-take-le}
+use Rattle.std.proofs.lemmas.List.{append-nil, take_at, take_all, take-append-le}
+use Rattle.std.proofs.lemmas.Grind.{take_at_read}
 use Rattle.std.specs.List.{AllByRecursion}
 use Rattle.index_format.specs.Link.{place_of}
 use Rattle.index_format.specs.Node.{root, prefix, child}
@@ -11,8 +12,8 @@ use Rattle.index_nodes.specs.Fields.{link_of, IsNodeOf}
 use Rattle.index_nodes.proofs.SoundNodes.{node_sound, child_below}
 use Rattle.index_nodes.specs.declared.node.Node.{Node}
 use Rattle.index_read.specs.declared.walk.Level.{Level}
-use Rattle.index_read.specs.Keys.{Item, all_items, on_child, branches, key_bytes, items, level_items, items_left, IsLevel, most_of, AreLevels}
-use Rattle.index_read.specs.Walks.{level_of, after_byte}
+use Rattle.index_read.specs.Keys.{Item, all_items, on_child, branches, key_bytes, items, piece, key_of, level_items, items_left, IsLevel, AreLevels}
+use Rattle.index_read.specs.Walks.{IsWritten, level_of, after_byte}
 
 -- ---- branches
 
@@ -71,41 +72,109 @@ items-node b h (suc d) link key node p =
 
 -- ---- levels
 
-pub items_left-push : (b key : List ℕ) (ls : List Level) (l : Level) → items_left b key (ls ++ l ∷ []) ≡ level_items b key l ++ items_left b key ls
-items_left-push b key [] l = sym (append-nil _)
+key_of-push : (b : List ℕ) (ls : List Level) (l : Level) → key_of b (ls ++ l ∷ []) ≡ key_of b ls ++ piece b l
+key_of-push b [] l = append-nil (piece b l)
+key_of-push b (m ∷ ls) l =
+    ap (λ k. piece b m ++ k) (key_of-push b ls l)
+    ∙ sym (append_assoc (piece b m) (key_of b ls) (piece b l))
+
+pub items_left-push : (b key : List ℕ) (ls : List Level) (l : Level) → items_left b key (ls ++ l ∷ []) ≡ level_items b ((key ++ key_of b ls) ++ piece b l) l ++ items_left b key ls
+items_left-push b key [] l =
+    sym (append-nil _)
+    ∙ ap (λ k. level_items b (k ++ piece b l) l ++ []) (sym (append-nil key))
 items_left-push b key (m ∷ ls) l =
-    ap (λ rest. rest ++ level_items b key m) (items_left-push b key ls l)
-    ∙ append_assoc (level_items b key l) (items_left b key ls) (level_items b key m)
+    let own = level_items b (key ++ piece b m) m in
+    let more = items_left b (key ++ piece b m) ls in
+    ap (λ rest. rest ++ own) (items_left-push b (key ++ piece b m) ls l)
+    ∙ ap (λ k. (level_items b (k ++ piece b l) l ++ more) ++ own) (append_assoc key (piece b m) (key_of b ls))
+    ∙ append_assoc (level_items b ((key ++ (piece b m ++ key_of b ls)) ++ piece b l) l) more own
 
-most_of-push : (most : ℕ) (ls : List Level) (l : Level) → most_of most (ls ++ l ∷ []) ≡ most_of l.key_length ls
-most_of-push most [] l = refl
-most_of-push most (m ∷ ls) l = refl
+pub levels-pop : (b : List ℕ) (ls : List Level) (l : Level) → AreLevels b (ls ++ l ∷ []) → AreLevels b ls × IsLevel b l
+levels-pop b [] l h = (tt, h.0)
+levels-pop b (m ∷ ls) l h = let rest = levels-pop b ls l h.1 in ((h.0, rest.0), rest.1)
 
-pub levels-pop : (b : List ℕ) (most : ℕ) (ls : List Level) (l : Level) → AreLevels b most (ls ++ l ∷ []) → AreLevels b l.key_length ls × IsLevel b most l
-levels-pop b most [] l h = (tt, h.0)
-levels-pop b most (m ∷ ls) l h =
-    let rest = levels-pop b most ls l h.1 in
-    ((subst (λ n. IsLevel b n m) (most_of-push most ls l) h.0, rest.0), rest.1)
+pub levels-push : (b : List ℕ) (ls : List Level) (l : Level) → AreLevels b ls → IsLevel b l → AreLevels b (ls ++ l ∷ [])
+levels-push b [] l h is = (is, tt)
+levels-push b (m ∷ ls) l h is = (h.0, levels-push b ls l h.1 is)
 
-pub levels-push : (b : List ℕ) (most : ℕ) (ls : List Level) (l : Level) → AreLevels b l.key_length ls → IsLevel b most l → AreLevels b most (ls ++ l ∷ [])
-levels-push b most [] l h is = (is, tt)
-levels-push b most (m ∷ ls) l h is =
-    (subst (λ n. IsLevel b n m) (sym (most_of-push most ls l)) h.0, levels-push b most ls l h.1 is)
+pub level-at : (b : List ℕ) (ls : List Level) (at : ℕ) (l : Level) → AreLevels b ls → at < length ls → l ≡ get_or ls at l → IsLevel b l
+level-at b [] at l h lt e = absurd (omega (arith, lt))
+level-at b (m ∷ ls) zero l h lt e = subst (IsLevel b) (sym e) h.0
+level-at b (m ∷ ls) (suc at) l h lt e = level-at b ls at l h.1 (omega (arith, lt)) e
 
-most_of-le : (b : List ℕ) (most : ℕ) (ls : List Level) → AreLevels b most ls → most_of most ls ≤ most
-most_of-le b most [] h = omega arith
-most_of-le b most (l ∷ ls) h = omega (arith, h.0.key, most_of-le b most ls h.1)
+-- ---- what is written
 
--- a level with a shorter key takes its key from its front
-take_front : (m n : ℕ) (key other : List ℕ) → m ≤ n → take n key ≡ take n other → take m key ≡ take m other
-take_front m n key other le e = sym (take-take m n key le) ∙ ap (take m) e ∙ take-take m n other le
+-- The last level isn't written.
+pub written-before : (b key : List ℕ) (count : ℕ) (ls : List Level) (l : Level) → IsWritten b key count (ls ++ l ∷ []) → count ≤ length ls → IsWritten b key count ls
+written-before b key count ls l w le = record {
+  key_is = w.key_is ∙ ap (key_of b) (take-append-le count ls (l ∷ []) le);
+  within = le;
+}
 
-pub left_same : (b : List ℕ) (most : ℕ) (key other : List ℕ) (ls : List Level) → AreLevels b most ls → take most key ≡ take most other → items_left b key ls ≡ items_left b other ls
-left_same b most key other [] h e = refl
-left_same b most key other (l ∷ ls) h e =
-    let le : l.key_length ≤ most = omega (arith, h.0.key, most_of-le b most ls h.1) in
-    let same = take_front l.key_length most key other le e in
-    λ i. left_same b most key other ls h.1 e i ++ branches (items b (place_of (link_of l.node))) b (link_of l.node) (same i) l.next (key_bytes - l.next)
+-- The last level is written.
+written-whole : (b key : List ℕ) (count : ℕ) (ls : List Level) (l : Level) → IsWritten b key count (ls ++ l ∷ []) → length ls < count → key ≡ key_of b ls ++ piece b l
+written-whole b key count ls l w gt =
+    w.key_is
+    ∙ ap (key_of b) (take_all count (ls ++ l ∷ []) (omega (arith, gt, length-append ls (l ∷ []))))
+    ∙ key_of-push b ls l
+
+pub written-size : (b key : List ℕ) (count : ℕ) (ls : List Level) (l : Level) → IsWritten b key count (ls ++ l ∷ []) → length ls < count → length (piece b l) ≤ length key
+written-size b key count ls l w gt =
+    let size = ap length (written-whole b key count ls l w gt) in
+    omega (arith, size, length-append (key_of b ls) (piece b l))
+
+pub written-dropped : (b key : List ℕ) (count : ℕ) (ls : List Level) (l : Level) (n : ℕ) → IsWritten b key count (ls ++ l ∷ []) → length ls < count → n ≡ length key - length (piece b l) → IsWritten b (take n key) (length ls) ls
+written-dropped b key count ls l n w gt is =
+    let whole = written-whole b key count ls l w gt in
+    let size = ap length whole in
+    record {
+      key_is =
+          ap (take n) whole
+          ∙ take_at (key_of b ls) (piece b l) n (omega (arith, is, size, length-append (key_of b ls) (piece b l)))
+          ∙ ap (key_of b) (sym (take_all (length ls) ls (omega arith)));
+      within = omega arith;
+    }
+
+-- The walk went on from a level to a child.
+pub written-on : (b key : List ℕ) (count : ℕ) (ls : List Level) (l m n : Level) → piece b l ≡ piece b m → IsWritten b key count (ls ++ l ∷ []) → IsWritten b key count ((ls ++ m ∷ []) ++ n ∷ [])
+written-on b key count ls l m n e w =
+    let few : count ≤ length (ls ++ m ∷ []) = omega (arith, w.within, length-append ls (l ∷ []), length-append ls (m ∷ [])) in
+    record {
+      key_is =
+          w.key_is
+          ∙ same count ls
+          ∙ ap (key_of b) (sym (take-append-le count (ls ++ m ∷ []) (n ∷ []) few));
+      within = omega (arith, few, length-append (ls ++ m ∷ []) (n ∷ []));
+    }
+  where
+    same : (count : ℕ) (ls : List Level) → key_of b (take count (ls ++ l ∷ [])) ≡ key_of b (take count (ls ++ m ∷ []))
+    same zero ls = refl
+    same (suc count) [] = ap (λ p. p ++ key_of b (take count [])) e
+    same (suc count) (k ∷ ls) = ap (λ rest. piece b k ++ rest) (same count ls)
+
+pub written-same : (b key other : List ℕ) (count n : ℕ) (ls : List Level) → other ≡ key → n ≡ count → IsWritten b key count ls → IsWritten b other n ls
+written-same b key other count n ls e f w = record {
+  key_is = e ∙ w.key_is ∙ ap (λ m. key_of b (take m ls)) (sym f);
+  within = omega (arith, f, w.within);
+}
+
+-- One level more is written.
+pub written-more : (b key : List ℕ) (count : ℕ) (ls : List Level) (l : Level) → key ≡ key_of b (take count ls) → count < length ls → l ≡ get_or ls count l → key ++ piece b l ≡ key_of b (take (count + 1) ls)
+written-more b key count ls l is lt e =
+    ap (λ k. k ++ piece b l) is
+    ∙ sym (key_of-push b (take count ls) l)
+    ∙ ap (λ m. key_of b (take count ls ++ m ∷ [])) e
+    ∙ ap (key_of b) (sym (take_at_read ls count l lt).1)
+
+-- All levels are written.
+pub written-all : (b key : List ℕ) (count : ℕ) (ls : List Level) → key ≡ key_of b (take count ls) → length ls ≤ count → key ≡ key_of b ls
+written-all b key count ls is le = is ∙ ap (key_of b) (take_all count ls le)
+
+pub whole-written : (b key : List ℕ) (count : ℕ) (ls : List Level) → key ≡ key_of b ls → count ≡ length ls → IsWritten b key count ls
+whole-written b key count ls is size = record {
+  key_is = is ∙ ap (key_of b) (sym (take_all count ls (omega (arith, size))));
+  within = omega (arith, size);
+}
 
 -- ---- keys below a node
 
@@ -138,74 +207,72 @@ items-begin b (suc d) link key =
 
 -- ---- a step to a child
 
-module _ (b : List ℕ) (accepted : index_fault b ≡ None) (old : List ℕ) (ps : List Level) (l : Level) (levels : AreLevels b (length old) (ps ++ l ∷ [])) where
-  pub nothing_left : ((k : ℕ) → l.next ≤ k → child b (link_of l.node) k ≡ None) → items_left b old (ps ++ l ∷ []) ≡ items_left b old ps
+module _ (b : List ℕ) (accepted : index_fault b ≡ None) (ps : List Level) (l : Level) (levels : AreLevels b (ps ++ l ∷ [])) where
+  abbrev key : List ℕ
+  key = key_of b ps ++ piece b l
+
+  popped : AreLevels b ps × IsLevel b l
+  popped = levels-pop b ps l levels
+
+  pub nothing_left : ((k : ℕ) → l.next ≤ k → child b (link_of l.node) k ≡ None) → items_left b [] (ps ++ l ∷ []) ≡ items_left b [] ps
   nothing_left h =
-      items_left-push b old ps l
-      ∙ ap (λ rest. rest ++ items_left b old ps) (branches_none (items b (place_of (link_of l.node))) b (link_of l.node) (take l.key_length old) l.next (key_bytes - l.next) h)
+      items_left-push b [] ps l
+      ∙ ap (λ rest. rest ++ items_left b [] ps) (branches_none (items b (place_of (link_of l.node))) b (link_of l.node) key l.next (key_bytes - l.next) h)
 
-  pub still_levels : AreLevels b (length old) ps
-  still_levels = let both = levels-pop b (length old) ps l levels in widen ps both.0 both.1.key
-    where
-      widen : (ps : List Level) → AreLevels b l.key_length ps → l.key_length ≤ length old → AreLevels b (length old) ps
-      widen [] h le = tt
-      widen (m ∷ []) h le = (record { node = h.0.node; key = omega (arith, h.0.key, le); next = h.0.next }, tt)
-      widen (m ∷ (k ∷ ps)) h le = (record { node = h.0.node; key = h.0.key; next = h.0.next }, widen (k ∷ ps) h.1 le)
+  module _ (byte at : ℕ) (n : Node) (is : child b (link_of l.node) byte ≡ Some at) (from : l.next ≤ byte) (first : (k : ℕ) → l.next ≤ k → k < byte → child b (link_of l.node) k ≡ None) (ascii : byte ≤ 127) (name : link_of n ≡ at) (node : IsNodeOf b n) where
+    abbrev under : List ℕ
+    under = key ++ byte ∷ []
 
-  module _ (byte at : ℕ) (n : Node) (new : List ℕ) (is : child b (link_of l.node) byte ≡ Some at) (from : l.next ≤ byte) (first : (k : ℕ) → l.next ≤ k → k < byte → child b (link_of l.node) k ≡ None) (ascii : byte ≤ 127) (name : link_of n ≡ at) (node : IsNodeOf b n) (key : new ≡ (take l.key_length old ++ byte ∷ []) ++ prefix b (link_of n)) where
-    popped : AreLevels b l.key_length ps × IsLevel b (length old) l
-    popped = levels-pop b (length old) ps l levels
+    abbrev new : List ℕ
+    new = under ++ prefix b (link_of n)
 
-    size : length (take l.key_length old) ≡ l.key_length
-    size = length-take-le l.key_length old popped.1.key
+    abbrev own : Level
+    own = level_of n (Some byte)
 
-    pub new_size : l.key_length + 1 + length (prefix b (link_of n)) ≡ length new
-    new_size =
-        let all = ap length key in
-        omega (arith, all, size, length-append (take l.key_length old ++ byte ∷ []) (prefix b (link_of n)), length-append (take l.key_length old) (byte ∷ []))
+    abbrev others : List Level
+    others = ps ++ after_byte l byte ∷ []
 
-    pub same_front : take l.key_length new ≡ take l.key_length old
-    same_front =
-        ap (take l.key_length) (key ∙ append_assoc (take l.key_length old) (byte ∷ []) (prefix b (link_of n)))
-        ∙ take_at (take l.key_length old) (byte ∷ [] ++ prefix b (link_of n)) l.key_length size
-
-    child_items : items b (place_of (link_of l.node)) at (take l.key_length old ++ byte ∷ []) ≡ (new, link_of n) ∷ level_items b new (level_of n (length new))
+    child_items : items b (place_of (link_of l.node)) at under ≡ (new, link_of n) ∷ level_items b new own
     child_items =
-        let under = take l.key_length old ++ byte ∷ [] in
         let lt = child_below b accepted (link_of l.node) byte at popped.1.node.node is in
         items-node b accepted (place_of (link_of l.node)) at under (below byte at popped.1.node.node is) lt
         ∙ ap (λ k. (under ++ prefix b k, k) ∷ branches (items b (place_of k)) b k (under ++ prefix b k) 0 key_bytes) (sym name)
-        ∙ ap (λ k. (k, link_of n) ∷ branches (items b (place_of (link_of n))) b (link_of n) k 0 key_bytes) (sym key)
-        ∙ ap (λ k. (new, link_of n) ∷ branches (items b (place_of (link_of n))) b (link_of n) k 0 key_bytes) (sym (take_all (length new) new (omega arith)))
 
-    pub comes_left : items_left b old (ps ++ l ∷ []) ≡ (new, link_of n) ∷ items_left b new ((ps ++ after_byte l byte ∷ []) ++ level_of n (length new) ∷ [])
+    new_key : new ≡ key_of b others ++ piece b own
+    new_key =
+        append_assoc key (byte ∷ []) (prefix b (link_of n))
+        ∙ ap (λ k. k ++ byte ∷ prefix b (link_of n)) (sym (key_of-push b ps (after_byte l byte)))
+
+    pub comes_left : items_left b [] (ps ++ l ∷ []) ≡ (key_of b ((ps ++ after_byte l byte ∷ []) ++ level_of n (Some byte) ∷ []), link_of n) ∷ items_left b [] ((ps ++ after_byte l byte ∷ []) ++ level_of n (Some byte) ∷ [])
     comes_left =
         let f = items b (place_of (link_of l.node)) in
         let rest = key_bytes - (byte + 1) in
+        let more = items_left b [] ps in
         let inside : l.next + (key_bytes - l.next) ≡ key_bytes = omega (arith, popped.1.next) in
         let count : l.next + (key_bytes - l.next) - (byte + 1) ≡ rest = ap (λ k. k - (byte + 1)) inside in
-        items_left-push b old ps l
-        ∙ ap (λ is. is ++ items_left b old ps) (branches_some f b (link_of l.node) (take l.key_length old) l.next (key_bytes - l.next) byte at from (omega (arith, inside, ascii)) first is)
-        ∙ ap (λ k. (f at (take l.key_length old ++ byte ∷ []) ++ branches f b (link_of l.node) (take l.key_length old) (byte + 1) k) ++ items_left b old ps) count
-        ∙ append_assoc (f at (take l.key_length old ++ byte ∷ [])) (branches f b (link_of l.node) (take l.key_length old) (byte + 1) rest) (items_left b old ps)
-        ∙ (λ i. child_items i ++ (branches f b (link_of l.node) (sym same_front i) (byte + 1) rest ++ left_same b l.key_length old new ps popped.0 (sym same_front) i))
-        ∙ ap (λ is. ((new, link_of n) ∷ level_items b new (level_of n (length new))) ++ is) (sym (items_left-push b new ps (after_byte l byte)))
-        ∙ ap (λ is. (new, link_of n) ∷ is) (sym (items_left-push b new (ps ++ after_byte l byte ∷ []) (level_of n (length new))))
+        items_left-push b [] ps l
+        ∙ ap (λ is. is ++ more) (branches_some f b (link_of l.node) key l.next (key_bytes - l.next) byte at from (omega (arith, inside, ascii)) first is)
+        ∙ ap (λ k. (f at under ++ branches f b (link_of l.node) key (byte + 1) k) ++ more) count
+        ∙ append_assoc (f at under) (branches f b (link_of l.node) key (byte + 1) rest) more
+        ∙ ap (λ is. is ++ (branches f b (link_of l.node) key (byte + 1) rest ++ more)) child_items
+        ∙ ap (λ is. ((new, link_of n) ∷ level_items b new own) ++ is) (sym (items_left-push b [] ps (after_byte l byte)))
+        ∙ ap (λ k. (k, link_of n) ∷ (level_items b k own ++ items_left b [] others)) new_key
+        ∙ ap (λ is. (key_of b others ++ piece b own, link_of n) ∷ is) (sym (items_left-push b [] others own))
+        ∙ ap (λ k. (k, link_of n) ∷ items_left b [] (others ++ own ∷ [])) (sym (key_of-push b others own))
 
-    pub comes_levels : AreLevels b (length new) ((ps ++ after_byte l byte ∷ []) ++ level_of n (length new) ∷ [])
+    pub comes_levels : AreLevels b ((ps ++ after_byte l byte ∷ []) ++ level_of n (Some byte) ∷ [])
     comes_levels =
-        levels-push b (length new) (ps ++ after_byte l byte ∷ []) (level_of n (length new))
-        (levels-push b (length new) ps (after_byte l byte) popped.0 (record { node = popped.1.node; key = omega (arith, new_size); next = omega (arith, ascii) }))
-        (record { node = node; key = omega arith; next = omega arith })
+        levels-push b others own
+        (levels-push b ps (after_byte l byte) popped.0 (record { node = popped.1.node; next = omega (arith, ascii) }))
+        (record { node = node; next = omega arith })
 
 -- ---- the root
 
-pub root_items : (b : List ℕ) → index_fault b ≡ None → (key : List ℕ) (n : Node) (levels : List Level) → link_of n ≡ root b → key ≡ prefix b (link_of n) → levels ≡ level_of n (length key) ∷ [] → all_items b ≡ (key, link_of n) ∷ items_left b key levels
-root_items b accepted key n levels name key_is are =
+pub root_items : (b : List ℕ) → index_fault b ≡ None → (n : Node) (levels : List Level) → link_of n ≡ root b → levels ≡ level_of n None ∷ [] → all_items b ≡ (key_of b levels, link_of n) ∷ items_left b [] levels
+root_items b accepted n levels name are =
     let node : IsNode b (root b) = top in
     let sound = node_sound b accepted (root b) node in
     items-node b accepted (length b + 1) (root b) [] node (omega (arith, sound.within))
     ∙ ap (λ k. (prefix b k, k) ∷ branches (items b (place_of k)) b k (prefix b k) 0 key_bytes) (sym name)
-    ∙ ap (λ k. (k, link_of n) ∷ branches (items b (place_of (link_of n))) b (link_of n) k 0 key_bytes) (sym key_is)
-    ∙ ap (λ k. (key, link_of n) ∷ branches (items b (place_of (link_of n))) b (link_of n) k 0 key_bytes) (sym (take_all (length key) key (omega arith)))
-    ∙ ap (λ ls. (key, link_of n) ∷ items_left b key ls) (sym are)
+    ∙ ap (λ k. (k, link_of n) ∷ items_left b [] (level_of n None ∷ [])) (sym (append-nil (prefix b (link_of n))))
+    ∙ ap (λ ls. (key_of b ls, link_of n) ∷ items_left b [] ls) (sym are)

@@ -5,12 +5,12 @@ use Rattle.index_nodes.specs.Fields.{link_of, IsNodeOf}
 use Rattle.index_nodes.specs.declared.node.Node.{Node}
 use Rattle.index_read.specs.declared.walk.KeyWalk.{KeyWalk}
 use Rattle.index_read.specs.Keys.{Item}
-use Rattle.index_read.specs.Walks.{left, GoesOn, IsWalking}
+use Rattle.index_read.specs.Walks.{walk_key, left, GoesOn, IsWalking}
 
 -- The node that the walk reached and the nodes after it, or none if it reached none.
 abbrev pub to_do : List ℕ → KeyWalk → Option Node → List Item
 to_do b w None = []
-to_do b w (Some n) = (w.key.items, link_of n) ∷ left b w
+to_do b w (Some n) = (walk_key b w, link_of n) ∷ left b w
 
 -- The steps for the nodes after it.
 abbrev pub owed : List ℕ → KeyWalk → Option Node → ℕ

@@ -1,6 +1,7 @@
 -- The nodes of an index, each with the key that leads to it, in the order of their keys. After a
 -- node come the ones below it, by rising bytes, each with all that is below it.
-use Rattle.std.specs.Prelude.{ℕ, zero, suc, ◌+◌, ◌-◌, ◌≤◌, List, [], ◌∷◌, ◌++◌, length, take, Option, Some, None}
+use Rattle.std.specs.Prelude.{ℕ, zero, suc, ◌+◌, ◌-◌, ◌≤◌, List, [], ◌∷◌, ◌++◌, length, flat_map, Option, Some, None}
+use Rattle.std.specs.List.{cons_option, AllByRecursion}
 use Rattle.index_format.specs.Link.{place_of}
 use Rattle.index_format.specs.Node.{root, prefix, child}
 use Rattle.index_nodes.specs.Fields.{link_of, IsNodeOf}
@@ -38,28 +39,30 @@ items b (suc depth) link key =
 abbrev pub all_items : List ℕ → List Item
 all_items b = items b (length b + 1) (root b) []
 
--- The nodes still to come on a level: the ones below the bytes from its next one on.
+-- The bytes by which the key of a level goes on from that of the level before it: the byte that
+-- leads to its node, if one does, and the node's prefix.
+abbrev pub piece : List ℕ → Level → List ℕ
+piece b l = cons_option l.byte (prefix b (link_of l.node))
+
+-- The key of the last of some levels.
+abbrev pub key_of : List ℕ → List Level → List ℕ
+key_of b ls = flat_map (piece b) ls
+
+-- The nodes still to come on a level of this key: the ones below the bytes from its next one on.
 abbrev pub level_items : List ℕ → List ℕ → Level → List Item
 level_items b key l =
-    branches (items b (place_of (link_of l.node))) b (link_of l.node) (take l.key_length key) l.next (key_bytes - l.next)
+    branches (items b (place_of (link_of l.node))) b (link_of l.node) key l.next (key_bytes - l.next)
 
--- The nodes still to come, the last level's first.
+-- The nodes still to come on levels that go on from a key, the last level's first.
 abbrev pub items_left : List ℕ → List ℕ → List Level → List Item
 items_left b key [] = []
-items_left b key (l ∷ ls) = items_left b key ls ++ level_items b key l
+items_left b key (l ∷ ls) = items_left b (key ++ piece b l) ls ++ level_items b (key ++ piece b l) l
 
--- A level of the file: its key is a front of the walk's key of at most this length, and its next
--- byte may lead to a child.
-pub record IsLevel (b : List ℕ) (most : ℕ) (l : Level) : Type 0 where
+-- A level of the file, whose next byte may lead to a child.
+pub record IsLevel (b : List ℕ) (l : Level) : Type 0 where
   pub node : IsNodeOf b l.node
-  pub key : l.key_length ≤ most
   pub next : l.next ≤ key_bytes
 
--- Each level is one, and none has a longer key than the level after it.
-abbrev pub most_of : ℕ → List Level → ℕ
-most_of most [] = most
-most_of most (l ∷ ls) = l.key_length
-
-abbrev pub AreLevels : List ℕ → ℕ → List Level → Type 0
-AreLevels b most [] = Unit {0}
-AreLevels b most (l ∷ ls) = IsLevel b (most_of most ls) l × AreLevels b most ls
+-- Each level is one.
+abbrev pub AreLevels : List ℕ → List Level → Type 0
+AreLevels b ls = AllByRecursion (IsLevel b) ls

@@ -6,6 +6,7 @@ ghost use Rattle.index_format.specs.Node.{values};
 ghost use Rattle.index_nodes.specs.Fields.{link_of, IsNodeOf};
 ghost use Rattle.index_read.specs.Contents.{contents};
 ghost use Rattle.index_read.specs.Firsts.{firsts_of};
+ghost use Rattle.index_read.specs.Walks.{walk_key, IsWalking};
 
 use crate::index::Index;
 use crate::room::Room;
@@ -73,22 +74,27 @@ impl<'a> FirstValues<'a> {
         Ok(())
     }
 
-    /// Puts the key of a node with its first value behind the others, if it has one and there is
-    /// room. Many keys may lead to one node, so the text counts though it isn't copied: its end is
-    /// looked for each time.
+    /// Puts the key of the node that a walk reached last behind the others with its first value, if
+    /// it has one and there is room. Many keys may lead to one node, so the text counts though it
+    /// isn't copied: its end is looked for each time.
     fn push_node(
         &mut self,
         nodes: &'a Nodes,
         node: &Node,
-        key: &[u8],
+        walk: &mut KeyWalk,
         room: &mut Room,
     ) -> Result<(), AllocError>
-        requires { IsNodeOf nodes.now node.now }
-        ensures { OnOk result (self.new ≡ self.old ++ map (λ v. (key.now, v)) (take 1 (values nodes.now (link_of node.now)))) }
+        requires node { IsNodeOf nodes.now node.now }
+        requires walking { IsWalking nodes.now walk.old }
+        ensures walking { OnOk result (IsWalking nodes.now walk.new) }
+        ensures levels { OnOk result (walk.new.levels.items ≡ walk.old.levels.items) }
+        ensures first { OnOk result (self.new ≡ self.old ++ map (λ v. (walk_key nodes.now walk.old, v)) (take 1 (values nodes.now (link_of node.now)))) }
     {
         let Some(place) = nodes.first_value(node) else {
             return Ok(());
         };
+        walk.write_key(nodes)?;
+        let key = walk.key.as_slice();
         let text = nodes.text(&place);
         room.take(size_of::<FirstValue<'_>>())?;
         room.take(key.len())?;
@@ -134,8 +140,7 @@ impl<'a> FirstValues<'a> {
 ///
 /// # Errors
 ///
-/// Out of memory, also if the list with its texts has more than 268,435,456 bytes, or if the
-/// prefixes of nodes that overlap have more together.
+/// Out of memory, also if the list with its texts has more than 268,435,456 bytes.
 pub fn first_values(alloc: Global, index: &Index) -> Result<FirstValues<'_>, AllocError>
     ensures { IfOk result (λ found. found ≡ firsts_of (entries (contents index.now.nodes))) }
 {
@@ -158,7 +163,7 @@ fn first_values_over<L: Ledger>(
     let (mut walk, root) = KeyWalk::start(alloc, &index.nodes, &mut steps)?;
     let mut next = Some(root);
     while let Some(node) = next {
-        found.push_node(&index.nodes, &node, walk.key.as_slice(), &mut room)?;
+        found.push_node(&index.nodes, &node, &mut walk, &mut room)?;
         next = walk.next(&index.nodes, &mut steps)?;
     }
     Ok(found)

@@ -1,24 +1,26 @@
-ghost use Rattle.std.specs.Prelude.{◌≡◌, ◌+◌, ◌≤◌, [], length, Some, None, IfOk, OnOk, IfErr, IfNone, IfSome, slice_get};
+ghost use Rattle.std.specs.Prelude.{◌≡◌, ◌+◌, ◌≤◌, ◌++◌, [], length, map, Some, None, IfOk, OnOk, IfErr, IfNone, IfSome, slice_get};
 ghost use Rattle.std.specs.FinMap.{entries};
 ghost use Rattle.index_format.specs.Map.{KeyValues, values_of};
-ghost use Rattle.index_format.specs.Node.{root};
+ghost use Rattle.index_format.specs.Node.{root, values};
 ghost use Rattle.index_format.specs.Walk.{at, visits};
 ghost use Rattle.index_format.specs.Check.{index_fault};
 ghost use Rattle.index_format.specs.Holds.{Holds};
 ghost use Rattle.index_nodes.specs.Faults.{IsFirstFault};
 ghost use Rattle.index_nodes.specs.Places.{IsPlaceOf, value_at};
+ghost use Rattle.index_nodes.specs.Fields.{link_of, IsNodeOf};
 ghost use Rattle.index_format.specs.Nodes.{node_count};
 ghost use Rattle.index_format.specs.Listing.{IsListing};
 ghost use Rattle.index_read.specs.Contents.{contents, values_matching, wild_values};
 ghost use Rattle.index_read.specs.Values.{found_values, shown_pairs, IsWild, IsMatching};
+ghost use Rattle.index_read.specs.Walks.{walk_key, IsWalking};
 
 use crate::reach::reach;
 use crate::room::Room;
 use crate::search::Search;
-use crate::value::{Pairs, Value, Values, push_pairs, push_values};
+use crate::value::{Pair, Pairs, Value, Values, push_pairs, push_values};
 use crate::walk::KeyWalk;
 use glob_match::Runs;
-use index_nodes::{IndexFault, Nodes, Place, Steps};
+use index_nodes::{IndexFault, Node, Nodes, Place, Steps};
 use km_names::Blob;
 use std::alloc::{AllocError, Global};
 use std::sync::ledger::Ledger;
@@ -94,8 +96,7 @@ impl Index {
     ///
     /// # Errors
     ///
-    /// Out of memory, also if the list would take more than 268,435,456 bytes, or if the prefixes
-    /// of nodes that overlap have more together.
+    /// Out of memory, also if the list would take more than 268,435,456 bytes.
     pub fn all<L: Ledger>(&self, alloc: Global, steps: &mut Steps<L>) -> Result<Pairs, AllocError>
         ensures listing { IfOk result (λ found. IsListing (at self.now.nodes (root self.now.nodes)) (shown_pairs found)) }
         ensures map { (m : KeyValues) → Holds self.now.nodes m → IfOk result (λ found. IsListing (values_of m) (shown_pairs found)) }
@@ -107,8 +108,7 @@ impl Index {
         let (mut walk, root) = KeyWalk::start(alloc, &self.nodes, steps)?;
         let mut next = Some(root);
         while let Some(node) = next {
-            let key = walk.key.as_slice();
-            push_pairs(alloc, &self.nodes, &node, key, &mut found, &mut room)?;
+            push_node(alloc, &self.nodes, &node, &mut walk, &mut found, &mut room)?;
             next = walk.next(&self.nodes, steps)?;
         }
         Ok(Pairs::from_vec(found))
@@ -165,4 +165,27 @@ impl Index {
         }
         Ok(found)
     }
+}
+
+/// Puts the key of the node that a walk reached last at the end, with each of its values. If it has
+/// no value, the key isn't written.
+fn push_node(
+    alloc: Global,
+    nodes: &Nodes,
+    node: &Node,
+    walk: &mut KeyWalk,
+    found: &mut Vec<Pair>,
+    room: &mut Room,
+) -> Result<(), AllocError>
+    requires node { IsNodeOf nodes.now node.now }
+    requires walking { IsWalking nodes.now walk.old }
+    ensures walking { OnOk result (IsWalking nodes.now walk.new) }
+    ensures levels { OnOk result (walk.new.levels.items ≡ walk.old.levels.items) }
+    ensures pairs { OnOk result (shown_pairs found.new.items ≡ shown_pairs found.old.items ++ map (λ v. (walk_key nodes.now walk.old, v)) (values nodes.now (link_of node.now))) }
+{
+    if nodes.first_value(node).is_none() {
+        return Ok(());
+    }
+    walk.write_key(nodes)?;
+    push_pairs(alloc, nodes, node, walk.key.as_slice(), found, room)
 }

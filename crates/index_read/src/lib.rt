@@ -10,8 +10,8 @@
 //! the text that each can reach so far. So what keys begin with in common is matched once.
 //!
 //! A small file may have a map of any size. So the lookups in all keys count the bytes of the list
-//! that they answer, and of a listing the prefixes that it goes over. Past 268,435,456 they are out
-//! of memory. The bytes that are matched with a text take 2,147,483,648 steps at most.
+//! that they answer, and past 268,435,456 they are out of memory. A listing writes a key only where
+//! it has a value. The bytes that are matched with a text take 2,147,483,648 steps at most.
 //!
 //! Each node that is read is a step on the ledger that the caller gives; the lookups of [`plain`]
 //! and [`first_values`] count nothing. The crate builds on `index_nodes`, which reads the nodes, on

@@ -1,8 +1,8 @@
 use km_names::FILE_LIMIT;
 use std::alloc::AllocError;
 
-/// How many bytes a lookup in all keys may take: the list that it answers and, of a listing, the
-/// prefixes that it goes over, each for itself. It is four times the greatest file.
+/// How many bytes the list that a lookup in all keys answers may take. It is four times the greatest
+/// file.
 const ROOM: usize = 4 * FILE_LIMIT;
 
 /// How many steps the bytes of keys that are matched with a text may take.

@@ -1,31 +1,33 @@
-ghost use Rattle.std.specs.Prelude.{◌≡◌, ◌+◌, ◌≤◌, ◌∷◌, ◌++◌, [], length, take, IfOk, OnOk, None};
+ghost use Rattle.std.specs.Prelude.{◌≡◌, ◌+◌, ◌≤◌, ◌∷◌, ◌++◌, [], length, IfOk, OnOk, Some, None};
 ghost use Rattle.index_format.specs.Check.{index_fault};
-ghost use Rattle.index_format.specs.Node.{prefix};
 ghost use Rattle.index_nodes.specs.Fields.{link_of, IsNodeOf};
-ghost use Rattle.index_read.specs.Keys.{all_items};
-ghost use Rattle.index_read.specs.Walks.{left, left_after, IsWalking, GoesOn, after_byte, level_of};
+ghost use Rattle.index_read.specs.Keys.{all_items, piece};
+ghost use Rattle.index_read.specs.Walks.{walk_key, left, left_after, IsWritten, IsWalking, GoesOn, after_byte, level_of};
 
 use crate::room::Room;
 use index_nodes::{Node, Nodes, Steps};
 use std::alloc::{AllocError, Global};
 use std::sync::ledger::Ledger;
 
-/// A node whose children are visited: how long its key is, and the byte from which on they are
-/// still to come.
+/// A node whose children are visited: the byte that leads to it, unless it is the root, and the
+/// byte from which on its children are still to come.
 #[derive(Clone, Copy)]
 pub(crate) struct Level {
     pub(crate) node: Node,
-    pub(crate) key_length: usize,
+    pub(crate) byte: Option<u8>,
     pub(crate) next: u8,
 }
 
-/// A walk over all nodes in the order of their keys. It keeps the levels that it is on.
+/// A walk over all nodes in the order of their keys. It keeps the levels that it is on. The key of
+/// a node is written only if it is asked for. What is written goes on from the levels that it has
+/// in common with the key that was written before.
 #[derive(Drop)]
 pub(crate) struct KeyWalk {
-    /// The key of the node that the walk reached last.
+    /// The key of the first levels, as many as are written.
     pub(crate) key: Vec<u8>,
+    pub(crate) written: usize,
     pub(crate) levels: Vec<Level>,
-    /// For the prefixes of the nodes to come.
+    /// For the bytes that are written. They are no more than the keys that are asked for have.
     pub(crate) room: Room,
 }
 
@@ -37,21 +39,21 @@ impl KeyWalk {
         steps: &mut Steps<L>,
     ) -> Result<(KeyWalk, Node), AllocError>
         ensures cost { steps.new ≡ steps.old + 1 }
-        ensures still { IfOk result (λ r. all_items nodes.now ≡ (r.0.key.items, link_of r.1) ∷ left nodes.now r.0) }
+        ensures still { IfOk result (λ r. all_items nodes.now ≡ (walk_key nodes.now r.0, link_of r.1) ∷ left nodes.now r.0) }
         ensures node { IfOk result (λ r. IsNodeOf nodes.now r.1) }
         ensures walking { IfOk result (λ r. IsWalking nodes.now r.0) }
         ensures accepted { index_fault nodes.now ≡ None }
     {
         let node = nodes.node(&nodes.root(), steps);
-        let key = Vec::from_slice(alloc, nodes.prefix(&node))?;
         let mut levels = Vec::new(alloc);
         levels.push(Level {
             node,
-            key_length: key.len(),
+            byte: None,
             next: 0,
         })?;
         let walk = KeyWalk {
-            key,
+            key: Vec::new(alloc),
+            written: 0,
             levels,
             room: Room::new(),
         };
@@ -59,34 +61,38 @@ impl KeyWalk {
     }
 
     /// Goes to the child of a level for a byte.
-    fn enter(
-        &mut self,
-        nodes: &Nodes,
-        level: &Level,
-        byte: u8,
-        node: &Node,
-    ) -> Result<(), AllocError>
-        requires node { IsNodeOf nodes.now node.now }
-        requires byte { byte ≤ 127 }
-        ensures key { OnOk result (self.new.key.items ≡ (take level.now.key_length self.old.key.items ++ byte ∷ []) ++ prefix nodes.now (link_of node.now)) }
-        ensures levels { OnOk result (self.new.levels.items ≡ (self.old.levels.items ++ after_byte level.now byte ∷ []) ++ level_of node.now (length self.new.key.items) ∷ []) }
+    fn enter(&mut self, level: &Level, byte: u8, node: &Node) -> Result<(), AllocError>
+        requires { byte ≤ 127 }
+        ensures key { OnOk result (self.new.key.items ≡ self.old.key.items) }
+        ensures written { OnOk result (self.new.written ≡ self.old.written) }
+        ensures levels { OnOk result (self.new.levels.items ≡ (self.old.levels.items ++ after_byte level.now byte ∷ []) ++ level_of node.now (Some byte) ∷ []) }
     {
-        let prefix = nodes.prefix(node);
-        self.room.take(prefix.len())?;
-        self.key.truncate(level.key_length);
-        self.key.push(byte)?;
-        self.key.extend_from_slice(prefix)?;
         self.levels.push(Level {
             node: level.node,
-            key_length: level.key_length,
+            byte: level.byte,
             next: byte + 1,
         })?;
         self.levels.push(Level {
             node: *node,
-            key_length: self.key.len(),
+            byte: Some(byte),
             next: 0,
         })?;
         Ok(())
+    }
+
+    /// Drops what is written of a level that the walk left.
+    fn leave(&mut self, nodes: &Nodes, level: &Level)
+        requires node { IsNodeOf nodes.now level.now.node }
+        requires written { IsWritten nodes.now self.old.key.items self.old.written (self.old.levels.items ++ level.now ∷ []) }
+        ensures levels { self.new.levels.items ≡ self.old.levels.items }
+        ensures written { IsWritten nodes.now self.new.key.items self.new.written self.new.levels.items }
+    {
+        let count = self.levels.len();
+        if self.written > count {
+            let piece = nodes.prefix(&level.node).len() + usize::from(level.byte.is_some());
+            self.key.truncate(self.key.len() - piece);
+            self.written = count;
+        }
     }
 
     /// Goes on to the next node, which is one step. Returns `None` if none is left.
@@ -102,12 +108,43 @@ impl KeyWalk {
     {
         while let Some(level) = self.levels.pop() {
             let Some((byte, at)) = nodes.next_child(&level.node, level.next) else {
+                self.leave(nodes, &level);
                 continue;
             };
             let node = nodes.node(&at, steps);
-            self.enter(nodes, &level, byte, &node)?;
+            self.enter(&level, byte, &node)?;
             return Ok(Some(node));
         }
         Ok(None)
+    }
+
+    /// Writes the bytes by which the key of a level goes on.
+    fn write(&mut self, nodes: &Nodes, level: &Level) -> Result<(), AllocError>
+        requires { IsNodeOf nodes.now level.now.node }
+        ensures key { OnOk result (self.new.key.items ≡ self.old.key.items ++ piece nodes.now level.now) }
+        ensures levels { OnOk result (self.new.levels ≡ self.old.levels) }
+    {
+        let prefix = nodes.prefix(&level.node);
+        self.room.take(prefix.len() + 1)?;
+        if let Some(byte) = level.byte {
+            self.key.push(byte)?;
+        }
+        self.key.extend_from_slice(prefix)?;
+        Ok(())
+    }
+
+    /// Writes the key of the node that the walk reached last.
+    pub(crate) fn write_key(&mut self, nodes: &Nodes) -> Result<(), AllocError>
+        requires { IsWalking nodes.now self.old }
+        ensures walking { OnOk result (IsWalking nodes.now self.new) }
+        ensures levels { OnOk result (self.new.levels.items ≡ self.old.levels.items) }
+        ensures key { OnOk result (self.new.key.items ≡ walk_key nodes.now self.old) }
+    {
+        for at in self.written..self.levels.len() {
+            let level = self.levels[at];
+            self.write(nodes, &level)?;
+        }
+        self.written = self.levels.len();
+        Ok(())
     }
 }

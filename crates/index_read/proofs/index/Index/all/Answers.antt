@@ -1,12 +1,13 @@
-use Rattle.std.proofs.Common.{sym, ap, subst, ◌∙◌, [], ◌++◌, map, arith, append_assoc}
+use Rattle.std.proofs.Common.{sym, ap, subst, ◌∙◌, [], ◌++◌, length, arith, append_assoc}
 use Rattle.std.proofs.lemmas.List.{append-nil}
-use Rattle.index_format.specs.Node.{root, values}
+use Rattle.index_format.specs.Node.{root}
 use Rattle.index_format.specs.Map.{values_of}
 use Rattle.index_format.specs.Walk.{at}
 use Rattle.index_format.specs.Listing.{IsListing}
 use Rattle.index_nodes.specs.Fields.{link_of}
 use Rattle.index_read.specs.Contents.{contents}
-use Rattle.index_read.specs.Keys.{Item, all_items}
+use Rattle.index_read.specs.Keys.{Item, all_items, items_left}
+use Rattle.index_read.specs.Walks.{walk_key}
 use Rattle.index_read.specs.Values.{shown_pairs}
 use Rattle.index_read.proofs.ContentsLemmas.{values_held}
 use Rattle.index_read.proofs.CountLemmas.{count_all, root_counted}
@@ -22,8 +23,8 @@ returns-in_err-walk-clause-cost g c =
     let root_there = root_counted b in
     omega (arith, all, root_there, c.start.ensures.cost)
 
-pub returns-in_err-push_pairs-clause-cost : goal.returns-in_err-push_pairs-clause-cost
-returns-in_err-push_pairs-clause-cost g c =
+pub returns-in_err-push_node-clause-cost : goal.returns-in_err-push_node-clause-cost
+returns-in_err-push_node-clause-cost g c =
     let w = c.loop-next.invariant in
     let all = count_all c.args.self.now.nodes w.accepted in
     omega (arith, all, w.cost)
@@ -33,17 +34,19 @@ returns-in_err-next-clause-cost g c =
     let b = c.args.self.now.nodes in
     let w = subst (λ o. Listing b c.loop-next.walk o (shown_pairs c.loop-next.found.items) c.args.steps.now c.loop-next.steps) c.in-Some.is c.loop-next.invariant in
     let all = count_all c.args.self.now.nodes w.accepted in
-    omega (arith, all, w.cost, c.next.ensures.cost)
+    let same = ap length (ap (items_left b []) c.in_ok-push_node.ensures.levels) in
+    omega (arith, all, w.cost, c.next.ensures.cost, same)
 
 pub loop-next-preserved : goal.loop-next-preserved
 loop-next-preserved g c =
     let b = c.args.self.now.nodes in
     let w = subst (λ o. Listing b c.loop-next.walk o (shown_pairs c.loop-next.found.items) c.args.steps.now c.loop-next.steps) c.in-Some.is c.loop-next.invariant in
-    let old = c.loop-next.walk in
+    let old = c.push_node.new.walk in
     let new = c.next.new.self in
     let n = c.in-Some.node in
     let o = c.in_ok-next.next in
-    let item : Item = (old.key.items, link_of n) in
+    let item : Item = (walk_key b c.loop-next.walk, link_of n) in
+    let same = ap (items_left b []) c.in_ok-push_node.ensures.levels in
     let on = c.in_ok-next.ensures.goes_on in
     let few = owed_few b new o in
     record {
@@ -52,9 +55,9 @@ loop-next-preserved g c =
       onward =
           λ ps more.
           subst (Chosen b Every (all_items b))
-          (sym (append_assoc (shown_pairs c.loop-next.found.items) (pairs_of b item) ps) ∙ ap (λ qs. qs ++ ps) (sym (c.in_ok-push_pairs.ensures ∙ ap (λ k. shown_pairs c.loop-next.found.items ++ map (λ v. (k, v)) (values b (link_of n))) c.as_slice-key.ensures.value)))
-          (w.onward (pairs_of b item ++ ps) (taken item tt (subst (λ is. Chosen b Every is ps) (sym (still_to_do b old new o on)) more)));
-      cost = omega (arith, w.cost, c.in_ok-next.ensures.cost, few);
+          (sym (append_assoc (shown_pairs c.loop-next.found.items) (pairs_of b item) ps) ∙ ap (λ qs. qs ++ ps) (sym c.in_ok-push_node.ensures.pairs))
+          (w.onward (pairs_of b item ++ ps) (taken item tt (subst (λ is. Chosen b Every is ps) (sym (still_to_do b old new o on) ∙ same) more)));
+      cost = omega (arith, w.cost, c.in_ok-next.ensures.cost, few, ap length same);
     }
 
 pub returns-clause-listing : goal.returns-clause-listing

@@ -1,33 +1,42 @@
-use Rattle.std.proofs.Common.{◌≡◌, refl, sym, ap, subst, ◌∙◌, ◌++◌, ◌∷◌, [], take, length, arith, rules}
+use Rattle.std.proofs.Common.{◌≡◌, refl, sym, ap, subst, ◌∙◌, ◌∷◌, ◌++◌, [], length, Some, arith, rules}
 use Rattle.std.proofs.lemmas.Result.{err_from_is_err_and}
-use Rattle.index_format.specs.Node.{prefix}
 use Rattle.index_nodes.specs.Fields.{link_of}
-use Rattle.index_read.specs.Keys.{items_left, AreLevels}
-use Rattle.index_read.specs.Walks.{left_after}
-use Rattle.index_read.proofs.KeyLemmas.{levels-pop, nothing_left, still_levels, comes_left, comes_levels}
+use Rattle.index_read.specs.Keys.{key_of, items_left, AreLevels}
+use Rattle.index_read.specs.Walks.{left_after, IsWritten, level_of, after_byte}
+use Rattle.index_read.proofs.KeyLemmas.{levels-pop, nothing_left, comes_left, comes_levels, written-on, written-same}
 use Rattle.index_read.proofs.walk.KeyWalk.next.Goals as goal
 
 pub next_child-requires : goal.next_child-requires
 next_child-requires g c =
     let b = c.args.nodes.now in
-    let key = c.loop-level.self.key.items in
-    let are = subst (AreLevels b (length key)) c.in-Some.ensures.items c.loop-level.invariant.are in
-    (levels-pop b (length key) c.pop.new.self.items c.in-Some.level are).1.node
+    let are = subst (AreLevels b) c.in-Some.ensures.items c.loop-level.invariant.are in
+    (levels-pop b c.pop.new.self.items c.in-Some.level are).1.node
+
+pub leave-requires-clause-node : goal.leave-requires-clause-node
+leave-requires-clause-node g c =
+    let b = c.args.nodes.now in
+    let are = subst (AreLevels b) c.in-Some.ensures.items c.loop-level.invariant.are in
+    (levels-pop b c.pop.new.self.items c.in-Some.level are).1.node
+
+pub leave-requires-clause-written : goal.leave-requires-clause-written
+leave-requires-clause-written g c =
+    let b = c.args.nodes.now in
+    subst (IsWritten b c.loop-level.self.key.items c.loop-level.self.written) c.in-Some.ensures.items c.loop-level.invariant.written
 
 pub loop-level-preserved : goal.loop-level-preserved
 loop-level-preserved g c =
     let b = c.args.nodes.now in
-    let key = c.loop-level.self.key.items in
     let ps = c.pop.new.self.items in
     let l = c.in-Some.level in
     let w = c.loop-level.invariant in
-    let are = subst (AreLevels b (length key)) c.in-Some.ensures.items w.are in
+    let are = subst (AreLevels b) c.in-Some.ensures.items w.are in
     record {
-      same = w.same;
-      are = still_levels b c.requires.accepted key ps l are;
+      are = subst (AreLevels b) (sym c.leave.ensures.levels) (levels-pop b ps l are).0;
+      written = c.leave.ensures.written;
       still =
-          sym (nothing_left b c.requires.accepted key ps l are c.in_default-next_child.ensures.none)
-          ∙ ap (items_left b key) (sym c.in-Some.ensures.items)
+          ap (items_left b []) c.leave.ensures.levels
+          ∙ sym (nothing_left b c.requires.accepted ps l are c.in_default-next_child.ensures.none)
+          ∙ ap (items_left b []) (sym c.in-Some.ensures.items)
           ∙ w.still;
       steps = w.steps;
     }
@@ -35,17 +44,12 @@ loop-level-preserved g c =
 pub returns-in_err-enter-clause-cost : goal.returns-in_err-enter-clause-cost
 returns-in_err-enter-clause-cost g c =
     let b = c.args.nodes.now in
-    let key = c.loop-level.self.key.items in
-    let ps = c.pop.new.self.items in
-    let l = c.in-Some.level in
     let w = c.loop-level.invariant in
     let n = c.node-node.result in
-    let byte = c.in-Some-next_child.byte in
-    let at = c.in-Some-next_child.at in
     let e = c.in-Some-next_child.ensures in
     let name : link_of c.node-node.result ≡ c.in-Some-next_child.at = search rules in
-    let are = subst (AreLevels b (length key)) c.in-Some.ensures.items w.are in
-    let one = sym w.still ∙ ap (items_left b key) c.in-Some.ensures.items ∙ comes_left b c.requires.accepted key ps l are byte at n ((take l.key_length key ++ byte ∷ []) ++ prefix b (link_of n)) e.some e.from e.first e.top name c.node-node.ensures.node refl in
+    let are = subst (AreLevels b) c.in-Some.ensures.items w.are in
+    let one = sym w.still ∙ ap (items_left b []) c.in-Some.ensures.items ∙ comes_left b c.requires.accepted c.pop.new.self.items c.in-Some.level are c.in-Some-next_child.byte c.in-Some-next_child.at n e.some e.from e.first e.top name c.node-node.ensures.node in
     let some = ap length one in
     let p = err_from_is_err_and c.from_residual.result c.from_residual.ensures.1 in
     let none = ap (λ r. length (left_after r b c.enter.new.self)) p.1 in
@@ -54,43 +58,44 @@ returns-in_err-enter-clause-cost g c =
 pub returns-in-Some-clause-goes_on : goal.returns-in-Some-clause-goes_on
 returns-in-Some-clause-goes_on g c =
     let b = c.args.nodes.now in
-    let key = c.loop-level.self.key.items in
     let ps = c.pop.new.self.items in
     let l = c.in-Some.level in
     let w = c.loop-level.invariant in
     let n = c.node-node.result in
-    let new = c.enter.new.self.key.items in
+    let new = c.enter.new.self in
     let byte = c.in-Some-next_child.byte in
     let at = c.in-Some-next_child.at in
     let e = c.in-Some-next_child.ensures in
+    let kept = c.in_ok-enter.ensures in
     let name : link_of c.node-node.result ≡ c.in-Some-next_child.at = search rules in
-    let are = subst (AreLevels b (length key)) c.in-Some.ensures.items w.are in
+    let are = subst (AreLevels b) c.in-Some.ensures.items w.are in
+    let before = subst (IsWritten b c.loop-level.self.key.items c.loop-level.self.written) c.in-Some.ensures.items w.written in
+    let on = written-on b c.loop-level.self.key.items c.loop-level.self.written ps l (after_byte l byte) (level_of n (Some byte)) refl before in
     record {
       still =
           sym w.still
-          ∙ ap (items_left b key) c.in-Some.ensures.items
-          ∙ comes_left b c.requires.accepted key ps l are byte at n new e.some e.from e.first e.top name c.node-node.ensures.node c.in_ok-enter.ensures.key
-          ∙ ap (λ ls. (new, link_of n) ∷ items_left b new ls) (sym c.in_ok-enter.ensures.levels);
+          ∙ ap (items_left b []) c.in-Some.ensures.items
+          ∙ comes_left b c.requires.accepted ps l are byte at n e.some e.from e.first e.top name c.node-node.ensures.node
+          ∙ ap (λ ls. (key_of b ls, link_of n) ∷ items_left b [] ls) (sym kept.levels);
       node = c.node-node.ensures.node;
-      walking =
-          subst (AreLevels b (length new)) (sym c.in_ok-enter.ensures.levels)
-          (comes_levels b c.requires.accepted key ps l are byte at n new e.some e.from e.first e.top name c.node-node.ensures.node c.in_ok-enter.ensures.key);
+      walking = record {
+        levels =
+            subst (AreLevels b) (sym kept.levels)
+            (comes_levels b c.requires.accepted ps l are byte at n e.some e.from e.first e.top name c.node-node.ensures.node);
+        written =
+            subst (IsWritten b new.key.items new.written) (sym kept.levels)
+            (written-same b c.loop-level.self.key.items new.key.items c.loop-level.self.written new.written ((ps ++ after_byte l byte ∷ []) ++ level_of n (Some byte) ∷ []) kept.key kept.written on);
+      };
     }
 
 pub returns-in-Some-clause-cost : goal.returns-in-Some-clause-cost
 returns-in-Some-clause-cost g c =
     let b = c.args.nodes.now in
-    let key = c.loop-level.self.key.items in
-    let ps = c.pop.new.self.items in
-    let l = c.in-Some.level in
     let w = c.loop-level.invariant in
     let n = c.node-node.result in
-    let new = c.enter.new.self.key.items in
-    let byte = c.in-Some-next_child.byte in
-    let at = c.in-Some-next_child.at in
     let e = c.in-Some-next_child.ensures in
     let name : link_of c.node-node.result ≡ c.in-Some-next_child.at = search rules in
-    let are = subst (AreLevels b (length key)) c.in-Some.ensures.items w.are in
-    let still = sym w.still ∙ ap (items_left b key) c.in-Some.ensures.items ∙ comes_left b c.requires.accepted key ps l are byte at n new e.some e.from e.first e.top name c.node-node.ensures.node c.in_ok-enter.ensures.key ∙ ap (λ ls. (new, link_of n) ∷ items_left b new ls) (sym c.in_ok-enter.ensures.levels) in
+    let are = subst (AreLevels b) c.in-Some.ensures.items w.are in
+    let still = sym w.still ∙ ap (items_left b []) c.in-Some.ensures.items ∙ comes_left b c.requires.accepted c.pop.new.self.items c.in-Some.level are c.in-Some-next_child.byte c.in-Some-next_child.at n e.some e.from e.first e.top name c.node-node.ensures.node ∙ ap (λ ls. (key_of b ls, link_of n) ∷ items_left b [] ls) (sym c.in_ok-enter.ensures.levels) in
     let fewer = ap length still in
     omega (arith, fewer, w.steps, c.node-node.ensures.step)
