@@ -3,6 +3,7 @@
 use Rattle.std.proofs.Common.{◌≡◌, ◌∙◌, ℕ, Bool, true, false, List, [], ◌∷◌, ◌++◌, find, get_or, map, reverse, flat_map, take, None, refl, sym, ap, subst, arith}
 use Rattle.std.specs.Prelude.{Option, Some, Result, Ok, Err, codes, nat_eq, ⊤}
 use Rattle.std.specs.List.{ends_with}
+use Rattle.km_names.specs.AliasForm.{normal_or_itself}
 use Rattle.km_names.specs.First.{first}
 use Rattle.km_names.specs.Path.{is_compressed, path_below}
 use Rattle.km_names.specs.declared.conf.ConfFile.{ConfFile}
@@ -93,7 +94,7 @@ use Rattle.command_modprobe.specs.Modprobe.{modprobe_in_mode}
 use Rattle.command_modprobe.specs.Parts.{loads_known}
 use Rattle.command_modprobe.specs.Planned.{loaded_in, plan_lines, plan_outcome, plan_unless, request_of, sources_with}
 use Rattle.command_modprobe.specs.Resolved.{lines_of_names, names_asked}
-use Rattle.stages_known.specs.Named.{found_names, is_unknown, names_outcome, normal_or_itself, unless_unknown}
+use Rattle.stages_known.specs.Named.{found_names, is_unknown, names_outcome, unless_unknown}
 use Rattle.stages_known.proofs.KnownSteps.{loaded_stated}
 use Rattle.command_modprobe.proofs.LoadSteps.{after_lines, after_listed, after_loads, after_machine, after_inserts, after_steps}
 use Rattle.laws_planned_loads.specs.Reading.{CoursesPass, IsOtherEnd, IsReading, bad_configuration, indexes_of, is_known, known_of, no_configuration, no_list, of_configuration, of_map, of_symvers}

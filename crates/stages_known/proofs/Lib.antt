@@ -1,2 +1,3 @@
 pub mod KnownSteps
+pub mod MoreRules
 pub mod NamedSteps

@@ -3,6 +3,7 @@ use Rattle.std.proofs.Common.{◌≡◌, ℕ, ◌+◌, ◌≤◌, Bool, true, fa
 use Rattle.std.specs.Prelude.{find, Some, None, Err}
 use Rattle.std.proofs.lemmas.List.{drop_all}
 use Rattle.std.proofs.lemmas.Bool.{ne_eqb}
+use Rattle.km_names.specs.AliasForm.{normal_or_itself}
 use Rattle.km_course.specs.Follows.{Answers}
 use Rattle.km_course.specs.declared.stop.Stop.{Stop}
 use Rattle.km_course.specs.declared.stop.Stop.TheVariants.{Ended}
@@ -11,7 +12,7 @@ use Rattle.km_course.specs.declared.end.End.TheVariants.{Refused}
 use Rattle.km_course.specs.declared.refusal.Refusal.TheVariants.{NotFound}
 use Rattle.name_lookup.specs.declared.found.Found.{Found}
 use Rattle.stages_known.specs.declared.known.Known.{Known}
-use Rattle.stages_known.specs.Named.{found_in, is_unknown, found_names, normal_or_itself, unless_unknown, names_outcome}
+use Rattle.stages_known.specs.Named.{found_in, is_unknown, found_names, unless_unknown, names_outcome}
 
 -- a name that stands for something
 known-name : (known : Known) (everywhere : Bool) (name : List ℕ) (names : List (List ℕ)) → is_unknown known everywhere name ≡ false → find (is_unknown known everywhere) (name ∷ names) ≡ find (is_unknown known everywhere) names

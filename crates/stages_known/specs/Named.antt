@@ -1,7 +1,7 @@
 -- What the names of a request stand for. modprobe(8), modprobe.d(5).
-use Rattle.std.specs.Prelude.{ℕ, ◌==◌, Bool, List, find, Option, Some, None, unwrap_or}
+use Rattle.std.specs.Prelude.{ℕ, ◌==◌, Bool, List, find, Option, Some, None}
 use Rattle.std.specs.List.{flat_map}
-use Rattle.km_names.specs.AliasForm.{normal_alias}
+use Rattle.km_names.specs.AliasForm.{normal_or_itself}
 use Rattle.name_lookup.specs.declared.found.Found.{Found}
 use Rattle.name_lookup.specs.Found.{found}
 use Rattle.name_lookup.specs.Maps.{maps_of}
@@ -22,10 +22,6 @@ is_unknown known everywhere name = (found_in known everywhere name).list == 0
 -- What names stand for, in the order of the names.
 abbrev pub found_names : Known → Bool → List (List ℕ) → List (List ℕ)
 found_names known everywhere names = flat_map (λ name. (found_in known everywhere name).names) names
-
--- A name in its normal form, or as it is if it has none.
-abbrev pub normal_or_itself : List ℕ → List ℕ
-normal_or_itself name = unwrap_or (normal_alias name) name
 
 -- what a name that stands for nothing results in, if there is one, and otherwise the names
 abbrev pub unless_unknown : Option (List ℕ) → List (List ℕ) → Outcome (List (List ℕ))

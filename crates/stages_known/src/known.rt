@@ -1,6 +1,7 @@
 // What modprobe knows before it looks a name up.
-ghost use Rattle.std.specs.Prelude.{◌≡◌, ◌≤◌, ◌∷◌, ◌++◌, [], length, All, IfOk};
+ghost use Rattle.std.specs.Prelude.{◌≡◌, ◌≤◌, ◌∷◌, [], List, length, All, IfOk};
 ghost use Rattle.km_names.specs.Limit.{file_limit};
+ghost use Rattle.km_names.specs.declared.conf.ConfFile.{ConfFile};
 ghost use Rattle.km_course.specs.FollowsOn.{FollowsOnFiles, Returns};
 ghost use Rattle.modprobe_conf.specs.Rules.{rules_of};
 ghost use Rattle.unmet_file.specs.Unmet.{unmet_of};
@@ -45,9 +46,9 @@ pub fn read_known<F: Reads>(
         F.seen files.old files.new result }
 {
     let configuration = read_configuration(alloc, Tool::Modprobe, config, files)?;
-    rules_in(alloc, &configuration)?;
+    let stated = rules_in(alloc, &configuration)?;
     let indexes = read_indexes(alloc, folder, files)?;
-    read_lists(alloc, configuration, folder, indexes, loaded, files)
+    read_lists(alloc, stated, folder, indexes, loaded, files)
 }
 
 /// Returns the rules that configuration files state.
@@ -91,20 +92,20 @@ fn read_index_in<F: Reads>(
     read_index(alloc, path, files)
 }
 
-/// Reads what modprobe knows, after the configuration and the indexes were read.
+/// Reads what modprobe knows, after the indexes were read, if the configuration states these rules.
 fn read_lists<F: Reads>(
     alloc: Global,
-    configuration: ConfFiles,
+    stated: Rules,
     folder: &PathText,
     indexes: Indexes,
     loaded: Option<PathText>,
     files: &mut F,
 ) -> Result<Known, Stop>
-    requires { All (λ file. length file.bytes ≤ file_limit) configuration }
-    ensures { FollowsOnFiles (reads_lists configuration folder.now indexes loaded)
+    ensures { (configuration : List ConfFile) → rules_of configuration ≡ Ok stated
+        → FollowsOnFiles (reads_lists configuration folder.now indexes loaded)
         F.seen files.old files.new result }
 {
-    let rules = read_rules(alloc, configuration, folder, files)?;
+    let rules = read_rules(alloc, stated, folder, files)?;
     let unmet = read_unmet(alloc, folder, files)?;
     let listed = read_loaded(alloc, loaded, files)?;
     Ok(Known {
@@ -115,30 +116,33 @@ fn read_lists<F: Reads>(
     })
 }
 
-/// Reads the rules of the configuration, with modules.softdep as one more file.
+/// Reads the rules of modules.softdep, and puts them after those that the configuration states: they
+/// are the rules of the configuration with modules.softdep as one more file.
 fn read_rules<F: Reads>(
     alloc: Global,
-    configuration: ConfFiles,
+    mut stated: Rules,
     folder: &PathText,
     files: &mut F,
 ) -> Result<Rules, Stop>
-    requires { All (λ file. length file.bytes ≤ file_limit) configuration }
-    ensures { FollowsOnFiles (reads_rules configuration folder.now)
+    ensures { (configuration : List ConfFile) → rules_of configuration ≡ Ok stated
+        → FollowsOnFiles (reads_rules configuration folder.now)
         F.seen files.old files.new result }
 {
     let path = join(alloc, folder, b"modules.softdep")?;
-    let softdep = read_optional(alloc, files, &path)?;
-    let all = with_file(configuration, path, softdep)?;
-    rules_in(alloc, &all)
+    let bytes = read_optional(alloc, files, &path)?;
+    let softdep = one_file(alloc, path, bytes)?;
+    let more = rules_in(alloc, &softdep)?;
+    stated.append(more)?;
+    Ok(stated)
 }
 
-/// Adds one more file to the files.
-fn with_file(mut files: ConfFiles, path: PathText, bytes: Blob) -> Result<ConfFiles, AllocError>
-    requires all { All (λ file. length file.bytes ≤ file_limit) files }
-    requires one { length bytes ≤ file_limit }
-    ensures files { IfOk result (λ more. more ≡ files ++ record { path = path; bytes = bytes } ∷ []) }
-    ensures limit { IfOk result (λ more. All (λ file. length file.bytes ≤ file_limit) more) }
+/// Returns the list of one file.
+fn one_file(alloc: Global, path: PathText, bytes: Blob) -> Result<ConfFiles, AllocError>
+    requires { length bytes ≤ file_limit }
+    ensures files { IfOk result (λ files. files ≡ record { path = path; bytes = bytes } ∷ []) }
+    ensures limit { IfOk result (λ files. All (λ file. length file.bytes ≤ file_limit) files) }
 {
+    let mut files = ConfFiles::new(alloc);
     files.push(ConfFile { path, bytes })?;
     Ok(files)
 }

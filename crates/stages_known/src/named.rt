@@ -1,15 +1,16 @@
 // What the names of a request stand for.
 ghost use Rattle.std.specs.Prelude.{◌≡◌, ◌++◌, IfOk, OnOk};
+ghost use Rattle.km_names.specs.AliasForm.{normal_or_itself};
 ghost use Rattle.km_course.specs.FollowsOn.{Returns};
 ghost use Rattle.km_course.specs.declared.end.End.TheVariants.{Refused};
 ghost use Rattle.km_course.specs.declared.refusal.Refusal.TheVariants.{NotFound};
 ghost use Rattle.km_course.specs.declared.stop.Stop.TheVariants.{Ended};
-ghost use Rattle.stages_known.specs.Named.{names_outcome, normal_or_itself};
+ghost use Rattle.stages_known.specs.Named.{names_outcome};
 ghost use Rattle.stages_known.specs.declared.known.Known.{Known};
 
 use crate::known::Known;
 use km_course::{Refusal, Stop};
-use km_names::{Name, Names, normal_alias};
+use km_names::{Name, Names, normal_or_itself};
 use name_lookup::Lookup;
 use std::alloc::{AllocError, Global};
 
@@ -53,18 +54,8 @@ fn names_by(
 fn not_found(alloc: Global, name: &Name) -> Result<Stop, AllocError>
     ensures { IfOk result (λ stop. stop ≡ Ended (Refused (NotFound (normal_or_itself name.now)))) }
 {
-    let name = normal_name(alloc, name.as_bytes())?;
+    let name = normal_or_itself(alloc, name.as_bytes())?;
     Ok(Stop::from(Refusal::NotFound { name }))
-}
-
-/// Returns a name in its normal form, or as it is if it has none.
-fn normal_name(alloc: Global, name: &[u8]) -> Result<Name, AllocError>
-    ensures { IfOk result (λ normal. normal ≡ normal_or_itself name.now) }
-{
-    match normal_alias(alloc, name)? {
-        Some(normal) => Name::from_slice(alloc, normal.as_bytes()),
-        None => Name::from_slice(alloc, name),
-    }
 }
 
 /// Puts copies of names at the end.
