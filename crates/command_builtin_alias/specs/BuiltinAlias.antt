@@ -1,7 +1,7 @@
 -- The course of `builtin-alias`, this project's own command. modprobe.d(5), "alias".
-use Rattle.std.specs.Prelude.{ℕ, List, [], ◌∷◌, ◌++◌, map, Option, Some, None, unwrap_or, ⊤, codes}
+use Rattle.std.specs.Prelude.{ℕ, List, [], ◌∷◌, ◌++◌, map, Option, Some, None, ⊤, codes}
 use Rattle.std.specs.List.{flat_map}
-use Rattle.km_names.specs.AliasForm.{normal_alias}
+use Rattle.km_names.specs.AliasForm.{normal_alias, normal_or_itself}
 use Rattle.km_names.specs.Path.{path_below}
 use Rattle.index_read.specs.declared.index.Index.{Index}
 use Rattle.index_read.specs.Contents.{contents, wild_values}
@@ -33,7 +33,7 @@ unless_none asked (name ∷ names) = value (lines_of_names (name ∷ names))
 
 -- What a name results in. One that isn't found is reported in its normal form, if it has one.
 abbrev pub found_outcome : Index → List ℕ → Outcome (List ℕ)
-found_outcome index name = unless_none (unwrap_or (normal_alias name) name) (names_found index (normal_alias name))
+found_outcome index name = unless_none (normal_or_itself name) (names_found index (normal_alias name))
 
 -- The course of a request: the names are one writing.
 abbrev pub shows_names : BuiltinAliasWords → Stage ⊤

@@ -1,7 +1,7 @@
 -- What `builtin-alias` and `static-nodes` answer over the files that a depmod with `--extra` left.
 -- modprobe.d(5), "alias"; kmod(8), "static-nodes".
-use Rattle.std.specs.Prelude.{◌≡◌, ℕ, true, false, List, [], ◌∷◌, ◌++◌, Option, Some, None, codes, unwrap_or}
-use Rattle.km_names.specs.AliasForm.{normal_alias}
+use Rattle.std.specs.Prelude.{◌≡◌, ℕ, true, false, List, [], ◌∷◌, ◌++◌, Option, Some, None, codes}
+use Rattle.km_names.specs.AliasForm.{normal_alias, normal_or_itself}
 use Rattle.km_course.specs.Carries.{Carries}
 use Rattle.km_course.specs.Course.{Outcome}
 use Rattle.km_course.specs.Course.Outcome.{value, end}
@@ -51,7 +51,7 @@ pub record AnswersLookups (asked : DepmodWords) (words : List (List ℕ)) (held 
   pub left : LeavesExtra asked held.files told.files
   -- `builtin-alias` of that folder prints a line for each built-in module with a matching alias;
   -- exactly if there is none, the name is reported as not found
-  pub aliases : (rest : List (List ℕ)) (wanted : BuiltinAliasWords) → words ≡ codes "builtin-alias" ∷ rest → builtin_alias_request rest ≡ Some wanted → modules_folder wanted.dirname wanted.version ≡ target_of_request asked → PrintsOutcome (unless_none (unwrap_or (normal_alias wanted.name) wanted.name) (built_in_matching left.info (normal_alias wanted.name))) told old new status
+  pub aliases : (rest : List (List ℕ)) (wanted : BuiltinAliasWords) → words ≡ codes "builtin-alias" ∷ rest → builtin_alias_request rest ≡ Some wanted → modules_folder wanted.dirname wanted.version ≡ target_of_request asked → PrintsOutcome (unless_none (normal_or_itself wanted.name) (built_in_matching left.info (normal_alias wanted.name))) told old new status
   -- `static-nodes` of that folder prints the lines of the nodes of the tree's modules
   pub nodes : (rest : List (List ℕ)) (wanted : StaticNodesWords) → words ≡ codes "static-nodes" ∷ rest → static_nodes_request rest ≡ Some wanted → modules_folder wanted.dirname wanted.version ≡ target_of_request asked → PrintsOutcome (value (lines_text (nodes_of left.tree))) told old new status
 
