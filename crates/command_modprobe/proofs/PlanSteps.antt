@@ -2,13 +2,14 @@
 use Rattle.std.proofs.Common.{◌≡◌, ℕ, Bool, true, false, List, [], ◌∷◌, length, drop, refl, sym, ap, subst, ◌∙◌, inl, inr, arith}
 use Rattle.std.specs.Prelude.{Some, None, Result, Err, ◌⊎◌, if◌then◌else◌, ⊤}
 use Rattle.std.proofs.lemmas.List.{drop_all}
+use Rattle.km_names.specs.Texts.{spaced}
 use Rattle.kmod_words.specs.declared.modprobe.ModprobeWords.{ModprobeWords}
 use Rattle.plan_builder.specs.declared.obstacle.Obstacle.{Obstacle}
 use Rattle.plan_builder.specs.declared.obstacle.Obstacle.TheVariants as obstacles
 use Rattle.plan_builder.specs.declared.request.Request.{Request}
 use Rattle.plan_builder.specs.declared.step.PlanStep.{PlanStep}
 use Rattle.plan_builder.specs.Obstacles.{obstacle_of}
-use Rattle.plan_builder.specs.Steps.{plan_steps, spaced}
+use Rattle.plan_builder.specs.Steps.{plan_steps}
 use Rattle.plan_builder.specs.Text.{obstacle_text}
 use Rattle.km_course.specs.Course.{Stage, ◌>>=◌, says_any}
 use Rattle.km_course.specs.Course.Outcome.{value}

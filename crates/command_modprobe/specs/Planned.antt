@@ -2,6 +2,7 @@
 use Rattle.std.specs.Prelude.{ℕ, List, [], ◌∷◌, ◌++◌, drop, codes, Option, Some, None, if◌then◌else◌, ⊤}
 use Rattle.std.specs.List.{flat_map}
 use Rattle.km_names.specs.Path.{path_below}
+use Rattle.km_names.specs.Texts.{spaced}
 use Rattle.kmod_words.specs.declared.modprobe.Mode.{Mode}
 use Rattle.kmod_words.specs.declared.modprobe.Mode.TheVariants.{Load, DryRun, ShowDepends, ResolveAlias, Remove}
 use Rattle.kmod_words.specs.declared.modprobe.ModprobeWords.{ModprobeWords}
@@ -12,7 +13,7 @@ use Rattle.plan_builder.specs.declared.step.PlanStep.TheVariants.{Insert, Instal
 use Rattle.plan_builder.specs.Needs.{Sources}
 use Rattle.plan_builder.specs.Obstacles.{obstacle_of}
 use Rattle.plan_builder.specs.Sources.{sources}
-use Rattle.plan_builder.specs.Steps.{plan_steps, spaced}
+use Rattle.plan_builder.specs.Steps.{plan_steps}
 use Rattle.plan_builder.specs.Text.{obstacle_text}
 use Rattle.km_course.specs.Course.{Outcome, Stage, ◌>>=◌, given, says_any}
 use Rattle.km_course.specs.Course.Outcome.{value, end}

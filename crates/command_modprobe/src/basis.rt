@@ -1,7 +1,7 @@
 // What a command that plans has to know first.
 ghost use Rattle.std.specs.Prelude.{◌≡◌, IfOk};
+ghost use Rattle.km_names.specs.Texts.{spaced};
 ghost use Rattle.km_course.specs.FollowsOn.{FollowsOnFiles, FollowsOnFilesAs};
-ghost use Rattle.plan_builder.specs.Steps.{spaced};
 ghost use Rattle.stages_files.specs.KernelModules.{modules_folder};
 ghost use Rattle.stages_known.specs.Known.{reads_known};
 ghost use Rattle.command_modprobe.specs.Planned.{request_of};
@@ -104,12 +104,9 @@ fn copied_names(alloc: Global, names: &[Name]) -> Result<Names, AllocError>
 fn spaced(alloc: Global, words: &[Name]) -> Result<Blob, AllocError>
     ensures { IfOk result (λ text. text ≡ spaced words.now) }
 {
-    let mut text = Blob::new(alloc);
-    for i in 0..words.len() {
-        if i > 0 {
-            text.push(b' ')?;
-        }
-        text.extend(words[i].as_bytes())?;
+    let mut pieces = Vec::new(alloc);
+    for word in words {
+        pieces.push(word.as_bytes())?;
     }
-    Ok(text)
+    Blob::spaced(alloc, &pieces)
 }

@@ -5,6 +5,7 @@ use Rattle.std.specs.Ordering.{nat_cmp}
 use Rattle.std.specs.Cmp.Lexicographic.{slice_cmp}
 use Rattle.std.specs.FinMap.{entries, find, get, entries-from_sorted, get-from_sorted}
 use Rattle.km_names.specs.First.{first}
+use Rattle.km_names.specs.Texts.{spaced}
 use Rattle.index_format.specs.Listing.{KeyValue}
 use Rattle.index_format.specs.Tree.{Entry}
 use Rattle.index_read.specs.Contents.{contents}
@@ -23,7 +24,7 @@ use Rattle.dependency_lines.specs.Modules.{line_places, bad_among, bad_name, by_
 use Rattle.plan_builder.specs.Needs.{Sources, after, before, modules, unloaded}
 use Rattle.plan_builder.specs.Obstacles.{cycle_obstacle, is_unknown_kind, not_found, obstacle_of, plan_tests, is_unfound, is_unknown, all_names}
 use Rattle.plan_builder.specs.Sources.{sources}
-use Rattle.plan_builder.specs.Steps.{found_steps, later, plan_steps, rule_options, spaced, step_of_kind, step_unless, module_step}
+use Rattle.plan_builder.specs.Steps.{found_steps, later, plan_steps, rule_options, step_of_kind, step_unless, module_step}
 use Rattle.plan_builder.specs.declared.obstacle.Obstacle.{Obstacle}
 use Rattle.plan_builder.specs.declared.obstacle.Obstacle.TheVariants.{BadDepLine}
 use Rattle.plan_builder.specs.declared.request.Request.{Request}

@@ -1,6 +1,5 @@
-use Rattle.std.proofs.Common.{◌≡◌, take}
-use Rattle.plan_builder.specs.Steps.{spaced}
+use Rattle.std.proofs.Common.{◌≡◌, take, map}
 use Rattle.command_modprobe.proofs.basis.spaced.Given as goal
 
-abbrev pub invariant-loop-i : goal.invariant-loop-i
-invariant-loop-i l = l.text ≡ spaced (take l.i l.words)
+abbrev pub invariant-loop-word : goal.invariant-loop-word
+invariant-loop-word l = map (λ piece. piece.now) l.pieces.items ≡ take l.word-index l.words
