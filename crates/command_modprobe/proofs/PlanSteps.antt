@@ -1,6 +1,6 @@
 -- The stages of a plan that is made and shown, joined.
 use Rattle.std.proofs.Common.{◌≡◌, ℕ, Bool, true, false, List, [], ◌∷◌, length, drop, refl, sym, ap, subst, ◌∙◌, inl, inr, arith}
-use Rattle.std.specs.Prelude.{Some, None, Result, Err, ◌⊎◌, if◌then◌else◌, ⊤}
+use Rattle.std.specs.Prelude.{Some, None, Result, Err, ◌⊎◌, if◌then◌else◌, option_and_then, ⊤}
 use Rattle.std.proofs.lemmas.List.{drop_all}
 use Rattle.km_names.specs.Texts.{spaced}
 use Rattle.kmod_words.specs.declared.modprobe.ModprobeWords.{ModprobeWords}
@@ -10,9 +10,10 @@ use Rattle.plan_builder.specs.declared.request.Request.{Request}
 use Rattle.plan_builder.specs.declared.step.PlanStep.{PlanStep}
 use Rattle.plan_builder.specs.Obstacles.{obstacle_of}
 use Rattle.plan_builder.specs.Steps.{plan_steps}
-use Rattle.plan_builder.specs.Text.{obstacle_text}
+use Rattle.plan_builder.specs.Text.{obstacle_text, plan_text}
+use Rattle.plan_builder.proofs.PlanTexts.{has-text}
 use Rattle.km_course.specs.Course.{Stage, ◌>>=◌, says_any}
-use Rattle.km_course.specs.Course.Outcome.{value}
+use Rattle.km_course.specs.Course.Outcome.{value, end}
 use Rattle.km_course.specs.World.{World}
 use Rattle.km_course.specs.Follows.{Answers, Follows}
 use Rattle.km_course.specs.declared.end.End.TheVariants.{Refused}
@@ -48,12 +49,14 @@ options-after false (word ∷ words) = refl
 pub planned : (known : Known) (loaded : List (List ℕ)) (request : Request) (steps : List PlanStep) → obstacle_of (sources_with known loaded request) request ≡ None → steps ≡ plan_steps (sources_with known loaded request) request → plan_outcome known loaded request ≡ value steps
 unfolding plan_outcome
 planned known loaded request steps passed is =
-    ap (λ o. plan_unless o (plan_steps (sources_with known loaded request) request)) passed ∙ ap value (sym is)
+    ap (λ o. plan_unless (option_and_then plan_text o) (plan_steps (sources_with known loaded request) request)) passed ∙ ap value (sym is)
 
 -- what an obstacle that was met comes to
-met : (known : Known) (loaded : List (List ℕ)) (request : Request) (o : Obstacle) → obstacle_of (sources_with known loaded request) request ≡ Some o → plan_outcome known loaded request ≡ plan_unless (Some o) (plan_steps (sources_with known loaded request) request)
+met : (known : Known) (loaded : List (List ℕ)) (request : Request) (o : Obstacle) → ¬ (o ≡ obstacles.Memory) → obstacle_of (sources_with known loaded request) request ≡ Some o → plan_outcome known loaded request ≡ end (Refused (Unplanned (obstacle_text o)))
 unfolding plan_outcome
-met known loaded request o found = ap (λ f. plan_unless f (plan_steps (sources_with known loaded request) request)) found
+met known loaded request o other found =
+    let steps = plan_steps (sources_with known loaded request) request in
+    ap (λ f. plan_unless (option_and_then plan_text f) steps) found ∙ ap (λ text. plan_unless text steps) (has-text o other)
 
 -- an obstacle that was met stops the command with its text, unless memory ran out
 pub not-planned : (known : Known) (loaded : List (List ℕ)) (request : Request) (o : Obstacle) (stop : Stop) → (stop ≡ Memory) ⊎ ((stop ≡ Ended (Refused (Unplanned (obstacle_text o)))) × ¬ (o ≡ obstacles.Memory)) → (o ≡ obstacles.Memory) ⊎ (obstacle_of (sources_with known loaded request) request ≡ Some o) → Answers (λ (x : List PlanStep). x) (plan_outcome known loaded request) (Err stop)
@@ -61,4 +64,4 @@ not-planned known loaded request o stop (inl memory) why =
     subst (λ s. Answers (λ (x : List PlanStep). x) (plan_outcome known loaded request) (Err s)) (sym memory) tt
 not-planned known loaded request o stop (inr (is, other)) (inl memory) = absurd (other memory)
 not-planned known loaded request o stop (inr (is, other)) (inr found) =
-    subst (λ s. Answers (λ (x : List PlanStep). x) (plan_outcome known loaded request) (Err s)) (sym is) (met known loaded request o found)
+    subst (λ s. Answers (λ (x : List PlanStep). x) (plan_outcome known loaded request) (Err s)) (sym is) (met known loaded request o other found)

@@ -6,15 +6,13 @@ use Rattle.km_names.specs.Texts.{spaced}
 use Rattle.kmod_words.specs.declared.modprobe.Mode.{Mode}
 use Rattle.kmod_words.specs.declared.modprobe.Mode.TheVariants.{Load, DryRun, ShowDepends, ResolveAlias, Remove}
 use Rattle.kmod_words.specs.declared.modprobe.ModprobeWords.{ModprobeWords}
-use Rattle.plan_builder.specs.declared.obstacle.Obstacle.{Obstacle}
 use Rattle.plan_builder.specs.declared.request.Request.{Request}
 use Rattle.plan_builder.specs.declared.step.PlanStep.{PlanStep}
 use Rattle.plan_builder.specs.declared.step.PlanStep.TheVariants.{Insert, Install, Builtin}
 use Rattle.plan_builder.specs.Needs.{Sources}
-use Rattle.plan_builder.specs.Obstacles.{obstacle_of}
 use Rattle.plan_builder.specs.Sources.{sources}
 use Rattle.plan_builder.specs.Steps.{plan_steps}
-use Rattle.plan_builder.specs.Text.{obstacle_text}
+use Rattle.plan_builder.specs.Text.{first_text}
 use Rattle.km_course.specs.Course.{Outcome, Stage, ◌>>=◌, given, says_any}
 use Rattle.km_course.specs.Course.Outcome.{value, end}
 use Rattle.km_course.specs.declared.end.End.TheVariants.{Refused}
@@ -42,16 +40,16 @@ request_of asked = record {
 abbrev pub sources_with : Known → List (List ℕ) → Request → Sources
 sources_with known loaded request = sources known.rules known.indexes known.unmet loaded request
 
--- What a request with this first obstacle results in.
-abbrev pub plan_unless : Option Obstacle → List PlanStep → Outcome (List PlanStep)
+-- What a request results in, if its first obstacle has this text.
+abbrev pub plan_unless : Option (List ℕ) → List PlanStep → Outcome (List PlanStep)
 plan_unless None steps = value steps
-plan_unless (Some obstacle) steps = end (Refused (Unplanned (obstacle_text obstacle)))
+plan_unless (Some text) steps = end (Refused (Unplanned text))
 
 -- What a request results in, if these modules are loaded: its plan, or the refusal of its first
 -- obstacle.
 unfoldable pub plan_outcome : Known → List (List ℕ) → Request → Outcome (List PlanStep)
 plan_outcome known loaded request =
-    plan_unless (obstacle_of (sources_with known loaded request) request) (plan_steps (sources_with known loaded request) request)
+    plan_unless (first_text (sources_with known loaded request) request) (plan_steps (sources_with known loaded request) request)
 
 -- What follows a path in its line: the parameters after a space, if there are any.
 abbrev pub after_space : List ℕ → List ℕ

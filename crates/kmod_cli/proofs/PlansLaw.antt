@@ -18,11 +18,9 @@ use Rattle.kmod_words.specs.Modprobe.{modprobe_request}
 use Rattle.provider_rel.specs.declared.kernel.Kernel.{Kernel}
 use Rattle.model_loader.specs.declared.region.Region.{Region}
 use Rattle.model_loader.specs.Machine.{new_machine}
-use Rattle.plan_builder.specs.declared.obstacle.Obstacle.{Obstacle}
 use Rattle.plan_builder.specs.declared.step.PlanStep.{PlanStep}
-use Rattle.plan_builder.specs.Obstacles.{obstacle_of}
 use Rattle.plan_builder.specs.Steps.{plan_steps}
-use Rattle.plan_builder.specs.Text.{obstacle_text}
+use Rattle.plan_builder.specs.Text.{first_text}
 use Rattle.stages_loads.specs.Tables.{reads_machine}
 use Rattle.stages_known.specs.declared.known.Known.{Known}
 use Rattle.stages_known.specs.Known.{reads_known}
@@ -46,7 +44,7 @@ use Rattle.kmod_cli.proofs.LoadsLeft.{AreOfLoads, loads-left, loads-part}
 
 -- ---- what a plan comes to
 
-outcome-is : (known : Known) (asked : ModprobeWords) (o : Option Obstacle) → obstacle_of (sources_asked asked known) (request_of asked) ≡ o → plan_outcome known (loaded_in asked.mode known.loaded) (request_of asked) ≡ plan_unless o (plan_steps (sources_asked asked known) (request_of asked))
+outcome-is : (known : Known) (asked : ModprobeWords) (o : Option (List ℕ)) → first_text (sources_asked asked known) (request_of asked) ≡ o → plan_outcome known (loaded_in asked.mode known.loaded) (request_of asked) ≡ plan_unless o (plan_steps (sources_asked asked known) (request_of asked))
 unfolding plan_outcome
 outcome-is known asked o is = ap (λ f. plan_unless f (plan_steps (sources_asked asked known) (request_of asked))) is
 
@@ -123,7 +121,7 @@ module _ (held : Contents) (words : List (List ℕ)) (asked : ModprobeWords) (kn
   of-words mode m lines outcome p =
       subst (λ (course : Stage ⊤). Prints lines outcome (course.run held)) (sym (in-mode words asked mode is m)) p
 
-  plan-printed : ¬ (asked.mode ≡ Load) → obstacle_of (sources_asked asked known) (request_of asked) ≡ None → Prints (lines_asked asked known) (value tt) ((modprobe_course words).run held)
+  plan-printed : ¬ (asked.mode ≡ Load) → first_text (sources_asked asked known) (request_of asked) ≡ None → Prints (lines_asked asked known) (value tt) ((modprobe_course words).run held)
   plan-printed other none = by_mode asked.mode refl came.ready
     where
       by_mode : (mode : Mode) → asked.mode ≡ mode → IsReady held asked mode → Prints (lines_asked asked known) (value tt) ((modprobe_course words).run held)
@@ -133,13 +131,13 @@ module _ (held : Contents) (words : List (List ℕ)) (asked : ModprobeWords) (kn
       by_mode ResolveAlias m ready = absurd ready
       by_mode (Remove dry_run) m ready = absurd ready
 
-  plan-refused : (obstacle : Obstacle) → obstacle_of (sources_asked asked known) (request_of asked) ≡ Some obstacle → Prints [] (end (Refused (Unplanned (obstacle_text obstacle)))) ((modprobe_course words).run held)
-  plan-refused obstacle some = by_mode asked.mode refl came.ready
+  plan-refused : (text : List ℕ) → first_text (sources_asked asked known) (request_of asked) ≡ Some text → Prints [] (end (Refused (Unplanned text))) ((modprobe_course words).run held)
+  plan-refused text some = by_mode asked.mode refl came.ready
     where
-      met : plan_outcome known (loaded_in asked.mode known.loaded) (request_of asked) ≡ end (Refused (Unplanned (obstacle_text obstacle)))
-      met = outcome-is known asked (Some obstacle) some
+      met : plan_outcome known (loaded_in asked.mode known.loaded) (request_of asked) ≡ end (Refused (Unplanned text))
+      met = outcome-is known asked (Some text) some
 
-      by_mode : (mode : Mode) → asked.mode ≡ mode → IsReady held asked mode → Prints [] (end (Refused (Unplanned (obstacle_text obstacle)))) ((modprobe_course words).run held)
+      by_mode : (mode : Mode) → asked.mode ≡ mode → IsReady held asked mode → Prints [] (end (Refused (Unplanned text))) ((modprobe_course words).run held)
       by_mode Load m ready =
           of-words Load m _ _
           (loaded-not held asked known ready.0 ready.1 ready.2 came.knows _
@@ -192,10 +190,10 @@ plans words old new status c = λ shown tells asked is known came.
           came-to course old new status c shown tells 0 (record shown { out = shown.out ++ lines })
           (record { files = told.files; out = told.out; err = told.err ∙ append-nil shown.err })
           (omega arith) (ap (λ (r : Run ⊤). outcome_status r.outcome) p.is) (printed-part lines (value tt) run shown new p);
-      refused = λ obstacle some.
-          let p = plan-refused held words asked known is came obstacle some in
-          let told = printed-told [] (end (Refused (Unplanned (obstacle_text obstacle)))) run shown p in
+      refused = λ text some.
+          let p = plan-refused held words asked known is came text some in
+          let told = printed-told [] (end (Refused (Unplanned text))) run shown p in
           came-to course old new status c shown tells 1 _
           (record { files = told.files; out = told.out ∙ append-nil shown.out; err = told.err })
-          (omega arith) (ap (λ (r : Run ⊤). outcome_status r.outcome) p.is) (printed-part [] (end (Refused (Unplanned (obstacle_text obstacle)))) run shown new p);
+          (omega arith) (ap (λ (r : Run ⊤). outcome_status r.outcome) p.is) (printed-part [] (end (Refused (Unplanned text))) run shown new p);
     }

@@ -1,6 +1,6 @@
 -- A load from the folder that a depmod left, computed.
 use Rattle.std.proofs.Common.{◌≡◌, ◌∙◌, ℕ, false, List, [], ◌∷◌, length, map, codes, refl, sym, ap}
-use Rattle.std.specs.Prelude.{Some, None, Ok, nat_lt, if◌then◌else◌}
+use Rattle.std.specs.Prelude.{Some, None, Ok, nat_lt, option_and_then, if◌then◌else◌}
 use Rattle.std.specs.Ordering.{nat_cmp}
 use Rattle.std.specs.Cmp.Lexicographic.{nat_list_cmp_total, slice_cmp}
 use Rattle.std.specs.FinMap.{find, get, get-from_entries}
@@ -21,6 +21,7 @@ use Rattle.model_loader.specs.declared.region.Region.{Region}
 use Rattle.model_loader.specs.Regions.{IsRegion}
 use Rattle.name_lookup.specs.declared.indexes.Indexes.{Indexes}
 use Rattle.plan_builder.specs.Steps.{plan_steps}
+use Rattle.plan_builder.specs.Text.{plan_text}
 use Rattle.stages_files.specs.Configuration.{reads_configuration, stated_outcome}
 use Rattle.stages_files.specs.declared.configuration.Tool.TheVariants.{Modprobe}
 use Rattle.stages_files.specs.IndexFile.{index_of, index_outcome}
@@ -198,7 +199,7 @@ two_inserts = record { path = codes "p.ko"; options = [] } ∷ record { path = c
 planned : plan_outcome known [] (request_of load_asked) ≡ value two_steps
 unfolding plan_outcome
 planned =
-    ap (λ o. plan_unless o (plan_steps (sources_by [] [] dep_bytes) request)) plain-unhindered
+    ap (λ o. plan_unless (option_and_then plan_text o) (plan_steps (sources_by [] [] dep_bytes) request)) plain-unhindered
     ∙ ap (λ steps. value steps) plain-steps
 
 runs-none : inserts_outcome two_steps ≡ value two_inserts

@@ -31,13 +31,14 @@ use Rattle.model_loader.specs.declared.region.Region.{Region}
 use Rattle.model_loader.specs.Machine.{Machine, new_machine}
 use Rattle.name_lookup.specs.Maps.{has_value}
 use Rattle.name_table.specs.FirstSeen.{is_among}
-use Rattle.plan_builder.specs.declared.obstacle.Obstacle.{Obstacle}
 use Rattle.plan_builder.specs.declared.request.Request.{Request}
 use Rattle.plan_builder.specs.declared.step.PlanStep.{PlanStep}
 use Rattle.plan_builder.specs.declared.step.PlanStep.TheVariants.{Insert, Install, Builtin}
 use Rattle.plan_builder.specs.Closed.{IsAtOwnPath, IsOwnPath}
 use Rattle.plan_builder.specs.Obstacles.{obstacle_of}
 use Rattle.plan_builder.specs.Steps.{plan_steps}
+use Rattle.plan_builder.specs.Text.{first_text}
+use Rattle.plan_builder.proofs.PlanTexts.{no-obstacle}
 use Rattle.laws_closed_plans.specs.Loads.{IsPlaceFault, load_all, unless_refused}
 use Rattle.laws_closed_plans.specs.Binding.{Binds, IsLoaded}
 use Rattle.laws_closed_plans.proofs.ListLemmas.{first-none}
@@ -133,14 +134,16 @@ module _ (held : Contents) (folder : List ℕ) (index : Index) (dep : KeyValues)
 
 -- ---- steps
 
-planned : (o : Option Obstacle) (made steps : List PlanStep) → plan_unless o made ≡ value steps → (o ≡ None) × (made ≡ steps)
+planned : (o : Option (List ℕ)) (made steps : List PlanStep) → plan_unless o made ≡ value steps → (o ≡ None) × (made ≡ steps)
 planned None made steps is = (refl, cc)
-planned (Some obstacle) made steps is = cc
+planned (Some text) made steps is = cc
 
 pub was-planned : (known : Known) (request : Request) (steps : List PlanStep) → plan_outcome known known.loaded request ≡ value steps → (obstacle_of (sources_with known known.loaded request) request ≡ None) × (plan_steps (sources_with known known.loaded request) request ≡ steps)
 unfolding plan_outcome
 was-planned known request steps is =
-    planned (obstacle_of (sources_with known known.loaded request) request) (plan_steps (sources_with known known.loaded request) request) steps is
+    let s = sources_with known known.loaded request in
+    let h = planned (first_text s request) (plan_steps s request) steps is in
+    (no-obstacle s request h.0, h.1)
 
 installed : (o : Option (List ℕ)) (made inserts : List Insertion) → unless_install o made ≡ value inserts → (o ≡ None) × (made ≡ inserts)
 installed None made inserts is = (refl, cc)

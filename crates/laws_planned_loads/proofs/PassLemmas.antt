@@ -1,7 +1,7 @@
 -- The courses of modprobe over a folder that is as it was indexed end for no file that depmod
 -- wrote.
 use Rattle.std.proofs.Common.{◌≡◌, ◌∙◌, ℕ, Bool, true, false, List, [], ◌∷◌, ◌++◌, find, get_or, map, reverse, flat_map, take, None, refl, sym, ap, subst, arith}
-use Rattle.std.specs.Prelude.{Option, Some, Result, Ok, Err, codes, nat_eq, ⊤}
+use Rattle.std.specs.Prelude.{Option, Some, Result, Ok, Err, codes, nat_eq, option_and_then, ⊤}
 use Rattle.std.specs.List.{ends_with}
 use Rattle.km_names.specs.AliasForm.{normal_or_itself}
 use Rattle.km_names.specs.First.{first}
@@ -47,7 +47,7 @@ use Rattle.plan_builder.specs.declared.request.Request.{Request}
 use Rattle.plan_builder.specs.declared.step.PlanStep.{PlanStep}
 use Rattle.plan_builder.specs.Obstacles.{obstacle_of}
 use Rattle.plan_builder.specs.Steps.{plan_steps}
-use Rattle.plan_builder.specs.Text.{obstacle_text}
+use Rattle.plan_builder.specs.Text.{obstacle_text, plan_text}
 use Rattle.depmod_core.specs.Files.{files}
 use Rattle.laws_indexed_folder.specs.Binding.{StandsAsIndexed}
 use Rattle.laws_indexed_folder.specs.Indexed.{Indexed}
@@ -273,7 +273,7 @@ module _ (held : Contents) (asked : ModprobeWords) where
       (λ name same. other (ap (λ bs. get_or bs 0 0) (sym begins ∙ ap (take 1) same)))
       is
 
-  other-obstacle : (o : Option Obstacle) (steps : List PlanStep) → ((name : List ℕ) → o ≡ Some (obstacles.BadDepLine name) → ⊥) → (e : End) → plan_unless o steps ≡ end e → Other e
+  other-obstacle : (o : Option Obstacle) (steps : List PlanStep) → ((name : List ℕ) → o ≡ Some (obstacles.BadDepLine name) → ⊥) → (e : End) → plan_unless (option_and_then plan_text o) steps ≡ end e → Other e
   unfolding line_text
   other-obstacle None steps fine e is = absurd (no-end steps e is)
   other-obstacle (Some (obstacles.BadDepLine name)) steps fine e is = absurd (fine name refl)
@@ -284,7 +284,7 @@ module _ (held : Contents) (asked : ModprobeWords) where
   other-obstacle (Some (obstacles.Namespace path symbol by)) steps fine e is = is-text (obstacles.Namespace path symbol by) e 110 refl (omega arith) is
   other-obstacle (Some (obstacles.Cycle names)) steps fine e is = is-text (obstacles.Cycle names) e 99 refl (omega arith) is
   other-obstacle (Some (obstacles.Double symbol a b)) steps fine e is = is-text (obstacles.Double symbol a b) e 100 refl (omega arith) is
-  other-obstacle (Some obstacles.Memory) steps fine e is = is-text obstacles.Memory e 111 refl (omega arith) is
+  other-obstacle (Some obstacles.Memory) steps fine e is = absurd (no-end steps e is)
 
   -- no dependency line is an obstacle over what is known
   abbrev Fine : Known → Type 0
