@@ -11,13 +11,13 @@ use Rattle.km_course.specs.declared.end.End.TheVariants.{Refused, NotUnderstood,
 use Rattle.kmod_words.specs.declared.depmod.DepmodWords.{DepmodWords}
 use Rattle.command_depmod.specs.Depmod.{target_of_request}
 use Rattle.command_depmod.specs.Files.{all_files}
+use Rattle.laws_planned_loads.specs.Courses.{Loading}
 use Rattle.laws_depmod_leaves.specs.Comes.{ComesTo, IndexedTree, IsIndexed, made_of}
 use Rattle.laws_depmod_leaves.specs.Left.{IsInPlace, LeftIndexed, with_files}
 use Rattle.laws_depmod_leaves.proofs.LeftLemmas.{left-indexed}
 use Rattle.laws_depmod_leaves.proofs.TableLemmas.{left-for-loads}
 use Rattle.kmod_cli.specs.CameTo.{CameTo}
 use Rattle.kmod_cli.specs.Halves.{HalvesMeet}
-use Rattle.kmod_cli.specs.Headline.{Loading}
 use Rattle.kmod_cli.specs.Indexes.{IsIndexing, IsPartOf, status_of, told_of}
 
 some-status : (e : End) → (0 ≡ end_status e) ⊎ (◌≡◌ {A = ℕ} 0 3) ⊎ (◌≡◌ {A = ℕ} 0 4) → ⊥

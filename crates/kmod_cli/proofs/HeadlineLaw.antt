@@ -19,18 +19,18 @@ use Rattle.param_apply.specs.FaultText.{param_fault_text}
 use Rattle.laws_closed_plans.specs.Loads.{IsPlaceFault, load_all, unless_refused}
 use Rattle.laws_closed_plans.proofs.LoadLemmas.{load-append}
 use Rattle.stages_loads.specs.declared.load.Insertion.{Insertion}
-use Rattle.stages_loads.specs.Loads.{ShownImage, loads_all, paths_of}
+use Rattle.stages_loads.specs.Loads.{ShownImage, loads_all}
 use Rattle.command_modprobe.specs.Loaded.{images_asked, loads_plan}
 use Rattle.command_modprobe.specs.Modprobe.{modprobe_asked_for, modprobe_course, modprobe_in_mode}
-use Rattle.command_modprobe.specs.Planned.{plan_lines, request_of}
+use Rattle.command_modprobe.specs.Planned.{plan_lines}
 use Rattle.laws_planned_loads.specs.Acts.{is_reading, said}
-use Rattle.laws_planned_loads.specs.Courses.{CourseBinds, IsLoadingCourse, ended}
+use Rattle.laws_planned_loads.specs.Courses.{CourseBinds, IsLoadingCourse, Loading, ended, inputs_of}
 use Rattle.laws_planned_loads.specs.Loads.{AreMachineLoads, IsEndOf, WentIn, all_in, modules_of, refused, unwritable}
 use Rattle.laws_planned_loads.proofs.CourseLemmas.{courses-bind, plan-placed}
 use Rattle.laws_planned_loads.proofs.EndLemmas.{fault-placed, plan-refused}
 use Rattle.laws_planned_loads.proofs.LoadLemmas.{loads-are}
 use Rattle.laws_planned_loads.proofs.WholeLemmas.{courses-load}
-use Rattle.kmod_cli.specs.Headline.{ComesTo, Headline, IsEndOfPlan, IsFirstPart, Loading, IsIndexedLoad, all_loaded, folder_asked, images_shown, no_place, printed, told_after, unwritten, with_images}
+use Rattle.kmod_cli.specs.Headline.{ComesTo, Headline, IsEndOfPlan, IsFirstPart, IsIndexedLoad, all_loaded, folder_asked, images_shown, no_place, printed, told_after, unwritten, with_images}
 use Rattle.kmod_cli.proofs.ActsLeft.{Cut, Shows}
 use Rattle.kmod_cli.proofs.CameLemmas.{came-to}
 use Rattle.kmod_cli.proofs.LoadsLeft.{AreOfLoads, Doing, doings, doings-acts, doings-shown, loads-left, loads-part, shown_of}
@@ -40,7 +40,7 @@ load-course : (held : Contents) (words : List (List ℕ)) (asked : ModprobeWords
 load-course held words asked l is s = ap modprobe_asked_for is ∙ ap (λ mode. modprobe_in_mode mode asked) s.mode
 
 abbrev Bound : Contents → ModprobeWords → Loading → Type 0
-Bound held asked l = CourseBinds held (folder_asked asked) l.kernel l.region l.known l.listed l.steps (paths_of l.inserts)
+Bound held asked l = CourseBinds held (folder_asked asked) l
 
 -- ---- how far the loads of a plan go
 
@@ -93,7 +93,7 @@ ends-so machine plan are loaded placed (unwritable went all last asks inserts ms
   line_is = refl;
 }
 
-module _ (held : Contents) (asked : ModprobeWords) (l : Loading) (b : Bound held asked l) (run : Run ⊤) (course : IsLoadingCourse held (folder_asked asked) (images_asked asked) l.listed l.steps l.inserts run) where
+module _ (held : Contents) (asked : ModprobeWords) (l : Loading) (b : Bound held asked l) (run : Run ⊤) (course : IsLoadingCourse held (folder_asked asked) (images_asked asked) l run) where
   -- after a first part of the plan the machine is sound
   part-sound : (before after : List Module) → b.plan ≡ before ++ after → (machine : Machine) → load_all l.listed before ≡ Ok machine → IsSound machine (b.listed ++ before)
   part-sound before after split machine loads =
@@ -171,10 +171,10 @@ headline words old new status c = λ shown tells asked is l s.
     let held = shown.files in
     let folder = folder_asked asked in
     let run = (modprobe_course words).run held in
-    let b : Bound held asked l = courses-bind held folder l.tree l.indexed l.builtin l.kernel s.stands asked.config asked.loaded (request_of asked) l.region l.known l.listed l.steps l.inserts s.came in
-    let course : IsLoadingCourse held folder (images_asked asked) l.listed l.steps l.inserts run =
-    subst (λ c. IsLoadingCourse held folder (images_asked asked) l.listed l.steps l.inserts (c.run held)) (sym (load-course held words asked l is s))
-    (courses-load held asked l.kernel l.region l.known l.listed l.steps l.inserts s.machine s.came) in
+    let b : Bound held asked l = courses-bind held (inputs_of asked) l s.stands s.came in
+    let course : IsLoadingCourse held folder (images_asked asked) l run =
+    subst (λ c. IsLoadingCourse held folder (images_asked asked) l (c.run held)) (sym (load-course held words asked l is s))
+    (courses-load held asked l s.machine s.came) in
     let h = comes held asked l b run course
     (plan-placed l.kernel l.region b.listed b.plan l.listed b.binds b.listed_load)
     (loads-are folder (images_asked asked) l.inserts b.plan l.listed held b.plan_files) in

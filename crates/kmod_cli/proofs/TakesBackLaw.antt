@@ -14,7 +14,7 @@ use Rattle.laws_closed_plans.specs.Loads.{load_all}
 use Rattle.laws_closed_plans.proofs.BindingLemmas.{loads-bind}
 use Rattle.laws_removal.proofs.BackLemmas.{removals-take-back}
 use Rattle.laws_removal.proofs.UnloadedLemmas.{removals-are-unloaded}
-use Rattle.laws_planned_removals.specs.Courses.{IsRemovalCourse, SaysLines}
+use Rattle.laws_planned_removals.specs.Courses.{IsRemovalCourse, Removing, SaysLines}
 use Rattle.laws_planned_removals.proofs.CourseLemmas.{courses-remove}
 use Rattle.laws_planned_removals.proofs.ListedLemmas.{listed-are-taken}
 use Rattle.command_remove.specs.Remove.{removes}
@@ -23,7 +23,7 @@ use Rattle.kmod_cli.specs.CameTo.{CameTo}
 use Rattle.kmod_cli.specs.Headline.{folder_asked}
 use Rattle.kmod_cli.specs.Plans.{IsPrintedPart}
 use Rattle.kmod_cli.specs.Program.{command_named, course}
-use Rattle.kmod_cli.specs.TakesBack.{CanRemove, Removing, TakesBack}
+use Rattle.kmod_cli.specs.TakesBack.{CanRemove, TakesBack}
 use Rattle.kmod_cli.proofs.CameLemmas.{came-to}
 use Rattle.kmod_cli.proofs.SaidLeft.{lines-part, lines-told}
 
@@ -56,9 +56,9 @@ takes-back words old new status c = λ shown tells asked is dry_run r can.
     let folder = folder_asked asked in
     let course = modprobe_course words in
     let same = removal-course held words asked dry_run r is can in
-    let h : IsRemovalCourse dry_run asked r.known r.listed r.names (course.run held) =
-    subst (λ (s : Stage ⊤). IsRemovalCourse dry_run asked r.known r.listed r.names (s.run held)) (sym same)
-    (courses-remove held dry_run asked r.kernel r.region r.known r.listed r.names can.came) in
+    let h : IsRemovalCourse dry_run asked r (course.run held) =
+    subst (λ (s : Stage ⊤). IsRemovalCourse dry_run asked r (s.run held)) (sym same)
+    (courses-remove held dry_run asked r can.came) in
     let taken = listed-are-taken held folder r.known.indexes (new_machine r.kernel r.region) r.known.loaded r.listed can.came.listed in
     let listed : List Module = taken.modules in
     let sound = loads-bind r.kernel r.region listed r.listed taken.loaded in

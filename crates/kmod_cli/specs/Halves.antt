@@ -7,12 +7,11 @@ use Rattle.kmod_words.specs.Depmod.{depmod_request}
 use Rattle.kmod_words.specs.declared.modprobe.Mode.TheVariants.{Load}
 use Rattle.kmod_words.specs.declared.modprobe.ModprobeWords.{ModprobeWords}
 use Rattle.kmod_words.specs.Modprobe.{modprobe_request}
-use Rattle.command_modprobe.specs.Planned.{request_of}
-use Rattle.laws_planned_loads.specs.Courses.{CameToLoads}
+use Rattle.laws_planned_loads.specs.Courses.{CameToLoads, Loading, inputs_of}
 use Rattle.laws_depmod_leaves.specs.Comes.{IndexedTree, IsIndexed}
 use Rattle.laws_depmod_leaves.specs.Left.{IsInPlace, LeftIndexed}
 use Rattle.laws_depmod_leaves.specs.Loads.{IsLoadAfter}
-use Rattle.kmod_cli.specs.Headline.{Headline, Loading, LoadsBind, folder_asked}
+use Rattle.kmod_cli.specs.Headline.{Headline, LoadsBind}
 use Rattle.kmod_cli.specs.Indexes.{Indexes}
 
 -- A depmod over files and outputs with these known contents replaced its files in the folder of the
@@ -31,7 +30,7 @@ pub record IsLoadOver (held : Shown) (asked : DepmodWords) (words : List (List �
   pub words_ask : modprobe_request words ≡ Some loads
   pub mode : loads.mode ≡ Load
   pub after : IsLoadAfter held.files asked told.files loads l.kernel l.region
-  pub came : CameToLoads told.files (folder_asked loads) loads.config loads.loaded (request_of loads) l.kernel l.region l.known l.listed l.steps l.inserts
+  pub came : CameToLoads told.files (inputs_of loads) l
   pub call : Headline words old new status
 
 -- If the files of the second call are the ones that the first one left, what the modprobe loads

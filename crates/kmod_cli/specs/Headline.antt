@@ -11,26 +11,21 @@ use Rattle.km_course.specs.declared.refusal.Refusal.TheVariants.{LoadRefused, Pa
 use Rattle.kmod_words.specs.declared.modprobe.Mode.TheVariants.{Load}
 use Rattle.kmod_words.specs.declared.modprobe.ModprobeWords.{ModprobeWords}
 use Rattle.kmod_words.specs.Modprobe.{modprobe_request}
-use Rattle.module_facts.specs.declared.facts.Facts.{Facts}
 use Rattle.module_facts.specs.declared.module.Module.{Module}
-use Rattle.provider_rel.specs.declared.kernel.Kernel.{Kernel}
 use Rattle.model_loader.specs.declared.fault.LoadFault.{LoadFault}
-use Rattle.model_loader.specs.declared.region.Region.{Region}
 use Rattle.model_loader.specs.FaultText.{load_fault_text}
 use Rattle.model_loader.specs.Machine.{Machine}
 use Rattle.model_loader.specs.Sound.{IsSound}
 use Rattle.model_loader.specs.Step.{step}
 use Rattle.param_apply.specs.declared.fault.ParamFault.{ParamFault}
 use Rattle.param_apply.specs.FaultText.{param_fault_text}
-use Rattle.plan_builder.specs.declared.step.PlanStep.{PlanStep}
 use Rattle.laws_closed_plans.specs.Binding.{IsLoaded}
 use Rattle.laws_closed_plans.specs.Loads.{IsPlaceFault, load_all}
 use Rattle.stages_files.specs.KernelModules.{modules_folder}
 use Rattle.stages_loads.specs.declared.load.Insertion.{Insertion}
 use Rattle.stages_loads.specs.Loads.{ShownImage, paths_of}
-use Rattle.stages_known.specs.declared.known.Known.{Known}
-use Rattle.command_modprobe.specs.Planned.{plan_lines, request_of}
-use Rattle.laws_planned_loads.specs.Courses.{CameToLoads, HasMachine, IsIndexedFor}
+use Rattle.command_modprobe.specs.Planned.{plan_lines}
+use Rattle.laws_planned_loads.specs.Courses.{CameToLoads, HasMachine, IsIndexedFor, Loading, inputs_of}
 use Rattle.laws_planned_loads.specs.Files.{AreFileModules}
 use Rattle.laws_planned_loads.specs.Listed.{AreListedPaths}
 use Rattle.laws_planned_loads.specs.Loads.{AreWritable, WentIn, all_images, entries_of, fault_of, inserts_of, modules_of}
@@ -42,23 +37,6 @@ use Rattle.kmod_cli.specs.CameTo.{CameTo}
 abbrev pub folder_asked : ModprobeWords → List ℕ
 folder_asked asked = modules_folder asked.dirname asked.version
 
--- What a load is about:
--- - the modules that were indexed, over which kernel and built-in modules;
--- - that kernel with addresses, and the region;
--- - what is known of the folder and the configuration;
--- - the machine after the listed modules;
--- - the plan, and what its steps load.
-pub record Loading : Type 0 where
-  pub tree : List Facts
-  pub indexed : Kernel
-  pub builtin : List ℕ
-  pub kernel : Kernel
-  pub region : Region
-  pub known : Known
-  pub listed : Machine
-  pub steps : List PlanStep
-  pub inserts : List Insertion
-
 -- Tree and kernel are as indexed, no install command is chosen, and the listed modules load.
 pub record IsIndexedLoad (held : Contents) (asked : ModprobeWords) (l : Loading) : Type 0 where
   -- a load is asked for
@@ -69,7 +47,7 @@ pub record IsIndexedLoad (held : Contents) (asked : ModprobeWords) (l : Loading)
   pub machine : HasMachine held asked l.kernel l.region
   -- what is read is understood, the names have a plan, no step of it runs a command, and the listed
   -- modules load
-  pub came : CameToLoads held (folder_asked asked) asked.config asked.loaded (request_of asked) l.kernel l.region l.known l.listed l.steps l.inserts
+  pub came : CameToLoads held (inputs_of asked) l
 
 -- ---- how far the loads of a plan go, only by the machine and the options
 

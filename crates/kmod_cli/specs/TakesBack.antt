@@ -9,18 +9,14 @@ use Rattle.kmod_words.specs.declared.modprobe.Mode.TheVariants.{Remove}
 use Rattle.kmod_words.specs.declared.modprobe.ModprobeWords.{ModprobeWords}
 use Rattle.kmod_words.specs.Modprobe.{modprobe_request}
 use Rattle.module_facts.specs.declared.module.Module.{Module}
-use Rattle.provider_rel.specs.declared.kernel.Kernel.{Kernel}
-use Rattle.model_loader.specs.declared.region.Region.{Region}
-use Rattle.model_loader.specs.Machine.{Machine}
 use Rattle.model_loader.specs.Use.{name_at}
 use Rattle.model_unload.specs.Unload.{unload_all}
 use Rattle.remove_plan.specs.Removal.{in_use, is_asked, left_after}
-use Rattle.stages_known.specs.declared.known.Known.{Known}
 use Rattle.command_remove.specs.Lines.{step_lines}
 use Rattle.command_remove.specs.Remove.{first_owner}
 use Rattle.laws_closed_plans.specs.Binding.{IsLoaded}
 use Rattle.laws_planned_loads.specs.Files.{AreFileModules}
-use Rattle.laws_planned_removals.specs.Courses.{CameToRemoval, removed_names, steps_asked, taken_out_lines}
+use Rattle.laws_planned_removals.specs.Courses.{CameToRemoval, Removing, removed_names, steps_asked, taken_out_lines}
 use Rattle.laws_planned_removals.specs.Listed.{AreWellFormedPaths}
 use Rattle.laws_removal.specs.Back.{AreRemovedModules, AreTakenBack}
 use Rattle.kmod_cli.specs.CameTo.{CameTo}
@@ -29,23 +25,11 @@ use Rattle.kmod_cli.specs.Plans.{IsPrintedPart}
 
 -- ---- where it applies
 
--- What a removal is about:
--- - the kernel with addresses, and the region;
--- - what is known of the folder and the configuration;
--- - the machine after the listed modules;
--- - the names that the requested names stand for.
-pub record Removing : Type 0 where
-  pub kernel : Kernel
-  pub region : Region
-  pub known : Known
-  pub listed : Machine
-  pub names : List (List ℕ)
-
 -- A removal is asked for, what is read is understood, the listed modules load, and each name stands
 -- for something.
 pub record CanRemove (held : Contents) (asked : ModprobeWords) (dry_run : Bool) (r : Removing) : Type 0 where
   pub mode : asked.mode ≡ Remove dry_run
-  pub came : CameToRemoval held asked r.kernel r.region r.known r.listed r.names
+  pub came : CameToRemoval held asked r
 
 -- ---- what is done
 

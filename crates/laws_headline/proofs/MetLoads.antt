@@ -37,7 +37,7 @@ use Rattle.command_modprobe.specs.Loaded.{inserts_outcome}
 use Rattle.command_modprobe.specs.Planned.{plan_outcome, plan_unless, request_of}
 use Rattle.stages_known.proofs.KnownSteps.{after_alias, after_builtin, after_configuration, after_dep, after_indexes, after_loaded, after_rules, after_softdep, after_symbols, after_unmet, softdep_stated, unmet_stated}
 use Rattle.laws_indexed_folder.specs.Indexed.{AreIn}
-use Rattle.laws_planned_loads.specs.Courses.{CameToLoads, HasMachine}
+use Rattle.laws_planned_loads.specs.Courses.{CameToLoads, HasMachine, Loading, inputs_of}
 use Rattle.laws_planned_loads.specs.Files.{AreFileModules}
 use Rattle.laws_planned_loads.proofs.KnownLemmas.{index_read, only-configuration, only-index, only-indexes, only-loaded, only-rules, only-unmet}
 use Rattle.laws_planned_loads.proofs.RunLemmas.{reads-file, reads-given, reads-then, run-read}
@@ -47,7 +47,7 @@ use Rattle.laws_depmod_leaves.specs.Loads.{IsLoadAfter}
 use Rattle.laws_depmod_leaves.proofs.LeftLemmas.{left-indexed}
 use Rattle.laws_depmod_leaves.proofs.PutLemmas.{all-there}
 use Rattle.laws_depmod_leaves.proofs.TableLemmas.{left-for-loads}
-use Rattle.kmod_cli.specs.Headline.{Loading, IsIndexedLoad}
+use Rattle.kmod_cli.specs.Headline.{IsIndexedLoad}
 use Rattle.laws_headline.specs.Objects.{folder_found, found, giver_file, taker_file}
 use Rattle.laws_headline.specs.Met.{HeadlineIsMet, depmod_asked, indexed, left, load_asked}
 use Rattle.laws_headline.proofs.Computing.{computing}
@@ -256,9 +256,6 @@ after : IsLoadAfter found depmod_asked left load_asked kernel whole
 unfolding has-machine
 after = record { folder = refl; machine = has-machine; table = same-table }
 
-came : CameToLoads left folder_found None None (request_of load_asked) kernel whole known (start pages_of_region) two_steps two_inserts
-came = record { knows = knows; listed = none-listed; planned = planned; runs_none = runs-none }
-
 abbrev loading : Loading
 loading = record {
   tree = indexed.tree;
@@ -271,6 +268,9 @@ loading = record {
   steps = two_steps;
   inserts = two_inserts;
 }
+
+came : CameToLoads left (inputs_of load_asked) loading
+came = record { knows = knows; listed = none-listed; planned = planned; runs_none = runs-none }
 
 stands : IsIndexedLoad left load_asked loading
 stands = record {

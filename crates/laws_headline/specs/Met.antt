@@ -12,11 +12,12 @@ use Rattle.model_loader.specs.Machine.{Machine}
 use Rattle.command_depmod.specs.Depmod.{target_of_request}
 use Rattle.command_depmod.specs.Files.{all_files}
 use Rattle.laws_closed_plans.specs.Loads.{load_all}
+use Rattle.laws_planned_loads.specs.Courses.{Loading}
 use Rattle.laws_depmod_leaves.specs.Comes.{IndexedTree, IsIndexed, made_of}
 use Rattle.laws_depmod_leaves.specs.Left.{with_files}
 use Rattle.laws_planned_loads.specs.Files.{AreFileModules}
 use Rattle.stages_loads.specs.Loads.{paths_of}
-use Rattle.kmod_cli.specs.Headline.{Loading, IsIndexedLoad, folder_asked}
+use Rattle.kmod_cli.specs.Headline.{IsIndexedLoad, folder_asked}
 use Rattle.laws_headline.specs.Objects.{found, giver_facts, taker_facts}
 
 -- ---- what is asked for

@@ -250,24 +250,27 @@ loaded-ok (Ok other) machine is = refl
 loaded-ok (Err fault) machine is = cc
 
 pub courses-bind : CoursesBind
-courses-bind held folder tree kernel builtin addressed as_indexed config listing request region known machine steps inserts came =
+courses-bind held inputs l as_indexed came =
+    let folder = inputs.folder in
+    let known = l.known in
+    let steps = l.steps in
     let indexed = as_indexed.indexed in
-    let knows = knows-folder held config listing folder known came.knows in
+    let knows = knows-folder held inputs.config inputs.listing folder known came.knows in
     let lines = known_lines known in
-    let holding = holds held folder tree kernel builtin indexed known knows in
-    let start = new_machine addressed region in
-    let loads = listed-are-of-machine held folder known.indexes.dep start known.loaded machine came.listed in
+    let holding = holds held folder l.tree l.indexed l.builtin indexed known knows in
+    let start = new_machine l.kernel l.region in
+    let loads = listed-are-of-machine held folder known.indexes.dep start known.loaded l.listed came.listed in
     let listed = loads.listed in
     let of_listed : AreModulesOf held folder lines (reverse known.loaded) listed =
     listed-modules held folder known.indexes.dep lines holding (reverse known.loaded) loads.paths listed loads.found loads.files in
-    let made = was-planned known request steps came.planned in
-    let given' = were-given steps inserts came.runs_none in
-    let s = sources_with known known.loaded request in
+    let made = was-planned known inputs.request steps came.planned in
+    let given' = were-given steps l.inserts came.runs_none in
+    let s = sources_with known known.loaded inputs.request in
     let valued : (name : List ℕ) → is_among known.loaded name ≡ true → has_value lines name ≡ true = λ name in'.
     have-values held folder known.indexes.dep lines holding (reverse known.loaded) loads.paths loads.found name (among-reversed known.loaded name ∙ in') in
-    let runs : list_any runs_command (plan_steps s request) ≡ false = ap (list_any runs_command) made.1 ∙ none-runs steps given'.0 in
-    let closing : AreClosedSteps s steps = subst (AreClosedSteps s) made.1 (plans-closed s request made.0 runs valued) in
-    let modules = step-modules held folder tree kernel builtin indexed known knows steps closing.own_paths in
+    let runs : list_any runs_command (plan_steps s inputs.request) ≡ false = ap (list_any runs_command) made.1 ∙ none-runs steps given'.0 in
+    let closing : AreClosedSteps s steps = subst (AreClosedSteps s) made.1 (plans-closed s inputs.request made.0 runs valued) in
+    let modules = step-modules held folder l.tree l.indexed l.builtin indexed known knows steps closing.own_paths in
     record {
       listed = listed;
       plan = modules.plan;
@@ -279,8 +282,8 @@ courses-bind held folder tree kernel builtin addressed as_indexed config listing
       plan_files = subst (λ is. AreFileModules held folder (paths_of is) modules.plan) given'.1 modules.of_files;
       listed_load = loads.loaded;
       binds =
-          folders-bind held folder tree kernel builtin lines known.unmet indexed (is-read held folder tree kernel builtin indexed known knows) addressed region (reverse known.loaded) (inserted_names steps) listed modules.plan as_indexed.same_table of_listed modules.of_names
-          (loaded-ok (load_all start listed) machine loads.loaded)
+          folders-bind held folder l.tree l.indexed l.builtin lines known.unmet indexed (is-read held folder l.tree l.indexed l.builtin indexed known knows) l.kernel l.region (reverse known.loaded) (inserted_names steps) listed modules.plan as_indexed.same_table of_listed modules.of_names
+          (loaded-ok (load_all start listed) l.listed loads.loaded)
           (closed-reversed (lines_of_map lines) known.unmet known.loaded (inserted_names steps) closing.closed);
     }
 

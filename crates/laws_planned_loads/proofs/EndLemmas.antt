@@ -11,9 +11,8 @@ use Rattle.laws_closed_plans.proofs.LoadLemmas.{load-append}
 use Rattle.stages_files.specs.KernelModules.{modules_folder}
 use Rattle.stages_loads.specs.declared.load.Insertion.{Insertion}
 use Rattle.command_modprobe.specs.Loaded.{images_asked}
-use Rattle.command_modprobe.specs.Planned.{request_of}
 use Rattle.laws_planned_loads.specs.Loads.{IsEndOf, WentIn, all_in, modules_of, refused, unwritable}
-use Rattle.laws_planned_loads.specs.Courses.{CoursesEnd, IsEndOfLoads, all_loaded, ended, no_place, unwritten}
+use Rattle.laws_planned_loads.specs.Courses.{CoursesEnd, IsEndOfLoads, all_loaded, ended, no_place, unwritten, inputs_of}
 use Rattle.laws_planned_loads.proofs.CourseLemmas.{courses-bind, plan-placed}
 use Rattle.laws_planned_loads.proofs.LoadLemmas.{loads-are}
 use Rattle.laws_planned_loads.proofs.RefusedLemmas.{load-stops}
@@ -37,12 +36,12 @@ ended-so {middle = middle} machine plan are loaded placed (refused went all one 
 ended-so machine plan are loaded placed (unwritable went all last asks inserts ms fault is) = unwritten last fault asks is
 
 pub courses-end : CoursesEnd
-courses-end held asked tree kernel builtin addressed as_indexed region known machine steps inserts has came =
+courses-end held asked l as_indexed has came =
     let folder = modules_folder asked.dirname asked.version in
-    let course = courses-load held asked addressed region known machine steps inserts has came in
-    let b = courses-bind held folder tree kernel builtin addressed as_indexed asked.config asked.loaded (request_of asked) region known machine steps inserts came in
-    let loads = loads-are folder (images_asked asked) inserts b.plan machine held b.plan_files in
+    let course = courses-load held asked l has came in
+    let b = courses-bind held (inputs_of asked) l as_indexed came in
+    let loads = loads-are folder (images_asked asked) l.inserts b.plan l.listed held b.plan_files in
     subst (IsEndOfLoads asked.params) (sym course.outcome)
-    (ended-so machine b.plan loads.modules_are loads.loaded
-    (plan-placed addressed region b.listed b.plan machine b.binds b.listed_load)
+    (ended-so l.listed b.plan loads.modules_are loads.loaded
+    (plan-placed l.kernel l.region b.listed b.plan l.listed b.binds b.listed_load)
     loads.ends)

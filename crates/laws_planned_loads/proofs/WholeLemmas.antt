@@ -9,7 +9,6 @@ use Rattle.km_course.specs.Course.{Act, Outcome, Run, Stage, ◌>>=◌, act_with
 use Rattle.km_course.specs.Course.Act.{read}
 use Rattle.km_course.specs.Course.Outcome.{value, end}
 use Rattle.km_course.specs.declared.end.End.TheVariants.{NoFile}
-use Rattle.provider_rel.specs.declared.kernel.Kernel.{Kernel}
 use Rattle.provider_rel.specs.KernelTable.{exports_of_map}
 use Rattle.model_loader.specs.declared.region.Region.{Region}
 use Rattle.model_loader.specs.Machine.{Machine, new_machine}
@@ -31,7 +30,7 @@ use Rattle.stages_loads.specs.Region.{region_at}
 use Rattle.command_modprobe.specs.Loaded.{images_asked, inserts_outcome, loads_into, loads_plan}
 use Rattle.command_modprobe.proofs.LoadSteps.{after_lines, after_listed, after_loads, after_machine, after_inserts, after_steps}
 use Rattle.laws_planned_loads.specs.Acts.{is_reading, said}
-use Rattle.laws_planned_loads.specs.Courses.{CoursesLoad, HasMachine, IsLoadingCourse, CameToLoads, ended}
+use Rattle.laws_planned_loads.specs.Courses.{CoursesLoad, HasMachine, IsLoadingCourse, CameToLoads, Loading, ended, inputs_of}
 use Rattle.laws_planned_loads.proofs.KnownLemmas.{only-known}
 use Rattle.laws_planned_loads.proofs.ListedLemmas.{listed-are-of-machine}
 use Rattle.laws_planned_loads.proofs.RunLemmas.{OnlyReads, both-read, joined, reads-file, reads-given, reads-then, run-given, run-on, run-then, run_of}
@@ -81,12 +80,27 @@ loads-last folder images machine inserts files = last-continued ((loads_all fold
 
 -- ---- the whole
 
-module _ (held : Contents) (asked : ModprobeWords) (addressed : Kernel) (region : Region) (known : Known) (machine : Machine) (steps : List PlanStep) (inserts : List Insertion) (has : HasMachine held asked addressed region) (came : CameToLoads held (modules_folder asked.dirname asked.version) asked.config asked.loaded (request_of asked) addressed region known machine steps inserts) where
+module _ (held : Contents) (asked : ModprobeWords) (l : Loading) (has : HasMachine held asked l.kernel l.region) (came : CameToLoads held (inputs_of asked) l) where
+  abbrev region : Region
+  region = l.region
+
+  abbrev known : Known
+  known = l.known
+
+  abbrev machine : Machine
+  machine = l.listed
+
+  abbrev steps : List PlanStep
+  steps = l.steps
+
+  abbrev inserts : List Insertion
+  inserts = l.inserts
+
   abbrev folder : List ℕ
   folder = modules_folder asked.dirname asked.version
 
   abbrev start : Machine
-  start = new_machine addressed region
+  start = new_machine l.kernel l.region
 
   abbrev knowing : Stage Known
   knowing = reads_known asked.config folder asked.loaded
@@ -134,7 +148,7 @@ module _ (held : Contents) (asked : ModprobeWords) (addressed : Kernel) (region 
       ∙ run-on knowing (loads_known folder (images_asked asked) (request_of asked) has.map asked.symvers region) held known (only-known asked.config folder asked.loaded held) came.knows
       ∙ ap (joined (knowing.run held).acts) from-machine
 
-  pub is-loading : IsLoadingCourse held folder (images_asked asked) machine steps inserts ((loads_plan asked).run held)
+  pub is-loading : IsLoadingCourse held folder (images_asked asked) l ((loads_plan asked).run held)
   is-loading =
       let a = (knowing.run held).acts in
       let b = (making.run held).acts in
@@ -150,4 +164,4 @@ module _ (held : Contents) (asked : ModprobeWords) (addressed : Kernel) (region 
       }
 
 pub courses-load : CoursesLoad
-courses-load held asked addressed region known machine steps inserts has came = is-loading held asked addressed region known machine steps inserts has came
+courses-load held asked l has came = is-loading held asked l has came

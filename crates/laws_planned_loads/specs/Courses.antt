@@ -53,14 +53,49 @@ pub record IsIndexedFor (held : Contents) (folder : List ℕ) (tree : List Facts
   pub indexed : Indexed held folder tree kernel builtin
   pub same_table : kernel_of addressed ≡ kernel_of kernel
 
--- A course got past its reading, over these files. This is known, and this is the machine of the
--- kernel after the listed modules were loaded. The request has a plan without a step that runs a
--- command, and this is what its steps load.
-pub record CameToLoads (held : Contents) (folder : List ℕ) (config listing : Option (List ℕ)) (request : Request) (addressed : Kernel) (region : Region) (known : Known) (machine : Machine) (steps : List PlanStep) (inserts : List Insertion) : Type 0 where
-  pub knows : ((reads_known config folder listing).run held).outcome ≡ value known
-  pub listed : ((loads_listed folder known.indexes.dep (new_machine addressed region) known.loaded).run held).outcome ≡ value machine
-  pub planned : plan_outcome known known.loaded request ≡ value steps
-  pub runs_none : inserts_outcome steps ≡ value inserts
+-- What a load reads and plans:
+-- - the folder of the modules;
+-- - the configuration, and the list of loaded modules;
+-- - the request of its plan.
+pub record LoadInputs : Type 0 where
+  pub folder : List ℕ
+  pub config : Option (List ℕ)
+  pub listing : Option (List ℕ)
+  pub request : Request
+
+-- What a modprobe reads and plans.
+abbrev pub inputs_of : ModprobeWords → LoadInputs
+inputs_of asked = record {
+  folder = modules_folder asked.dirname asked.version;
+  config = asked.config;
+  listing = asked.loaded;
+  request = request_of asked;
+}
+
+-- What a load is about:
+-- - the modules that were indexed, over which kernel and built-in modules;
+-- - that kernel with addresses, and the region;
+-- - what is known of the folder and the configuration;
+-- - the machine after the listed modules;
+-- - the plan, and what its steps load.
+pub record Loading : Type 0 where
+  pub tree : List Facts
+  pub indexed : Kernel
+  pub builtin : List ℕ
+  pub kernel : Kernel
+  pub region : Region
+  pub known : Known
+  pub listed : Machine
+  pub steps : List PlanStep
+  pub inserts : List Insertion
+
+-- A course got past its reading, over these files, and came to these loads. The request has a plan
+-- without a step that runs a command.
+pub record CameToLoads (held : Contents) (inputs : LoadInputs) (l : Loading) : Type 0 where
+  pub knows : ((reads_known inputs.config inputs.folder inputs.listing).run held).outcome ≡ value l.known
+  pub listed : ((loads_listed inputs.folder l.known.indexes.dep (new_machine l.kernel l.region) l.known.loaded).run held).outcome ≡ value l.listed
+  pub planned : plan_outcome l.known l.known.loaded inputs.request ≡ value l.steps
+  pub runs_none : inserts_outcome l.steps ≡ value l.inserts
 
 -- what loads result in, as the end of a course
 abbrev pub ended : Outcome Machine → Outcome ⊤
@@ -69,11 +104,11 @@ ended (end e) = end e
 
 -- A course is one of loads: files are read, and the lines of the plan are printed. Then what its
 -- steps load goes into the machine, and nothing more is done.
-pub record IsLoadingCourse (held : Contents) (folder : List ℕ) (images : Images) (machine : Machine) (steps : List PlanStep) (inserts : List Insertion) (run : Run ⊤) : Type 0 where
+pub record IsLoadingCourse (held : Contents) (folder : List ℕ) (images : Images) (l : Loading) (run : Run ⊤) : Type 0 where
   pub before : List Act
   pub reads : list_all is_reading before ≡ true
-  pub acts : run.acts ≡ before ++ (said (plan_lines folder steps) ++ ((loads_all folder images machine inserts).run held).acts)
-  pub outcome : run.outcome ≡ ended ((loads_all folder images machine inserts).run held).outcome
+  pub acts : run.acts ≡ before ++ (said (plan_lines folder l.steps) ++ ((loads_all folder images l.listed l.inserts).run held).acts)
+  pub outcome : run.outcome ≡ ended ((loads_all folder images l.listed l.inserts).run held).outcome
 
 -- What is asked for has a System.map and a region, and the machine of the kernel is made of these.
 pub record HasMachine (held : Contents) (asked : ModprobeWords) (addressed : Kernel) (region : Region) : Type 0 where
@@ -85,39 +120,38 @@ pub record HasMachine (held : Contents) (asked : ModprobeWords) (addressed : Ker
 -- A course that got past its reading is one of loads, over any files.
 abbrev pub CoursesLoad : Type 0
 CoursesLoad =
-    (held : Contents) (asked : ModprobeWords) (addressed : Kernel) (region : Region) (known : Known) (machine : Machine) (steps : List PlanStep) (inserts : List Insertion)
-    → HasMachine held asked addressed region
-    → CameToLoads held (modules_folder asked.dirname asked.version) asked.config asked.loaded (request_of asked) addressed region known machine steps inserts
-    → IsLoadingCourse held (modules_folder asked.dirname asked.version) (images_asked asked) machine steps inserts ((loads_plan asked).run held)
+    (held : Contents) (asked : ModprobeWords) (l : Loading)
+    → HasMachine held asked l.kernel l.region
+    → CameToLoads held (inputs_of asked) l
+    → IsLoadingCourse held (modules_folder asked.dirname asked.version) (images_asked asked) l ((loads_plan asked).run held)
 
 -- The loads of such a course bind.
-pub record CourseBinds (held : Contents) (folder : List ℕ) (addressed : Kernel) (region : Region) (known : Known) (machine : Machine) (steps : List PlanStep) (paths : List (List ℕ)) : Type 0 where
+pub record CourseBinds (held : Contents) (folder : List ℕ) (l : Loading) : Type 0 where
   -- the listed modules, oldest first, and the modules of the plan, each the module of its name
   pub listed : List Module
   pub plan : List Module
-  pub listed_of : AreModulesOf held folder (known_lines known) (reverse known.loaded) listed
-  pub plan_of : AreModulesOf held folder (known_lines known) (inserted_names steps) plan
+  pub listed_of : AreModulesOf held folder (known_lines l.known) (reverse l.known.loaded) listed
+  pub plan_of : AreModulesOf held folder (known_lines l.known) (inserted_names l.steps) plan
   -- each is all of a valid file: a module of the plan at the path of its step, a listed one at the
   -- first path of its dependency line
   pub listed_paths : List (List ℕ)
-  pub listed_lines : AreListedPaths known.indexes.dep (reverse known.loaded) listed_paths
+  pub listed_lines : AreListedPaths l.known.indexes.dep (reverse l.known.loaded) listed_paths
   pub listed_files : AreFileModules held folder listed_paths listed
-  pub plan_files : AreFileModules held folder paths plan
+  pub plan_files : AreFileModules held folder (paths_of l.inserts) plan
   -- after the listed modules the machine is this
-  pub listed_load : IsLoaded addressed region listed machine
+  pub listed_load : IsLoaded l.kernel l.region listed l.listed
   -- each strong need is bound to an agreeing export that comes before it, and words have the values
   -- of the ABI. The loads stop only for lack of room or for a word that doesn't fit
-  pub binds : Binds addressed region listed plan
+  pub binds : Binds l.kernel l.region listed plan
 
 -- Take a folder that is as depmod indexed it, and the same kernel's table with addresses. Then the
 -- loads of each course that got past its reading bind.
 abbrev pub CoursesBind : Type 0
 CoursesBind =
-    (held : Contents) (folder : List ℕ) (tree : List Facts) (kernel : Kernel) (builtin : List ℕ) (addressed : Kernel)
-    → IsIndexedFor held folder tree kernel builtin addressed
-    → (config listing : Option (List ℕ)) (request : Request) (region : Region) (known : Known) (machine : Machine) (steps : List PlanStep) (inserts : List Insertion)
-    → CameToLoads held folder config listing request addressed region known machine steps inserts
-    → CourseBinds held folder addressed region known machine steps (paths_of inserts)
+    (held : Contents) (inputs : LoadInputs) (l : Loading)
+    → IsIndexedFor held inputs.folder l.tree l.indexed l.builtin l.kernel
+    → CameToLoads held inputs l
+    → CourseBinds held inputs.folder l
 
 -- How a course of loads ended. All modules of the plan were loaded. Or one of them found no room in
 -- the region, or has a word that didn't fit there. Or, with parameters, the options of one couldn't
@@ -130,9 +164,8 @@ pub data IsEndOfLoads (params : Bool) : Outcome ⊤ → Type 0 where
 -- So the whole course of such a modprobe ends for nothing else.
 abbrev pub CoursesEnd : Type 0
 CoursesEnd =
-    (held : Contents) (asked : ModprobeWords) (tree : List Facts) (kernel : Kernel) (builtin : List ℕ) (addressed : Kernel)
-    → IsIndexedFor held (modules_folder asked.dirname asked.version) tree kernel builtin addressed
-    → (region : Region) (known : Known) (machine : Machine) (steps : List PlanStep) (inserts : List Insertion)
-    → HasMachine held asked addressed region
-    → CameToLoads held (modules_folder asked.dirname asked.version) asked.config asked.loaded (request_of asked) addressed region known machine steps inserts
+    (held : Contents) (asked : ModprobeWords) (l : Loading)
+    → IsIndexedFor held (modules_folder asked.dirname asked.version) l.tree l.indexed l.builtin l.kernel
+    → HasMachine held asked l.kernel l.region
+    → CameToLoads held (inputs_of asked) l
     → IsEndOfLoads asked.params ((loads_plan asked).run held).outcome

@@ -32,7 +32,7 @@ use Rattle.command_remove.specs.Remove.{carries_out, chosen_outcome, first_owner
 use Rattle.command_remove.proofs.RemoveSteps.{after_check, after_known, after_left, after_lines, after_listed, after_machine, after_names, after_steps, passes-dry, passes-none, refuses-chosen}
 use Rattle.command_remove.proofs.TakenLemmas.{step-names, steps-unload}
 use Rattle.laws_planned_removals.specs.Listed.{AreTaken}
-use Rattle.laws_planned_removals.specs.Courses.{AreSaying, CameToRemoval, CoursesRemove, IsRemovalCourse, SaysLines, removed_names, steps_asked, taken_out_lines}
+use Rattle.laws_planned_removals.specs.Courses.{AreSaying, CameToRemoval, CoursesRemove, IsRemovalCourse, Removing, SaysLines, removed_names, steps_asked, taken_out_lines}
 use Rattle.laws_planned_removals.proofs.ListedLemmas.{listed-are-taken, only-taken}
 use Rattle.laws_planned_removals.proofs.SayingLemmas.{no-commands, saying-append, saying-leaves, saying-said, unload_acts, unloads-run, unloads-say}
 
@@ -46,7 +46,22 @@ steps-used : (machine : Machine) (asked : ModprobeWords) (known : Known) (names 
 unfolding steps_outcome
 steps-used machine asked known names j k used = ap (λ o. steps_unless machine o (steps_asked asked known machine names)) used
 
-module _ (held : Contents) (dry_run : Bool) (asked : ModprobeWords) (kernel : Kernel) (region : Region) (known : Known) (machine : Machine) (names : List (List ℕ)) (came : CameToRemoval held asked kernel region known machine names) where
+module _ (held : Contents) (dry_run : Bool) (asked : ModprobeWords) (r : Removing) (came : CameToRemoval held asked r) where
+  abbrev kernel : Kernel
+  kernel = r.kernel
+
+  abbrev region : Region
+  region = r.region
+
+  abbrev known : Known
+  known = r.known
+
+  abbrev machine : Machine
+  machine = r.listed
+
+  abbrev names : List (List ℕ)
+  names = r.names
+
   abbrev folder : List ℕ
   folder = modules_folder asked.dirname asked.version
 
@@ -158,7 +173,7 @@ module _ (held : Contents) (dry_run : Bool) (asked : ModprobeWords) (kernel : Ke
         ap (λ lines. lines ++ (flat_map unloaded_line (map step_name steps) ++ left_lines (left_after machine names).entries)) (no-commands steps none)
         ∙ ap (λ ns. flat_map (line_of_two (codes "rmmod ")) ns ++ (flat_map unloaded_line ns ++ left_lines (left_after machine names).entries)) names-of
 
-  pub is-removal : IsRemovalCourse dry_run asked known machine names ((removes dry_run asked).run held)
+  pub is-removal : IsRemovalCourse dry_run asked r ((removes dry_run asked).run held)
   is-removal = record {
     used = λ j k is. says-so [] _ [] refl (used j k is);
     chosen = λ free dry name is. says-so [] _ [] refl (refused free _ (refuses-chosen dry_run steps name dry is));
@@ -179,4 +194,4 @@ module _ (held : Contents) (dry_run : Bool) (asked : ModprobeWords) (kernel : Ke
       subst-nil lines = subst (λ acts. AreSaying acts lines) (sym (append-nil (said lines))) (saying-said lines)
 
 pub courses-remove : CoursesRemove
-courses-remove held dry_run asked kernel region known machine names came = is-removal held dry_run asked kernel region known machine names came
+courses-remove held dry_run asked r came = is-removal held dry_run asked r came

@@ -12,10 +12,6 @@ use Rattle.km_course.specs.Course.Act.{list, put, read, say, warn}
 use Rattle.km_course.specs.Course.Outcome.{end, value}
 use Rattle.module_facts.specs.declared.module.Module.{Module}
 use Rattle.mod_tree.specs.Tree.{is_module_path}
-use Rattle.provider_rel.specs.declared.kernel.Kernel.{Kernel}
-use Rattle.model_loader.specs.declared.region.Region.{Region}
-use Rattle.plan_builder.specs.declared.step.PlanStep.{PlanStep}
-use Rattle.stages_known.specs.declared.known.Known.{Known}
 use Rattle.model_loader.specs.declared.entry.Entry.{Entry}
 use Rattle.model_loader.specs.Machine.{Machine}
 use Rattle.model_loader.specs.Step.{step}
@@ -30,7 +26,7 @@ use Rattle.command_modprobe.specs.Loaded.{images_asked, loads_plan}
 use Rattle.command_modprobe.specs.Planned.{plan_lines, request_of}
 use Rattle.laws_closed_plans.specs.Loads.{load_all, unless_refused}
 use Rattle.laws_planned_loads.specs.Acts.{is_reading, said}
-use Rattle.laws_planned_loads.specs.Courses.{CameToLoads, HasMachine, ended}
+use Rattle.laws_planned_loads.specs.Courses.{CameToLoads, HasMachine, Loading, ended, inputs_of}
 use Rattle.laws_planned_loads.specs.Files.{AreFileModules, IsFileModule}
 use Rattle.laws_planned_loads.proofs.FileLemmas.{first_of_list, last_of, module-read, other-file, apart, last-img}
 use Rattle.laws_planned_loads.proofs.KnownLemmas.{given-came}
@@ -220,23 +216,23 @@ ended-well (value last) is = (last, refl)
 ended-well (end e) is = cc
 
 pub loads-come-to-last : LoadsComeToLast
-loads-come-to-last held asked kernel region known listed steps inserts has came is =
+loads-come-to-last held asked l has came is =
     let folder = modules_folder asked.dirname asked.version in
     let images = images_asked asked in
-    let course = courses-load held asked kernel region known listed steps inserts has came in
-    let last = ended-well ((loads_all folder images listed inserts).run held).outcome (sym course.outcome ∙ is) in
-    let planned = well-planned known (request_of asked) steps came.planned in
-    let kinds : AllByRecursion (λ path. is_module_path path ≡ true) (paths_of inserts) =
-    subst (λ is. AllByRecursion (λ path. is_module_path path ≡ true) (paths_of is)) ((were-given steps inserts came.runs_none).1) (steps-kinds known.indexes planned.0 steps planned.1) in
-    let all = all-went folder images inserts kinds listed held last.0 last.1 in (
+    let course = courses-load held asked l has came in
+    let last = ended-well ((loads_all folder images l.listed l.inserts).run held).outcome (sym course.outcome ∙ is) in
+    let planned = well-planned l.known (request_of asked) l.steps came.planned in
+    let kinds : AllByRecursion (λ path. is_module_path path ≡ true) (paths_of l.inserts) =
+    subst (λ is. AllByRecursion (λ path. is_module_path path ≡ true) (paths_of is)) ((were-given l.steps l.inserts came.runs_none).1) (steps-kinds l.known.indexes planned.0 l.steps planned.1) in
+    let all = all-went folder images l.inserts kinds l.listed held last.0 last.1 in (
       all.modules,
       last.0,
-      record { config = asked.config; listing = asked.loaded; request = request_of asked; inserts = inserts; came = came; files = all.files_are; loads = all.loaded },
+      record { config = asked.config; listing = asked.loaded; request = request_of asked; came = came; files = all.files_are; loads = all.loaded },
     )
 
 -- ---- the folder after a load
 
-module _ (held : Contents) (asked : ModprobeWords) (kernel : Kernel) (region : Region) (known : Known) (listed : Machine) (steps : List PlanStep) (inserts : List Insertion) (has : HasMachine held asked kernel region) (came : CameToLoads held (modules_folder asked.dirname asked.version) asked.config asked.loaded (request_of asked) kernel region known listed steps inserts) where
+module _ (held : Contents) (asked : ModprobeWords) (l : Loading) (has : HasMachine held asked l.kernel l.region) (came : CameToLoads held (inputs_of asked) l) where
   abbrev folder : List ℕ
   folder = modules_folder asked.dirname asked.version
 
@@ -244,14 +240,14 @@ module _ (held : Contents) (asked : ModprobeWords) (kernel : Kernel) (region : R
   acts = ((loads_plan asked).run held).acts
 
   abbrev loading : List Act
-  loading = ((loads_all folder (images_asked asked) listed inserts).run held).acts
+  loading = ((loads_all folder (images_asked asked) l.listed l.inserts).run held).acts
 
   spares : (path : List ℕ) → IsNoImage path → Spares path acts
   spares path other =
-      let course = courses-load held asked kernel region known listed steps inserts has came in
+      let course = courses-load held asked l has came in
       subst (Spares path) (sym course.acts)
-      (spares-both path course.before (said (plan_lines folder steps) ++ loading) (spares-read path course.before course.reads)
-      (spares-both path (said (plan_lines folder steps)) loading (spares-said path (plan_lines folder steps)) (spares-each path folder (images_asked asked) inserts other listed held)))
+      (spares-both path course.before (said (plan_lines folder l.steps) ++ loading) (spares-read path course.before course.reads)
+      (spares-both path (said (plan_lines folder l.steps)) loading (spares-said path (plan_lines folder l.steps)) (spares-each path folder (images_asked asked) l.inserts other l.listed held)))
 
   pub folder-stays : FolderStays held (after acts held) folder
   folder-stays = record {
@@ -260,4 +256,4 @@ module _ (held : Contents) (asked : ModprobeWords) (kernel : Kernel) (region : R
   }
 
 pub loads-leave-folder : LoadsLeaveFolder
-loads-leave-folder held asked kernel region known listed steps inserts has came = folder-stays held asked kernel region known listed steps inserts has came
+loads-leave-folder held asked l has came = folder-stays held asked l has came

@@ -74,42 +74,48 @@ same-index held later folder known known' a b lines =
 
 -- ---- a removal after a load
 
-module _ (held later : Contents) (asked : ModprobeWords) (kernel : Kernel) (region : Region) (l : Loaded) (known : Known) (machine : Machine) (names : List (List ℕ)) where
+module _ (held later : Contents) (asked : ModprobeWords) (l : Loaded) (known : Known) (machine : Machine) (names : List (List ℕ)) where
+  abbrev kernel : Kernel
+  kernel = l.loading.kernel
+
+  abbrev region : Region
+  region = l.loading.region
+
   abbrev folder : List ℕ
   folder = modules_folder asked.dirname asked.version
 
   abbrev start : Machine
   start = new_machine kernel region
 
-  pub meets-load : CameToLast held folder kernel region l → Follows held later folder l known → CameToRemoval later asked kernel region known machine names → MeetsLoad kernel region l machine names
+  pub meets-load : CameToLast held folder l → Follows held later folder l known → CameToRemoval later asked (record { kernel = kernel; region = region; known = known; listed = machine; names = names }) → MeetsLoad l machine names
   meets-load load follows came =
-      let knows = knows-folder held load.config load.listing folder l.known load.came.knows in
+      let knows = knows-folder held load.config load.listing folder l.loading.known load.came.knows in
       let knows' = knows-folder later asked.config asked.loaded folder known came.knows in
-      let index = same-index held later folder l.known known knows knows' follows.stays.lines in
-      let holds = index-holds held folder l.known knows in
-      let plan = well-planned l.known load.request l.steps load.came.planned in
-      let inserts : flat_map inserted l.steps ≡ load.inserts = (were-given l.steps load.inserts load.came.runs_none).1 in
-      let plan_files : AreFileModules held folder (paths_of (flat_map inserted l.steps)) l.plan =
+      let index = same-index held later folder l.loading.known known knows knows' follows.stays.lines in
+      let holds = index-holds held folder l.loading.known knows in
+      let plan = well-planned l.loading.known load.request l.loading.steps load.came.planned in
+      let inserts : flat_map inserted l.loading.steps ≡ l.loading.inserts = (were-given l.loading.steps l.loading.inserts load.came.runs_none).1 in
+      let plan_files : AreFileModules held folder (paths_of (flat_map inserted l.loading.steps)) l.plan =
       subst (λ is. AreFileModules held folder (paths_of is) l.plan) (sym inserts) load.files in
-      let named : names_of l.plan ≡ inserted_names l.steps = steps-named held folder (contents l.known.indexes.dep.nodes) l.steps l.plan plan.1 plan_files in
+      let named : names_of l.plan ≡ inserted_names l.loading.steps = steps-named held folder (contents l.loading.known.indexes.dep.nodes) l.loading.steps l.plan plan.1 plan_files in
       let first =
-      listed-are-taken held folder l.known.indexes start l.known.loaded l.listed
-      (ap (λ stage. (stage.run held).outcome) (listed-alike held folder l.known.indexes holds plan.0 start l.known.loaded) ∙ load.came.listed) in
+      listed-are-taken held folder l.loading.known.indexes start l.loading.known.loaded l.loading.listed
+      (ap (λ stage. (stage.run held).outcome) (listed-alike held folder l.loading.known.indexes holds plan.0 start l.loading.known.loaded) ∙ load.came.listed) in
       let older : List Module = first.modules in
-      let paths : List (List ℕ) = first.paths ++ paths_of (flat_map inserted l.steps) in
+      let paths : List (List ℕ) = first.paths ++ paths_of (flat_map inserted l.loading.steps) in
       let whole : AreFileModules later folder paths (older ++ l.plan) =
       files-stay held later folder follows.stays.modules paths (older ++ l.plan)
-      (files-append held folder first.paths (paths_of (flat_map inserted l.steps)) older l.plan first.files plan_files) in
-      let all_names : reverse known.loaded ≡ reverse l.known.loaded ++ inserted_names l.steps =
+      (files-append held folder first.paths (paths_of (flat_map inserted l.loading.steps)) older l.plan first.files plan_files) in
+      let all_names : reverse known.loaded ≡ reverse l.loading.known.loaded ++ inserted_names l.loading.steps =
       ap reverse follows.list
-      ∙ reverse-append (reverse (inserted_names l.steps)) l.known.loaded
-      ∙ ap (λ ns. reverse l.known.loaded ++ ns) (reverse-reverse (inserted_names l.steps)) in
+      ∙ reverse-append (reverse (inserted_names l.loading.steps)) l.loading.known.loaded
+      ∙ ap (λ ns. reverse l.loading.known.loaded ++ ns) (reverse-reverse (inserted_names l.loading.steps)) in
       let formed : AreWellFormedPaths known.indexes (reverse known.loaded) paths =
       subst (λ ns. AreWellFormedPaths known.indexes ns paths) (sym all_names)
-      (formed-moved l.known.indexes known.indexes (reverse l.known.loaded ++ inserted_names l.steps) paths index
-      (formed-append l.known.indexes (reverse l.known.loaded) (inserted_names l.steps) first.paths (paths_of (flat_map inserted l.steps))
+      (formed-moved l.loading.known.indexes known.indexes (reverse l.loading.known.loaded ++ inserted_names l.loading.steps) paths index
+      (formed-append l.loading.known.indexes (reverse l.loading.known.loaded) (inserted_names l.loading.steps) first.paths (paths_of (flat_map inserted l.loading.steps))
       first.found
-      (steps-formed held folder l.known.indexes holds plan.0 l.steps plan.1))) in
+      (steps-formed held folder l.loading.known.indexes holds plan.0 l.loading.steps plan.1))) in
       let taken = listed-are-taken later folder known.indexes start known.loaded machine came.listed in
       let taken_paths : taken.paths ≡ paths = formed-one known.indexes (reverse known.loaded) taken.paths paths taken.found formed in
       let taken_modules : taken.modules ≡ older ++ l.plan =
@@ -119,7 +125,7 @@ module _ (held later : Contents) (asked : ModprobeWords) (kernel : Kernel) (regi
       load-append start older l.plan ∙ ap (unless_refused (λ next. load_all next l.plan)) first.loaded ∙ load.loads in
       let both : ◌≡◌ {A = Result Machine LoadFault} (Ok machine) (Ok l.last) = sym all_load ∙ to_last in
       let same : machine ≡ l.last = cc in
-      let plan_load : load_all l.listed l.plan ≡ Ok machine = load.loads ∙ ap Ok (sym same) in
+      let plan_load : load_all l.loading.listed l.plan ≡ Ok machine = load.loads ∙ ap Ok (sym same) in
       let sound = loads-bind kernel region (older ++ l.plan) machine all_load in
       record {
         same = same;
@@ -127,13 +133,13 @@ module _ (held later : Contents) (asked : ModprobeWords) (kernel : Kernel) (regi
         older_load = first.loaded;
         all_load = all_load;
         plan_names = named;
-        unloaded = ap (λ ns. unload_all machine (reverse ns)) (sym named) ∙ loads-unloaded l.listed machine l.plan plan_load sound.names;
+        unloaded = ap (λ ns. unload_all machine (reverse ns)) (sym named) ∙ loads-unloaded l.loading.listed machine l.plan plan_load sound.names;
         back = λ free removed.
             let taken_back = removals-take-back kernel region older l.plan machine names all_load free (removed ∙ ap reverse (sym named)) in
-            (one-machine (left_after machine names) l.listed (load_all start older) taken_back.loaded first.loaded, taken_back);
-        free = λ asks. newer-free l.listed machine l.plan plan_load sound.names names (λ name. asks name ∙ ap (λ ns. is_among ns name) (sym named));
+            (one-machine (left_after machine names) l.loading.listed (load_all start older) taken_back.loaded first.loaded, taken_back);
+        free = λ asks. newer-free l.loading.listed machine l.plan plan_load sound.names names (λ name. asks name ∙ ap (λ ns. is_among ns name) (sym named));
         exact = λ asks alone.
-            newer-removed l.listed machine l.plan plan_load sound.names names (λ name. asks name ∙ ap (λ ns. is_among ns name) (sym named)) alone
+            newer-removed l.loading.listed machine l.plan plan_load sound.names names (λ name. asks name ∙ ap (λ ns. is_among ns name) (sym named)) alone
             ∙ ap reverse named;
       }
     where
@@ -143,5 +149,5 @@ module _ (held later : Contents) (asked : ModprobeWords) (kernel : Kernel) (regi
           cc
 
 pub removal-meets-load : RemovalMeetsLoad
-removal-meets-load held later asked kernel region l known machine names load follows came =
-    meets-load held later asked kernel region l known machine names load follows came
+removal-meets-load held later asked l known machine names load follows came =
+    meets-load held later asked l known machine names load follows came

@@ -25,14 +25,24 @@ use Rattle.command_remove.specs.Listed.{takes_listed}
 use Rattle.command_remove.specs.Lines.{left_lines, line_of_two, step_lines, unloaded_line}
 use Rattle.command_remove.specs.Remove.{first_owner, removes}
 
--- A course of a removal got past its lookups, over these files. This is known, this is the machine
--- of the kernel after the listed modules were loaded, and these are the modules that the names
--- stand for.
-pub record CameToRemoval (held : Contents) (asked : ModprobeWords) (kernel : Kernel) (region : Region) (known : Known) (machine : Machine) (names : List (List ℕ)) : Type 0 where
-  pub tables : HasMachine held asked kernel region
-  pub knows : ((reads_known asked.config (modules_folder asked.dirname asked.version) asked.loaded).run held).outcome ≡ value known
-  pub listed : ((takes_listed (modules_folder asked.dirname asked.version) known.indexes (new_machine kernel region) known.loaded).run held).outcome ≡ value machine
-  pub found : names_outcome known asked.use_blacklist asked.words ≡ value names
+-- What a removal is about:
+-- - the kernel with addresses, and the region;
+-- - what is known of the folder and the configuration;
+-- - the machine after the listed modules;
+-- - the names that the requested names stand for.
+pub record Removing : Type 0 where
+  pub kernel : Kernel
+  pub region : Region
+  pub known : Known
+  pub listed : Machine
+  pub names : List (List ℕ)
+
+-- A course of a removal got past its lookups, over these files, and came to this removal.
+pub record CameToRemoval (held : Contents) (asked : ModprobeWords) (r : Removing) : Type 0 where
+  pub tables : HasMachine held asked r.kernel r.region
+  pub knows : ((reads_known asked.config (modules_folder asked.dirname asked.version) asked.loaded).run held).outcome ≡ value r.known
+  pub listed : ((takes_listed (modules_folder asked.dirname asked.version) r.known.indexes (new_machine r.kernel r.region) r.known.loaded).run held).outcome ≡ value r.listed
+  pub found : names_outcome r.known asked.use_blacklist asked.words ≡ value r.names
 
 -- Acts print these lines, and do nothing else.
 abbrev pub AreSaying : List Act → List ℕ → Type 0
@@ -67,26 +77,26 @@ taken_out_lines machine names =
     ++ (flat_map unloaded_line (removed_names machine names) ++ left_lines (left_after machine names).entries)
 
 -- What such a course results in, only by its machine.
-pub record IsRemovalCourse (dry_run : Bool) (asked : ModprobeWords) (known : Known) (machine : Machine) (names : List (List ℕ)) (run : Run ⊤) : Type 0 where
+pub record IsRemovalCourse (dry_run : Bool) (asked : ModprobeWords) (r : Removing) (run : Run ⊤) : Type 0 where
   -- a module that is asked for is used by one that isn't: the oldest such module and its oldest
   -- such user are named
-  pub used : (j k : ℕ) → in_use machine (is_asked machine names) ≡ Some (j, k)
-      → SaysLines [] (end (Refused (InUse (name_at machine j) (name_at machine k)))) run
+  pub used : (j k : ℕ) → in_use r.listed (is_asked r.listed r.names) ≡ Some (j, k)
+      → SaysLines [] (end (Refused (InUse (name_at r.listed j) (name_at r.listed k)))) run
   -- a command is run, which isn't a dry run: the first module with one is named
-  pub chosen : in_use machine (is_asked machine names) ≡ None → dry_run ≡ false
-      → (name : List ℕ) → first_owner (steps_asked asked known machine names) ≡ Some name
+  pub chosen : in_use r.listed (is_asked r.listed r.names) ≡ None → dry_run ≡ false
+      → (name : List ℕ) → first_owner (steps_asked asked r.known r.listed r.names) ≡ Some name
       → SaysLines [] (end (Refused (RemoveChosen name))) run
   -- in a dry run the steps are printed
-  pub printed : in_use machine (is_asked machine names) ≡ None → dry_run ≡ true
-      → SaysLines (step_lines (steps_asked asked known machine names)) (value tt) run
+  pub printed : in_use r.listed (is_asked r.listed r.names) ≡ None → dry_run ≡ true
+      → SaysLines (step_lines (steps_asked asked r.known r.listed r.names)) (value tt) run
   -- otherwise all of it is done
-  pub done : in_use machine (is_asked machine names) ≡ None → dry_run ≡ false
-      → first_owner (steps_asked asked known machine names) ≡ None
-      → SaysLines (taken_out_lines machine names) (value tt) run
+  pub done : in_use r.listed (is_asked r.listed r.names) ≡ None → dry_run ≡ false
+      → first_owner (steps_asked asked r.known r.listed r.names) ≡ None
+      → SaysLines (taken_out_lines r.listed r.names) (value tt) run
 
 -- A course that got past its lookups is such a course, over any files.
 abbrev pub CoursesRemove : Type 0
 CoursesRemove =
-    (held : Contents) (dry_run : Bool) (asked : ModprobeWords) (kernel : Kernel) (region : Region) (known : Known) (machine : Machine) (names : List (List ℕ))
-    → CameToRemoval held asked kernel region known machine names
-    → IsRemovalCourse dry_run asked known machine names ((removes dry_run asked).run held)
+    (held : Contents) (dry_run : Bool) (asked : ModprobeWords) (r : Removing)
+    → CameToRemoval held asked r
+    → IsRemovalCourse dry_run asked r ((removes dry_run asked).run held)
