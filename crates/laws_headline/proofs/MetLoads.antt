@@ -35,7 +35,7 @@ use Rattle.stages_loads.specs.declared.load.Insertion.{Insertion}
 use Rattle.stages_loads.specs.Loads.{paths_of}
 use Rattle.command_modprobe.specs.Loaded.{inserts_outcome}
 use Rattle.command_modprobe.specs.Planned.{plan_outcome, plan_unless, request_of}
-use Rattle.stages_known.proofs.KnownSteps.{after_alias, after_builtin, after_configuration, after_dep, after_indexes, after_loaded, after_rules, after_softdep, after_symbols, after_unmet, softdep_stated, unmet_stated}
+use Rattle.stages_known.proofs.KnownSteps.{after_alias, after_builtin, after_configuration, after_dep, after_indexes, after_loaded, after_rules, after_softdep, after_symbols, after_unmet, softdep_more, softdep_stated, unmet_stated}
 use Rattle.laws_indexed_folder.specs.Indexed.{AreIn}
 use Rattle.laws_planned_loads.specs.Courses.{CameToLoads, HasMachine, Loading, inputs_of}
 use Rattle.laws_planned_loads.specs.Files.{AreFileModules}
@@ -168,8 +168,9 @@ rules-read : ((reads_rules [] folder_found).run left).outcome ≡ value []
 rules-read =
     on-value left (reads_any softdep_path) (softdep_stated [] softdep_path) softdep_text (reads-file (value []) softdep_path)
     (file-read (value []) softdep_path softdep_text (are-in.softdep ∙ ap (λ m. Some (content m Softdep)) made-so) refl)
-    ∙ given-is (stated_outcome (rules_of (record { path = softdep_path; bytes = softdep_text } ∷ []))) left
-    ∙ ap stated_outcome no-softdeps
+    ∙ on-value left (given (stated_outcome (rules_of (record { path = softdep_path; bytes = softdep_text } ∷ [])))) (softdep_more []) [] (reads-given _)
+    (given-is (stated_outcome (rules_of (record { path = softdep_path; bytes = softdep_text } ∷ []))) left ∙ ap stated_outcome no-softdeps)
+    ∙ given-is (value []) left
 
 unmet-read : ((reads_unmet folder_found).run left).outcome ≡ value []
 unmet-read =
@@ -186,7 +187,7 @@ known = record { rules = []; indexes = indexes; unmet = []; loaded = [] }
 knows : ((reads_known None folder_found None).run left).outcome ≡ value known
 knows =
     on-value left (reads_configuration Modprobe None) (after_configuration folder_found None) [] (only-configuration Modprobe None) (unconfigured left left_paths Modprobe left-paths (refl, (refl, (refl, (refl, (refl, tt))))))
-    ∙ on-value left (given (stated_outcome (rules_of []))) (after_rules [] folder_found None) [] (reads-given _) (given-is (stated_outcome (rules_of [])) left ∙ ap stated_outcome no-rules)
+    ∙ on-value left (given (stated_outcome (rules_of []))) (after_rules folder_found None) [] (reads-given _) (given-is (stated_outcome (rules_of [])) left ∙ ap stated_outcome no-rules)
     ∙ on-value left (reads_indexes folder_found) (after_indexes [] folder_found None) indexes (only-indexes folder_found) indexes-read
     ∙ on-value left (reads_rules [] folder_found) (after_softdep folder_found indexes None) [] (only-rules [] folder_found) rules-read
     ∙ on-value left (reads_unmet folder_found) (after_unmet indexes None []) [] (only-unmet folder_found) unmet-read

@@ -26,7 +26,7 @@ use Rattle.stages_files.specs.declared.configuration.Tool.TheVariants.{Modprobe}
 use Rattle.stages_files.specs.IndexFile.{index_of, index_outcome}
 use Rattle.stages_known.specs.declared.known.Known.{Known}
 use Rattle.stages_known.specs.Known.{reads_index_in, reads_indexes, reads_known, reads_lists, reads_loaded, reads_rules, reads_unmet}
-use Rattle.stages_known.proofs.KnownSteps.{after_alias, after_builtin, after_configuration, after_dep, after_indexes, after_loaded, after_rules, after_softdep, after_symbols, after_unmet, loaded_stated, softdep_stated, unmet_stated}
+use Rattle.stages_known.proofs.KnownSteps.{after_alias, after_builtin, after_configuration, after_dep, after_indexes, after_loaded, after_rules, after_softdep, after_symbols, after_unmet, loaded_stated, softdep_more, softdep_stated, unmet_stated}
 use Rattle.laws_planned_loads.proofs.RunLemmas.{OnlyReads, given-on, reads-each, reads-given, reads-names, reads-on, reads-file, reads-then, reads-when, run-read, run-given}
 
 -- ---- the reading only reads
@@ -82,10 +82,15 @@ only-indexes folder =
     reads-then (reads_index_in folder (codes "modules.builtin.bin")) (after_builtin dep alias symbols) (only-index folder (codes "modules.builtin.bin")) (λ builtin.
     reads-given (value (record { dep = dep; alias = alias; symbols = symbols; builtin = builtin }))))))
 
-pub only-rules : (configuration : List ConfFile) (folder : List ℕ) → OnlyReads (reads_rules configuration folder)
-only-rules configuration folder =
+pub only-stated : (stated : List Rule) (softdep : List ConfFile) → OnlyReads (given (stated_outcome (rules_of softdep)) >>= softdep_more stated)
+only-stated stated softdep =
+    reads-then (given (stated_outcome (rules_of softdep))) (softdep_more stated) (reads-given (stated_outcome (rules_of softdep))) (λ more. reads-given (value (stated ++ more)))
+
+pub only-rules : (stated : List Rule) (folder : List ℕ) → OnlyReads (reads_rules stated folder)
+only-rules stated folder =
     let file = path_below folder (codes "modules.softdep") in
-    reads-then (reads_any file) (softdep_stated configuration file) (reads-file (value []) file) (λ bytes. reads-given _)
+    reads-then (reads_any file) (softdep_stated stated file) (reads-file (value []) file) (λ bytes.
+    only-stated stated (record { path = file; bytes = bytes } ∷ []))
 
 pub only-unmet : (folder : List ℕ) → OnlyReads (reads_unmet folder)
 only-unmet folder =
@@ -96,9 +101,9 @@ pub only-loaded : (path : Option (List ℕ)) → OnlyReads (reads_loaded path)
 only-loaded None = reads-given (value [])
 only-loaded (Some path) = reads-then (reads path) loaded_stated (reads-file (end (NoFile path)) path) (λ bytes. reads-given _)
 
-pub only-lists : (configuration : List ConfFile) (folder : List ℕ) (indexes : Indexes) (listing : Option (List ℕ)) → OnlyReads (reads_lists configuration folder indexes listing)
-only-lists configuration folder indexes listing =
-    reads-then (reads_rules configuration folder) (after_softdep folder indexes listing) (only-rules configuration folder) (λ rules.
+pub only-lists : (stated : List Rule) (folder : List ℕ) (indexes : Indexes) (listing : Option (List ℕ)) → OnlyReads (reads_lists stated folder indexes listing)
+only-lists stated folder indexes listing =
+    reads-then (reads_rules stated folder) (after_softdep folder indexes listing) (only-rules stated folder) (λ rules.
     reads-then (reads_unmet folder) (after_unmet indexes listing rules) (only-unmet folder) (λ unmet.
     reads-then (reads_loaded listing) (after_loaded indexes rules unmet) (only-loaded listing) (λ loaded.
     reads-given (value (record { rules = rules; indexes = indexes; unmet = unmet; loaded = loaded })))))
@@ -106,9 +111,9 @@ only-lists configuration folder indexes listing =
 pub only-known : (config : Option (List ℕ)) (folder : List ℕ) (listing : Option (List ℕ)) → OnlyReads (reads_known config folder listing)
 only-known config folder listing =
     reads-then (reads_configuration Modprobe config) (after_configuration folder listing) (only-configuration Modprobe config) (λ configuration.
-    reads-then (given (stated_outcome (rules_of configuration))) (after_rules configuration folder listing) (reads-given (stated_outcome (rules_of configuration))) (λ rules.
-    reads-then (reads_indexes folder) (after_indexes configuration folder listing) (only-indexes folder) (λ indexes.
-    only-lists configuration folder indexes listing)))
+    reads-then (given (stated_outcome (rules_of configuration))) (after_rules folder listing) (reads-given (stated_outcome (rules_of configuration))) (λ stated.
+    reads-then (reads_indexes folder) (after_indexes stated folder listing) (only-indexes folder) (λ indexes.
+    only-lists stated folder indexes listing)))
 
 -- ---- what was read
 
@@ -191,9 +196,9 @@ same-known rules indexes unmet loaded known is =
     (ap (λ (x : Known). x.indexes) same, ap (λ (x : Known). x.unmet) same)
 
 -- the lists, where these indexes were read
-lists-came : (configuration : List ConfFile) (folder : List ℕ) (indexes : Indexes) (listing : Option (List ℕ)) (files : Contents) (known : Known) → ((reads_lists configuration folder indexes listing).run files).outcome ≡ value known → (indexes ≡ known.indexes) × (((reads_unmet folder).run files).outcome ≡ value known.unmet)
-lists-came configuration folder indexes listing files known came =
-    let a = reads-on (reads_rules configuration folder) (after_softdep folder indexes listing) files known (only-rules configuration folder) came in
+lists-came : (stated : List Rule) (folder : List ℕ) (indexes : Indexes) (listing : Option (List ℕ)) (files : Contents) (known : Known) → ((reads_lists stated folder indexes listing).run files).outcome ≡ value known → (indexes ≡ known.indexes) × (((reads_unmet folder).run files).outcome ≡ value known.unmet)
+lists-came stated folder indexes listing files known came =
+    let a = reads-on (reads_rules stated folder) (after_softdep folder indexes listing) files known (only-rules stated folder) came in
     let b = reads-on (reads_unmet folder) (after_unmet indexes listing a.0) files known (only-unmet folder) a.2 in
     let c = reads-on (reads_loaded listing) (after_loaded indexes a.0 b.0) files known (only-loaded listing) b.2 in
     let same = same-known a.0 indexes b.0 c.0 known (given-came (value (record { rules = a.0; indexes = indexes; unmet = b.0; loaded = c.0 })) known files c.2) in
@@ -206,9 +211,9 @@ same-index a b index same is = ap (λ (x : Indexes). x.dep) (sym same) ∙ is
 pub knows-folder : (files : Contents) (config listing : Option (List ℕ)) (folder : List ℕ) (known : Known) → ((reads_known config folder listing).run files).outcome ≡ value known → KnowsFolder files folder known
 knows-folder files config listing folder known came =
     let a = reads-on (reads_configuration Modprobe config) (after_configuration folder listing) files known (only-configuration Modprobe config) came in
-    let b = given-on (stated_outcome (rules_of a.0)) (after_rules a.0 folder listing) files known a.2 in
-    let c = reads-on (reads_indexes folder) (after_indexes a.0 folder listing) files known (only-indexes folder) b.2 in
-    let lists = lists-came a.0 folder c.0 listing files known c.2 in
+    let b = given-on (stated_outcome (rules_of a.0)) (after_rules folder listing) files known a.2 in
+    let c = reads-on (reads_indexes folder) (after_indexes b.0 folder listing) files known (only-indexes folder) b.2 in
+    let lists = lists-came b.0 folder c.0 listing files known c.2 in
     let index = index-came folder (codes "modules.dep.bin") files c.0.dep (dep-came folder files c.0 c.1) in
     let unmet = unmet-came folder files known.unmet lists.1 in
     record {

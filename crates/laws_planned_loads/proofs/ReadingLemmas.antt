@@ -31,7 +31,7 @@ use Rattle.stages_files.specs.declared.configuration.Tool.TheVariants.{Modprobe}
 use Rattle.stages_files.specs.IndexFile.{index_of, index_outcome}
 use Rattle.stages_known.specs.declared.known.Known.{Known}
 use Rattle.stages_known.specs.Known.{reads_index_in, reads_indexes, reads_known, reads_lists, reads_loaded, reads_rules, reads_unmet}
-use Rattle.stages_known.proofs.KnownSteps.{after_alias, after_builtin, after_configuration, after_dep, after_indexes, after_loaded, after_rules, after_softdep, after_symbols, after_unmet, softdep_stated, unmet_stated}
+use Rattle.stages_known.proofs.KnownSteps.{after_alias, after_builtin, after_configuration, after_dep, after_indexes, after_loaded, after_rules, after_softdep, after_symbols, after_unmet, softdep_more, softdep_stated, unmet_stated}
 use Rattle.laws_planned_loads.specs.Reading.{FoldersAreRead, IsFolderRead, IsReading, ReadingsEnd, bad_configuration, indexes_of, is_known, known_of, no_configuration, no_list, softdep_rules}
 use Rattle.laws_planned_loads.proofs.EndsLemmas.{given-comes, on-end, on-value}
 use Rattle.laws_planned_loads.proofs.KnownLemmas.{index_read, only-configuration, only-index, only-indexes, only-loaded, only-rules, only-unmet, was-stated}
@@ -78,14 +78,17 @@ module _ (held : Contents) (folder : List ℕ) (tree : List Facts) (kernel : Ker
   unfolding files files_by
   softdep-is = refl
 
-  pub rules-come : (configuration : List ConfFile) (stated : List Rule) → rules_of configuration ≡ Ok stated → ((reads_rules configuration folder).run held).outcome ≡ value (stated ++ softdep_rules tree)
-  rules-come configuration stated is =
+  pub rules-come : (stated : List Rule) → ((reads_rules stated folder).run held).outcome ≡ value (stated ++ softdep_rules tree)
+  rules-come stated =
       let file = path_below folder (codes "modules.softdep") in
-      let one : List ℕ → List ConfFile = λ bytes. configuration ++ record { path = file; bytes = bytes } ∷ [] in
-      on-value (reads_any file) (softdep_stated configuration file) held made.softdep (reads-file (value []) file) (read-within (value []) file held made.softdep indexed.made.softdep (within Softdep))
-      ∙ given-comes (stated_outcome (rules_of (one made.softdep))) held
+      let one : List ℕ → List ConfFile = λ bytes. record { path = file; bytes = bytes } ∷ [] in
+      let more : ((given (stated_outcome (rules_of (one made.softdep)))).run held).outcome ≡ value (softdep_rules tree) =
+      given-comes (stated_outcome (rules_of (one made.softdep))) held
       ∙ ap (λ bytes. stated_outcome (rules_of (one bytes))) softdep-is
-      ∙ ap stated_outcome (softdep-understood tree file indexed.is_tree configuration stated is)
+      ∙ ap stated_outcome (softdep-understood tree file indexed.is_tree) in
+      on-value (reads_any file) (softdep_stated stated file) held made.softdep (reads-file (value []) file) (read-within (value []) file held made.softdep indexed.made.softdep (within Softdep))
+      ∙ on-value (given (stated_outcome (rules_of (one made.softdep)))) (softdep_more stated) held (softdep_rules tree) (reads-given (stated_outcome (rules_of (one made.softdep)))) more
+      ∙ given-comes (value (stated ++ softdep_rules tree)) held
 
   pub unmet-comes : ((reads_unmet folder).run held).outcome ≡ value (unmet (modules_of tree) (kernel_of kernel))
   unmet-comes =
@@ -102,17 +105,17 @@ module _ (held : Contents) (folder : List ℕ) (tree : List Facts) (kernel : Ker
   abbrev lines : List Unbound
   lines = unmet (modules_of tree) (kernel_of kernel)
 
-  lists-come : (configuration : List ConfFile) (stated : List Rule) (listing : Option (List ℕ)) → rules_of configuration ≡ Ok stated → ((reads_lists configuration folder (indexes_of made) listing).run held).outcome ≡ ((reads_loaded listing >>= after_loaded (indexes_of made) (stated ++ softdep_rules tree) lines).run held).outcome
-  lists-come configuration stated listing is =
-      on-value (reads_rules configuration folder) (after_softdep folder (indexes_of made) listing) held (stated ++ softdep_rules tree) (only-rules configuration folder) (rules-come configuration stated is)
+  lists-come : (stated : List Rule) (listing : Option (List ℕ)) → ((reads_lists stated folder (indexes_of made) listing).run held).outcome ≡ ((reads_loaded listing >>= after_loaded (indexes_of made) (stated ++ softdep_rules tree) lines).run held).outcome
+  lists-come stated listing =
+      on-value (reads_rules stated folder) (after_softdep folder (indexes_of made) listing) held (stated ++ softdep_rules tree) (only-rules stated folder) (rules-come stated)
       ∙ on-value (reads_unmet folder) (after_unmet (indexes_of made) listing (stated ++ softdep_rules tree)) held lines (only-unmet folder) unmet-comes
 
   understood-come : (config listing : Option (List ℕ)) (configuration : List ConfFile) (stated : List Rule) → ((reads_configuration Modprobe config).run held).outcome ≡ value configuration → rules_of configuration ≡ Ok stated → ((reads_known config folder listing).run held).outcome ≡ ((reads_loaded listing >>= after_loaded (indexes_of made) (stated ++ softdep_rules tree) lines).run held).outcome
   understood-come config listing configuration stated came is =
       on-value (reads_configuration Modprobe config) (after_configuration folder listing) held configuration (only-configuration Modprobe config) came
-      ∙ on-value (given (stated_outcome (rules_of configuration))) (after_rules configuration folder listing) held stated (reads-given (stated_outcome (rules_of configuration))) (given-comes (stated_outcome (rules_of configuration)) held ∙ ap stated_outcome is)
-      ∙ on-value (reads_indexes folder) (after_indexes configuration folder listing) held (indexes_of made) (only-indexes folder) indexes-come
-      ∙ lists-come configuration stated listing is
+      ∙ on-value (given (stated_outcome (rules_of configuration))) (after_rules folder listing) held stated (reads-given (stated_outcome (rules_of configuration))) (given-comes (stated_outcome (rules_of configuration)) held ∙ ap stated_outcome is)
+      ∙ on-value (reads_indexes folder) (after_indexes stated folder listing) held (indexes_of made) (only-indexes folder) indexes-come
+      ∙ lists-come stated listing
 
   module _ (config listing : Option (List ℕ)) where
     abbrev Comes : Outcome Known → Type 0
@@ -137,7 +140,7 @@ module _ (held : Contents) (folder : List ℕ) (tree : List Facts) (kernel : Ker
     by-stated configuration (end e) came is =
         subst Comes
         (sym (on-value (reads_configuration Modprobe config) (after_configuration folder listing) held configuration (only-configuration Modprobe config) came
-        ∙ on-end (given (stated_outcome (rules_of configuration))) (after_rules configuration folder listing) held e (given-comes (stated_outcome (rules_of configuration)) held ∙ is)))
+        ∙ on-end (given (stated_outcome (rules_of configuration))) (after_rules folder listing) held e (given-comes (stated_outcome (rules_of configuration)) held ∙ is)))
         (bad_configuration configuration e came is)
 
     by-configuration : (o : Outcome (List ConfFile)) → ((reads_configuration Modprobe config).run held).outcome ≡ o → Comes ((reads_known config folder listing).run held).outcome

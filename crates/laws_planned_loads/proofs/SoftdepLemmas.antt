@@ -1,11 +1,10 @@
 -- The lines of modules.softdep are understood.
-use Rattle.std.proofs.Common.{◌≡◌, ◌∙◌, ◌+◌, ◌-◌, ◌<◌, ℕ, Bool, true, false, cond, List, [], ◌∷◌, ◌++◌, length, map, filter, take, flat_map, codes, Option, Some, None, Ok, Err, refl, sym, ap, subst, inl, inr, arith, append_assoc, length-append}
+use Rattle.std.proofs.Common.{◌≡◌, ◌∙◌, ◌+◌, ◌-◌, ◌<◌, ℕ, Bool, true, false, cond, List, [], ◌∷◌, ◌++◌, length, map, filter, take, flat_map, codes, Option, Some, None, Ok, refl, sym, ap, subst, inl, inr, arith, append_assoc, length-append}
 use Rattle.std.specs.Prelude.{◌&&◌, ◌||◌, ◌==◌, not, nat_eq, All}
 use Rattle.std.specs.Option.{option_and_then}
 use Rattle.std.specs.Char.{is_ascii_graphic}
 use Rattle.std.specs.List.{cons_option, ends_with, filter_map, list_all, onto_first, slice_split}
 use Rattle.std.proofs.lemmas.Bool.{and_from, and_parts, cases_Bool, true≢false}
-use Rattle.std.proofs.lemmas.Grind.{flat_map-append}
 use Rattle.std.proofs.lemmas.List.{append-nil}
 use Rattle.std.proofs.lemmas.List.Elements.{All-weaker}
 use Rattle.std.proofs.lemmas.List.Folds.{list_all-append}
@@ -17,7 +16,6 @@ use Rattle.km_names.specs.Lines.{conf_lines, goes_on, is_statement, joined_lines
 use Rattle.km_names.specs.Path.{underscored}
 use Rattle.km_names.specs.Space.{first_word, is_space, rest_after_word, trimmed, trimmed_end, trimmed_start, words}
 use Rattle.km_names.specs.Statements.{bad_line, file_faults, file_statements, line_fault, parsed, stated, unless_fault}
-use Rattle.km_names.specs.declared.conf.ConfFault.{ConfFault}
 use Rattle.km_names.specs.declared.conf.ConfFile.{ConfFile}
 use Rattle.km_names.specs.declared.conf.Line.{Line}
 use Rattle.km_names.proofs.LineSteps.{lines-nil, states-nothing, states-something, statements-cons, statements-nil}
@@ -149,32 +147,18 @@ read-all (line ∷ lines) [] all = absurd all
 read-all (line ∷ lines) (rule ∷ rs) all =
     ap (λ o. cons_option o (filter_map (λ (l : Line). rule_of l.text) lines)) all.0 ∙ ap (λ more. rule ∷ more) (read-all lines rs all.1)
 
--- ---- one file more
+-- ---- a file
 
-first-on : {F : Type 0} (xs ys : List (Option F)) → first xs ≡ None → first ys ≡ None → first (xs ++ ys) ≡ None
-first-on [] ys none more = more
-first-on (None ∷ xs) ys none more = first-on xs ys none more
-first-on (Some fault ∷ xs) ys none more = none
-
-no-fault : {X : Type 0} (fault : Option ConfFault) (x y : X) → unless_fault fault x ≡ Ok y → (fault ≡ None) × (x ≡ y)
-no-fault None x y is = (refl, let same : x ≡ y = cc in same)
-no-fault (Some f) x y is = absurd (let never : Err f ≡ Ok y = is in cc)
-
-pub file-more : (configuration : List ConfFile) (before : List Rule) (path heading : List ℕ) (lines : List (List ℕ)) (rs : List Rule) → rules_of configuration ≡ Ok before → IsHeading heading → AllState lines rs → rules_of (configuration ++ record { path = path; bytes = lines_text (heading ∷ lines) } ∷ []) ≡ Ok (before ++ rs)
+pub file-states : (path heading : List ℕ) (lines : List (List ℕ)) (rs : List Rule) → IsHeading heading → AllState lines rs → rules_of (record { path = path; bytes = lines_text (heading ∷ lines) } ∷ []) ≡ Ok rs
 unfolding parsed bad_line stated
-file-more configuration before path heading lines rs is head all =
+file-states path heading lines rs head all =
     let file : ConfFile = record { path = path; bytes = lines_text (heading ∷ lines) } in
-    let h = no-fault (first (flat_map (file_faults rule_of) configuration)) (flat_map (file_statements rule_of) configuration) before is in
     let read = file-read heading lines rs head all in
-    let none : first (flat_map (file_faults rule_of) (configuration ++ file ∷ [])) ≡ None =
-    ap first (flat_map-append (file_faults rule_of) configuration (file ∷ []))
-    ∙ first-on (flat_map (file_faults rule_of) configuration) (flat_map (file_faults rule_of) (file ∷ [])) h.0
-    (ap first (append-nil (file_faults rule_of file)) ∙ faults-none path (conf_lines file.bytes) rs read) in
-    let all_stated : flat_map (file_statements rule_of) (configuration ++ file ∷ []) ≡ before ++ rs =
-    flat_map-append (file_statements rule_of) configuration (file ∷ [])
-    ∙ ap (λ more. more ++ flat_map (file_statements rule_of) (file ∷ [])) h.1
-    ∙ ap (λ more. before ++ more) (append-nil (file_statements rule_of file) ∙ read-all (conf_lines file.bytes) rs read) in
-    ap (λ fault. unless_fault fault (flat_map (file_statements rule_of) (configuration ++ file ∷ []))) none ∙ ap Ok all_stated
+    let none : first (flat_map (file_faults rule_of) (file ∷ [])) ≡ None =
+    ap first (append-nil (file_faults rule_of file)) ∙ faults-none path (conf_lines file.bytes) rs read in
+    let all_stated : flat_map (file_statements rule_of) (file ∷ []) ≡ rs =
+    append-nil (file_statements rule_of file) ∙ read-all (conf_lines file.bytes) rs read in
+    ap (λ fault. unless_fault fault (flat_map (file_statements rule_of) (file ∷ []))) none ∙ ap Ok all_stated
 
 -- ---- a line of a soft dependency
 
@@ -416,9 +400,9 @@ tree-states (f ∷ tree) each =
     state-append (softdep_lines f) (flat_map softdep_lines tree) (map (softdep_of f.name) (softdeps_of f)) (softdep_rules tree)
     (module-states f.name f.softdeps (each f (inl refl)).name) (tree-states tree (λ g in'. each g (inr in')))
 
--- modules.softdep as one configuration file more
-pub softdep-understood : (tree : List Facts) (path : List ℕ) → IsTree tree → (configuration : List ConfFile) (before : List Rule) → rules_of configuration ≡ Ok before → rules_of (configuration ++ record { path = path; bytes = softdep_text tree } ∷ []) ≡ Ok (before ++ softdep_rules tree)
+-- modules.softdep as a file of configuration
+pub softdep-understood : (tree : List Facts) (path : List ℕ) → IsTree tree → rules_of (record { path = path; bytes = softdep_text tree } ∷ []) ≡ Ok (softdep_rules tree)
 unfolding softdep_text
-softdep-understood tree path is_tree configuration before is =
-    file-more configuration before path (codes "# Soft dependencies extracted from modules themselves.") (flat_map softdep_lines tree) (softdep_rules tree) is heading-is
+softdep-understood tree path is_tree =
+    file-states path (codes "# Soft dependencies extracted from modules themselves.") (flat_map softdep_lines tree) (softdep_rules tree) heading-is
     (tree-states tree (λ f in'. all-member IsTreeModule f tree is_tree.modules in'))

@@ -61,7 +61,7 @@ softdep_rules tree = flat_map (λ (f : Facts). map (softdep_of f.name) (softdeps
 pub record IsFolderRead (held : Contents) (folder : List ℕ) (tree : List Facts) (kernel : Kernel) (builtin : List ℕ) : Type 0 where
   pub indexes : ((reads_indexes folder).run held).outcome ≡ value (indexes_of (files tree (kernel_of kernel) builtin))
   pub stand : StandFor tree (kernel_of kernel) builtin (files tree (kernel_of kernel) builtin)
-  pub softdep : (configuration : List ConfFile) (stated : List Rule) → rules_of configuration ≡ Ok stated → ((reads_rules configuration folder).run held).outcome ≡ value (stated ++ softdep_rules tree)
+  pub softdep : (stated : List Rule) → ((reads_rules stated folder).run held).outcome ≡ value (stated ++ softdep_rules tree)
   pub unmet : ((reads_unmet folder).run held).outcome ≡ value (unmet (modules_of tree) (kernel_of kernel))
 
 -- A folder that is as depmod indexed it is read in this way: none of its files is refused.

@@ -35,16 +35,16 @@ stated_fault {X} o (faults.BadLine file number) stop is (inr bad) =
     subst (λ s. Answers (λ (x : X). x) (stated_outcome o) (Err s)) (sym is) (ap stated_outcome bad)
 
 -- the stage after the configuration was read, and after it was understood
-abbrev pub after_rules : List ConfFile → List ℕ → Option (List ℕ) → List Rule → Stage Known
-after_rules configuration folder path rules = do
+abbrev pub after_rules : List ℕ → Option (List ℕ) → List Rule → Stage Known
+after_rules folder path stated = do
   indexes ← reads_indexes folder
-  reads_lists configuration folder indexes path
+  reads_lists stated folder indexes path
 
 abbrev pub after_configuration : List ℕ → Option (List ℕ) → List ConfFile → Stage Known
-after_configuration folder path configuration = given (stated_outcome (rules_of configuration)) >>= after_rules configuration folder path
+after_configuration folder path configuration = given (stated_outcome (rules_of configuration)) >>= after_rules folder path
 
-abbrev pub after_indexes : List ConfFile → List ℕ → Option (List ℕ) → Indexes → Stage Known
-after_indexes configuration folder path indexes = reads_lists configuration folder indexes path
+abbrev pub after_indexes : List Rule → List ℕ → Option (List ℕ) → Indexes → Stage Known
+after_indexes stated folder path indexes = reads_lists stated folder indexes path
 
 -- the stages after each index
 abbrev pub after_builtin : Index → Index → Index → Index → Stage Indexes
@@ -74,15 +74,18 @@ abbrev pub after_softdep : List ℕ → Indexes → Option (List ℕ) → List R
 after_softdep folder indexes path rules = reads_unmet folder >>= after_unmet indexes path rules
 
 -- the stage after modules.softdep was read, and that of modules.unmet
-abbrev pub softdep_stated : List ConfFile → List ℕ → List ℕ → Stage (List Rule)
-softdep_stated configuration path bytes = given (stated_outcome (rules_of (configuration ++ record { path = path; bytes = bytes } ∷ [])))
+abbrev pub softdep_more : List Rule → List Rule → Stage (List Rule)
+softdep_more stated more = gives (stated ++ more)
+
+abbrev pub softdep_stated : List Rule → List ℕ → List ℕ → Stage (List Rule)
+softdep_stated stated path bytes = given (stated_outcome (rules_of (record { path = path; bytes = bytes } ∷ []))) >>= softdep_more stated
 
 abbrev pub unmet_stated : List ℕ → List ℕ → Stage (List Unbound)
 unmet_stated path bytes = given (stated_outcome (unmet_of path bytes))
 
-pub at-softdep : (configuration : List ConfFile) (folder path : List ℕ) (old new : World) (r : Result (List Rule) Stop) → path ≡ path_below folder (codes "modules.softdep") → Follows (λ x. x) (reads_any path >>= softdep_stated configuration path) old new r → Follows (λ x. x) (reads_rules configuration folder) old new r
-at-softdep configuration folder path old new r is f =
-    subst (λ p. Follows (λ (x : List Rule). x) (reads_any p >>= softdep_stated configuration p) old new r) is f
+pub at-softdep : (stated : List Rule) (folder path : List ℕ) (old new : World) (r : Result (List Rule) Stop) → path ≡ path_below folder (codes "modules.softdep") → Follows (λ x. x) (reads_any path >>= softdep_stated stated path) old new r → Follows (λ x. x) (reads_rules stated folder) old new r
+at-softdep stated folder path old new r is f =
+    subst (λ p. Follows (λ (x : List Rule). x) (reads_any p >>= softdep_stated stated p) old new r) is f
 
 pub at-unmet : (folder path : List ℕ) (old new : World) (r : Result (List Unbound) Stop) → path ≡ path_below folder (codes "modules.unmet") → Follows (λ x. x) (reads_any path >>= unmet_stated path) old new r → Follows (λ x. x) (reads_unmet folder) old new r
 at-unmet folder path old new r is f =

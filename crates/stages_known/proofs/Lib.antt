@@ -1,3 +1,2 @@
 pub mod KnownSteps
-pub mod MoreRules
 pub mod NamedSteps

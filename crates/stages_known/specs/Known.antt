@@ -2,7 +2,6 @@
 -- modules.dep(5).
 use Rattle.std.specs.Prelude.{ℕ, List, [], ◌∷◌, ◌++◌, codes, Option, Some, None}
 use Rattle.km_names.specs.Path.{path_below}
-use Rattle.km_names.specs.declared.conf.ConfFile.{ConfFile}
 use Rattle.index_read.specs.declared.index.Index.{Index}
 use Rattle.loaded_list.specs.Loaded.{loaded_of}
 use Rattle.modprobe_conf.specs.declared.rule.Rule.{Rule}
@@ -29,12 +28,13 @@ reads_indexes folder = do
   builtin ← reads_index_in folder (codes "modules.builtin.bin")
   gives (record { dep = dep; alias = alias; symbols = symbols; builtin = builtin })
 
--- The rules of the configuration, and the rules of the folder's modules.softdep as one file more,
--- which is empty if it is missing.
-abbrev pub reads_rules : List ConfFile → List ℕ → Stage (List Rule)
-reads_rules configuration folder = do
+-- The rules that the configuration states, and then those of the folder's modules.softdep, which is
+-- empty if it is missing.
+abbrev pub reads_rules : List Rule → List ℕ → Stage (List Rule)
+reads_rules stated folder = do
   bytes ← reads_any (path_below folder (codes "modules.softdep"))
-  given (stated_outcome (rules_of (configuration ++ record { path = path_below folder (codes "modules.softdep"); bytes = bytes } ∷ [])))
+  more ← given (stated_outcome (rules_of (record { path = path_below folder (codes "modules.softdep"); bytes = bytes } ∷ [])))
+  gives (stated ++ more)
 
 -- The lines of the folder's modules.unmet, which is empty if there is none.
 abbrev pub reads_unmet : List ℕ → Stage (List Unbound)
@@ -50,9 +50,9 @@ reads_loaded (Some path) = do
   gives (loaded_of bytes)
 
 -- What is read after the configuration and the index files.
-abbrev pub reads_lists : List ConfFile → List ℕ → Indexes → Option (List ℕ) → Stage Known
-reads_lists configuration folder indexes path = do
-  rules ← reads_rules configuration folder
+abbrev pub reads_lists : List Rule → List ℕ → Indexes → Option (List ℕ) → Stage Known
+reads_lists stated folder indexes path = do
+  rules ← reads_rules stated folder
   unmet ← reads_unmet folder
   loaded ← reads_loaded path
   gives (record { rules = rules; indexes = indexes; unmet = unmet; loaded = loaded })
@@ -62,6 +62,6 @@ reads_lists configuration folder indexes path = do
 abbrev pub reads_known : Option (List ℕ) → List ℕ → Option (List ℕ) → Stage Known
 reads_known config folder path = do
   configuration ← reads_configuration Modprobe config
-  rules ← given (stated_outcome (rules_of configuration))
+  stated ← given (stated_outcome (rules_of configuration))
   indexes ← reads_indexes folder
-  reads_lists configuration folder indexes path
+  reads_lists stated folder indexes path

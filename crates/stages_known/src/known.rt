@@ -1,7 +1,6 @@
 // What modprobe knows before it looks a name up.
-ghost use Rattle.std.specs.Prelude.{◌≡◌, ◌≤◌, ◌∷◌, [], List, length, All, IfOk};
+ghost use Rattle.std.specs.Prelude.{◌≡◌, ◌≤◌, ◌∷◌, [], length, All, IfOk};
 ghost use Rattle.km_names.specs.Limit.{file_limit};
-ghost use Rattle.km_names.specs.declared.conf.ConfFile.{ConfFile};
 ghost use Rattle.km_course.specs.FollowsOn.{FollowsOnFiles, Returns};
 ghost use Rattle.modprobe_conf.specs.Rules.{rules_of};
 ghost use Rattle.unmet_file.specs.Unmet.{unmet_of};
@@ -92,7 +91,7 @@ fn read_index_in<F: Reads>(
     read_index(alloc, path, files)
 }
 
-/// Reads what modprobe knows, after the indexes were read, if the configuration states these rules.
+/// Reads what modprobe knows, after the configuration and the indexes were read.
 fn read_lists<F: Reads>(
     alloc: Global,
     stated: Rules,
@@ -101,8 +100,7 @@ fn read_lists<F: Reads>(
     loaded: Option<PathText>,
     files: &mut F,
 ) -> Result<Known, Stop>
-    ensures { (configuration : List ConfFile) → rules_of configuration ≡ Ok stated
-        → FollowsOnFiles (reads_lists configuration folder.now indexes loaded)
+    ensures { FollowsOnFiles (reads_lists stated folder.now indexes loaded)
         F.seen files.old files.new result }
 {
     let rules = read_rules(alloc, stated, folder, files)?;
@@ -116,17 +114,14 @@ fn read_lists<F: Reads>(
     })
 }
 
-/// Reads the rules of modules.softdep, and puts them after those that the configuration states: they
-/// are the rules of the configuration with modules.softdep as one more file.
+/// Reads the rules of modules.softdep, and puts them after those that the configuration states.
 fn read_rules<F: Reads>(
     alloc: Global,
     mut stated: Rules,
     folder: &PathText,
     files: &mut F,
 ) -> Result<Rules, Stop>
-    ensures { (configuration : List ConfFile) → rules_of configuration ≡ Ok stated
-        → FollowsOnFiles (reads_rules configuration folder.now)
-        F.seen files.old files.new result }
+    ensures { FollowsOnFiles (reads_rules stated folder.now) F.seen files.old files.new result }
 {
     let path = join(alloc, folder, b"modules.softdep")?;
     let bytes = read_optional(alloc, files, &path)?;
