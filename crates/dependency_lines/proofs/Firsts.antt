@@ -129,7 +129,7 @@ pub any-by : (p : KeyValue → Bool) (ms : List KeyValue) → list_any p (by_num
 any-by p [] = refl
 any-by p (m ∷ ms) = any-insert p m (by_number ms) ∙ ap (λ b. p m || b) (any-by p ms)
 
-some-position : {X : Type 0} (p : X → Bool) (xs : List X) → is_some (position p xs) ≡ list_any p xs
+pub some-position : {X : Type 0} (p : X → Bool) (xs : List X) → is_some (position p xs) ≡ list_any p xs
 some-position {X = X} p xs = whole (nat_lt (position_or_len p xs) (length xs)) ∙ less-any xs
   where
     whole : (b : Bool) → is_some (cond b (Some (position_or_len p xs)) None) ≡ b

@@ -44,7 +44,7 @@ module _ (P : KeyValue → Type 0) where
 
 -- ---- no two modules have one name
 
-abbrev Apart : List KeyValue → Type 0
+abbrev pub Apart : List KeyValue → Type 0
 Apart [] = Unit {0}
 Apart (m ∷ ms) = (list_any (λ (n : KeyValue). bytes_eq n.0 m.0) ms ≡ false) × Apart ms
 
@@ -58,7 +58,7 @@ insert-apart m (n ∷ ns) new h =
           (any-insert (λ (k : KeyValue). bytes_eq k.0 n.0) m ns ∙ ap (λ t. t || list_any (λ (k : KeyValue). bytes_eq k.0 n.0) ns) (bytes-sym m.0 n.0 ∙ w.0) ∙ h.0, insert-apart m ns w.1 h.1)
     ]
 
-by_number-apart : (ms : List KeyValue) → Apart ms → Apart (by_number ms)
+pub by_number-apart : (ms : List KeyValue) → Apart ms → Apart (by_number ms)
 by_number-apart [] h = tt
 by_number-apart (m ∷ ms) h =
     insert-apart m (by_number ms) (any-by (λ (n : KeyValue). bytes_eq n.0 m.0) ms ∙ h.0) (by_number-apart ms h.1)
@@ -110,7 +110,7 @@ none-at p [] x d l h = absurd (omega (arith, l))
 none-at p (m ∷ ms) zero d l h = (or_parts (p m) (list_any p ms) h).0
 none-at p (m ∷ ms) (suc x) d l h = none-at p ms x d (omega (arith, l)) (or_parts (p m) (list_any p ms) h).1
 
-place-at : (ms : List KeyValue) (x : ℕ) → x < length ms → Apart ms → position_or_len (λ (m : KeyValue). bytes_eq m.0 (name_at ms x)) ms ≡ x
+pub place-at : (ms : List KeyValue) (x : ℕ) → x < length ms → Apart ms → position_or_len (λ (m : KeyValue). bytes_eq m.0 (name_at ms x)) ms ≡ x
 place-at [] x l h = absurd (omega (arith, l))
 place-at (m ∷ ms) zero l h =
     ap (λ t. cond (not t) (1 + position_or_len (λ (n : KeyValue). bytes_eq n.0 m.0) ms) 0) ((bytes_eq-Decides m.0 m.0).1 refl)

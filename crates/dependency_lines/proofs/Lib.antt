@@ -3,6 +3,7 @@ pub mod Faults
 pub mod Finds
 pub mod Firsts
 pub mod Keys
+mod Kept
 pub mod Lines
 pub mod Named
 pub mod Placed

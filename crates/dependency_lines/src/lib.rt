@@ -10,9 +10,12 @@
 //! It hands out the place of a name, and the name, the path and the needs of the module at a place.
 //! [`well_formed`] tests the line of one name in the index itself.
 //!
+//! depmod gives each module the number of its place. Modules with such numbers stay in the order of
+//! their names, in which a name is searched for. For others there is a table of names. Most paths
+//! are found among those that were tested before.
+//!
 //! The crate builds on `mod_tree` for what a dependency line is, on `index_read` for the values of
-//! an index, on `name_table` for the places of names, and on `memchr` for the names in paths. Most
-//! paths are found among those that were tested before.
+//! an index, on `name_table` for the table of names, and on `memchr` for the names in paths.
 #![tactic(auto)]
 
 mod fault;

@@ -8,13 +8,11 @@ ghost use Rattle.mod_tree.specs.DependencyLine.{is_line_path, own_path};
 ghost use Rattle.dependency_lines.specs.GoodPaths.{AreGood, are_good_needs, is_good};
 ghost use Rattle.dependency_lines.specs.Modules.{is_line_of, is_well_formed, bad_among};
 ghost use Rattle.dependency_lines.specs.Spaces.{IsAfterSpace};
-ghost use Rattle.dependency_lines.specs.Tables.{listed_modules};
 
 use crate::fault::LineFault;
 use crate::good_paths::{GoodPaths, slot_of};
-use crate::listed::Line;
-use crate::path_name::{is_plain, stem, write_name};
-use index_read::{Index, plain};
+use crate::path_name::{has_name, is_plain, stem, write_name};
+use index_read::{FirstValues, Index, plain};
 use km_names::{Name, split_at_byte};
 use memchr::memchr;
 use mod_tree::is_line_path;
@@ -57,20 +55,22 @@ pub fn well_formed(alloc: Global, name: &Name, indexes: &Indexes) -> Result<bool
 }
 
 /// Tests that each module has a dependency line of its own.
-pub(crate) fn check_lines<'a, K: Known>(
+pub(crate) fn check_lines<K: Known>(
     alloc: Global,
     known: &K,
-    lines: &[Line<'a>],
+    values: &FirstValues<'_>,
 ) -> Result<(), LineFault>
-    ensures passed { OnOk result (bad_among (K.has known.now) (listed_modules lines.now) ≡ None) }
-    ensures err { IfErr result (λ fault. (fault ≡ LineFault.Memory) ⊎ (option_map LineFault.BadLine (bad_among (K.has known.now) (listed_modules lines.now)) ≡ Some fault)) }
+    ensures passed { OnOk result (bad_among (K.has known.now) values.now ≡ None) }
+    ensures err { IfErr result (λ fault. (fault ≡ LineFault.Memory) ⊎ (option_map LineFault.BadLine (bad_among (K.has known.now) values.now) ≡ Some fault)) }
 {
     let mut paths = GoodPaths::new(alloc)?;
     let mut buffer = Vec::new(alloc);
-    for line in lines {
-        if !is_line(&mut paths, &mut buffer, known, line.name, line.text)? {
+    for place in 0..values.len() {
+        let name = values.key(place);
+        let line = values.text(place);
+        if !is_line(&mut paths, &mut buffer, known, name, line)? {
             return Err(LineFault::BadLine {
-                name: Name::from_slice(alloc, line.name)?,
+                name: Name::from_slice(alloc, name)?,
             });
         }
     }
@@ -92,7 +92,7 @@ fn is_line<'a, K: Known>(
     ensures kept { OnOk result (AreGood (K.has known.now) paths.new.slots.items) }
 {
     let (own, needs) = split_at_byte(line, b':');
-    if !is_front(line, own) || !names_module(buffer, own, name)? {
+    if !is_front(line, own) || !names_module(own, name) {
         return Ok(false);
     }
     are_good(paths, buffer, known, needs)
@@ -107,15 +107,10 @@ fn is_front(line: &[u8], own: &[u8]) -> bool
 }
 
 /// Returns whether the module at a path has this name.
-fn names_module(buffer: &mut Vec<u8>, path: &[u8], name: &[u8]) -> Result<bool, AllocError>
-    ensures { IfOk result (λ same. same ≡ bytes_eq (module_name path.now) name.now) }
+fn names_module(path: &[u8], name: &[u8]) -> bool
+    ensures { result ≡ bytes_eq (module_name path.now) name.now }
 {
-    let text = stem(path);
-    if is_plain(text) {
-        return Ok(text == name);
-    }
-    write_name(buffer, path)?;
-    Ok(buffer.as_slice() == name)
+    has_name(stem(path), name)
 }
 
 /// Returns whether the module at a path is known. Most names are the same as in their paths, and

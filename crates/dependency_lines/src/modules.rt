@@ -4,13 +4,14 @@ ghost use Rattle.std.specs.FinMap.{entries};
 ghost use Rattle.index_format.specs.Map.{KeyValues};
 ghost use Rattle.index_read.specs.Firsts.{firsts_of};
 ghost use Rattle.name_table.specs.NameTable.{place_of as place_of_spec};
-ghost use Rattle.dependency_lines.specs.Modules.{bad_name, by_number, line_at, line_places, modules_of, name_at, path_at, place_of, places_of};
-ghost use Rattle.dependency_lines.specs.Tables.{listed_modules, IsNamed};
+ghost use Rattle.dependency_lines.specs.Modules.{bad_name, by_number, line_at, line_places, module_at, modules_of, name_at, path_at, place_of, places_of};
+ghost use Rattle.dependency_lines.specs.Places.{AreFirst};
+ghost use Rattle.dependency_lines.specs.Tables.{module_of, listed_modules, IsNamed};
 
 use crate::fault::LineFault;
 use crate::line::{Known, check_lines};
 use crate::listed::{Line, lines_of};
-use crate::order::by_number as in_order;
+use crate::order::{names_rise, number_of, places_by_number, sorted};
 use crate::places::{push_needed, push_place};
 use index_read::FirstValues;
 use km_names::{Name, split_at_byte};
@@ -24,19 +25,24 @@ use std::marker::Model;
 #[derive(Drop)]
 pub struct Modules<'a> {
     lines: Vec<Line<'a>>,
-    names: NameTable<'a>,
+    /// Where the line of the module at each place is.
+    places: Vec<usize>,
+    /// The places of names. There is no table if the names of the lines rise and the numbers of
+    /// modules are their places: then a name is searched for among the lines.
+    names: Option<NameTable<'a>>,
 }
 
 impl<'a> Model for Modules<'a> {
     ghost use Rattle.std.specs.Prelude.{List};
     ghost use Rattle.index_format.specs.Listing.{KeyValue};
-    ghost use Rattle.dependency_lines.specs.Tables.{listed_modules, IsNamed};
+    ghost use Rattle.dependency_lines.specs.Tables.{listed_modules, at_places};
+    ghost use Rattle.dependency_lines.specs.Places.{IsKept};
 
     ghost Value = { List KeyValue };
 
-    ghost view = { λ m. listed_modules m.lines.items };
+    ghost view = { λ m. at_places (listed_modules m.lines.items) m.places.items };
 
-    ghost invariant = { λ m. IsNamed m.names (listed_modules m.lines.items) };
+    ghost invariant = { λ m. IsKept m.lines.items m.places.items m.names };
 }
 
 impl<'a> Modules<'a> {
@@ -52,8 +58,8 @@ impl<'a> Modules<'a> {
         ensures err { IfErr result (λ fault. (fault ≡ LineFault.Memory) ⊎ ((dep : KeyValues) → values.now ≡ firsts_of (entries dep) → option_map LineFault.BadLine (bad_name dep) ≡ Some fault)) }
     {
         let lines = lines_of(alloc, values)?;
-        let modules = numbered(alloc, &lines)?;
-        check_lines(alloc, &modules, &lines)?;
+        let modules = numbered(alloc, lines)?;
+        check_lines(alloc, &modules, values)?;
         Ok(modules)
     }
 
@@ -61,14 +67,25 @@ impl<'a> Modules<'a> {
     pub fn len(&self) -> usize
         ensures { result ≡ length self.now }
     {
-        self.lines.len()
+        self.places.len()
     }
 
     /// Returns the place of the module of this name, if there is one.
     pub fn place(&self, name: &[u8]) -> Option<usize>
         ensures { result ≡ place_of self.now name.now }
     {
-        place_in(&self.names, name)
+        match &self.names {
+            Some(names) => place_in(names, name),
+            None => number_of(&self.lines, name),
+        }
+    }
+
+    /// Returns the module at a place.
+    fn at(&self, place: usize) -> Line<'a>
+        requires { place < length self.now }
+        ensures { module_of result ≡ module_at self.now place }
+    {
+        self.lines[self.places[place]]
     }
 
     /// Returns the name of the module at a place.
@@ -76,7 +93,7 @@ impl<'a> Modules<'a> {
         requires { place < length self.now }
         ensures { result.now ≡ name_at self.now place }
     {
-        self.lines[place].name
+        self.at(place).name
     }
 
     /// Returns the dependency line of the module at a place.
@@ -84,7 +101,7 @@ impl<'a> Modules<'a> {
         requires { place < length self.now }
         ensures { result.now ≡ line_at self.now place }
     {
-        self.lines[place].text
+        self.at(place).text
     }
 
     /// Returns the path of the module at a place, the first of its dependency line.
@@ -119,12 +136,44 @@ impl<'a> Modules<'a> {
 }
 
 /// Returns modules by their numbers.
-fn numbered<'a>(alloc: Global, lines: &[Line<'a>]) -> Result<Modules<'a>, AllocError>
+fn numbered<'a>(alloc: Global, lines: Vec<Line<'a>>) -> Result<Modules<'a>, AllocError>
+    ensures { IfOk result (λ modules. modules ≡ by_number (listed_modules lines.entry.items)) }
+{
+    if names_rise(&lines) {
+        if let Some(places) = places_by_number(alloc, &lines)? {
+            return Ok(Modules {
+                lines,
+                places,
+                names: None,
+            });
+        }
+    }
+    with_table(alloc, &lines)
+}
+
+/// Returns modules by their numbers, with a table of their names.
+fn with_table<'a>(alloc: Global, lines: &[Line<'a>]) -> Result<Modules<'a>, AllocError>
     ensures { IfOk result (λ modules. modules ≡ by_number (listed_modules lines.now)) }
 {
-    let lines = in_order(alloc, lines)?;
+    let lines = sorted(alloc, lines)?;
     let names = table_of(alloc, &lines)?;
-    Ok(Modules { lines, names })
+    let places = first_places(alloc, lines.len())?;
+    Ok(Modules {
+        lines,
+        places,
+        names: Some(names),
+    })
+}
+
+/// Lists the first places.
+fn first_places(alloc: Global, count: usize) -> Result<Vec<usize>, AllocError>
+    ensures { IfOk result (λ places. AreFirst count places.items) }
+{
+    let mut places = Vec::with_capacity(alloc, count)?;
+    for place in 0..count {
+        places.push(place)?;
+    }
+    Ok(places)
 }
 
 /// Returns the table of the names of modules.

@@ -1,25 +1,14 @@
 // Modules by their numbers in the tree.
-ghost use Rattle.std.specs.Prelude.{◌≡◌, IfOk, IfSome, length};
+ghost use Rattle.std.specs.Prelude.{◌≡◌, ◌<◌, true, All, IfOk, IfSome, length};
 ghost use Rattle.dependency_lines.specs.Modules.{by_number};
-ghost use Rattle.dependency_lines.specs.Places.{ArePlaces};
-ghost use Rattle.dependency_lines.specs.Tables.{listed_modules};
+ghost use Rattle.dependency_lines.specs.Places.{ArePlaces, IsNumberOf};
+ghost use Rattle.dependency_lines.specs.Tables.{NamesRise, listed_modules};
 
 use crate::listed::Line;
 use std::alloc::{AllocError, Global};
 
-/// Lists modules by their numbers, and those of one number in their order. depmod gives n modules
-/// the numbers below n, so that each is put at its number. Others are sorted.
-pub(crate) fn by_number<'a>(alloc: Global, lines: &[Line<'a>]) -> Result<Vec<Line<'a>>, AllocError>
-    ensures { IfOk result (λ sorted. listed_modules sorted.items ≡ by_number (listed_modules lines.now)) }
-{
-    match at_numbers(alloc, lines)? {
-        Some(placed) => Ok(placed),
-        None => sorted(alloc, lines),
-    }
-}
-
 /// Sorts modules by their numbers.
-fn sorted<'a>(alloc: Global, lines: &[Line<'a>]) -> Result<Vec<Line<'a>>, AllocError>
+pub(crate) fn sorted<'a>(alloc: Global, lines: &[Line<'a>]) -> Result<Vec<Line<'a>>, AllocError>
     ensures { IfOk result (λ sorted. listed_modules sorted.items ≡ by_number (listed_modules lines.now)) }
 {
     let mut sorted = Vec::from_slice(alloc, lines)?;
@@ -27,19 +16,27 @@ fn sorted<'a>(alloc: Global, lines: &[Line<'a>]) -> Result<Vec<Line<'a>>, AllocE
     Ok(sorted)
 }
 
-/// Puts each module at its number, if they have the numbers from 0 on, each once.
-fn at_numbers<'a>(alloc: Global, lines: &[Line<'a>]) -> Result<Option<Vec<Line<'a>>>, AllocError>
-    ensures { IfOk result (λ found. IfSome found (λ placed. listed_modules placed.items ≡ by_number (listed_modules lines.now))) }
+/// Finds where the module of each number is. Returns `None` unless the modules have the numbers from
+/// 0 on, each once, as depmod gives them.
+pub(crate) fn places_by_number(
+    alloc: Global,
+    lines: &[Line<'_>],
+) -> Result<Option<Vec<usize>>, AllocError>
+    ensures are { IfOk result (λ found. IfSome found (λ places. ArePlaces lines.now places.items (length lines.now))) }
+    ensures inside { IfOk result (λ found. IfSome found (λ places. All (λ place. place < length lines.now) places.items)) }
 {
-    match places_by_number(alloc, lines)? {
-        Some(places) => at_places(alloc, lines, &places),
-        None => Ok(None),
+    let Some(places) = places_or_count(alloc, lines)? else {
+        return Ok(None);
+    };
+    if are_inside(&places, lines.len()) {
+        Ok(Some(places))
+    } else {
+        Ok(None)
     }
 }
 
-/// Finds the place of the module of each number. Returns `None` if two modules have one number, or
-/// one has a number that isn't below their count. A number that no module has gets the count.
-fn places_by_number(alloc: Global, lines: &[Line<'_>]) -> Result<Option<Vec<usize>>, AllocError>
+/// Finds the same. A number that no module has gets the count of modules.
+fn places_or_count(alloc: Global, lines: &[Line<'_>]) -> Result<Option<Vec<usize>>, AllocError>
     ensures { IfOk result (λ found. IfSome found (λ places. ArePlaces lines.now places.items (length lines.now))) }
 {
     let count = lines.len();
@@ -54,21 +51,32 @@ fn places_by_number(alloc: Global, lines: &[Line<'_>]) -> Result<Option<Vec<usiz
     Ok(Some(places))
 }
 
-/// Lists the modules at these places, if each place has one.
-fn at_places<'a>(
-    alloc: Global,
-    lines: &[Line<'a>],
-    places: &[usize],
-) -> Result<Option<Vec<Line<'a>>>, AllocError>
-    requires { ArePlaces lines.now places.now (length lines.now) }
-    ensures { IfOk result (λ found. IfSome found (λ placed. listed_modules placed.items ≡ by_number (listed_modules lines.now))) }
+/// Returns whether all places are below a count.
+fn are_inside(places: &[usize], count: usize) -> bool
+    ensures { result ≡ true → All (λ place. place < count) places.now }
 {
-    let mut placed = Vec::with_capacity(alloc, lines.len())?;
     for place in places {
-        if *place >= lines.len() {
-            return Ok(None);
+        if *place >= count {
+            return false;
         }
-        placed.push(lines[*place])?;
     }
-    Ok(Some(placed))
+    true
+}
+
+/// Returns whether the names of modules rise, as the keys of an index do.
+pub(crate) fn names_rise(lines: &[Line<'_>]) -> bool
+    ensures { result ≡ true → NamesRise lines.now }
+{
+    lines.is_sorted_by(|a, b| a.name.cmp(&b.name).is_lt())
+}
+
+/// Finds the number of the module of this name, among modules whose names rise.
+pub(crate) fn number_of(lines: &[Line<'_>], name: &[u8]) -> Option<usize>
+    requires { NamesRise lines.now }
+    ensures { IsNumberOf lines.now name.now result }
+{
+    match lines.binary_search_by_key(&name, |line| line.name) {
+        Ok(place) => Some(lines[place].number as usize),
+        Err(_) => None,
+    }
 }

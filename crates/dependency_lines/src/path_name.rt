@@ -1,6 +1,7 @@
 // The names of modules, from their paths.
 ghost use Rattle.std.specs.Prelude.{◌≡◌, ◌==◌, true, OnOk, if◌then◌else◌};
 ghost use Rattle.std.specs.List.{after_last};
+ghost use Rattle.std.specs.Str.{bytes_eq};
 ghost use Rattle.km_names.specs.Path.{module_name, underscored};
 
 use km_names::split_at_byte;
@@ -19,6 +20,21 @@ pub(crate) fn is_plain(text: &[u8]) -> bool
     ensures { result ≡ true → underscored text.now ≡ text.now }
 {
     memchr(b'-', text).is_none()
+}
+
+/// Returns whether a text is this name, where a `-` of the text counts as `_`.
+pub(crate) fn has_name(text: &[u8], name: &[u8]) -> bool
+    ensures { result ≡ bytes_eq (underscored text.now) name.now }
+{
+    if text.len() != name.len() {
+        return false;
+    }
+    for i in 0..text.len() {
+        if with_underscore(text[i]) != name[i] {
+            return false;
+        }
+    }
+    true
 }
 
 /// Writes the name of the module at a path, in place of what the buffer has.

@@ -1,7 +1,7 @@
 use Rattle.std.proofs.Common.{arith}
 use Rattle.std.proofs.lemmas.List.{get_or_read}
 use Rattle.dependency_lines.proofs.Placed.{placing-more}
-use Rattle.dependency_lines.proofs.order.places_by_number.Goals as goal
+use Rattle.dependency_lines.proofs.order.places_or_count.Goals as goal
 
 pub loop-place-preserved : goal.loop-place-preserved
 loop-place-preserved c =

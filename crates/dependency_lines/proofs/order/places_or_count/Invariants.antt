@@ -1,5 +1,5 @@
 use Rattle.dependency_lines.specs.Places.{ArePlaces}
-use Rattle.dependency_lines.proofs.order.places_by_number.Given as goal
+use Rattle.dependency_lines.proofs.order.places_or_count.Given as goal
 
 abbrev pub invariant-loop-place : goal.invariant-loop-place
 invariant-loop-place l = ArePlaces l.lines l.places.items l.place
