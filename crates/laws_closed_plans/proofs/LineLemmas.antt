@@ -1,6 +1,6 @@
 -- Closed plans by names.
 use Rattle.std.proofs.Common.{map, ◌≡◌, ◌<◌, ◌+◌, ℕ, suc, zero, Bool, true, false, cond, List, [], ◌∷◌, ◌++◌, length, filter_map, Option, Some, None, option_and_then, refl, sym, subst, ap, ◌∙◌, inl, inr, arith}
-use Rattle.std.specs.Prelude.{not, slice_get}
+use Rattle.std.specs.Prelude.{◌||◌, not, slice_get}
 use Rattle.std.proofs.lemmas.Bool.{true≢false, or_cases, or_left, or_right, eq-eqb}
 use Rattle.std.proofs.lemmas.List.{map-append}
 use Rattle.std.proofs.lemmas.Option.{none-some, same_Some, slice_get_within}
@@ -16,15 +16,14 @@ use Rattle.relation_order.specs.Cycle.{cycle}
 use Rattle.relation_order.proofs.Lists.{has-range}
 use Rattle.symbol_binding.specs.Symbols.{Need, Module, Kernel}
 use Rattle.symbol_binding.specs.Provider.{ByKernel, ByModule, Provided, of_kernel, of_first, module_exports, of_unknown, owning_module, provider, uses}
-use Rattle.symbol_binding.specs.Unmet.{unmet}
+use Rattle.symbol_binding.specs.Unmet.{vmlinux, unmet, collides}
 use Rattle.symbol_binding.specs.declared.unbound.Unbound.{Unbound}
-use Rattle.symbol_binding.specs.declared.unbound.Unbound.TheVariants.{Missing, Gpl, Version, Namespace, Double}
 use Rattle.provider_rel.specs.Relation.{place, uses_at, name_at}
 use Rattle.provider_rel.proofs.ClosedLaw.{closure-first}
 use Rattle.laws_closed_plans.specs.Names.{is_named}
 use Rattle.laws_closed_plans.specs.Members.{Member}
-use Rattle.laws_closed_plans.specs.Plan.{faces_of, is_at, collides, IsStep, IsClosed}
-use Rattle.laws_closed_plans.specs.Lines.{Lines, meets, AreClosed, AreLinesOf}
+use Rattle.laws_closed_plans.specs.Plan.{faces_of, is_at, stands, IsStep, IsClosed}
+use Rattle.laws_closed_plans.specs.Lines.{Lines, AreClosed, AreLinesOf}
 use Rattle.laws_closed_plans.proofs.ListLemmas.{Member-right, Member-map, Member-cases}
 use Rattle.laws_closed_plans.proofs.PlanLemmas.{step-member, before-member}
 use Rattle.laws_closed_plans.proofs.ProviderLemmas.{same_name, its_name, given-owner, of_first-member}
@@ -51,13 +50,9 @@ among-paths deps [] a paths = refl
 among-paths deps (m ∷ ms) a paths =
     rw (paths m (inl refl), names-flip a m.path, among-paths deps ms a (λ p in'. paths p (inr in'))) refl
 
-meets-collides : (deps : Lines) (listed plan : List Module) (l : Unbound) → ((m : Module) → Member m (listed ++ plan) → deps.path m.face.name ≡ m.path) → meets deps (names_of listed) (names_of plan) l ≡ collides listed plan l
-meets-collides deps listed plan (Missing m x) paths = refl
-meets-collides deps listed plan (Gpl m x by) paths = refl
-meets-collides deps listed plan (Version m x by) paths = refl
-meets-collides deps listed plan (Namespace m x by) paths = refl
-meets-collides deps listed plan (Double x a b) paths =
-    rw (both a, both b, own a, own b) refl
+collides-alike : (deps : Lines) (listed plan : List Module) (ls : List Unbound) → ((m : Module) → Member m (listed ++ plan) → deps.path m.face.name ≡ m.path) → list_any (collides (is_among (vmlinux ∷ map deps.path (names_of listed ++ names_of plan))) (is_among (map deps.path (names_of plan)))) ls ≡ list_any (collides (stands (listed ++ plan)) (is_at plan)) ls
+collides-alike deps listed plan ls paths =
+    λ i. list_any (collides (λ a. bytes_eq a vmlinux || both a i) (λ a. own a i)) ls
   where
     both : (a : List ℕ) → is_among (map deps.path (names_of listed ++ names_of plan)) a ≡ is_at (listed ++ plan) a
     both a =
@@ -65,10 +60,6 @@ meets-collides deps listed plan (Double x a b) paths =
 
     own : (a : List ℕ) → is_among (map deps.path (names_of plan)) a ≡ is_at plan a
     own a = among-paths deps plan a (λ m in'. paths m (Member-right m listed plan in'))
-
-any-same : {X : Type 0} (p q : X → Bool) (xs : List X) → ((x : X) → p x ≡ q x) → list_any p xs ≡ list_any q xs
-any-same p q [] same = refl
-any-same p q (x ∷ xs) same = rw (same x, any-same p q xs same) refl
 
 -- a name of modules is that of a member
 named-member : (ms : List Module) (x : List ℕ) → is_named (faces_of ms) x ≡ true → (m : Module) × Member m ms × (m.face.name ≡ x)
@@ -187,7 +178,7 @@ names-suffice tree kernel deps listed plan distinct acyclic of_tree listed_tree 
         | inr b ↦ plan_tree q.0 (before-member plan before m q.0 step b)
       ] in
       subst (λ z. Member z (listed ++ before)) (distinct q.0 p q_tree (uses-tree tree kernel m p used) q.2) q.1;
-  alone = any-same (collides listed plan) (meets deps (names_of listed) (names_of plan)) (unmet tree kernel) (λ l. sym (meets-collides deps listed plan l paths)) ∙ closed.alone;
+  alone = sym (collides-alike deps listed plan (unmet tree kernel) paths) ∙ closed.alone;
   clear = λ m in'.
       rw (of_tree.paths m (plan_tree m in')) at (closed.clear m.face.name (Member-map (λ (m : Module). m.face.name) m plan in'));
 }

@@ -8,11 +8,11 @@ use Rattle.std.specs.Str.{bytes_eq}
 use Rattle.laws_closed_plans.specs.Members.{Member}
 use Rattle.symbol_binding.specs.Symbols.{Export, Face, Module, Kernel}
 use Rattle.symbol_binding.specs.Provider.{ByModule, Provided, export_under, of_kernel, of_one, of_first, face_exports, module_exports}
-use Rattle.symbol_binding.specs.Unmet.{vmlinux, unmet}
+use Rattle.symbol_binding.specs.Unmet.{vmlinux, unmet, collides}
 use Rattle.symbol_binding.specs.declared.unbound.Unbound.{Unbound}
 use Rattle.symbol_binding.specs.declared.unbound.Unbound.TheVariants.{Double}
 use Rattle.laws_closed_plans.specs.Names.{first_name_fault, is_named, seen_table}
-use Rattle.laws_closed_plans.specs.Plan.{faces_of, is_at, stands, collides}
+use Rattle.laws_closed_plans.specs.Plan.{faces_of, is_at, stands}
 use Rattle.laws_closed_plans.proofs.ListLemmas.{first-none, each-first, none_passes, Precedes, Member-order, Member-right, Member-map, split_at}
 use Rattle.laws_closed_plans.proofs.ProviderLemmas.{its_name, given-member, export-face}
 use Rattle.laws_closed_plans.proofs.UnmetLemmas.{double-modules, double-kernel}
@@ -59,14 +59,14 @@ has_path m (p ∷ ms) (inl is) = rw is (rw (its_name m.path) refl)
 has_path m (p ∷ ms) (inr later) = or_right (bytes_eq p.path m.path) (is_at ms m.path) (has_path m ms later)
 
 pub standing : (m : Module) (ms : List Module) → Member m ms → stands ms m.path ≡ true
-standing m ms in' = or_right (bytes_eq vmlinux m.path) (is_at ms m.path) (has_path m ms in')
+standing m ms in' = or_right (bytes_eq m.path vmlinux) (is_at ms m.path) (has_path m ms in')
 
 -- no line collides
-pub no-collision : (listed plan : List Module) (ls : List Unbound) (x a b : List ℕ) → list_any (collides listed plan) ls ≡ false → Member (Double x a b) ls → stands (listed ++ plan) a ≡ true → stands (listed ++ plan) b ≡ true → (is_at plan a || is_at plan b) ≡ true → ⊥
+pub no-collision : (listed plan : List Module) (ls : List Unbound) (x a b : List ℕ) → list_any (collides (stands (listed ++ plan)) (is_at plan)) ls ≡ false → Member (Double x a b) ls → stands (listed ++ plan) a ≡ true → stands (listed ++ plan) b ≡ true → (is_at plan a || is_at plan b) ≡ true → ⊥
 no-collision listed plan ls x a b alone line is_a is_b one =
-    let fails : (stands (listed ++ plan) a && stands (listed ++ plan) b && (is_at plan a || is_at plan b)) ≡ false =
-    none_passes (collides listed plan) (Double x a b) ls alone line in
-    true≢false (all-true _ _ _ is_a is_b one fails)
+    let fails : ((is_at plan a || is_at plan b) && stands (listed ++ plan) a && stands (listed ++ plan) b) ≡ false =
+    none_passes (collides (stands (listed ++ plan)) (is_at plan)) (Double x a b) ls alone line in
+    true≢false (all-true _ _ _ one is_a is_b fails)
   where
     all-true : (a b c : Bool) → a ≡ true → b ≡ true → c ≡ true → (a && b && c) ≡ false → true ≡ false
     all-true true true true a b c fails = fails
@@ -75,14 +75,14 @@ no-collision listed plan ls x a b alone line is_a is_b one =
     all-true false b c a b' c' fails = sym a
 
 -- no two modules, with one of the plan, export one name
-plan-order : (tree : List Module) (kernel : Kernel) (listed plan : List Module) (x : List ℕ) (p q : Module) (v w : Provided Module) → list_any (collides listed plan) (unmet tree kernel) ≡ false → Precedes p q tree → Member p (listed ++ plan) → Member q (listed ++ plan) → (is_at plan p.path || is_at plan q.path) ≡ true → of_one module_exports x p ≡ Some v → of_one module_exports x q ≡ Some w → ⊥
+plan-order : (tree : List Module) (kernel : Kernel) (listed plan : List Module) (x : List ℕ) (p q : Module) (v w : Provided Module) → list_any (collides (stands (listed ++ plan)) (is_at plan)) (unmet tree kernel) ≡ false → Precedes p q tree → Member p (listed ++ plan) → Member q (listed ++ plan) → (is_at plan p.path || is_at plan q.path) ≡ true → of_one module_exports x p ≡ Some v → of_one module_exports x q ≡ Some w → ⊥
 plan-order tree kernel listed plan x p q v w alone order in_p in_q one gives_p gives_q =
     let e = given-member (ByModule q) q.face.exports x w gives_q in
     let gives : of_one module_exports w.export.name p ≡ Some v = rw e.1 gives_p in
     no-collision listed plan (unmet tree kernel) w.export.name p.path q.path alone (double-modules tree kernel p q w.export v order e.0 gives) (standing p (listed ++ plan) in_p) (standing q (listed ++ plan) in_q) one
 
 -- a module of the plan, and another that stands with it, that export one name are one
-pub one-planned : (tree : List Module) (kernel : Kernel) (listed plan : List Module) (x : List ℕ) (p q : Module) (v w : Provided Module) → list_any (collides listed plan) (unmet tree kernel) ≡ false → Member p tree → Member q tree → Member p plan → Member q (listed ++ plan) → of_one module_exports x p ≡ Some v → of_one module_exports x q ≡ Some w → p ≡ q
+pub one-planned : (tree : List Module) (kernel : Kernel) (listed plan : List Module) (x : List ℕ) (p q : Module) (v w : Provided Module) → list_any (collides (stands (listed ++ plan)) (is_at plan)) (unmet tree kernel) ≡ false → Member p tree → Member q tree → Member p plan → Member q (listed ++ plan) → of_one module_exports x p ≡ Some v → of_one module_exports x q ≡ Some w → p ≡ q
 one-planned tree kernel listed plan x p q v w alone tree_p tree_q in_p in_q gives_p gives_q =
     let in_p' = Member-right p listed plan in_p in
     let one = has_path p plan in_p in
@@ -95,7 +95,7 @@ one-planned tree kernel listed plan x p q v w alone tree_p tree_q in_p in_q give
     ]
 
 -- a module of the plan exports nothing that the kernel does
-pub none-taken : (tree : List Module) (kernel : Kernel) (listed plan : List Module) (m : Module) (e : Export) (v : Provided Module) → list_any (collides listed plan) (unmet tree kernel) ≡ false → Member m tree → Member m plan → Member e m.face.exports → of_kernel kernel e.name ≡ Some v → ⊥
+pub none-taken : (tree : List Module) (kernel : Kernel) (listed plan : List Module) (m : Module) (e : Export) (v : Provided Module) → list_any (collides (stands (listed ++ plan)) (is_at plan)) (unmet tree kernel) ≡ false → Member m tree → Member m plan → Member e m.face.exports → of_kernel kernel e.name ≡ Some v → ⊥
 none-taken tree kernel listed plan m e v alone in_tree in_plan in' gives =
     let s = split_at m tree in_tree in
     no-collision listed plan (unmet tree kernel) e.name vmlinux m.path alone (double-kernel tree kernel m e v s.0 s.1 s.2 in' gives) refl (standing m (listed ++ plan) (Member-right m listed plan in_plan)) (or_right (is_at plan vmlinux) (is_at plan m.path) (has_path m plan in_plan))

@@ -1,15 +1,14 @@
 -- Closed plans by the names of their modules: over the dependency lines of an index, and lines of
 -- modules.unmet. modules.dep(5).
-use Rattle.std.specs.Prelude.{◌≡◌, ◌&&◌, ◌||◌, ℕ, Bool, true, false, List, ◌∷◌, ◌++◌, map, length, slice_get, Some}
+use Rattle.std.specs.Prelude.{◌≡◌, ℕ, Bool, true, false, List, ◌∷◌, ◌++◌, map, length, slice_get, Some}
 use Rattle.std.specs.List.{IsDistinct, list_any}
 use Rattle.std.specs.Str.{bytes_eq}
 use Rattle.name_table.specs.FirstSeen.{is_among}
 use Rattle.relation_order.specs.Sets.{has, below}
 use Rattle.relation_order.specs.Closures.{closure}
 use Rattle.symbol_binding.specs.Symbols.{Module, Kernel}
-use Rattle.symbol_binding.specs.Unmet.{vmlinux, belongs}
+use Rattle.symbol_binding.specs.Unmet.{vmlinux, belongs, collides}
 use Rattle.symbol_binding.specs.declared.unbound.Unbound.{Unbound}
-use Rattle.symbol_binding.specs.declared.unbound.Unbound.TheVariants.{Missing, Gpl, Version, Namespace, Double}
 use Rattle.provider_rel.specs.Relation.{uses_at, name_at}
 use Rattle.laws_closed_plans.specs.Members.{Member}
 
@@ -18,18 +17,6 @@ use Rattle.laws_closed_plans.specs.Members.{Member}
 pub record Lines : Type 0 where
   pub path : List ℕ → List ℕ
   pub line : List ℕ → List (List ℕ)
-
--- Whether the line says that a module of the plan exports what the kernel, a listed module or
--- another of the plan does.
-abbrev pub meets : Lines → List (List ℕ) → List (List ℕ) → Unbound → Bool
-meets deps listed plan (Missing m x) = false
-meets deps listed plan (Gpl m x by) = false
-meets deps listed plan (Version m x by) = false
-meets deps listed plan (Namespace m x by) = false
-meets deps listed plan (Double x a b) =
-    (bytes_eq vmlinux a || is_among (map deps.path (listed ++ plan)) a)
-    && (bytes_eq vmlinux b || is_among (map deps.path (listed ++ plan)) b)
-    && (is_among (map deps.path plan) a || is_among (map deps.path plan) b)
 
 -- The names of a plan are closed over listed names, by dependency lines and lines of modules.unmet.
 pub record AreClosed (deps : Lines) (unmet : List Unbound) (listed plan : List (List ℕ)) : Type 0 where
@@ -40,7 +27,7 @@ pub record AreClosed (deps : Lines) (unmet : List Unbound) (listed plan : List (
   pub behind : (before : List (List ℕ)) (x : List ℕ) (after : List (List ℕ)) → plan ≡ before ++ x ∷ after → (y : List ℕ) → Member y (deps.line x) → is_among (listed ++ before) y ≡ true
   -- No double line has both sides among the plan, the listed modules and the kernel, and one of
   -- them in the plan.
-  pub alone : list_any (meets deps listed plan) unmet ≡ false
+  pub alone : list_any (collides (is_among (vmlinux ∷ map deps.path (listed ++ plan))) (is_among (map deps.path plan))) unmet ≡ false
   -- No other line belongs to a module of the plan.
   pub clear : (x : List ℕ) → Member x plan → list_any (belongs (deps.path x)) unmet ≡ false
 

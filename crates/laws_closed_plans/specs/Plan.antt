@@ -1,12 +1,10 @@
 -- Closed plans: lists of modules of a tree that can be loaded one after the other.
-use Rattle.std.specs.Prelude.{◌≡◌, ◌&&◌, ◌||◌, ℕ, Bool, true, false, List, [], ◌∷◌, ◌++◌, map, None}
+use Rattle.std.specs.Prelude.{◌≡◌, ◌||◌, ℕ, Bool, true, false, List, [], ◌∷◌, ◌++◌, map, None}
 use Rattle.std.specs.List.{list_any}
 use Rattle.std.specs.Str.{bytes_eq}
 use Rattle.symbol_binding.specs.Symbols.{Face, Module, Kernel}
 use Rattle.symbol_binding.specs.Provider.{uses}
-use Rattle.symbol_binding.specs.Unmet.{vmlinux, unmet, belongs}
-use Rattle.symbol_binding.specs.declared.unbound.Unbound.{Unbound}
-use Rattle.symbol_binding.specs.declared.unbound.Unbound.TheVariants.{Missing, Gpl, Version, Namespace, Double}
+use Rattle.symbol_binding.specs.Unmet.{vmlinux, unmet, belongs, collides}
 use Rattle.laws_closed_plans.specs.Members.{Member}
 use Rattle.laws_closed_plans.specs.Names.{first_name_fault, is_named}
 
@@ -20,17 +18,7 @@ is_at ms path = list_any (λ m. bytes_eq m.path path) ms
 
 -- Whether the path is the kernel's or a listed module's.
 abbrev pub stands : List Module → List ℕ → Bool
-stands ms path = bytes_eq vmlinux path || is_at ms path
-
--- Whether the line says that a module of the plan exports what the kernel, a listed module or
--- another of the plan does.
-abbrev pub collides : List Module → List Module → Unbound → Bool
-collides listed plan (Missing m x) = false
-collides listed plan (Gpl m x by) = false
-collides listed plan (Version m x by) = false
-collides listed plan (Namespace m x by) = false
-collides listed plan (Double x a b) =
-    stands (listed ++ plan) a && stands (listed ++ plan) b && (is_at plan a || is_at plan b)
+stands ms path = bytes_eq path vmlinux || is_at ms path
 
 -- A step of a plan: a module, with the modules before it.
 pub record IsStep (plan before : List Module) (m : Module) : Type 0 where
@@ -47,7 +35,7 @@ pub record IsClosed (tree : List Module) (kernel : Kernel) (listed plan : List M
   pub behind : (before : List Module) (m : Module) → IsStep plan before m → (p : Module) → Member p (uses tree kernel m) → Member p (listed ++ before)
   -- No double line has both sides among the plan, the listed modules and the kernel, and one of
   -- them in the plan.
-  pub alone : list_any (collides listed plan) (unmet tree kernel) ≡ false
+  pub alone : list_any (collides (stands (listed ++ plan)) (is_at plan)) (unmet tree kernel) ≡ false
   -- No other line belongs to a module of the plan.
   pub clear : (m : Module) → Member m plan → list_any (belongs m.path) (unmet tree kernel) ≡ false
 

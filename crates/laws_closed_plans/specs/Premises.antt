@@ -4,9 +4,9 @@ use Rattle.std.specs.Prelude.{ℕ, ◌&&◌, not, nat_eq, Bool, true, false, Lis
 use Rattle.std.specs.List.{list_any, list_all}
 use Rattle.symbol_binding.specs.Symbols.{Module, Kernel}
 use Rattle.symbol_binding.specs.Provider.{uses}
-use Rattle.symbol_binding.specs.Unmet.{unmet, belongs}
+use Rattle.symbol_binding.specs.Unmet.{unmet, belongs, collides}
 use Rattle.laws_closed_plans.specs.Names.{first_name_fault, is_named}
-use Rattle.laws_closed_plans.specs.Plan.{faces_of, collides}
+use Rattle.laws_closed_plans.specs.Plan.{faces_of, is_at, stands}
 
 -- Whether each module is new among the modules before it.
 abbrev pub are_fresh : List Module → List Module → Bool
@@ -30,7 +30,7 @@ premises tree kernel listed plan =
     ∷ list_all (λ m. is_named (faces_of tree) m.face.name) plan
     ∷ are_fresh listed plan
     ∷ are_behind tree kernel listed plan
-    ∷ not (list_any (collides listed plan) (unmet tree kernel))
+    ∷ not (list_any (collides (stands (listed ++ plan)) (is_at plan)) (unmet tree kernel))
     ∷ list_all (λ m. not (list_any (belongs m.path) (unmet tree kernel))) plan
     ∷ []
 

@@ -14,8 +14,7 @@ use Rattle.std.proofs.lemmas.Cmp.{nat_list_eq_equiv}
 use Rattle.index_format.specs.Map.{Value, KeyValues, values_of}
 use Rattle.mod_tree.specs.DependencyLine.{own_path}
 use Rattle.symbol_binding.specs.declared.unbound.Unbound.{Unbound}
-use Rattle.symbol_binding.specs.declared.unbound.Unbound.TheVariants.{Missing, Gpl, Version, Namespace, Double}
-use Rattle.symbol_binding.specs.Unmet.{vmlinux}
+use Rattle.symbol_binding.specs.Unmet.{vmlinux, collides}
 use Rattle.name_table.specs.FirstSeen.{is_among}
 use Rattle.name_lookup.specs.Maps.{has_value}
 use Rattle.plan_builder.specs.declared.step.PlanStep.{PlanStep}
@@ -23,10 +22,9 @@ use Rattle.plan_builder.specs.declared.step.PlanStep.TheVariants.{Insert, Instal
 use Rattle.plan_builder.specs.Needs.{Sources}
 use Rattle.dependency_lines.specs.Modules.{needed_names}
 use Rattle.plan_builder.specs.Steps.{plan_steps}
-use Rattle.plan_builder.specs.Closed.{first_text, step_module, step_modules, is_at_one, collides, IsOwnPath, IsAtOwnPath, IsClosed}
+use Rattle.plan_builder.specs.Closed.{first_text, step_module, step_modules, is_at_one, is_there, IsOwnPath, IsAtOwnPath, IsClosedPlan}
 use Rattle.plan_builder.proofs.ClosedLemmas.{plans-are-closed}
 use Rattle.laws_closed_plans.specs.Members.{Member}
-use Rattle.laws_closed_plans.specs.Lines.{meets}
 use Rattle.laws_indexed_folder.specs.Index.{lines_of_map}
 use Rattle.laws_indexed_folder.specs.Steps.{inserted_name, inserted_names, inserted_path, inserted_paths, runs_command, AreClosedSteps, PlansAreClosed}
 
@@ -115,20 +113,9 @@ module _ (dep : KeyValues) where
           nat_list_eq_equiv.symm path (own_path (first_text dep n))
           ∙ ap (λ t. t && bytes_eq (own_path (first_text dep n)) path) (sym (known n (or_left _ _ ((bytes_eq-Decides n n).1 refl))))
 
-  meets-collides : (loaded plan : List (List ℕ)) → AreModules (loaded ++ plan) → AreModules plan → (line : Unbound) → meets (lines_of_map dep) loaded plan line ≡ collides dep loaded plan line
-  meets-collides loaded plan all known (Missing m x) = refl
-  meets-collides loaded plan all known (Gpl m x by) = refl
-  meets-collides loaded plan all known (Version m x by) = refl
-  meets-collides loaded plan all known (Namespace m x by) = refl
-  meets-collides loaded plan all known (Double x a b) =
-      λ i. (bytes_eq vmlinux a || at-one (loaded ++ plan) a all i)
-      && (bytes_eq vmlinux b || at-one (loaded ++ plan) b all i)
-      && (at-one plan a known i || at-one plan b known i)
-
-  all-meet : (loaded plan : List (List ℕ)) → AreModules (loaded ++ plan) → AreModules plan → (unmet : List Unbound) → list_any (meets (lines_of_map dep) loaded plan) unmet ≡ list_any (collides dep loaded plan) unmet
-  all-meet loaded plan all known [] = refl
-  all-meet loaded plan all known (line ∷ unmet) =
-      λ i. meets-collides loaded plan all known line i || all-meet loaded plan all known unmet i
+  all-collide : (loaded plan : List (List ℕ)) → AreModules (loaded ++ plan) → AreModules plan → (unmet : List Unbound) → list_any (collides (is_among (vmlinux ∷ map (lines_of_map dep).path (loaded ++ plan))) (is_among (map (lines_of_map dep).path plan))) unmet ≡ list_any (collides (is_there dep (loaded ++ plan)) (is_at_one dep plan)) unmet
+  all-collide loaded plan all known unmet =
+      λ i. list_any (collides (λ a. bytes_eq a vmlinux || at-one (loaded ++ plan) a all i) (λ a. at-one plan a known i)) unmet
 
 -- ---- names of modules that steps load
 
@@ -167,7 +154,7 @@ both-known dep loaded plan listed known name h =
 
 -- ---- all together
 
-module _ (s : Sources) (steps : List PlanStep) (c : IsClosed s steps) (runs : list_any runs_command steps ≡ false) where
+module _ (s : Sources) (steps : List PlanStep) (c : IsClosedPlan s steps) (runs : list_any runs_command steps ≡ false) where
   same : step_modules s.maps.dep steps ≡ inserted_names steps
   same = same-names s.maps.dep steps runs
 
@@ -192,8 +179,8 @@ module _ (s : Sources) (steps : List PlanStep) (c : IsClosed s steps) (runs : li
           unlisted = λ x at. c.unloaded x (at-steps x at);
           behind = behind;
           alone =
-              all-meet s.maps.dep s.loaded (inserted_names steps) (both-known s.maps.dep s.loaded (inserted_names steps) listed known) known s.unmet
-              ∙ ap (λ ns. list_any (collides s.maps.dep s.loaded ns) s.unmet) (sym same) ∙ c.alone;
+              all-collide s.maps.dep s.loaded (inserted_names steps) (both-known s.maps.dep s.loaded (inserted_names steps) listed known) known s.unmet
+              ∙ ap (λ ns. list_any (collides (is_there s.maps.dep (s.loaded ++ ns)) (is_at_one s.maps.dep ns)) s.unmet) (sym same) ∙ c.alone;
           clear = λ x at. c.clear x (at-steps x at);
         };
         own_paths = c.paths;

@@ -1,14 +1,13 @@
 -- Plans that are closed over listed names are closed over these names in the other order.
-use Rattle.std.proofs.Common.{◌≡◌, ◌∙◌, ℕ, Bool, ◌&&◌, ◌||◌, List, [], ◌∷◌, ◌++◌, map, reverse, refl, sym, ap}
+use Rattle.std.proofs.Common.{◌≡◌, ◌∙◌, ℕ, Bool, ◌||◌, List, [], ◌∷◌, ◌++◌, map, reverse, refl, sym, ap}
 use Rattle.std.specs.List.{list_any}
 use Rattle.std.specs.Str.{bytes_eq}
 use Rattle.std.proofs.lemmas.List.Folds.{list_any-append}
 use Rattle.std.proofs.lemmas.List.Sorted.{IsPermutation-reverse, list_any-IsPermutation}
 use Rattle.name_table.specs.FirstSeen.{is_among}
 use Rattle.symbol_binding.specs.declared.unbound.Unbound.{Unbound}
-use Rattle.symbol_binding.specs.declared.unbound.Unbound.TheVariants.{Missing, Gpl, Version, Namespace, Double}
-use Rattle.symbol_binding.specs.Unmet.{vmlinux}
-use Rattle.laws_closed_plans.specs.Lines.{AreClosed, Lines, meets}
+use Rattle.symbol_binding.specs.Unmet.{vmlinux, collides}
+use Rattle.laws_closed_plans.specs.Lines.{AreClosed, Lines}
 
 any-reversed : (p : List ℕ → Bool) (xs : List (List ℕ)) → list_any p (reverse xs) ≡ list_any p xs
 any-reversed p xs = sym (list_any-IsPermutation p xs (reverse xs) (IsPermutation-reverse xs))
@@ -30,24 +29,12 @@ paths-reversed deps listed plan a =
     ∙ both-reversed (λ x. bytes_eq a (deps.path x)) listed plan
     ∙ sym (any-mapped (bytes_eq a) deps.path (listed ++ plan))
 
-meets-reversed : (deps : Lines) (listed plan : List (List ℕ)) (line : Unbound) → meets deps (reverse listed) plan line ≡ meets deps listed plan line
-meets-reversed deps listed plan (Missing m x) = refl
-meets-reversed deps listed plan (Gpl m x by) = refl
-meets-reversed deps listed plan (Version m x by) = refl
-meets-reversed deps listed plan (Namespace m x by) = refl
-meets-reversed deps listed plan (Double x a b) =
-    ap (λ t. (bytes_eq vmlinux a || t) && (bytes_eq vmlinux b || is_among (map deps.path (reverse listed ++ plan)) b) && (is_among (map deps.path plan) a || is_among (map deps.path plan) b)) (paths-reversed deps listed plan a)
-    ∙ ap (λ t. (bytes_eq vmlinux a || is_among (map deps.path (listed ++ plan)) a) && (bytes_eq vmlinux b || t) && (is_among (map deps.path plan) a || is_among (map deps.path plan) b)) (paths-reversed deps listed plan b)
-
-any-same : {X : Type 0} (p q : X → Bool) (xs : List X) → ((x : X) → p x ≡ q x) → list_any p xs ≡ list_any q xs
-any-same p q [] same = refl
-any-same p q (x ∷ xs) same = ap (λ b. b || list_any p xs) (same x) ∙ ap (λ b. q x || b) (any-same p q xs same)
-
 pub closed-reversed : (deps : Lines) (unmet : List Unbound) (listed plan : List (List ℕ)) → AreClosed deps unmet listed plan → AreClosed deps unmet (reverse listed) plan
 closed-reversed deps unmet listed plan closed = record {
   distinct = closed.distinct;
   unlisted = λ x in'. among-reversed listed x ∙ closed.unlisted x in';
   behind = λ before x after split y needed. both-reversed (bytes_eq y) listed before ∙ closed.behind before x after split y needed;
-  alone = any-same (meets deps (reverse listed) plan) (meets deps listed plan) unmet (meets-reversed deps listed plan) ∙ closed.alone;
+  alone =
+      (λ i. list_any (collides (λ a. bytes_eq a vmlinux || paths-reversed deps listed plan a i) (is_among (map deps.path plan))) unmet) ∙ closed.alone;
   clear = closed.clear;
 }

@@ -1,17 +1,15 @@
 -- What the tests of the lines of modules.unmet say of each line.
-use Rattle.std.proofs.Common.{◌≡◌, ℕ, Bool, true, false, cond, List, [], ◌∷◌, ◌++◌, Some, None, refl, sym, ap, ◌∙◌}
-use Rattle.std.specs.Prelude.{◌||◌, ◌&&◌}
+use Rattle.std.proofs.Common.{◌≡◌, ℕ, Bool, true, false, cond, List, [], ◌∷◌, Some, None, refl, sym, ap, ◌∙◌}
+use Rattle.std.specs.Prelude.{◌||◌}
 use Rattle.std.specs.List.{find, list_any}
 use Rattle.std.specs.Str.{bytes_eq}
 use Rattle.std.proofs.lemmas.Bool.{true≢false, or_from}
 use Rattle.std.proofs.lemmas.Slice.Eq.{bytes_eq-Decides}
-use Rattle.index_format.specs.Map.{KeyValues}
 use Rattle.symbol_binding.specs.declared.unbound.Unbound.{Unbound}
 use Rattle.symbol_binding.specs.declared.unbound.Unbound.TheVariants as lines
-use Rattle.symbol_binding.specs.Unmet.{vmlinux, belongs}
+use Rattle.symbol_binding.specs.Unmet.{belongs, collides}
 use Rattle.unmet_file.specs.declared.kind.LineKind.TheVariants as kinds
 use Rattle.plan_builder.specs.Obstacles.{is_obstacle}
-use Rattle.plan_builder.specs.Closed.{is_at_one, collides}
 
 pub none-found : {X : Type 0} (p : X → Bool) (x : X) (xs : List X) → find p (x ∷ xs) ≡ None → (p x ≡ false) × (find p xs ≡ None)
 none-found p x xs none = go (p x) none
@@ -48,30 +46,8 @@ module _ (in_plan there : List ℕ → Bool) where
 
   -- ---- double lines
 
-  not-met : (pa pb ta tb : Bool) → ((pa && (pb || tb)) || (ta && pb)) ≡ false → ((ta || pa) && (tb || pb) && (pa || pb)) ≡ false
-  not-met true true ta tb h = absurd (true≢false h)
-  not-met true false ta true h = absurd (true≢false h)
-  not-met true false true false h = refl
-  not-met true false false false h = refl
-  not-met false true true tb h = absurd (true≢false h)
-  not-met false true false true h = refl
-  not-met false true false false h = refl
-  not-met false false true true h = refl
-  not-met false false true false h = refl
-  not-met false false false tb h = refl
-
-  module _ (dep : KeyValues) (loaded plan : List (List ℕ)) (planned : (path : List ℕ) → is_at_one dep plan path ≡ in_plan path) (either : (path : List ℕ) → (bytes_eq vmlinux path || is_at_one dep (loaded ++ plan) path) ≡ (there path || in_plan path)) where
-    alone-line : (line : Unbound) → is_obstacle kinds.Double in_plan there line ≡ false → collides dep loaded plan line ≡ false
-    alone-line (lines.Missing m symbol) double = refl
-    alone-line (lines.Gpl m symbol by) double = refl
-    alone-line (lines.Version m symbol by) double = refl
-    alone-line (lines.Namespace m symbol by) double = refl
-    alone-line (lines.Double symbol a b) double =
-        (λ i. either a i && either b i && (planned a i || planned b i))
-        ∙ not-met (in_plan a) (in_plan b) (there a) (there b) double
-
-    pub alone-lines : (unmet : List Unbound) → find (is_obstacle kinds.Double in_plan there) unmet ≡ None → list_any (collides dep loaded plan) unmet ≡ false
-    alone-lines [] double = refl
-    alone-lines (line ∷ unmet) double =
-        let d = none-found (is_obstacle kinds.Double in_plan there) line unmet double in
-        or_from _ _ (alone-line line d.0) (alone-lines unmet d.1)
+  pub alone-lines : (all own : List ℕ → Bool) → ((path : List ℕ) → all path ≡ (in_plan path || there path)) → ((path : List ℕ) → own path ≡ in_plan path) → (unmet : List Unbound) → find (is_obstacle kinds.Double in_plan there) unmet ≡ None → list_any (collides all own) unmet ≡ false
+  alone-lines all own all-is own-is [] double = refl
+  alone-lines all own all-is own-is (line ∷ unmet) double =
+      let d = none-found (is_obstacle kinds.Double in_plan there) line unmet double in
+      or_from _ _ ((λ i. collides (λ path. all-is path i) (λ path. own-is path i) line) ∙ d.0) (alone-lines all own all-is own-is unmet d.1)

@@ -7,10 +7,11 @@ use Rattle.std.proofs.lemmas.Bool.{true≢false, and_parts, or_cases, or_left, e
 use Rattle.std.proofs.lemmas.List.Folds.{list_any-append, list_any_at}
 use Rattle.std.proofs.lemmas.Grind.{flat_map-append}
 use Rattle.std.proofs.lemmas.Slice.Eq.{bytes_eq-Decides}
+use Rattle.std.proofs.Math.Bool.{or_comm}
 use Rattle.km_names.specs.First.{first}
 use Rattle.mod_tree.specs.DependencyLine.{own_path}
 use Rattle.index_format.specs.Listing.{KeyValue}
-use Rattle.symbol_binding.specs.Unmet.{vmlinux, belongs}
+use Rattle.symbol_binding.specs.Unmet.{vmlinux, belongs, collides}
 use Rattle.name_table.specs.FirstSeen.{is_among}
 use Rattle.name_lookup.specs.Maps.{has_value}
 use Rattle.relation_order.specs.Sets.{has, below}
@@ -28,10 +29,10 @@ use Rattle.plan_builder.specs.Needs.{Sources, modules, before, after, unloaded}
 use Rattle.plan_builder.specs.Members.{found_for, asked, planned}
 use Rattle.plan_builder.specs.Steps.{plan_steps}
 use Rattle.plan_builder.specs.Obstacles.{is_path_of, stands, plan_tests, obstacle_of}
-use Rattle.plan_builder.specs.Closed.{first_text, step_module, step_modules, is_at_one, collides, IsClosed}
+use Rattle.plan_builder.specs.Closed.{first_text, step_module, step_modules, is_at_one, is_there, IsClosedPlan}
 use Rattle.plan_builder.proofs.Answering.{unloaded-low}
 use Rattle.plan_builder.proofs.ClearLines.{clear-lines, alone-lines}
-use Rattle.dependency_lines.proofs.Firsts.{bytes-sym, has-modules}
+use Rattle.dependency_lines.proofs.Firsts.{has-modules}
 use Rattle.plan_builder.proofs.Inside.{has-append, position-low}
 use Rattle.dependency_lines.proofs.Keys.{place-own, place-name}
 use Rattle.plan_builder.proofs.PlaceNames.{from-name, to-name, parted, distinct-names}
@@ -156,11 +157,12 @@ module _ (s : Sources) (request : Request) where
         at-names s path (order s request) order-low
         ∙ any-same (λ x. bytes_eq (path_at (modules s) x) path) (order s request) (planned s (found_for s request)) (plan-is_planned (among (before s)) (unloaded s) (after s) (asked s (found_for s request)) (lines-none s request tests).acyclic)
 
-    either : (path : List ℕ) → (bytes_eq vmlinux path || is_at_one s.maps.dep (s.loaded ++ map (name_at (modules s)) (order s request)) path) ≡ (stands s path || is_path_of (modules s) (planned s (found_for s request)) path)
+    either : (path : List ℕ) → is_there s.maps.dep (s.loaded ++ map (name_at (modules s)) (order s request)) path ≡ (is_path_of (modules s) (planned s (found_for s request)) path || stands s path)
     either path =
-        ap (λ t. bytes_eq vmlinux path || t) (list_any-append (λ name. has_value s.maps.dep name && bytes_eq (own_path (first_text s.maps.dep name)) path) s.loaded (map (name_at (modules s)) (order s request)))
-        ∙ (λ i. bytes-sym vmlinux path i || (at-loaded s path s.loaded i || in-plan path i))
+        ap (λ t. bytes_eq path vmlinux || t) (list_any-append (λ name. has_value s.maps.dep name && bytes_eq (own_path (first_text s.maps.dep name)) path) s.loaded (map (name_at (modules s)) (order s request)))
+        ∙ (λ i. bytes_eq path vmlinux || (at-loaded s path s.loaded i || in-plan path i))
         ∙ or-parted (bytes_eq path vmlinux) (is_path_of (modules s) (places_of (modules s) s.loaded) path) (is_path_of (modules s) (planned s (found_for s request)) path)
+        ∙ or_comm (stands s path) (is_path_of (modules s) (planned s (found_for s request)) path)
 
     steps-clear : (name : List ℕ) → is_among (step_modules s.maps.dep (plan_steps s request)) name ≡ true → list_any (belongs (own_path (first_text s.maps.dep name))) s.unmet ≡ false
     steps-clear name h =
@@ -172,13 +174,14 @@ module _ (s : Sources) (request : Request) where
         (any-from_has (λ x. bytes_eq (path_at (modules s) x) (path_at (modules s) w.0)) (planned s (found_for s request)) w.0 is ((bytes_eq-Decides (path_at (modules s) w.0) _).1 refl))
         s.unmet l.missing l.gpl l.version l.namespace
 
-    steps-alone : list_any (collides s.maps.dep s.loaded (step_modules s.maps.dep (plan_steps s request))) s.unmet ≡ false
+    steps-alone : list_any (collides (is_there s.maps.dep (s.loaded ++ step_modules s.maps.dep (plan_steps s request))) (is_at_one s.maps.dep (step_modules s.maps.dep (plan_steps s request)))) s.unmet ≡ false
     steps-alone =
         let l = lines-none s request tests in
-        ap (λ ns. list_any (collides s.maps.dep s.loaded ns) s.unmet) names
-        ∙ alone-lines (is_path_of (modules s) (planned s (found_for s request))) (stands s) s.maps.dep s.loaded (map (name_at (modules s)) (order s request)) in-plan either s.unmet l.double
+        let plan = map (name_at (modules s)) (order s request) in
+        ap (λ ns. list_any (collides (is_there s.maps.dep (s.loaded ++ ns)) (is_at_one s.maps.dep ns)) s.unmet) names
+        ∙ alone-lines (is_path_of (modules s) (planned s (found_for s request))) (stands s) (is_there s.maps.dep (s.loaded ++ plan)) (is_at_one s.maps.dep plan) either in-plan s.unmet l.double
 
-pub plans-are-closed : (s : Sources) (request : Request) → obstacle_of s request ≡ None → IsClosed s (plan_steps s request)
+pub plans-are-closed : (s : Sources) (request : Request) → obstacle_of s request ≡ None → IsClosedPlan s (plan_steps s request)
 plans-are-closed s request none =
     let w = sound-lines s request none in
     record {

@@ -7,9 +7,7 @@ use Rattle.std.specs.Str.{bytes_eq}
 use Rattle.km_names.specs.Path.{module_name}
 use Rattle.mod_tree.specs.DependencyLine.{own_path}
 use Rattle.index_format.specs.Map.{Value, KeyValues, values_of}
-use Rattle.symbol_binding.specs.declared.unbound.Unbound.{Unbound}
-use Rattle.symbol_binding.specs.declared.unbound.Unbound.TheVariants as lines
-use Rattle.symbol_binding.specs.Unmet.{vmlinux, belongs}
+use Rattle.symbol_binding.specs.Unmet.{vmlinux, belongs, collides}
 use Rattle.name_table.specs.FirstSeen.{is_among}
 use Rattle.name_lookup.specs.Maps.{has_value}
 use Rattle.plan_builder.specs.declared.step.PlanStep.{PlanStep}
@@ -37,17 +35,9 @@ abbrev pub is_at_one : KeyValues → List (List ℕ) → List ℕ → Bool
 is_at_one dep names path =
     list_any (λ name. has_value dep name && bytes_eq (own_path (first_text dep name)) path) names
 
--- Whether the line says that a module of the plan exports what the kernel, a loaded module or
--- another of the plan does.
-abbrev pub collides : KeyValues → List (List ℕ) → List (List ℕ) → Unbound → Bool
-collides dep loaded plan (lines.Missing path symbol) = false
-collides dep loaded plan (lines.Gpl path symbol by) = false
-collides dep loaded plan (lines.Version path symbol by) = false
-collides dep loaded plan (lines.Namespace path symbol by) = false
-collides dep loaded plan (lines.Double symbol a b) =
-    (bytes_eq vmlinux a || is_at_one dep (loaded ++ plan) a)
-    && (bytes_eq vmlinux b || is_at_one dep (loaded ++ plan) b)
-    && (is_at_one dep plan a || is_at_one dep plan b)
+-- Whether the path is the kernel's, or that of one of some names.
+abbrev pub is_there : KeyValues → List (List ℕ) → List ℕ → Bool
+is_there dep names path = bytes_eq path vmlinux || is_at_one dep names path
 
 -- The path is the first of the dependency line of the module of this name, and that module's.
 pub record IsOwnPath (dep : KeyValues) (name path : List ℕ) : Type 0 where
@@ -64,7 +54,7 @@ IsAtOwnPath dep (Builtin name) = Unit {0}
 
 -- The steps of a plan are closed over the loaded names, by dependency lines and lines of
 -- modules.unmet.
-pub record IsClosed (s : Sources) (steps : List PlanStep) : Type 0 where
+pub record IsClosedPlan (s : Sources) (steps : List PlanStep) : Type 0 where
   -- The modules of its steps are distinct, and none is loaded.
   pub distinct : IsDistinct bytes_eq (step_modules s.maps.dep steps)
   pub unloaded : (name : List ℕ) → is_among (step_modules s.maps.dep steps) name ≡ true → is_among s.loaded name ≡ false
@@ -75,6 +65,6 @@ pub record IsClosed (s : Sources) (steps : List PlanStep) : Type 0 where
   pub behind : (before : List PlanStep) (step : PlanStep) (after : List PlanStep) → steps ≡ before ++ step ∷ after → (name : List ℕ) → is_among (step_module s.maps.dep step) name ≡ true → (needed : List ℕ) → is_among (needed_names (first_text s.maps.dep name)) needed ≡ true → is_among (s.loaded ++ step_modules s.maps.dep before) needed ≡ true
   -- No double line has both sides among the plan's modules, the loaded ones and the kernel, and one
   -- of them in the plan.
-  pub alone : list_any (collides s.maps.dep s.loaded (step_modules s.maps.dep steps)) s.unmet ≡ false
+  pub alone : list_any (collides (is_there s.maps.dep (s.loaded ++ step_modules s.maps.dep steps)) (is_at_one s.maps.dep (step_modules s.maps.dep steps))) s.unmet ≡ false
   -- No other line belongs to a module of the plan.
   pub clear : (name : List ℕ) → is_among (step_modules s.maps.dep steps) name ≡ true → list_any (belongs (own_path (first_text s.maps.dep name))) s.unmet ≡ false

@@ -1,6 +1,6 @@
 -- Why a request has no plan: the first test that fails. The first line of modules.unmet of each
 -- kind counts, with lines on missing symbols first. modprobe(8).
-use Rattle.std.specs.Prelude.{ℕ, ◌==◌, ◌&&◌, ◌||◌, Bool, true, false, List, [], ◌∷◌, map, Option, Some, None, option_map}
+use Rattle.std.specs.Prelude.{ℕ, ◌==◌, ◌||◌, Bool, true, false, List, [], ◌∷◌, map, Option, Some, None, option_map}
 use Rattle.std.specs.List.{find, list_any, flat_map}
 use Rattle.std.specs.Str.{bytes_eq}
 use Rattle.km_names.specs.First.{first}
@@ -8,7 +8,7 @@ use Rattle.km_names.specs.AliasForm.{normal_or_itself}
 use Rattle.index_format.specs.Listing.{KeyValue}
 use Rattle.symbol_binding.specs.declared.unbound.Unbound.{Unbound}
 use Rattle.symbol_binding.specs.declared.unbound.Unbound.TheVariants as lines
-use Rattle.symbol_binding.specs.Unmet.{vmlinux}
+use Rattle.symbol_binding.specs.Unmet.{vmlinux, collides}
 use Rattle.name_lookup.specs.declared.found.Found.{Found}
 use Rattle.name_lookup.specs.Found.{found}
 use Rattle.relation_order.specs.Cycle.{cycle}
@@ -53,18 +53,14 @@ is_path_of ms places path = list_any (λ x. bytes_eq (path_at ms x) path) places
 abbrev pub stands : Sources → List ℕ → Bool
 stands s path = bytes_eq path vmlinux || is_path_of (modules s) (places_of (modules s) s.loaded) path
 
--- Whether both sides of a double line are planned or present before, and at least one is planned.
-abbrev pub is_met : (List ℕ → Bool) → (List ℕ → Bool) → List ℕ → List ℕ → Bool
-is_met in_plan there a b = (in_plan a && (in_plan b || there b)) || (there a && in_plan b)
-
 -- Whether a line is an obstacle of a kind: it is on a need of a planned module, or it is a double
--- line that is met.
+-- line that collides with the plan.
 abbrev pub is_obstacle : LineKind → (List ℕ → Bool) → (List ℕ → Bool) → Unbound → Bool
 is_obstacle kinds.Missing in_plan there (lines.Missing path symbol) = in_plan path
 is_obstacle kinds.Gpl in_plan there (lines.Gpl path symbol by) = in_plan path
 is_obstacle kinds.Version in_plan there (lines.Version path symbol by) = in_plan path
 is_obstacle kinds.Namespace in_plan there (lines.Namespace path symbol by) = in_plan path
-is_obstacle kinds.Double in_plan there (lines.Double symbol a b) = is_met in_plan there a b
+is_obstacle kinds.Double in_plan there line = collides (λ path. in_plan path || there path) in_plan line
 is_obstacle kind in_plan there line = false
 
 -- A line as an obstacle.

@@ -1,9 +1,10 @@
 // What keeps a request from having a plan.
-ghost use Rattle.std.specs.Prelude.{◌≡◌, ◌<◌, ◌⊎◌, ℕ, List, length, All, Some, None, IfOk, IfErr, OnOk};
+ghost use Rattle.std.specs.Prelude.{◌≡◌, ◌<◌, ◌⊎◌, ◌||◌, ℕ, List, length, All, Some, None, IfOk, IfErr, OnOk};
 ghost use Rattle.km_names.specs.First.{first as first_spec};
+ghost use Rattle.symbol_binding.specs.Unmet.{collides};
 ghost use Rattle.name_table.specs.FirstSeen.{is_among};
 ghost use Rattle.relation_order.specs.Sets.{marked};
-ghost use Rattle.plan_builder.specs.Obstacles.{is_path_of, is_met, is_obstacle, as_obstacle, first_line, stands};
+ghost use Rattle.plan_builder.specs.Obstacles.{is_path_of, is_obstacle, as_obstacle, first_line, stands};
 ghost use Rattle.plan_builder.specs.Needs.{modules as modules_spec};
 ghost use Rattle.plan_builder.specs.Answers.{need_tests};
 ghost use Rattle.plan_builder.specs.Planner.{sources_of};
@@ -130,7 +131,7 @@ fn is_obstacle(kind: LineKind, line: &Unbound, planned: &NameSet<'_>, there: &Na
             planned.contains(path.as_bytes())
         }
         (LineKind::Double, Unbound::Double { first, second, .. }) => {
-            is_met(planned, there, first.as_bytes(), second.as_bytes())
+            collides(planned, there, first.as_bytes(), second.as_bytes())
         }
         (
             LineKind::Missing
@@ -147,15 +148,17 @@ fn is_obstacle(kind: LineKind, line: &Unbound, planned: &NameSet<'_>, there: &Na
     }
 }
 
-/// Returns whether both sides of a double line are planned or loaded before, and at least one is
-/// planned.
-fn is_met(planned: &NameSet<'_>, there: &NameSet<'_>, first: &[u8], second: &[u8]) -> bool
-    ensures { result ≡ is_met (is_among planned.now) (is_among there.now) first.now second.now }
+/// Returns whether one of the paths of a double line is planned, and both are planned or loaded
+/// before.
+fn collides(planned: &NameSet<'_>, there: &NameSet<'_>, first: &[u8], second: &[u8]) -> bool
+    ensures { (symbol : List ℕ) → result
+        ≡ collides (λ path. is_among planned.now path || is_among there.now path) (is_among planned.now) (Unbound.Double symbol first.now second.now) }
 {
-    if planned.contains(first) && (planned.contains(second) || there.contains(second)) {
-        return true;
-    }
-    there.contains(first) && planned.contains(second)
+    let has_first = planned.contains(first);
+    let has_second = planned.contains(second);
+    (has_first || has_second)
+        && (has_first || there.contains(first))
+        && (has_second || there.contains(second))
 }
 
 /// Makes an obstacle of a line.

@@ -9,7 +9,7 @@ ghost use Rattle.dependency_lines.specs.Modules.{name_at, bad_name, modules_of};
 ghost use Rattle.plan_builder.specs.Needs.{modules as modules_spec, before, after, unloaded};
 ghost use Rattle.plan_builder.specs.Members.{asked, planned as planned_spec};
 ghost use Rattle.plan_builder.specs.Steps.{plan_steps};
-ghost use Rattle.plan_builder.specs.Closed.{IsClosed};
+ghost use Rattle.plan_builder.specs.Closed.{IsClosedPlan};
 ghost use Rattle.plan_builder.specs.Obstacles.{is_path_of, stands, plan_tests, obstacle_of};
 ghost use Rattle.plan_builder.specs.Answers.{ShortCycle, IsCycleOf};
 ghost use Rattle.plan_builder.specs.Sources.{sources};
@@ -72,7 +72,7 @@ pub fn plan(
 ) -> Result<PlanSteps, Obstacle>
     ensures plan { IfOk result (λ steps. steps ≡ plan_steps (sources rules.now indexes.now unmet.now loaded.now request.now) request.now) }
     ensures passed { OnOk result (obstacle_of (sources rules.now indexes.now unmet.now loaded.now request.now) request.now ≡ None) }
-    ensures closed { IfOk result (IsClosed (sources rules.now indexes.now unmet.now loaded.now request.now)) }
+    ensures closed { IfOk result (IsClosedPlan (sources rules.now indexes.now unmet.now loaded.now request.now)) }
     ensures err { IfErr result (λ o. (o ≡ Obstacle.Memory) ⊎ (obstacle_of (sources rules.now indexes.now unmet.now loaded.now request.now) request.now ≡ Some o)) }
 {
     let values = first_values(alloc, &indexes.dep)?;
@@ -94,7 +94,7 @@ fn planned_over(
     requires sound { bad_name (maps_of indexes.now).dep ≡ None }
     ensures plan { IfOk result (λ steps. steps ≡ plan_steps (sources rules.now indexes.now unmet.now loaded.now request.now) request.now) }
     ensures passed { OnOk result (obstacle_of (sources rules.now indexes.now unmet.now loaded.now request.now) request.now ≡ None) }
-    ensures closed { IfOk result (IsClosed (sources rules.now indexes.now unmet.now loaded.now request.now)) }
+    ensures closed { IfOk result (IsClosedPlan (sources rules.now indexes.now unmet.now loaded.now request.now)) }
     ensures err { IfErr result (λ o. (o ≡ Obstacle.Memory) ⊎ (obstacle_of (sources rules.now indexes.now unmet.now loaded.now request.now) request.now ≡ Some o)) }
 {
     let planner = Planner::new(
@@ -118,7 +118,7 @@ fn planned_steps(
     requires { bad_name (sources_of planner.now).maps.dep ≡ None }
     ensures plan { IfOk result (λ steps. steps ≡ plan_steps (sources_of planner.now) request.now) }
     ensures passed { OnOk result (obstacle_of (sources_of planner.now) request.now ≡ None) }
-    ensures closed { IfOk result (IsClosed (sources_of planner.now)) }
+    ensures closed { IfOk result (IsClosedPlan (sources_of planner.now)) }
     ensures err { IfErr result (λ o. (o ≡ Obstacle.Memory) ⊎ (obstacle_of (sources_of planner.now) request.now ≡ Some o)) }
 {
     let founds = find_each(alloc, planner, &request.names)?;

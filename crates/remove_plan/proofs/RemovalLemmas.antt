@@ -10,7 +10,7 @@ use Rattle.model_loader.specs.declared.entry.Entry.{Entry}
 use Rattle.model_loader.specs.Machine.{Machine}
 use Rattle.model_loader.specs.Use.{binds, places, uses_entry}
 use Rattle.model_loader.proofs.PlaceLemmas.{in-place}
-use Rattle.remove_plan.specs.Removal.{AreFalling, IsClosed, IsLeast, Places, RemovedAreLeast, RemovedAreOne, among, is_asked, is_used_only, members_below, removed, user_outside}
+use Rattle.remove_plan.specs.Removal.{AreFalling, IsRemovalSet, IsLeast, Places, RemovedAreLeast, RemovedAreOne, among, is_asked, is_used_only, members_below, removed, user_outside}
 use Rattle.std.proofs.Math.Bool.{or-false}
 
 -- Tests of two values, where the second decides whether the first counts.
@@ -134,7 +134,7 @@ record IsStage (machine : Machine) (r : Places) (k : ℕ) (ks : List ℕ) : Type
   why : (u : ℕ) → among ks u ≡ true → (r u ≡ true) ⊎ (is_used_only machine (among ks) u ≡ true)
   asked_for : (u : ℕ) → k ≤ u → r u ≡ true → among ks u ≡ true
   left : (u : ℕ) → k ≤ u → is_used_only machine (among ks) u ≡ true → among ks u ≡ true
-  least : (other : Places) → IsClosed machine r other → (u : ℕ) → among ks u ≡ true → other u ≡ true
+  least : (other : Places) → IsRemovalSet machine r other → (u : ℕ) → among ks u ≡ true → other u ≡ true
 
 at-or-above : (k u : ℕ) → k ≤ u → (k ≡ u) ⊎ (suc k ≤ u)
 at-or-above k u le = grind arith

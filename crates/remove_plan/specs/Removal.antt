@@ -38,14 +38,14 @@ is_used_only machine set k =
     list_any (λ u. set u && binds machine u k) (places machine) && is_none (user_outside machine set k)
 
 -- A set has the entries that are asked for, and each entry that only its members use.
-pub record IsClosed (machine : Machine) (r set : Places) : Type 0 where
+pub record IsRemovalSet (machine : Machine) (r set : Places) : Type 0 where
   pub asked : (k : ℕ) → r k ≡ true → set k ≡ true
   pub used_only : (k : ℕ) → is_used_only machine set k ≡ true → set k ≡ true
 
--- A set is the least of the closed ones.
+-- A set is the least of these.
 pub record IsLeast (machine : Machine) (r set : Places) : Type 0 where
-  pub closed : IsClosed machine r set
-  pub least : (other : Places) → IsClosed machine r other → (k : ℕ) → set k ≡ true → other k ≡ true
+  pub closed : IsRemovalSet machine r set
+  pub least : (other : Places) → IsRemovalSet machine r other → (k : ℕ) → set k ≡ true → other k ≡ true
 
 -- Each place is below the ones before it: the youngest entry comes first.
 abbrev pub AreFalling : List ℕ → Type 0

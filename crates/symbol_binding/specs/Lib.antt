@@ -2,5 +2,4 @@ pub mod Symbols
 pub mod Needs
 pub mod Provider
 pub mod Unmet
-pub mod Table
 pub mod Worked

@@ -6,7 +6,7 @@ use Rattle.plan_builder.specs.Steps.{plan_steps}
 use Rattle.plan_builder.specs.Obstacles.{obstacle_of}
 use Rattle.plan_builder.specs.Planner.{sources_of}
 use Rattle.plan_builder.specs.Sources.{sources}
-use Rattle.plan_builder.specs.Closed.{IsClosed}
+use Rattle.plan_builder.specs.Closed.{IsClosedPlan}
 use Rattle.plan_builder.proofs.planning.planned_over.Goals as goal
 
 pub planned_steps-requires : goal.planned_steps-requires
@@ -30,7 +30,7 @@ pub returns-clause-closed : goal.returns-clause-closed
 returns-clause-closed c =
     let same : sources_of c.in_ok-planner.planner ≡ sources c.args.rules.now c.args.indexes.now c.args.unmet.now c.args.loaded.now c.args.request.now =
     ap sources_of c.in_ok-planner.ensures ∙ (λ i. sources c.args.rules.now c.args.indexes.now (c.as_slice.ensures i) (c.as_slice-2.ensures i) c.args.request.now) in
-    subst (λ s. IfOk c.planned_steps.result (IsClosed s)) same c.planned_steps.ensures.closed
+    subst (λ s. IfOk c.planned_steps.result (IsClosedPlan s)) same c.planned_steps.ensures.closed
 
 pub returns-clause-err : goal.returns-clause-err
 returns-clause-err c =

@@ -16,7 +16,7 @@ use Rattle.plan_builder.specs.Planner.{sources_of}
 use Rattle.plan_builder.proofs.Answering.{unloaded-low}
 use Rattle.plan_builder.proofs.Obstacles.{when-unfound, when-unknown, when-known, steps-are}
 use Rattle.plan_builder.proofs.StepLaws.{ends-rising}
-use Rattle.plan_builder.specs.Closed.{IsClosed}
+use Rattle.plan_builder.specs.Closed.{IsClosedPlan}
 use Rattle.plan_builder.proofs.ClosedLemmas.{plans-are-closed}
 use Rattle.plan_builder.proofs.planning.planned_steps.Goals as goal
 
@@ -81,4 +81,4 @@ returns-clause-passed c =
 pub returns-clause-closed : goal.returns-clause-closed
 returns-clause-closed c =
     let s = sources_of c.args.planner.now in
-    subst (IsClosed s) (sym (returns-clause-plan c)) (plans-are-closed s c.args.request.now (returns-clause-passed c))
+    subst (IsClosedPlan s) (sym (returns-clause-plan c)) (plans-are-closed s c.args.request.now (returns-clause-passed c))
