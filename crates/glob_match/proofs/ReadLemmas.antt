@@ -173,7 +173,29 @@ module _ (text pattern : List ℕ) (first : ℕ) (reached listed : List ℕ) (s 
     set = (low ∷ [], refl, record { test = λ _. false; tests = λ rest byte. rw (not_same low bang b) refl; bits = none });
   }
 
+-- Bytes more of a set that stays open.
+run_step : (items run rest : List ℕ) → ((k : ℕ) → k < length run → slice_index run k ≢ closing) → parts_from (Some items) (run ++ rest) ≡ parts_from (Some (items ++ run)) rest
+run_step items [] rest inside = ap (λ xs. parts_from (Some xs) rest) (sym (append-nil items))
+run_step items (x ∷ run) rest inside =
+    item_step items x (inside 0 (omega arith)) (run ++ rest)
+    ∙ run_step (items ++ x ∷ []) run rest (λ k lt. inside (suc k) (omega (arith, lt)))
+    ∙ ap (λ xs. parts_from (Some xs) rest) (append_assoc items (x ∷ []) run)
+
 module _ (text pattern : List ℕ) (first : ℕ) (reached listed : List ℕ) (negated : Bool) (pending : Pending) (s : Stands text pattern (Inside negated pending) first reached listed) where
+  pub run_read : (run : List ℕ) (next : Pending) (others : List ℕ) → ((k : ℕ) → k < length run → slice_index run k ≢ closing) → ((items : List ℕ) → IsOpen text negated first (pending_items pending) items listed → IsOpen text negated first (pending_items next) (items ++ run) others) → Stands text (pattern ++ run) (Inside negated next) first reached others
+  run_read run next others inside more =
+      let items = s.set.0 in
+      record {
+        parts = s.parts;
+        open_set = Some (items ++ run);
+        read = λ rest.
+            ap (parts_from None) (append_assoc pattern run rest)
+            ∙ subst (IsRead pattern s.parts) s.set.1 s.read (run ++ rest)
+            ∙ ap (option_map (λ ps. s.parts ++ ps)) (run_step items run rest inside);
+        places = s.places;
+        set = (items ++ run, refl, more items s.set.2);
+      }
+
   pub items_read : (byte : ℕ) (next : Pending) (others : List ℕ) → byte ≢ closing → ((items : List ℕ) → IsOpen text negated first (pending_items pending) items listed → IsOpen text negated first (pending_items next) (items ++ byte ∷ []) others) → Stands text (pattern ++ byte ∷ []) (Inside negated next) first reached others
   items_read byte next others other more =
       let items = s.set.0 in
@@ -201,7 +223,7 @@ module _ (text pattern : List ℕ) (first : ℕ) (reached listed : List ℕ) (ne
 pub same_between : (a byte : ℕ) → is_between a a byte ≡ (byte == a)
 same_between a byte = grind (arith, nat_tests)
 
-listed_low : (low byte : ℕ) (rest : List ℕ) (x : ℕ) → byte ≢ dash → is_listed (low ∷ byte ∷ rest) x ≡ ((x == low) || is_listed (byte ∷ rest) x)
+pub listed_low : (low byte : ℕ) (rest : List ℕ) (x : ℕ) → byte ≢ dash → is_listed (low ∷ byte ∷ rest) x ≡ ((x == low) || is_listed (byte ∷ rest) x)
 listed_low low byte [] x other = refl
 listed_low low byte (y ∷ rest) x other = rw (not_same byte dash other) refl
 
@@ -239,6 +261,22 @@ module _ (text bytes : List ℕ) (same : (n : ℕ) → slice_index bytes n ≡ s
 
   pub range_decided : (low byte : ℕ) (new : List ℕ) → ((test : ℕ → Bool) → HasBits listed test → HasBits new (λ n. test n || is_between low byte (slice_index bytes (first + n)))) → IsOpen text negated first (low ∷ dash ∷ []) items listed → IsOpen text negated first [] (items ++ byte ∷ []) new
   range_decided low byte new more o = decide byte low byte (low ∷ dash ∷ []) [] new (λ rest x. refl) more o
+
+  -- Items that are decided together, and a byte after them that begins an item.
+  pub run_decided : (low last : ℕ) (run : List ℕ) (list : ℕ → Bool) (new : List ℕ) → ((rest : List ℕ) (x : ℕ) → is_listed (low ∷ run ++ rest) x ≡ (list x || is_listed (last ∷ rest) x)) → ((test : ℕ → Bool) → HasBits listed test → HasBits new (λ n. test n || list (slice_index bytes (first + n)))) → IsOpen text negated first (low ∷ []) items listed → IsOpen text negated first (last ∷ []) (items ++ run) new
+  run_decided low last run list new step more o = record {
+    test = λ x. o.test x || list x;
+    tests = λ rest x.
+        ap (λ xs. is_in_set xs x) (append_assoc items run rest)
+        ∙ o.tests (run ++ rest) x
+        ∙ ap (λ t. flip negated (o.test x || t)) (step rest x)
+        ∙ ap (flip negated) (sym (or_together (o.test x) (list x) (is_listed (last ∷ rest) x)));
+    bits = same_bits new _ _ (λ n. ap (λ x. o.test (slice_index text (first + n)) || list x) (same (first + n))) (more (λ n. o.test (slice_index text (first + n))) o.bits);
+  }
+    where
+      or_together : (a b c : Bool) → ((a || b) || c) ≡ (a || (b || c))
+      or_together true b c = refl
+      or_together false b c = refl
 
 -- ---- what was read
 

@@ -2,8 +2,9 @@
 //! them. [`matches`] decides exactly the relation `Matches` of `glob_pattern` and takes no memory.
 //!
 //! [`Progress`] reads a pattern byte by byte over one text, and decides the same relation for each
-//! front of it. It can be saved, so that patterns that begin alike are matched together. The crate
-//! uses `glob_pattern` for the relation.
+//! front of it. It can be saved, so that patterns that begin alike are matched together. Where many
+//! patterns end alike in one file, [`Runs`] has what its long runs come to, so that each is read as
+//! one. The crate uses `glob_pattern` for the relation.
 #![tactic(auto)]
 
 mod element;
@@ -14,6 +15,7 @@ mod reading;
 mod runs;
 mod search;
 mod set;
+mod set_items;
 mod state;
 mod words;
 

@@ -1,3 +1,7 @@
+ghost use Rattle.std.specs.Prelude.{◌≡◌, IfSome};
+ghost use Rattle.glob_match.specs.declared.place.Place.TheVariants.{Inside};
+ghost use Rattle.glob_match.specs.declared.place.Pending.TheVariants.{Low};
+
 /// Where a pattern that is read byte by byte ends so far.
 #[derive(Clone, Copy)]
 pub enum Place {
@@ -18,4 +22,17 @@ pub enum Pending {
     Low(u8),
     /// A byte and a `-` after it.
     Dash(u8),
+}
+
+/// Returns whether the open set is negated, and its last byte, if that may begin a range.
+pub(crate) fn last_low(place: Place) -> Option<(bool, u8)>
+    ensures { IfSome result (λ r. place ≡ Inside r.0 (Low r.1)) }
+{
+    let Place::Inside(negated, pending) = place else {
+        return None;
+    };
+    let Pending::Low(low) = pending else {
+        return None;
+    };
+    Some((negated, low))
 }

@@ -3,7 +3,7 @@ ghost use Rattle.glob_pattern.specs.Pattern.{Matches};
 ghost use Rattle.glob_match.specs.Runs.{AreRuns};
 ghost use Rattle.glob_match.specs.Progress.{IsOver, HasRead, WasRead, IsSaved, IsWhole};
 
-use crate::place::Place;
+use crate::place::{Pending, Place, last_low};
 use crate::reading::read;
 use crate::runs::Runs;
 use crate::state::State;
@@ -62,6 +62,7 @@ impl Progress {
                 first: 0,
                 reached: vec![in alloc; 1u64; 1]?,
                 listed: vec![in alloc; 0u64; 1]?,
+                marks: Vec::new(alloc),
             },
         })
     }
@@ -81,7 +82,7 @@ impl Progress {
         Ok(())
     }
 
-    /// Reads the bytes of a file from a place on: one, or a run of `*` that costs as much. Returns
+    /// Reads the bytes of a file from a place on: one, or a run of `*` or of items of a set. Returns
     /// the place after them.
     ///
     /// # Errors
@@ -109,6 +110,13 @@ impl Progress {
         {
             self.state.fill(self.size)?;
             return Ok(runs.end(file, from + 1, to));
+        }
+        if let Some((negated, low)) = last_low(self.place)
+            && let Some(items) = runs.items(file, from, to, low)
+        {
+            self.state.list_set(&self.bytes, self.size, &items.listed)?;
+            self.place = Place::Inside(negated, Pending::Low(file[items.end]));
+            return Ok(items.end + 1);
         }
         self.push(file[from])?;
         Ok(from + 1)

@@ -1,5 +1,5 @@
-ghost use Rattle.std.specs.Prelude.{◌≡◌, ℕ, ◌+◌, ◌≤◌, ◌&&◌, ◌||◌, not, nat_le, Bool, false, length, slice_index, vec_len, OnOk};
-ghost use Rattle.glob_match.specs.Words.{is_between, HasBits, HasFront, HasPlaces, moved, any_up_to};
+ghost use Rattle.std.specs.Prelude.{◌≡◌, ℕ, ◌+◌, ◌*◌, ◌<◌, ◌≤◌, ◌&&◌, ◌||◌, not, nat_le, Bool, false, length, slice_index, vec_len, OnOk};
+ghost use Rattle.glob_match.specs.Words.{bit, is_between, HasBits, HasFront, HasPlaces, moved, any_up_to};
 ghost use Rattle.glob_match.specs.States.{IsKept, SamePlaces};
 
 use crate::words::{BITS, add_range, clear, cut, fill, has, keep, negate};
@@ -15,6 +15,22 @@ pub(crate) struct State {
     pub(crate) reached: Vec<u64>,
     /// The places whose bytes are listed.
     pub(crate) listed: Vec<u64>,
+    /// A mark for each place, while bytes are listed by a set of them.
+    pub(crate) marks: Vec<u8>,
+}
+
+/// Marks the first bytes that a set has, this many, by 1, and the others by 0.
+fn mark(marks: &mut Vec<u8>, bytes: &[u8], count: usize, set: &[u64]) -> Result<(), AllocError>
+    requires within { count ≤ length bytes.now }
+    requires set { length set.now ≡ 4 }
+    ensures size { OnOk result (vec_len marks.new ≡ count) }
+    ensures marks { OnOk result ((test : ℕ → Bool) (n : ℕ) → HasBits set.now test → n < count → slice_index marks.new.items n ≡ bit (test (slice_index bytes.now n))) }
+{
+    marks.truncate(0);
+    for n in 0..count {
+        marks.push(u8::from(has(set, usize::from(bytes[n]))))?;
+    }
+    Ok(())
 }
 
 impl State {
@@ -34,6 +50,34 @@ impl State {
         ensures listed { (test : ℕ → Bool) → HasBits self.old.listed.items test → HasBits self.new.listed.items (λ n. test n || is_between low high (slice_index bytes.now (self.old.first + n))) }
     {
         add_range(&mut self.listed, &bytes[self.first..], low, high);
+    }
+
+    /// Lists the bytes that a set has.
+    pub(crate) fn list_set(
+        &mut self,
+        bytes: &[u8],
+        size: usize,
+        set: &[u64],
+    ) -> Result<(), AllocError>
+        requires kept { IsKept size self.old }
+        requires padded { size + BITS ≤ length bytes.now }
+        requires set { length set.now ≡ 4 }
+        ensures same { OnOk result (SamePlaces self.old self.new) }
+        ensures listed { OnOk result ((test list : ℕ → Bool) → HasBits self.old.listed.items test → HasBits set.now list → HasBits self.new.listed.items (λ n. test n || list (slice_index bytes.now (self.old.first + n)))) }
+    {
+        let count = self.listed.len() * BITS;
+        mark(&mut self.marks, &bytes[self.first..], count, set)?;
+        self.list_marked();
+        Ok(())
+    }
+
+    /// Lists the bytes at the places that are marked.
+    fn list_marked(&mut self)
+        requires { BITS * vec_len self.old.listed ≤ vec_len self.old.marks }
+        ensures same { SamePlaces self.old self.new }
+        ensures listed { (test : ℕ → Bool) → HasBits self.old.listed.items test → HasBits self.new.listed.items (λ n. test n || is_between 1 1 (slice_index self.old.marks.items n)) }
+    {
+        add_range(&mut self.listed, &self.marks, 1, 1);
     }
 
     /// Lists the other bytes.

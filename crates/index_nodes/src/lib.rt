@@ -18,7 +18,7 @@
 //! the other way, with one bit a byte for the places that were visited and an entry for each level
 //! on which children are still to be visited.
 //!
-//! Only this crate reads an index's bytes. It uses `km_names` for numbers and names, the
+//! Only this crate reads the fields of an index. It uses `km_names` for numbers and names, the
 //! definitions of `index_format`, `memchr` for the search of NULs, and `thiserror` for the error
 //! traits.
 #![tactic(auto)]

@@ -120,10 +120,11 @@ impl Index {
     /// # Errors
     ///
     /// Out of memory, also if the list takes more than 268,435,456 bytes, or the matching more than
-    /// 2,147,483,648 steps. A byte of a key takes 16 steps, and one for every 64 bytes of the text
-    /// that are left. A key is read while the text can match, and the front that keys share once.
-    /// Nodes that overlap in the file can meet this, and one that repeats no byte only with a text
-    /// of more than 1,000 bytes.
+    /// 17,179,869,184 steps. A byte of a key takes 16 steps, and one for every 64 bytes of the text
+    /// that are left; a long run of `*` or a long set takes fewer. A key is read while the text can
+    /// match, and the front that keys share once. Nodes that overlap in the file can meet this, but
+    /// no file under a megabyte with a text of up to 100 bytes. One that repeats no byte can with a
+    /// text of more than 15,000 bytes.
     pub fn wild<L: Ledger>(
         &self,
         alloc: Global,

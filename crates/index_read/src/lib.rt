@@ -11,7 +11,9 @@
 //!
 //! A small file may have a map of any size. So the lookups in all keys count the bytes of the list
 //! that they answer, and past 268,435,456 they are out of memory. A listing writes a key only where
-//! it has a value. The bytes that are matched with a text take 2,147,483,648 steps at most.
+//! it has a value. The bytes that are matched with a text take 17,179,869,184 steps at most. Where a
+//! long prefix is met, the runs of the file are found first. So a run of `*`, or of the items of a
+//! set, is matched as one, also if many prefixes end with it.
 //!
 //! Each node that is read is a step on the ledger that the caller gives; the lookups of [`plain`]
 //! and [`first_values`] count nothing. The crate builds on `index_nodes`, which reads the nodes, on

@@ -48,7 +48,7 @@ fn read_byte(progress: &mut Progress, byte: u8, room: &mut Room) -> Result<bool,
     ensures read { IfOk result (λ alive. (text pattern : List ℕ) → IsOver progress.old text → HasRead progress.old text pattern → Reads text (pattern ++ byte ∷ []) progress.new alive) }
 {
     progress.push(byte)?;
-    room.take_byte(progress.words())?;
+    room.take_bytes(1, progress.words())?;
     Ok(!progress.is_lost())
 }
 
@@ -72,8 +72,9 @@ fn read_range(
     let (start, end) = range;
     let mut at = start;
     while at < end {
-        at = progress.push_next(file, at, end, runs)?;
-        room.take_byte(progress.words())?;
+        let from = at;
+        at = progress.push_next(file, from, end, runs)?;
+        room.take_bytes(at - from, progress.words())?;
         if progress.is_lost() {
             return Ok(false);
         }
