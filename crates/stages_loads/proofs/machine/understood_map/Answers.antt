@@ -1,9 +1,11 @@
 use Rattle.std.proofs.Common.{◌≡◌, None, Some, ap, sym, subst, inl, inr, ◌∙◌}
 use Rattle.std.specs.Prelude.{Err}
+use Rattle.provider_rel.specs.KernelTable.{exports_of_map}
 use Rattle.provider_rel.specs.MapLines.{map_line}
 use Rattle.provider_rel.specs.TableLines.{refused_line, stated}
 use Rattle.km_course.specs.Follows.{Answers}
 use Rattle.stages_files.specs.KernelTable.{table_outcome}
+use Rattle.stages_loads.specs.Tables.{table_of_map}
 use Rattle.stages_loads.proofs.TableSteps.{mapped, mapped_not}
 use Rattle.stages_loads.proofs.machine.understood_map.Goals as goal
 
@@ -12,6 +14,7 @@ returns-in-Ok-clause-answer c =
     mapped c.args.file c.args.bytes.now c.in-Ok.map (c.in-Ok.ensures.ok ∙ ap (stated map_line) c.as_bytes.ensures)
     (ap (refused_line map_line) (sym c.as_bytes.ensures) ∙ c.in-Ok.ensures.passed)
 
-pub returns-clause-answer : goal.returns-clause-answer
-returns-clause-answer c =
-    rw c.as_bytes.ensures at (mapped_not c.args.file _ c.in-Err.fault c.stop_of_table.result c.in-Err.ensures.err c.stop_of_table.ensures)
+pub returns-in-Err-clause-answer : goal.returns-in-Err-clause-answer
+returns-in-Err-clause-answer c =
+    subst (λ bytes. Answers table_of_map (table_outcome c.args.file (exports_of_map bytes)) (Err c.stop_of_table.result)) c.as_bytes.ensures
+    (mapped_not c.args.file _ c.in-Err.fault c.stop_of_table.result c.in-Err.ensures.err c.stop_of_table.ensures)
