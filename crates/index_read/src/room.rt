@@ -52,6 +52,11 @@ impl Room {
         Ok(())
     }
 
+    /// Returns whether the steps of the bytes of keys so far are those of this many single bytes.
+    pub(crate) fn has_read(&self, bytes: usize) -> bool {
+        STEPS.saturating_sub(self.left) / BYTE_STEPS >= bytes
+    }
+
     /// Takes the steps of bytes of a key that are read together, by the number of words that have
     /// places of the text.
     ///

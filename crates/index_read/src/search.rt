@@ -82,8 +82,8 @@ fn read_range(
     Ok(true)
 }
 
-/// Reads the prefix of a node. The runs of the file are found before the first long one. Returns
-/// whether the text can still match.
+/// Reads the prefix of a node. The runs of the file are found before a long one, once about as many
+/// bytes were read as the file has. Returns whether the text can still match.
 fn read_prefix(
     progress: &mut Progress,
     nodes: &Nodes,
@@ -100,10 +100,11 @@ fn read_prefix(
     ensures read { IfOk result (λ alive. (text pattern : List ℕ) → IsOver progress.old text → HasRead progress.old text pattern → Reads text (pattern ++ prefix nodes.now (link_of node.now)) progress.new alive) }
 {
     let range = nodes.prefix_range(node);
-    if range.1 - range.0 > LONG {
-        runs.find(nodes.bytes())?;
+    let file = nodes.bytes();
+    if range.1 - range.0 > LONG && room.has_read(file.len()) {
+        runs.find(file)?;
     }
-    read_range(progress, nodes.bytes(), range, runs, room)
+    read_range(progress, file, range, runs, room)
 }
 
 /// Reads the byte that leads to a node, and its prefix. Returns the node if the text can still

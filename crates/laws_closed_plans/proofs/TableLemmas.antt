@@ -24,7 +24,7 @@ use Rattle.model_loader.specs.Machine.{Machine, bound_export, entry_face, export
 use Rattle.model_loader.specs.Step.{fault_if, name_tests, need_test, taken_test}
 use Rattle.model_loader.proofs.GapLemmas.{any-map}
 use Rattle.model_loader.proofs.StandingLemmas.{find-map, find-same, same_name}
-use Rattle.laws_closed_plans.specs.Names.{export_fault, is_named, name_fault, need_fault, owner_name, seen_table}
+use Rattle.laws_closed_plans.specs.Names.{export_fault, name_fault, need_fault, owner_name, seen_table}
 
 -- the loaded modules and the kernel, as those who bind symbols see them
 abbrev pub faces : Machine → List Face

@@ -1,6 +1,6 @@
 -- Closed plans by the names of their modules: over the dependency lines of an index, and lines of
 -- modules.unmet. modules.dep(5).
-use Rattle.std.specs.Prelude.{◌≡◌, ℕ, Bool, true, false, List, ◌∷◌, ◌++◌, map, length, slice_get, Some}
+use Rattle.std.specs.Prelude.{◌≡◌, ℕ, true, false, List, ◌∷◌, ◌++◌, map, length, slice_get, Some}
 use Rattle.std.specs.List.{IsDistinct, list_any}
 use Rattle.std.specs.Str.{bytes_eq}
 use Rattle.name_table.specs.FirstSeen.{is_among}

@@ -1,5 +1,5 @@
 -- The entry that is made is the one of the step.
-use Rattle.std.proofs.Common.{◌≡◌, ◌<◌, ◌==◌, ◌∙◌, ◌⊎◌, inl, inr, ℕ, suc, Bool, List, [], ◌∷◌, Option, Some, None, refl, sym, ap, arith, length, cond, map, slice_index}
+use Rattle.std.proofs.Common.{◌≡◌, ◌<◌, ◌==◌, ◌∙◌, ◌⊎◌, inl, inr, ℕ, suc, List, [], ◌∷◌, Option, Some, None, refl, sym, ap, arith, length, cond, map, slice_index}
 use Rattle.std.specs.Prelude.{find, option_map, All}
 use Rattle.std.specs.List.{range_with_len}
 use Rattle.std.specs.Option.{option_map_or}

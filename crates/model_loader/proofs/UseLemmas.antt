@@ -1,6 +1,6 @@
 -- A machine without an entry that no other uses: all others stay bound as they were.
 use Rattle.std.proofs.Common.{◌≡◌, ◌<◌, ◌∙◌, ◌⊎◌, inl, inr, ℕ, zero, suc, true, false, List, [], ◌∷◌, ◌++◌, Option, Some, None, refl, sym, ap, subst, arith, length, map, get_or, take, drop, append_assoc, append-nil, cond}
-use Rattle.std.specs.Prelude.{find, option_map, All, ◌&&◌, ◌||◌, ◌==◌, nat_lt, flat_map, remove, slice_get}
+use Rattle.std.specs.Prelude.{find, option_map, All, ◌&&◌, ◌==◌, nat_lt, flat_map, remove, slice_get}
 use Rattle.std.specs.List.{IsDistinct, list_any, range_with_len}
 use Rattle.std.specs.Option.{option_map_or, option_or}
 use Rattle.std.specs.Str.{bytes_eq}
