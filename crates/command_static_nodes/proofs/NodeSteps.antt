@@ -1,31 +1,17 @@
 -- The stages of a kernel's device nodes, joined.
-use Rattle.std.proofs.Common.{◌≡◌, ℕ, List, ◌⊎◌, inl, inr, ap, subst, sym}
-use Rattle.std.specs.Prelude.{Result, Ok, Err, ⊤, codes}
+use Rattle.std.proofs.Common.{◌≡◌, ℕ, List, subst}
+use Rattle.std.specs.Prelude.{Result, ⊤, codes}
 use Rattle.km_names.specs.Path.{path_below}
-use Rattle.km_names.specs.declared.conf.ConfFault.{ConfFault}
-use Rattle.km_names.specs.declared.conf.ConfFault.TheVariants as faults
 use Rattle.kmod_words.specs.declared.static_nodes.StaticNodesWords.{StaticNodesWords}
 use Rattle.devname_nodes.specs.declared.node.Node.{Node}
 use Rattle.devname_nodes.specs.File.{lines_text, read_of}
 use Rattle.km_course.specs.Course.{Stage, ◌>>=◌, given, says_any}
-use Rattle.km_course.specs.Course.Outcome.{value}
 use Rattle.km_course.specs.World.{World}
-use Rattle.km_course.specs.Follows.{Answers, Follows}
+use Rattle.km_course.specs.Follows.{Follows}
 use Rattle.km_course.specs.declared.stop.Stop.{Stop}
-use Rattle.stages_files.specs.Configuration.{stated_outcome, stop_of}
+use Rattle.stages_files.specs.Configuration.{stated_outcome}
 use Rattle.stages_files.specs.KernelModules.{modules_folder}
 use Rattle.command_static_nodes.specs.StaticNodes.{reads_nodes, shows_nodes}
-
--- what was stated is the value of a file's outcome
-pub stated_ok : (o : Result (List Node) ConfFault) (x : List Node) → o ≡ Ok x → stated_outcome o ≡ value x
-stated_ok o x is = ap stated_outcome is
-
--- a fault is out of memory, or the first line that is refused
-pub stated_fault : (o : Result (List Node) ConfFault) (fault : ConfFault) (stop : Stop) → stop ≡ stop_of fault → (fault ≡ faults.Memory) ⊎ (o ≡ Err fault) → Answers (λ (x : List Node). x) (stated_outcome o) (Err stop)
-stated_fault o faults.Memory stop is why = subst (λ s. Answers (λ (x : List Node). x) (stated_outcome o) (Err s)) (sym is) tt
-stated_fault o (faults.BadLine file number) stop is (inl wanting) = absurd (cc)
-stated_fault o (faults.BadLine file number) stop is (inr bad) =
-    subst (λ s. Answers (λ (x : List Node). x) (stated_outcome o) (Err s)) (sym is) (ap stated_outcome bad)
 
 -- the stage after the bytes of a file were read
 abbrev pub nodes_stated : List ℕ → List ℕ → Stage (List Node)

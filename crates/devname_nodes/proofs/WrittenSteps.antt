@@ -24,7 +24,7 @@ use Rattle.devname_nodes.specs.Numbers.{number, has_leading_zero, plain_number, 
 use Rattle.devname_nodes.specs.Nodes.{after_prefix, word, device_of, numbered, number_of, is_comment, node_by, node_of, nodes_of}
 use Rattle.devname_nodes.specs.Line.{node_line, letter, kind_of, device_word, node_of_words, line_node, is_ignored, IsNode}
 use Rattle.devname_nodes.specs.File.{heading, lines_text, nodes_text, stated_nodes, read_of, AreReadBack}
-use Rattle.devname_nodes.proofs.LineSteps.{fault_at, fault-begins, fault-none, fault-passed, fault-ignored, all-read}
+use Rattle.devname_nodes.proofs.LineSteps.{place_at, place-begins, place-none, place-passed, place-ignored, all-read}
 
 -- ---- numbers
 
@@ -170,12 +170,12 @@ stated-back (n ∷ nodes) all =
     ∙ ap (λ o. cons_option o (filter_map line_node (lines_of (lines_text nodes)))) (line-back n good)
     ∙ ap (λ ns. n ∷ ns) (stated-back nodes (All-tail IsNode n nodes all))
 
-none-bad : (file : List ℕ) (k : ℕ) (nodes : List Node) → All IsNode nodes → fault_at file k (lines_of (lines_text nodes)) ≡ None
-none-bad file k [] all = ap (fault_at file k) no-text ∙ fault-none file k
+none-bad : (file : List ℕ) (k : ℕ) (nodes : List Node) → All IsNode nodes → place_at file k (lines_of (lines_text nodes)) ≡ None
+none-bad file k [] all = ap (place_at file k) no-text ∙ place-none file k
 none-bad file k (n ∷ nodes) all =
     let good = All-head IsNode n nodes all in
-    ap (fault_at file k) (lines-first n nodes good)
-    ∙ fault-passed file k (node_line n) (lines_of (lines_text nodes)) n (sym (line-back n good))
+    ap (place_at file k) (lines-first n nodes good)
+    ∙ place-passed file k (node_line n) (lines_of (lines_text nodes)) n (sym (line-back n good))
     ∙ none-bad file (k + 1) nodes (All-tail IsNode n nodes all)
 
 heading-ignored : is_ignored heading ≡ true
@@ -193,9 +193,9 @@ file-back : (file : List ℕ) (nodes : List Node) → All IsNode nodes → read_
 unfolding stated_nodes
 file-back file nodes all =
     all-read file (nodes_text nodes) nodes
-    (sym (fault-begins file (nodes_text nodes))
-    ∙ ap (fault_at file 1) (text-lines nodes)
-    ∙ fault-ignored file 1 heading (lines_of (lines_text nodes)) heading-ignored
+    (sym (place-begins file (nodes_text nodes))
+    ∙ ap (place_at file 1) (text-lines nodes)
+    ∙ place-ignored file 1 heading (lines_of (lines_text nodes)) heading-ignored
     ∙ none-bad file 2 nodes all)
     (ap (filter_map line_node) (text-lines nodes)
     ∙ ap (λ o. cons_option o (filter_map line_node (lines_of (lines_text nodes)))) heading-states

@@ -3,9 +3,7 @@ use Rattle.std.specs.Prelude.{◌≡◌, ℕ, ◌+◌, ◌&&◌, not, Bool, true
 use Rattle.std.specs.List.{flat_map, filter_map, position}
 use Rattle.km_names.specs.Ascii.{is_graphic}
 use Rattle.km_names.specs.Lines.{lines_of}
-use Rattle.km_names.specs.Statements.{unless_fault}
-use Rattle.km_names.specs.declared.conf.ConfFault.{ConfFault}
-use Rattle.km_names.specs.declared.conf.ConfFault.TheVariants.{BadLine}
+use Rattle.km_names.specs.Statements.{LinePlace, unless_fault}
 use Rattle.module_facts.specs.declared.facts.Facts.{Facts}
 use Rattle.devname_nodes.specs.declared.node.Node.{Node}
 use Rattle.devname_nodes.specs.Line.{node_line, line_node, is_ignored}
@@ -27,16 +25,17 @@ nodes_text nodes = heading ++ 10 ∷ lines_text nodes
 abbrev pub is_bad : List ℕ → Bool
 is_bad line = is_none (line_node line) && not (is_ignored line)
 
--- The first line that is refused, with the path of the file and the line's number from 1.
-unfoldable pub bad_line : List ℕ → List ℕ → Option ConfFault
-bad_line file text = option_map (λ i. BadLine file (i + 1)) (position is_bad (lines_of text))
+-- The place of the first line of the text that is refused, in the file at the path.
+unfoldable pub bad_line : List ℕ → List ℕ → Option LinePlace
+bad_line file text = option_map (λ i. record { file = file; number = i + 1 }) (position is_bad (lines_of text))
 
 -- The nodes that the lines of a text state, in order.
 unfoldable pub stated_nodes : List ℕ → List Node
 stated_nodes text = filter_map line_node (lines_of text)
 
--- What a file of this path and text states: its nodes, unless a line is refused.
-unfoldable pub read_of : List ℕ → List ℕ → Result (List Node) ConfFault
+-- What a file of this path and text states: its nodes, or the place of the first line that is
+-- refused.
+unfoldable pub read_of : List ℕ → List ℕ → Result (List Node) LinePlace
 read_of file text = unless_fault (bad_line file text) (stated_nodes text)
 
 -- What is written of a tree whose modules have words of visible characters for names is read back.

@@ -1,5 +1,7 @@
-ghost use Rattle.std.specs.Prelude.{◌≡◌, ◌≤◌, ◌⊎◌, Ok, Err, length, IfOk, IfErr};
+ghost use Rattle.std.specs.Prelude.{◌≡◌, ◌≤◌, ◌⊎◌, Some, Ok, length, option_map, IfOk, IfErr};
+ghost use Rattle.std.specs.Result.{result_err};
 ghost use Rattle.km_names.specs.Limit.{file_limit};
+ghost use Rattle.km_names.specs.Statements.{line_fault};
 ghost use Rattle.devname_nodes.specs.File.{read_of};
 
 use crate::NodeList;
@@ -16,7 +18,8 @@ pub fn read_nodes(alloc: Global, file: &PathText, bytes: &[u8]) -> Result<NodeLi
     requires { length bytes.now ≤ file_limit }
     ensures ok { IfOk result (λ nodes. read_of file.now bytes.now ≡ Ok nodes) }
     ensures err { IfErr result (λ fault.
-        (fault ≡ ConfFault.Memory) ⊎ (read_of file.now bytes.now ≡ Err fault)) }
+        (fault ≡ ConfFault.Memory)
+        ⊎ (option_map line_fault (result_err (read_of file.now bytes.now)) ≡ Some fault)) }
 {
     let mut nodes = NodeList::new(alloc);
     let mut rest = bytes;

@@ -1,12 +1,13 @@
 -- One file more of configuration files.
-use Rattle.std.proofs.Common.{◌≡◌, ℕ, ◌+◌, ◌<◌, ◌≤◌, List, [], ◌∷◌, ◌++◌, length, drop, get_or, Option, Some, None, Ok, Err, sym, refl, ap, ◌∙◌, inl, inr, ◌⊎◌}
+use Rattle.std.proofs.Common.{◌≡◌, ℕ, ◌+◌, ◌<◌, ◌≤◌, List, [], ◌∷◌, ◌++◌, length, drop, get_or, Option, Some, None, option_map, Ok, sym, refl, ap, ◌∙◌, inl, inr, ◌⊎◌}
 use Rattle.std.specs.List.{flat_map}
+use Rattle.std.specs.Result.{result_err}
 use Rattle.std.proofs.lemmas.List.{at_drop_more, at_drop_all, append_assoc, append-nil}
 use Rattle.km_names.specs.First.{first}
 use Rattle.km_names.specs.declared.conf.ConfFile.{ConfFile}
 use Rattle.km_names.specs.declared.conf.ConfFault.{ConfFault}
 use Rattle.km_names.specs.declared.conf.ConfFault.TheVariants.{Memory}
-use Rattle.km_names.specs.Statements.{file_faults, file_statements, bad_line, stated, unless_fault, parsed}
+use Rattle.km_names.specs.Statements.{LinePlace, line_fault, bad_places, file_statements, bad_line, stated, unless_fault, parsed}
 
 first-append-none : {F : Type 0} (xs ys : List (Option F)) → first xs ≡ None → first (xs ++ ys) ≡ first ys
 first-append-none [] ys e = refl
@@ -18,16 +19,26 @@ first-append-some [] ys fault e = cc
 first-append-some (None ∷ xs) ys fault e = first-append-some xs ys fault e
 first-append-some (Some found ∷ xs) ys fault e = e
 
+-- the refusal of what is stated unless there is a fault
+pub refusal_of : {X F : Type 0} (o : Option F) (x : X) → result_err (unless_fault o x) ≡ o
+refusal_of None x = refl
+refusal_of (Some fault) x = refl
+
+-- the fault of a place that is another's too
+same-fault : (place other : Option LinePlace) (fault : ConfFault) → ((p : LinePlace) → place ≡ Some p → other ≡ Some p) → option_map line_fault place ≡ Some fault → option_map line_fault other ≡ Some fault
+same-fault None other fault too is = cc
+same-fault (Some p) other fault too is = ap (option_map line_fault) (too p refl) ∙ is
+
 module _ {X : Type 0} (read : List ℕ → Option X) where
-  pub bad-more : (files : List ConfFile) (i : ℕ) (file : ConfFile) → i < length files → file ≡ get_or files i file → first (file_faults read file) ≡ None → bad_line read (drop (i + 1) files) ≡ bad_line read (drop i files)
+  pub bad-more : (files : List ConfFile) (i : ℕ) (file : ConfFile) → i < length files → file ≡ get_or files i file → first (bad_places read file) ≡ None → bad_line read (drop (i + 1) files) ≡ bad_line read (drop i files)
   unfolding bad_line
   bad-more files i file l is none =
-      sym (at_drop_more (bad_line read) files i file l ∙ ap (λ f. bad_line read (f ∷ drop (i + 1) files)) (sym is) ∙ first-append-none (file_faults read file) (flat_map (file_faults read) (drop (i + 1) files)) none)
+      sym (at_drop_more (bad_line read) files i file l ∙ ap (λ f. bad_line read (f ∷ drop (i + 1) files)) (sym is) ∙ first-append-none (bad_places read file) (flat_map (bad_places read) (drop (i + 1) files)) none)
 
-  pub bad-found : (files : List ConfFile) (i : ℕ) (file : ConfFile) (fault : ConfFault) → i < length files → file ≡ get_or files i file → first (file_faults read file) ≡ Some fault → bad_line read (drop i files) ≡ Some fault
+  pub bad-found : (files : List ConfFile) (i : ℕ) (file : ConfFile) (place : LinePlace) → i < length files → file ≡ get_or files i file → first (bad_places read file) ≡ Some place → bad_line read (drop i files) ≡ Some place
   unfolding bad_line
-  bad-found files i file fault l is some =
-      at_drop_more (bad_line read) files i file l ∙ ap (λ f. bad_line read (f ∷ drop (i + 1) files)) (sym is) ∙ first-append-some (file_faults read file) (flat_map (file_faults read) (drop (i + 1) files)) fault some
+  bad-found files i file place l is some =
+      at_drop_more (bad_line read) files i file l ∙ ap (λ f. bad_line read (f ∷ drop (i + 1) files)) (sym is) ∙ first-append-some (bad_places read file) (flat_map (bad_places read) (drop (i + 1) files)) place some
 
   pub stated-more : (done : List X) (files : List ConfFile) (i : ℕ) (file : ConfFile) → i < length files → file ≡ get_or files i file → (done ++ file_statements read file) ++ stated read (drop (i + 1) files) ≡ done ++ stated read (drop i files)
   unfolding stated
@@ -42,11 +53,10 @@ module _ {X : Type 0} (read : List ℕ → Option X) where
       let some : stated read files ≡ done = sym all ∙ ap (λ xs. done ++ xs) (at_drop_all (stated read) items i l) ∙ append-nil done in
       ap (λ b. unless_fault b (stated read files)) none ∙ ap Ok some
 
-  parsed-bad : (files : List ConfFile) (fault : ConfFault) → bad_line read files ≡ Some fault → parsed read files ≡ Err fault
-  unfolding parsed
-  parsed-bad files fault bad = ap (λ b. unless_fault b (stated read files)) bad
-
   -- what a refusal in a file says of the files
-  pub refused : (items files : List ConfFile) (i : ℕ) (file : ConfFile) (fault : ConfFault) → i < length items → file ≡ get_or items i file → bad_line read (drop i items) ≡ bad_line read files → ((fault ≡ Memory) ⊎ (first (file_faults read file) ≡ Some fault)) → ((fault ≡ Memory) ⊎ (parsed read files ≡ Err fault))
+  pub refused : (items files : List ConfFile) (i : ℕ) (file : ConfFile) (fault : ConfFault) → i < length items → file ≡ get_or items i file → bad_line read (drop i items) ≡ bad_line read files → ((fault ≡ Memory) ⊎ (option_map line_fault (first (bad_places read file)) ≡ Some fault)) → ((fault ≡ Memory) ⊎ (option_map line_fault (result_err (parsed read files)) ≡ Some fault))
+  unfolding parsed
   refused items files i file fault l is bad (inl memory) = inl memory
-  refused items files i file fault l is bad (inr found) = inr (parsed-bad files fault (sym bad ∙ bad-found items i file fault l is found))
+  refused items files i file fault l is bad (inr found) =
+      inr (ap (option_map line_fault) (refusal_of (bad_line read files) (stated read files))
+      ∙ same-fault (first (bad_places read file)) (bad_line read files) fault (λ place some. sym bad ∙ bad-found items i file place l is some) found)

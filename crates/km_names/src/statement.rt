@@ -1,7 +1,8 @@
-ghost use Rattle.std.specs.Prelude.{◌≡◌, ◌≤◌, ◌++◌, ◌⊎◌, ℕ, List, Option, length, All, IfOk, IfErr, OnOk};
+ghost use Rattle.std.specs.Prelude.{◌≡◌, ◌≤◌, ◌++◌, ◌⊎◌, ℕ, List, Option, length, option_map, All, IfOk, IfErr, OnOk};
+ghost use Rattle.std.specs.Result.{result_err};
 ghost use Rattle.km_names.specs.First.{first};
 ghost use Rattle.km_names.specs.Limit.{file_limit};
-ghost use Rattle.km_names.specs.Statements.{parsed, file_faults, file_statements};
+ghost use Rattle.km_names.specs.Statements.{parsed, line_fault, bad_places, file_statements};
 
 use crate::{ConfFault, ConfFile, ConfFiles, List as Items, PathText, conf_lines};
 use std::alloc::{AllocError, Global};
@@ -22,7 +23,8 @@ pub fn parse_files<S: Statement>(alloc: Global, files: &ConfFiles) -> Result<Ite
     requires { All (λ file. length file.bytes ≤ file_limit) files.now }
     ensures ok { IfOk result (λ statements. parsed S.read files.now ≡ Ok statements) }
     ensures err { IfErr result (λ fault.
-        (fault ≡ ConfFault.Memory) ⊎ (parsed S.read files.now ≡ Err fault)) }
+        (fault ≡ ConfFault.Memory)
+        ⊎ (option_map line_fault (result_err (parsed S.read files.now)) ≡ Some fault)) }
 {
     let mut statements = Items::new(alloc);
     for file in files.as_slice() {
@@ -38,10 +40,11 @@ fn parse_file<S: Statement>(
     statements: &mut Items<S>,
 ) -> Result<(), ConfFault>
     requires { length file.now.bytes ≤ file_limit }
-    ensures ok { OnOk result (first (file_faults S.read file.now) ≡ None) }
+    ensures ok { OnOk result (first (bad_places S.read file.now) ≡ None) }
     ensures statements { OnOk result (statements.new ≡ statements.old ++ file_statements S.read file.now) }
     ensures err { IfErr result (λ fault.
-        (fault ≡ ConfFault.Memory) ⊎ (first (file_faults S.read file.now) ≡ Some fault)) }
+        (fault ≡ ConfFault.Memory)
+        ⊎ (option_map line_fault (first (bad_places S.read file.now)) ≡ Some fault)) }
 {
     let lines = conf_lines(alloc, file.bytes.as_bytes())?;
     for line in lines.as_slice() {

@@ -2,7 +2,7 @@
 use Rattle.std.proofs.Common.{◌≡◌, ◌∙◌, ℕ, List, [], ◌∷◌, None, refl, sym, ap, subst, inl, inr}
 use Rattle.std.specs.Prelude.{Result, Ok, IsOk}
 use Rattle.km_names.specs.Path.{path_below}
-use Rattle.km_names.specs.declared.conf.ConfFault.{ConfFault}
+use Rattle.km_names.specs.Statements.{LinePlace}
 use Rattle.km_outside.specs.Contents.{Contents}
 use Rattle.index_format.specs.Map.{KeyValues}
 use Rattle.module_facts.specs.declared.facts.Facts.{Facts}
@@ -29,8 +29,8 @@ use Rattle.laws_indexed_folder.proofs.BindingLemmas.{indexed-plans-bind}
 use Rattle.laws_indexed_folder.proofs.IndexedLemmas.{folders-read}
 use Rattle.laws_indexed_folder.proofs.NamedLemmas.{lines-are-of-tree}
 
-same-lines : (a : Result (List Unbound) ConfFault) (x y : List Unbound) → a ≡ Ok x → a ≡ Ok y → x ≡ y
-same-lines a x y is_x is_y = let e : ◌≡◌ {A = Result (List Unbound) ConfFault} (Ok x) (Ok y) = sym is_x ∙ is_y in cc
+same-lines : (a : Result (List Unbound) LinePlace) (x y : List Unbound) → a ≡ Ok x → a ≡ Ok y → x ≡ y
+same-lines a x y is_x is_y = let e : ◌≡◌ {A = Result (List Unbound) LinePlace} (Ok x) (Ok y) = sym is_x ∙ is_y in cc
 
 module _ (held : Contents) (folder : List ℕ) (tree : List Facts) (kernel : Kernel) (builtin : List ℕ) (dep : KeyValues) (lines : List Unbound) (indexed : Indexed held folder tree kernel builtin) (read : IsRead held folder dep lines) where
   stands : StandsAsIndexed tree kernel dep

@@ -5,9 +5,8 @@ use Rattle.std.specs.FinMap.{get}
 use Rattle.std.specs.List.{ends_with}
 use Rattle.km_names.specs.Limit.{file_limit}
 use Rattle.km_names.specs.Path.{path_below}
+use Rattle.km_names.specs.Statements.{LinePlace}
 use Rattle.km_names.specs.declared.conf.ConfFile.{ConfFile}
-use Rattle.km_names.specs.declared.conf.ConfFault.{ConfFault}
-use Rattle.km_names.specs.declared.conf.ConfFault.TheVariants as faults
 use Rattle.km_outside.specs.Contents.{Contents}
 use Rattle.km_course.specs.Course.{Outcome, Stage, ◌>>=◌, given, gives, read_outcome, reads, reads_any, reads_or, lists_any_conf, lists_conf}
 use Rattle.km_course.specs.Course.Outcome.{value, end}
@@ -143,10 +142,9 @@ needed-there path (Some there) bytes came = by_size (nat_lt file_limit (length t
     by_size true came = cc
     by_size false came = cc
 
-pub was-stated : {X : Type 0} (o : Result X ConfFault) (x : X) → stated_outcome o ≡ value x → o ≡ Ok x
+pub was-stated : {X : Type 0} (o : Result X LinePlace) (x : X) → stated_outcome o ≡ value x → o ≡ Ok x
 was-stated (Ok other) x came = cc
-was-stated (Err (faults.BadLine file number)) x came = cc
-was-stated (Err faults.Memory) x came = cc
+was-stated (Err place) x came = cc
 
 was-accepted : (file bytes : List ℕ) (fault : Option Fault) (index : Index) → index_outcome file bytes fault ≡ value index → (fault ≡ None) × (index ≡ index_of bytes)
 unfolding index_outcome

@@ -6,9 +6,8 @@ use Rattle.std.specs.List.{ends_with}
 use Rattle.km_names.specs.AliasForm.{normal_or_itself}
 use Rattle.km_names.specs.First.{first}
 use Rattle.km_names.specs.Path.{is_compressed, path_below}
+use Rattle.km_names.specs.Statements.{LinePlace}
 use Rattle.km_names.specs.declared.conf.ConfFile.{ConfFile}
-use Rattle.km_names.specs.declared.conf.ConfFault.{ConfFault}
-use Rattle.km_names.specs.declared.conf.ConfFault.TheVariants as faults
 use Rattle.km_outside.specs.Contents.{Contents}
 use Rattle.kmod_words.specs.declared.modprobe.Mode.{Mode}
 use Rattle.kmod_words.specs.declared.modprobe.Mode.TheVariants.{Load, DryRun, ShowDepends, ResolveAlias, Remove}
@@ -137,11 +136,10 @@ module _ (held : Contents) (asked : ModprobeWords) where
   other-configuration None =
       ends-then Other (lists_folders (folder_name Modprobe) roots) reads_listed (ends-each Other (lists_folder (folder_name Modprobe)) (other-folder (folder_name Modprobe)) [] roots) (λ folders. other-files (paths_of folders))
 
-  other-stated : (configuration : List ConfFile) (stated : Result (List Rule) ConfFault) (e : End) → ((reads_configuration Modprobe asked.config).run held).outcome ≡ value configuration → rules_of configuration ≡ stated → stated_outcome stated ≡ end e → Other e
+  other-stated : (configuration : List ConfFile) (stated : Result (List Rule) LinePlace) (e : End) → ((reads_configuration Modprobe asked.config).run held).outcome ≡ value configuration → rules_of configuration ≡ stated → stated_outcome stated ≡ end e → Other e
   other-stated configuration (Ok rules) e came is at = absurd (no-end rules e at)
-  other-stated configuration (Err (faults.BadLine file number)) e came is at =
-      so-ends Other (Refused (BadLine file number)) e (of_configuration configuration came is) at
-  other-stated configuration (Err faults.Memory) e came is at = so-ends Other NotUnderstood e tt at
+  other-stated configuration (Err place) e came is at =
+      so-ends Other (Refused (BadLine place.file place.number)) e (of_configuration configuration came is) at
 
   other-loaded : (listing : Option (List ℕ)) → EndsIn Other (reads_loaded listing)
   other-loaded None = ends-gives Other []

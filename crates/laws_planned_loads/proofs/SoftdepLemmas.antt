@@ -15,7 +15,7 @@ use Rattle.km_names.specs.First.{first}
 use Rattle.km_names.specs.Lines.{conf_lines, goes_on, is_statement, joined_lines, lines_of, onto_line, statements, without_empty_last}
 use Rattle.km_names.specs.Path.{underscored}
 use Rattle.km_names.specs.Space.{first_word, is_space, rest_after_word, trimmed, trimmed_end, trimmed_start, words}
-use Rattle.km_names.specs.Statements.{bad_line, file_faults, file_statements, line_fault, parsed, stated, unless_fault}
+use Rattle.km_names.specs.Statements.{bad_line, bad_place, bad_places, file_statements, parsed, stated, unless_fault}
 use Rattle.km_names.specs.declared.conf.ConfFile.{ConfFile}
 use Rattle.km_names.specs.declared.conf.Line.{Line}
 use Rattle.km_names.proofs.LineSteps.{lines-nil, states-nothing, states-something, statements-cons, statements-nil}
@@ -132,13 +132,13 @@ file-read heading lines rs head all =
     ∙ ap (λ ls. ls ++ statements (joined_lines (1 + 1) lines)) (states-nothing 1 heading head.nothing) in
     subst (λ ls. AreRead ls rs) (sym more) (all-read (1 + 1) lines rs all)
 
-faults-none : (path : List ℕ) (lines : List Line) (rs : List Rule) → AreRead lines rs → first (map (λ (line : Line). line_fault path line.number (rule_of line.text)) lines) ≡ None
-faults-none path [] [] all = refl
-faults-none path [] (rule ∷ rs) all = absurd all
-faults-none path (line ∷ lines) [] all = absurd all
-faults-none path (line ∷ lines) (rule ∷ rs) all =
-    ap (λ o. first (line_fault path line.number o ∷ map (λ (l : Line). line_fault path l.number (rule_of l.text)) lines)) all.0
-    ∙ faults-none path lines rs all.1
+places-none : (path : List ℕ) (lines : List Line) (rs : List Rule) → AreRead lines rs → first (map (λ (line : Line). bad_place path line.number (rule_of line.text)) lines) ≡ None
+places-none path [] [] all = refl
+places-none path [] (rule ∷ rs) all = absurd all
+places-none path (line ∷ lines) [] all = absurd all
+places-none path (line ∷ lines) (rule ∷ rs) all =
+    ap (λ o. first (bad_place path line.number o ∷ map (λ (l : Line). bad_place path l.number (rule_of l.text)) lines)) all.0
+    ∙ places-none path lines rs all.1
 
 read-all : (lines : List Line) (rs : List Rule) → AreRead lines rs → filter_map (λ (line : Line). rule_of line.text) lines ≡ rs
 read-all [] [] all = refl
@@ -154,11 +154,11 @@ unfolding parsed bad_line stated
 file-states path heading lines rs head all =
     let file : ConfFile = record { path = path; bytes = lines_text (heading ∷ lines) } in
     let read = file-read heading lines rs head all in
-    let none : first (flat_map (file_faults rule_of) (file ∷ [])) ≡ None =
-    ap first (append-nil (file_faults rule_of file)) ∙ faults-none path (conf_lines file.bytes) rs read in
+    let none : first (flat_map (bad_places rule_of) (file ∷ [])) ≡ None =
+    ap first (append-nil (bad_places rule_of file)) ∙ places-none path (conf_lines file.bytes) rs read in
     let all_stated : flat_map (file_statements rule_of) (file ∷ []) ≡ rs =
     append-nil (file_statements rule_of file) ∙ read-all (conf_lines file.bytes) rs read in
-    ap (λ fault. unless_fault fault (flat_map (file_statements rule_of) (file ∷ []))) none ∙ ap Ok all_stated
+    ap (λ place. unless_fault place (flat_map (file_statements rule_of) (file ∷ []))) none ∙ ap Ok all_stated
 
 -- ---- a line of a soft dependency
 

@@ -3,7 +3,6 @@ use Rattle.std.specs.Prelude.{◌≡◌, ℕ, List, ◌++◌, map, codes, flat_m
 use Rattle.km_names.specs.Path.{underscored}
 use Rattle.km_names.specs.Space.{words}
 use Rattle.km_names.specs.declared.conf.ConfFile.{ConfFile}
-use Rattle.km_names.specs.declared.conf.ConfFault.TheVariants as faults
 use Rattle.km_outside.specs.Contents.{Contents}
 use Rattle.kmod_words.specs.declared.modprobe.Mode.{Mode}
 use Rattle.kmod_words.specs.declared.modprobe.ModprobeWords.{ModprobeWords}
@@ -99,7 +98,7 @@ ReadingsEnd =
 -- A line that isn't understood is one of the configuration, or of the System.map or the
 -- Module.symvers that was named.
 pub data IsOtherLine (held : Contents) (asked : ModprobeWords) (file : List ℕ) (number : ℕ) : Type 0 where
-  of_configuration : (configuration : List ConfFile) → ((reads_configuration Modprobe asked.config).run held).outcome ≡ value configuration → rules_of configuration ≡ Err (faults.BadLine file number) → IsOtherLine held asked file number
+  of_configuration : (configuration : List ConfFile) → ((reads_configuration Modprobe asked.config).run held).outcome ≡ value configuration → rules_of configuration ≡ Err (record { file = file; number = number }) → IsOtherLine held asked file number
   of_map : asked.system_map ≡ Some file → IsOtherLine held asked file number
   of_symvers : asked.symvers ≡ Some file → IsOtherLine held asked file number
 

@@ -1,9 +1,10 @@
 -- What the parts of a search line and of a search list give.
-use Rattle.std.proofs.Common.{◌≡◌, ℕ, Bool, true, false, eqb, List, [], ◌∷◌, length, Some, None, Ok, Err, sym, refl, ap, ◌∙◌, ◌⊎◌, inl, inr, arith}
+use Rattle.std.proofs.Common.{◌≡◌, ℕ, Bool, true, false, eqb, List, [], ◌∷◌, length, Some, None, option_map, Result, Ok, Err, sym, refl, ap, ◌∙◌, ◌⊎◌, inl, inr, arith}
 use Rattle.std.specs.Prelude.{not}
+use Rattle.std.specs.Result.{result_err}
 use Rattle.std.specs.Str.{bytes_eq}
 use Rattle.std.proofs.lemmas.Bool.{true≢false, eqb-true}
-use Rattle.km_names.specs.Statements.{parsed}
+use Rattle.km_names.specs.Statements.{LinePlace, line_fault, parsed}
 use Rattle.km_names.specs.declared.conf.ConfFile.{ConfFile}
 use Rattle.km_names.specs.declared.conf.ConfFault.{ConfFault}
 use Rattle.km_names.specs.declared.conf.ConfFault.TheVariants.{Memory}
@@ -32,7 +33,11 @@ pub search-ok : (files : List ConfFile) (lines : List (List (List ℕ))) → par
 unfolding search_of
 search-ok files lines e = ap search_of_lines e
 
-pub search-err : (files : List ConfFile) (fault : ConfFault) → ((fault ≡ Memory) ⊎ (parsed search_line files ≡ Err fault)) → ((fault ≡ Memory) ⊎ (search_of files ≡ Err fault))
+same-refusal : (r : Result (List (List (List ℕ))) LinePlace) → result_err (search_of_lines r) ≡ result_err r
+same-refusal (Ok lines) = refl
+same-refusal (Err place) = refl
+
+pub search-err : (files : List ConfFile) (fault : ConfFault) → ((fault ≡ Memory) ⊎ (option_map line_fault (result_err (parsed search_line files)) ≡ Some fault)) → ((fault ≡ Memory) ⊎ (option_map line_fault (result_err (search_of files)) ≡ Some fault))
 unfolding search_of
 search-err files fault (inl memory) = inl memory
-search-err files fault (inr found) = inr (ap search_of_lines found)
+search-err files fault (inr found) = inr (ap (option_map line_fault) (same-refusal (parsed search_line files)) ∙ found)

@@ -3,9 +3,8 @@ use Rattle.std.specs.Prelude.{ℕ, List, [], ◌∷◌, if◌then◌else◌, cod
 use Rattle.std.specs.List.{flat_map}
 use Rattle.std.specs.Str.{bytes_eq}
 use Rattle.km_names.specs.Space.{first_word, rest_after_word, words}
-use Rattle.km_names.specs.Statements.{parsed}
+use Rattle.km_names.specs.Statements.{LinePlace, parsed}
 use Rattle.km_names.specs.declared.conf.ConfFile.{ConfFile}
-use Rattle.km_names.specs.declared.conf.ConfFault.{ConfFault}
 
 -- The words of a line, if there is one.
 abbrev pub some_words : List (List ℕ) → Option (List (List ℕ))
@@ -22,10 +21,10 @@ words_of_lines [] = codes "updates" ∷ codes "built-in" ∷ []
 words_of_lines (line ∷ lines) = flat_map (λ words. words) (line ∷ lines)
 
 -- The search list of the lines, unless one isn't understood.
-abbrev pub search_of_lines : Result (List (List (List ℕ))) ConfFault → Result (List (List ℕ)) ConfFault
+abbrev pub search_of_lines : Result (List (List (List ℕ))) LinePlace → Result (List (List ℕ)) LinePlace
 search_of_lines (Ok lines) = Ok (words_of_lines lines)
-search_of_lines (Err fault) = Err fault
+search_of_lines (Err place) = Err place
 
--- The search list of the files, or the first line that isn't understood.
-unfoldable pub search_of : List ConfFile → Result (List (List ℕ)) ConfFault
+-- The search list of the files, or the place of the first line that isn't understood.
+unfoldable pub search_of : List ConfFile → Result (List (List ℕ)) LinePlace
 search_of files = search_of_lines (parsed search_line files)

@@ -1,5 +1,7 @@
-ghost use Rattle.std.specs.Prelude.{◌≡◌, ◌≤◌, ◌⊎◌, ◌++◌, length, All, IfOk, IfErr, OnOk};
+ghost use Rattle.std.specs.Prelude.{◌≡◌, ◌≤◌, ◌⊎◌, ◌++◌, length, option_map, All, IfOk, IfErr, OnOk};
+ghost use Rattle.std.specs.Result.{result_err};
 ghost use Rattle.km_names.specs.Limit.{file_limit};
+ghost use Rattle.km_names.specs.Statements.{line_fault};
 ghost use Rattle.mod_tree.specs.Search.{search_of, words_of_lines};
 
 use km_names::{
@@ -24,7 +26,8 @@ pub fn parse_search(alloc: Global, files: &ConfFiles) -> Result<Search, ConfFaul
     requires { All (λ file. length file.bytes ≤ file_limit) files.now }
     ensures ok { IfOk result (λ search. search_of files.now ≡ Ok search) }
     ensures err { IfErr result (λ fault.
-        (fault ≡ ConfFault.Memory) ⊎ (search_of files.now ≡ Err fault)) }
+        (fault ≡ ConfFault.Memory)
+        ⊎ (option_map line_fault (result_err (search_of files.now)) ≡ Some fault)) }
 {
     let lines = parse_files(alloc, files)?;
     Ok(words_of_lines(alloc, &lines)?)

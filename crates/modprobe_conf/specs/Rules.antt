@@ -6,9 +6,8 @@ use Rattle.std.specs.Str.{bytes_eq}
 use Rattle.km_names.specs.Path.{underscored}
 use Rattle.km_names.specs.AliasForm.{normal_alias}
 use Rattle.km_names.specs.Space.{first_word, rest_after_word, words}
-use Rattle.km_names.specs.Statements.{parsed}
+use Rattle.km_names.specs.Statements.{LinePlace, parsed}
 use Rattle.km_names.specs.declared.conf.ConfFile.{ConfFile}
-use Rattle.km_names.specs.declared.conf.ConfFault.{ConfFault}
 use Rattle.modprobe_conf.specs.declared.rule.Command.{Command}
 use Rattle.modprobe_conf.specs.declared.rule.Command.TheVariants as commands
 use Rattle.modprobe_conf.specs.declared.rule.Named.{Named}
@@ -78,6 +77,7 @@ rule_of_command commands.Softdep rest = softdep_rule rest
 unfoldable pub rule_of : List ℕ → Option Rule
 rule_of text = option_and_then (λ command. rule_of_command command (rest_after_word text)) (command_of (first_word text))
 
--- The rules of the files, one for each line, in order, or the first line that isn't understood.
-abbrev pub rules_of : List ConfFile → Result (List Rule) ConfFault
+-- The rules of the files, one for each line, in order, or the place of the first line that isn't
+-- understood.
+abbrev pub rules_of : List ConfFile → Result (List Rule) LinePlace
 rules_of files = parsed rule_of files

@@ -4,8 +4,10 @@
 //! The crate uses `km_names`, which joins the lines and names the first one that isn't understood.
 #![tactic(auto)]
 
-ghost use Rattle.std.specs.Prelude.{◌≡◌, ◌≤◌, ◌⊎◌, length, All, IfOk, IfErr};
+ghost use Rattle.std.specs.Prelude.{◌≡◌, ◌≤◌, ◌⊎◌, length, option_map, All, IfOk, IfErr};
+ghost use Rattle.std.specs.Result.{result_err};
 ghost use Rattle.km_names.specs.Limit.{file_limit};
+ghost use Rattle.km_names.specs.Statements.{line_fault};
 ghost use Rattle.modprobe_conf.specs.Rules.{rules_of};
 
 mod rule;
@@ -22,7 +24,8 @@ pub fn parse(alloc: Global, files: &ConfFiles) -> Result<Rules, ConfFault>
     requires { All (λ file. length file.bytes ≤ file_limit) files.now }
     ensures ok { IfOk result (λ rules. rules_of files.now ≡ Ok rules) }
     ensures err { IfErr result (λ fault.
-        (fault ≡ ConfFault.Memory) ⊎ (rules_of files.now ≡ Err fault)) }
+        (fault ≡ ConfFault.Memory)
+        ⊎ (option_map line_fault (result_err (rules_of files.now)) ≡ Some fault)) }
 {
     parse_files(alloc, files)
 }

@@ -1,3 +1,4 @@
 pub mod FileSteps
 pub mod TableSteps
+pub mod StatedSteps
 pub mod ConfigurationSteps

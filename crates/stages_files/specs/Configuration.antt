@@ -5,13 +5,14 @@ use Rattle.std.specs.List.{ends_with}
 use Rattle.std.specs.FinMap as fin
 use Rattle.std.specs.Global.{Vec}
 use Rattle.km_names.specs.Path.{path_below}
+use Rattle.km_names.specs.Statements.{LinePlace}
 use Rattle.km_names.specs.declared.conf.ConfFile.{ConfFile}
 use Rattle.km_names.specs.declared.conf.ConfFault.{ConfFault}
 use Rattle.km_names.specs.declared.conf.ConfFault.TheVariants as faults
 use Rattle.km_outside.specs.Contents.{by_bytes}
 use Rattle.km_course.specs.Course.{Outcome, Stage, ◌>>=◌, gives, when◌then◌else◌, each_from, reads, lists_conf, lists_any_conf}
 use Rattle.km_course.specs.Course.Outcome.{value, end}
-use Rattle.km_course.specs.declared.end.End.TheVariants.{Refused, NotUnderstood}
+use Rattle.km_course.specs.declared.end.End.TheVariants.{Refused}
 use Rattle.km_course.specs.declared.refusal.Refusal.TheVariants.{BadLine}
 use Rattle.km_course.specs.declared.stop.Stop.{Stop}
 use Rattle.km_course.specs.declared.stop.Stop.TheVariants.{Ended, Memory}
@@ -86,12 +87,11 @@ reads_configuration tool None = do
   folders ← lists_folders (folder_name tool) roots
   reads_listed folders
 
--- The outcome of reading files that state this: the statements, or the refusal of the first line
--- that isn't understood. Files never state the fault of memory.
-abbrev pub stated_outcome : {X : Type 0} → Result X ConfFault → Outcome X
+-- The outcome of reading files that state this, or whose first line that isn't understood is at this
+-- place: the statements, or the refusal of the line.
+abbrev pub stated_outcome : {X : Type 0} → Result X LinePlace → Outcome X
 stated_outcome (Ok stated) = value stated
-stated_outcome (Err (faults.BadLine file number)) = end (Refused (BadLine file number))
-stated_outcome (Err faults.Memory) = end NotUnderstood
+stated_outcome (Err place) = end (Refused (BadLine place.file place.number))
 
 -- The stop of a command for a fault of configuration files.
 abbrev pub stop_of : ConfFault → Stop

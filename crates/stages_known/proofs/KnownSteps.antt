@@ -1,14 +1,11 @@
 -- The stages that read what modprobe knows, joined.
-use Rattle.std.proofs.Common.{◌≡◌, ℕ, List, [], ◌∷◌, ◌++◌, sym, ap, subst, inl, inr}
-use Rattle.std.specs.Prelude.{codes, Option, Some, None, Result, Ok, Err, ◌⊎◌}
+use Rattle.std.proofs.Common.{◌≡◌, ℕ, List, [], ◌∷◌, ◌++◌, sym, subst}
+use Rattle.std.specs.Prelude.{codes, Option, Some, None, Result, Ok}
 use Rattle.km_names.specs.Path.{path_below}
 use Rattle.km_names.specs.declared.conf.ConfFile.{ConfFile}
-use Rattle.km_names.specs.declared.conf.ConfFault.{ConfFault}
-use Rattle.km_names.specs.declared.conf.ConfFault.TheVariants as faults
 use Rattle.km_course.specs.Course.{Stage, ◌>>=◌, given, gives, reads, reads_any}
-use Rattle.km_course.specs.Course.Outcome.{value}
 use Rattle.km_course.specs.World.{World}
-use Rattle.km_course.specs.Follows.{Answers, Follows}
+use Rattle.km_course.specs.Follows.{Follows}
 use Rattle.km_course.specs.declared.stop.Stop.{Stop}
 use Rattle.km_course.proofs.Steps.{gave}
 use Rattle.index_read.specs.declared.index.Index.{Index}
@@ -19,20 +16,9 @@ use Rattle.name_lookup.specs.declared.indexes.Indexes.{Indexes}
 use Rattle.symbol_binding.specs.declared.unbound.Unbound.{Unbound}
 use Rattle.unmet_file.specs.Unmet.{unmet_of}
 use Rattle.stages_files.specs.IndexFile.{reads_index}
-use Rattle.stages_files.specs.Configuration.{stated_outcome, stop_of}
+use Rattle.stages_files.specs.Configuration.{stated_outcome}
 use Rattle.stages_known.specs.declared.known.Known.{Known}
 use Rattle.stages_known.specs.Known.{reads_index_in, reads_indexes, reads_unmet, reads_loaded, reads_rules, reads_lists}
-
--- what was stated
-pub stated_ok : {X : Type 0} (o : Result X ConfFault) (x : X) → o ≡ Ok x → stated_outcome o ≡ value x
-stated_ok o x is = ap stated_outcome is
-
--- a fault is out of memory, or the first line that isn't understood
-pub stated_fault : {X : Type 0} (o : Result X ConfFault) (fault : ConfFault) (stop : Stop) → stop ≡ stop_of fault → (fault ≡ faults.Memory) ⊎ (o ≡ Err fault) → Answers (λ (x : X). x) (stated_outcome o) (Err stop)
-stated_fault {X} o faults.Memory stop is why = subst (λ s. Answers (λ (x : X). x) (stated_outcome o) (Err s)) (sym is) tt
-stated_fault {X} o (faults.BadLine file number) stop is (inl wanting) = absurd (cc)
-stated_fault {X} o (faults.BadLine file number) stop is (inr bad) =
-    subst (λ s. Answers (λ (x : X). x) (stated_outcome o) (Err s)) (sym is) (ap stated_outcome bad)
 
 -- the stage after the configuration was read, and after it was understood
 abbrev pub after_rules : List ℕ → Option (List ℕ) → List Rule → Stage Known

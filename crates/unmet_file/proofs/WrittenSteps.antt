@@ -13,7 +13,7 @@ use Rattle.unmet_file.specs.Line.{front, rest, two_words, three_words, three_tex
 use Rattle.unmet_file.specs.Unmet.{file_text, stated_lines, AreReadBack, IsReadAsWritten}
 use Rattle.unmet_file.proofs.WordSteps.{both_hold, two-back, three-back, joined, two-written, three-written}
 use Rattle.unmet_file.proofs.TextLines.{is_one_line, one-two, one-three, line-first}
-use Rattle.unmet_file.proofs.LineSteps.{fault_at, fault-begins, fault-none, fault-passed, all-read}
+use Rattle.unmet_file.proofs.LineSteps.{place_at, place-begins, place-none, place-passed, all-read}
 
 -- the words of a line, one by one
 two-names : (a b : List ℕ) → (is_graphic a && (is_graphic b && true)) ≡ true → (is_graphic a ≡ true) × (is_graphic b ≡ true)
@@ -78,18 +78,18 @@ stated-back (line ∷ lines) h =
     ∙ ap (λ ls. line ∷ ls) (stated-back lines p.1)
 
 -- and none of them is bad
-none-bad : (file : List ℕ) (number : ℕ) (lines : List Unbound) → All (λ l. is_line l ≡ true) lines → fault_at file number (lines_of (file_text lines)) ≡ None
-none-bad file number [] h = ap (fault_at file number) no-text ∙ fault-none file number
+none-bad : (file : List ℕ) (number : ℕ) (lines : List Unbound) → All (λ l. is_line l ≡ true) lines → place_at file number (lines_of (file_text lines)) ≡ None
+none-bad file number [] h = ap (place_at file number) no-text ∙ place-none file number
 none-bad file number (line ∷ lines) h =
     let p = all-lines line lines h in
-    ap (fault_at file number) (lines-first line lines p.0)
-    ∙ fault-passed file number (line_text line) (lines_of (file_text lines)) line (sym (line-back line p.0))
+    ap (place_at file number) (lines-first line lines p.0)
+    ∙ place-passed file number (line_text line) (lines_of (file_text lines)) line (sym (line-back line p.0))
     ∙ none-bad file (number + 1) lines p.1
 
 pub all-back : AreReadBack
 unfolding stated_lines
 all-back file lines h =
-    all-read file (file_text lines) lines (sym (fault-begins file (file_text lines)) ∙ none-bad file 1 lines h) (stated-back lines h)
+    all-read file (file_text lines) lines (sym (place-begins file (file_text lines)) ∙ none-bad file 1 lines h) (stated-back lines h)
 
 -- the first word of a line, before the others
 named-first : (text name others : List ℕ) → bytes_eq (front text) name ≡ true → others ≡ rest text → 0 < length (rest text) → name ++ 32 ∷ others ≡ text

@@ -2,9 +2,7 @@
 use Rattle.std.specs.Prelude.{◌≡◌, ℕ, ◌+◌, true, All, List, [], ◌∷◌, ◌++◌, Option, Some, option_map, is_none, Result, Ok}
 use Rattle.std.specs.List.{flat_map, filter_map, position}
 use Rattle.km_names.specs.Lines.{lines_of}
-use Rattle.km_names.specs.Statements.{unless_fault}
-use Rattle.km_names.specs.declared.conf.ConfFault.{ConfFault}
-use Rattle.km_names.specs.declared.conf.ConfFault.TheVariants.{BadLine}
+use Rattle.km_names.specs.Statements.{LinePlace, unless_fault}
 use Rattle.symbol_binding.specs.declared.unbound.Unbound.{Unbound}
 use Rattle.unmet_file.specs.Line.{line_text, is_line, unmet_line}
 
@@ -12,17 +10,18 @@ use Rattle.unmet_file.specs.Line.{line_text, is_line, unmet_line}
 unfoldable pub file_text : List Unbound → List ℕ
 file_text lines = flat_map (λ line. line_text line ++ 10 ∷ []) lines
 
--- The first line of the text that isn't understood, with the path of the file and the line's number
--- from 1.
-unfoldable pub bad_line : List ℕ → List ℕ → Option ConfFault
-bad_line file text = option_map (λ i. BadLine file (i + 1)) (position (λ line. is_none (unmet_line line)) (lines_of text))
+-- The place of the first line of the text that isn't understood, in the file at the path.
+unfoldable pub bad_line : List ℕ → List ℕ → Option LinePlace
+bad_line file text =
+    option_map (λ i. record { file = file; number = i + 1 }) (position (λ line. is_none (unmet_line line)) (lines_of text))
 
 -- What the lines of the text state, in order.
 unfoldable pub stated_lines : List ℕ → List Unbound
 stated_lines text = filter_map unmet_line (lines_of text)
 
--- What a file of this path and text states: its lines, unless one isn't understood.
-unfoldable pub unmet_of : List ℕ → List ℕ → Result (List Unbound) ConfFault
+-- What a file of this path and text states: its lines, or the place of the first one that isn't
+-- understood.
+unfoldable pub unmet_of : List ℕ → List ℕ → Result (List Unbound) LinePlace
 unmet_of file text = unless_fault (bad_line file text) (stated_lines text)
 
 -- What is written is read back.

@@ -1,5 +1,7 @@
-ghost use Rattle.std.specs.Prelude.{◌≡◌, ◌≤◌, ◌⊎◌, ◌↔◌, [], ◌∷◌, ◌++◌, Ok, Err, length, IsNone, IfOk, IfErr, OnOk, OnErr, slice_get, option_copied};
+ghost use Rattle.std.specs.Prelude.{◌≡◌, ◌≤◌, ◌⊎◌, ◌↔◌, [], ◌∷◌, ◌++◌, Some, Ok, length, IsNone, IfOk, IfErr, OnOk, OnErr, slice_get, option_copied, option_map};
+ghost use Rattle.std.specs.Result.{result_err};
 ghost use Rattle.km_names.specs.Limit.{file_limit};
+ghost use Rattle.km_names.specs.Statements.{line_fault};
 ghost use Rattle.unmet_file.specs.Unmet.{unmet_of};
 
 use crate::line::read_line;
@@ -50,7 +52,8 @@ impl Unmet {
         requires { length bytes.now ≤ file_limit }
         ensures ok { IfOk result (λ unmet. unmet_of file.now bytes.now ≡ Ok unmet) }
         ensures err { IfErr result (λ fault.
-            (fault ≡ ConfFault.Memory) ⊎ (unmet_of file.now bytes.now ≡ Err fault)) }
+            (fault ≡ ConfFault.Memory)
+            ⊎ (option_map line_fault (result_err (unmet_of file.now bytes.now)) ≡ Some fault)) }
     {
         let mut lines = Obstacles::new(alloc);
         let mut rest = bytes;

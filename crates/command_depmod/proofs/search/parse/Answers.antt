@@ -1,10 +1,8 @@
-use Rattle.std.proofs.Common.{ap}
-use Rattle.stages_files.specs.Configuration.{stated_outcome}
-use Rattle.command_depmod.proofs.SearchSteps.{understood_not}
+use Rattle.stages_files.proofs.StatedSteps.{stated_ok, stated_fault}
 use Rattle.command_depmod.proofs.search.parse.Goals as goal
 
 pub returns-in-Ok : goal.returns-in-Ok
-returns-in-Ok c = ap stated_outcome c.in-Ok.ensures.ok
+returns-in-Ok c = stated_ok _ c.in-Ok.search c.in-Ok.ensures.ok
 
 pub returns-in-Err : goal.returns-in-Err
-returns-in-Err c = understood_not _ c.in-Err.fault c.stop_of_fault.result c.in-Err.ensures.err c.stop_of_fault.ensures
+returns-in-Err c = stated_fault _ c.in-Err.fault c.stop_of_fault.result c.stop_of_fault.ensures c.in-Err.ensures.err

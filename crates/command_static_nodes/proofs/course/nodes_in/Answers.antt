@@ -1,5 +1,5 @@
 use Rattle.devname_nodes.specs.File.{read_of}
-use Rattle.command_static_nodes.proofs.NodeSteps.{stated_ok, stated_fault}
+use Rattle.stages_files.proofs.StatedSteps.{stated_ok, stated_fault}
 use Rattle.command_static_nodes.proofs.course.nodes_in.Goals as goal
 
 pub returns-in-Ok : goal.returns-in-Ok

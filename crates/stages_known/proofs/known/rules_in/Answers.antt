@@ -1,5 +1,5 @@
 use Rattle.modprobe_conf.specs.Rules.{rules_of}
-use Rattle.stages_known.proofs.KnownSteps.{stated_ok, stated_fault}
+use Rattle.stages_files.proofs.StatedSteps.{stated_ok, stated_fault}
 use Rattle.stages_known.proofs.known.rules_in.Goals as goal
 
 pub returns-in-Ok : goal.returns-in-Ok

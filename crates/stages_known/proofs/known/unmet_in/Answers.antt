@@ -1,5 +1,5 @@
 use Rattle.unmet_file.specs.Unmet.{unmet_of}
-use Rattle.stages_known.proofs.KnownSteps.{stated_ok, stated_fault}
+use Rattle.stages_files.proofs.StatedSteps.{stated_ok, stated_fault}
 use Rattle.stages_known.proofs.known.unmet_in.Goals as goal
 
 pub returns-in-Ok : goal.returns-in-Ok
