@@ -10,17 +10,10 @@
 //! the text that each can reach so far. So what keys begin with in common is matched once.
 //!
 //! A small file may have a map of any size. So the lookups in all keys count the bytes of the list
-<<<<<<< HEAD
 //! that they answer, and past 268,435,456 they are out of memory. A listing writes a key only where
-//! it has a value. The bytes that are matched with a text take 17,179,869,184 steps at most. Where a
-//! long prefix is met, the runs of the file are found first. So a run of `*`, or of the items of a
-//! set, is matched as one, also if many prefixes end with it.
-=======
-//! that they answer, and of a listing the prefixes that it goes over. Past 268,435,456 they are out
-//! of memory. The bytes that are matched with a text take 17,179,869,184 steps at most. Once
+//! it has a value. The bytes that are matched with a text take 17,179,869,184 steps at most. Once
 //! about as many were read as the file has, the runs of the file are found before a long prefix. So
 //! a run of `*`, or of the items of a set, is matched as one, also if many prefixes end with it.
->>>>>>> 6756e553 (index_read: the runs of a file are found once a lookup has read as many bytes as the file has)
 //!
 //! Each node that is read is a step on the ledger that the caller gives; the lookups of [`plain`]
 //! and [`first_values`] count nothing. The crate builds on `index_nodes`, which reads the nodes, on
