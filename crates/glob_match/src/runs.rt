@@ -139,7 +139,8 @@ impl Runs {
         Ok(())
     }
 
-    /// Returns up to which place there are only `*`, or one before it that is past the next block.
+    /// Returns up to which place there are only `*`. Where no block is known, it is one before that if
+    /// there are more than a block has.
     pub(crate) fn end(&self, bytes: &[u8], start: usize, to: usize) -> usize
         requires runs { AreRuns bytes.now self.now }
         requires order { start ≤ to }
@@ -149,7 +150,7 @@ impl Runs {
     {
         let next = start / BLOCK + 1;
         if next >= self.ends.len() || next * BLOCK > to {
-            return near_end(bytes, start, to);
+            return near_end(bytes, start, start.saturating_add(BLOCK).min(to));
         }
         let end = earlier_end(bytes, start, next * BLOCK, self.ends[next]);
         end.min(to)
