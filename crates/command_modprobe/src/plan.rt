@@ -3,7 +3,7 @@ ghost use Rattle.std.specs.Prelude.{◌≡◌, ◌∷◌, ◌++◌, ◌⊎◌, [
 ghost use Rattle.km_course.specs.Course.{says_any};
 ghost use Rattle.km_course.specs.FollowsOn.{FollowsOnFilesAndOut, FollowsOnOut, Returns};
 ghost use Rattle.km_course.specs.declared.end.End.TheVariants.{Refused};
-ghost use Rattle.km_course.specs.declared.refusal.Refusal.TheVariants.{Obstacle};
+ghost use Rattle.km_course.specs.declared.refusal.Refusal.TheVariants.{Obstacle as Obstacle_spec};
 ghost use Rattle.km_course.specs.declared.stop.Stop.TheVariants.{Ended, Memory};
 ghost use Rattle.plan_builder.specs.declared.obstacle.Obstacle.TheVariants as obstacles;
 ghost use Rattle.plan_builder.specs.Text.{obstacle_text};
@@ -86,7 +86,7 @@ fn plan_with(
 
 /// Returns how an obstacle stops the command: by the refusal that carries its text.
 fn refused(alloc: Global, obstacle: &Obstacle) -> Stop
-    ensures { (result ≡ Memory) ⊎ ((result ≡ Ended (Refused (Obstacle (obstacle_text obstacle.now)))) × ¬ (obstacle.now ≡ obstacles.Memory)) }
+    ensures { (result ≡ Memory) ⊎ ((result ≡ Ended (Refused (Obstacle_spec (obstacle_text obstacle.now)))) × ¬ (obstacle.now ≡ obstacles.Memory)) }
 {
     if matches!(obstacle, Obstacle::Memory) {
         return Stop::Memory;
