@@ -5,3 +5,4 @@ pub mod Follows
 pub mod FollowsOn
 pub mod Carries
 pub mod Inner
+pub mod Conclusion

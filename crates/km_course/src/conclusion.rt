@@ -1,6 +1,7 @@
 ghost use Rattle.std.specs.Prelude.{◌≡◌, ◌++◌, Err, IfOk, OnErr};
 ghost use Rattle.km_outside.specs.OutSeen.{WriteAnswers};
 ghost use Rattle.km_course.specs.Carries.{Closes, Concludes, IsRefused, SaysOf, WritesLine, stop_line, stop_status, unwritten_status};
+ghost use Rattle.km_course.specs.Conclusion.{conclusion_status};
 ghost use Rattle.km_course.specs.Lines.{end_line};
 ghost use Rattle.km_course.specs.declared.stop.Stop.TheVariants.{Ended, Memory};
 
@@ -9,19 +10,38 @@ use km_names::Blob;
 use km_outside::{Out, OutFailed};
 use std::alloc::{AllocError, Global};
 
-/// The status of a command that reached its end.
-const DONE: u8 = 0;
-/// The status of a refusal.
-const REFUSED: u8 = 1;
-/// The status of words that weren't understood.
-const NOT_UNDERSTOOD: u8 = 2;
-/// The status after a call on files or an output failed.
-const FAULT: u8 = 3;
-/// The status after running out of memory.
-const OUT_OF_MEMORY: u8 = 4;
-
 /// The line of a command that ran out of memory.
 const MEMORY_LINE: &[u8] = b"kmod: out of memory\n";
+
+/// How a command was concluded, which is what its exit status says.
+#[derive(Clone, Copy, Debug, PartialEq, Eq)]
+pub enum Conclusion {
+    /// The command reached its end: status 0.
+    Done,
+    /// It was refused, or a file that it needs is missing or too large: status 1.
+    Refused,
+    /// Its words weren't understood: status 2.
+    NotUnderstood,
+    /// A call on files or an output failed: status 3.
+    Fault,
+    /// Out of memory: status 4.
+    OutOfMemory,
+}
+
+impl Conclusion {
+    /// Returns the exit status.
+    fn status(self) -> u8
+        ensures { result ≡ conclusion_status self }
+    {
+        match self {
+            Conclusion::Done => 0,
+            Conclusion::Refused => 1,
+            Conclusion::NotUnderstood => 2,
+            Conclusion::Fault => 3,
+            Conclusion::OutOfMemory => 4,
+        }
+    }
+}
 
 /// Writes the line of a command's stop to err and returns the exit status. If the line can't be
 /// written the status is 3, or 4 if the command or the text of its refusal ran out of memory. The
@@ -29,20 +49,28 @@ const MEMORY_LINE: &[u8] = b"kmod: out of memory\n";
 pub fn conclude<E: Out>(alloc: Global, outcome: Result<(), Stop>, err: &mut E) -> u8
     ensures { Concludes outcome (E.seen err.old) (E.seen err.new) result }
 {
+    concluded(alloc, outcome, err).status()
+}
+
+/// Writes the line of a command's stop to err, as [`conclude`] does, and returns the conclusion
+/// that the exit status stands for.
+pub fn concluded<E: Out>(alloc: Global, outcome: Result<(), Stop>, err: &mut E) -> Conclusion
+    ensures { Concludes outcome (E.seen err.old) (E.seen err.new) (conclusion_status result) }
+{
     match outcome {
-        Ok(()) => DONE,
+        Ok(()) => Conclusion::Done,
         Err(stop) => {
-            let status = conclude_stop(alloc, &stop, err);
+            let conclusion = conclude_stop(alloc, &stop, err);
             drop(stop);
-            status
+            conclusion
         }
     }
 }
 
-/// Writes the line of the stop to err and returns the status. If the text of a refusal can't be
+/// Writes the line of the stop to err and returns the conclusion. If the text of a refusal can't be
 /// made, it is the line for that.
-fn conclude_stop<E: Out>(alloc: Global, stop: &Stop, err: &mut E) -> u8
-    ensures { Concludes (Err stop.now) (E.seen err.old) (E.seen err.new) result }
+fn conclude_stop<E: Out>(alloc: Global, stop: &Stop, err: &mut E) -> Conclusion
+    ensures { Concludes (Err stop.now) (E.seen err.old) (E.seen err.new) (conclusion_status result) }
 {
     match said(alloc, stop) {
         Ok(text) => close(err, stop, text.as_bytes()),
@@ -50,12 +78,12 @@ fn conclude_stop<E: Out>(alloc: Global, stop: &Stop, err: &mut E) -> u8
     }
 }
 
-/// Writes the line for want of memory to err, and returns its status.
-fn close_memory<E: Out>(err: &mut E) -> u8
-    ensures { Closes Memory (E.seen err.old) (E.seen err.new) result }
+/// Writes the line for want of memory to err, and returns its conclusion.
+fn close_memory<E: Out>(err: &mut E) -> Conclusion
+    ensures { Closes Memory (E.seen err.old) (E.seen err.new) (conclusion_status result) }
 {
     let _ = err.write(MEMORY_LINE);
-    OUT_OF_MEMORY
+    Conclusion::OutOfMemory
 }
 
 /// Returns the text of the refusal, and nothing if the stop isn't a refusal.
@@ -75,38 +103,41 @@ fn said(alloc: Global, stop: &Stop) -> Result<Blob, AllocError>
     }
 }
 
-/// Writes the line of the stop to err, and returns the status. The text is the refusal's, if the
-/// stop is one.
-fn close<E: Out>(err: &mut E, stop: &Stop, text: &[u8]) -> u8
+/// Writes the line of the stop to err, and returns the conclusion. The text is the refusal's, if
+/// the stop is one.
+fn close<E: Out>(err: &mut E, stop: &Stop, text: &[u8]) -> Conclusion
     requires { SaysOf stop.now text.now }
-    ensures { Closes stop.now (E.seen err.old) (E.seen err.new) result }
+    ensures { Closes stop.now (E.seen err.old) (E.seen err.new) (conclusion_status result) }
 {
     match write_line(err, stop, text) {
-        Ok(()) => status(stop),
-        Err(_) => status_unwritten(stop),
+        Ok(()) => written(stop),
+        Err(_) => unwritten(stop),
     }
 }
 
-fn status(stop: &Stop) -> u8
-    ensures { result ≡ stop_status stop.now }
+/// Returns the conclusion of a stop whose line was written.
+fn written(stop: &Stop) -> Conclusion
+    ensures { conclusion_status result ≡ stop_status stop.now }
 {
     match stop {
-        Stop::Ended(End::NotUnderstood) => NOT_UNDERSTOOD,
+        Stop::Ended(End::NotUnderstood) => Conclusion::NotUnderstood,
         Stop::Ended(
             End::Refused(_) | End::NoFile { .. } | End::TooLarge { .. } | End::Inner { .. },
-        ) => REFUSED,
-        Stop::FileFault { .. } | Stop::OutputFault | Stop::WarningFault => FAULT,
-        Stop::Memory => OUT_OF_MEMORY,
+        ) => Conclusion::Refused,
+        Stop::FileFault { .. } | Stop::OutputFault | Stop::WarningFault => Conclusion::Fault,
+        Stop::Memory => Conclusion::OutOfMemory,
     }
 }
 
-fn status_unwritten(stop: &Stop) -> u8
-    ensures { result ≡ unwritten_status stop.now }
+/// Returns the conclusion of a stop whose line couldn't be written.
+fn unwritten(stop: &Stop) -> Conclusion
+    ensures { conclusion_status result ≡ unwritten_status stop.now }
 {
-    if status(stop) == OUT_OF_MEMORY {
-        OUT_OF_MEMORY
-    } else {
-        FAULT
+    match stop {
+        Stop::Ended(_) | Stop::FileFault { .. } | Stop::OutputFault | Stop::WarningFault => {
+            Conclusion::Fault
+        }
+        Stop::Memory => Conclusion::OutOfMemory,
     }
 }
 

@@ -12,7 +12,7 @@ mod refusal;
 mod stop;
 mod writing;
 
-pub use conclusion::conclude;
+pub use conclusion::{Conclusion, conclude, concluded};
 pub use end::End;
 pub use reading::{
     list_conf_needed, list_conf_optional, list_tree_needed, read_needed, read_needed_into,
