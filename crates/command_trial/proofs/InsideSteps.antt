@@ -1,7 +1,7 @@
 -- What a command inside a trial resulted in, as its course and its status say.
 use Rattle.std.proofs.Common.{◌≡◌, ℕ, ◌≤◌, true, List, ◌++◌, length, drop, refl, sym, ◌∙◌, ap, subst, arith, inl, inr}
 use Rattle.std.proofs.Math.Seq.{drop-append_seam}
-use Rattle.std.specs.Prelude.{Some, Result, Ok, Err, ⊤}
+use Rattle.std.specs.Prelude.{◌⊎◌, Some, Result, Ok, Err, ⊤}
 use Rattle.km_outside.specs.Contents.{Contents}
 use Rattle.km_outside.specs.MemFilesSeen.{MemFilesSeen, mem_files_seen, no_kind_listed}
 use Rattle.km_outside.specs.MemOutSeen.{MemOutSeen, empty_with_room, mem_out_seen, mem_out-within}
@@ -13,13 +13,40 @@ use Rattle.km_course.specs.World.{World, world, Shown, Tells, FitsRooms, done}
 use Rattle.km_course.specs.Follows.{Answers, Follows}
 use Rattle.km_course.specs.Carries.{Concludes, closed_status, stop_status, unwritten_status}
 use Rattle.km_course.specs.Inner.{Left, bare, inner_outcome}
+use Rattle.km_course.specs.Conclusion.{conclusion_status}
+use Rattle.km_course.specs.declared.conclusion.Conclusion.{Conclusion}
+use Rattle.km_course.specs.declared.conclusion.Conclusion.TheVariants as conclusions
 use Rattle.km_course.specs.declared.end.End.TheVariants.{Inner, NoFile, NotUnderstood, Refused, TooLarge}
+use Rattle.km_course.specs.declared.refusal.Refusal.TheVariants.{InnerOutputFull}
 use Rattle.km_course.specs.declared.stop.Stop.{Stop}
 use Rattle.km_course.specs.declared.stop.Stop.TheVariants.{Ended, FileFault, OutputFault, WarningFault, Memory}
 use Rattle.km_course.proofs.Carried.{carried}
 use Rattle.km_course.proofs.Inside.{Handed, InnerCame, done-calls, inner_came}
-use Rattle.command_trial.specs.Inside.{Came}
+use Rattle.command_trial.specs.Inside.{handed_on}
 use Rattle.command_trial.specs.Trial.{inner_room}
+
+-- The outcome is the one that the status states of a command that left these files and this output,
+-- and wrote this line.
+pub record Came (outcome : Outcome Left) (left : Left) (line : List ℕ) (status : ℕ) : Type 0 where
+  pub ended : status ≡ 0 → outcome ≡ value left
+  pub refused : status ≡ 1 → outcome ≡ end (Inner line)
+  pub misunderstood : status ≡ 2 → outcome ≡ end NotUnderstood
+  pub full : status ≡ 3 → outcome ≡ end (Refused InnerOutputFull)
+
+-- what is handed on answers the outcome
+answered_on : (conclusion : Conclusion) (outcome : Outcome Left) (left : Left) (line : List ℕ) → Came outcome left line (conclusion_status conclusion) → Answers (λ _. left) outcome (handed_on conclusion line)
+answered_on conclusions.Done outcome left line c = c.ended refl
+answered_on conclusions.Refused outcome left line c = c.refused refl
+answered_on conclusions.NotUnderstood outcome left line c = c.misunderstood refl
+answered_on conclusions.Fault outcome left line c = c.full refl
+answered_on conclusions.OutOfMemory outcome left line c = tt
+
+-- The outcome is answered by what is handed on, and by a want of memory.
+pub handed : (conclusion : Conclusion) (outcome : Outcome Left) (left : Left) (line : List ℕ) (result : Result ⊤ Stop) → Came outcome left line (conclusion_status conclusion) → (result ≡ handed_on conclusion line) ⊎ (result ≡ Err Memory) → Answers (λ _. left) outcome result
+handed conclusion outcome left line result c (inl is) =
+    subst (λ r. Answers (λ (x : ⊤). left) outcome r) (sym is) (answered_on conclusion outcome left line c)
+handed conclusion outcome left line result c (inr is) =
+    subst (λ r. Answers (λ (x : ⊤). left) outcome r) (sym is) tt
 
 same-some : {A : Type 0} (a b : A) → Some a ≡ Some b → a ≡ b
 same-some a b is = cc

@@ -8,11 +8,11 @@ ghost use Rattle.command_modprobe.specs.Modprobe.{modprobe_course};
 ghost use Rattle.command_trial.specs.Trial.{inner_room};
 ghost use Rattle.command_trial.specs.Words.{depmod_words, modprobe_words};
 
-use crate::status::{bytes_from, hand_on};
+use crate::handed::{bytes_from, hand_on};
 use crate::words::{depmod_words, modprobe_words};
 use command_depmod::depmod;
 use command_modprobe::modprobe;
-use km_course::{Stop, conclude};
+use km_course::{Stop, concluded};
 use km_outside::{MemFiles, MemOut};
 use std::alloc::Global;
 
@@ -32,8 +32,8 @@ pub(crate) fn index_made(alloc: Global, files: &mut MemFiles) -> Result<MemOut, 
     let mut err = MemOut::with_room(alloc, ROOM)?;
     let outcome = depmod(alloc, words.as_slice(), files, &mut out, &mut err);
     let warned = err.bytes().len();
-    let status = conclude(alloc, outcome, &mut err);
-    hand_on(alloc, status, bytes_from(err.bytes(), warned))?;
+    let conclusion = concluded(alloc, outcome, &mut err);
+    hand_on(alloc, conclusion, bytes_from(err.bytes(), warned))?;
     Ok(out)
 }
 
@@ -49,7 +49,7 @@ pub(crate) fn load_made(alloc: Global, count: u32, files: &mut MemFiles) -> Resu
     let mut out = MemOut::with_room(alloc, ROOM)?;
     let mut err = MemOut::with_room(alloc, ROOM)?;
     let outcome = modprobe(alloc, words.as_slice(), files, &mut out);
-    let status = conclude(alloc, outcome, &mut err);
-    hand_on(alloc, status, err.bytes())?;
+    let conclusion = concluded(alloc, outcome, &mut err);
+    hand_on(alloc, conclusion, err.bytes())?;
     Ok(out)
 }

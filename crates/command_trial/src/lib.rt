@@ -4,14 +4,14 @@
 //!
 //! It builds on `kmod_words` for what the words ask for, on `tree_gen` for the tree, and on
 //! `command_depmod` and `command_modprobe` for the commands inside. They write to outputs in memory
-//! with a known capacity. It builds on `km_course` for what their statuses say, and on `sha2` and
+//! with a known capacity. It builds on `km_course` for how they are concluded, and on `sha2` and
 //! `hex` for the digest of the images.
 #![tactic(auto)]
 
 mod course;
+mod handed;
 mod inside;
 mod lines;
-mod status;
 mod summary;
 mod words;
 

@@ -1,0 +1,31 @@
+// How a trial goes on after a command inside.
+ghost use Rattle.std.specs.Prelude.{◌≡◌, ◌⊎◌, Err, drop};
+ghost use Rattle.km_course.specs.declared.stop.Stop.TheVariants.{Memory};
+ghost use Rattle.command_trial.specs.Inside.{handed_on};
+
+use km_course::{Conclusion, End, Refusal, Stop};
+use km_names::Blob;
+use std::alloc::Global;
+
+/// Returns how a command inside stops the trial, by its conclusion and the line that it wrote. The
+/// trial goes on if the command is done.
+pub(crate) fn hand_on(alloc: Global, conclusion: Conclusion, line: &[u8]) -> Result<(), Stop>
+    ensures { (result ≡ handed_on conclusion line.now) ⊎ (result ≡ Err Memory) }
+{
+    match conclusion {
+        Conclusion::Done => Ok(()),
+        Conclusion::Refused => Err(Stop::from(End::Inner {
+            line: Blob::from_slice(alloc, line)?,
+        })),
+        Conclusion::NotUnderstood => Err(Stop::from(End::NotUnderstood)),
+        Conclusion::Fault => Err(Stop::from(Refusal::InnerOutputFull)),
+        Conclusion::OutOfMemory => Err(Stop::Memory),
+    }
+}
+
+/// Returns the bytes from a place on.
+pub(crate) fn bytes_from(bytes: &[u8], place: usize) -> &[u8]
+    ensures { result.now ≡ drop place bytes.now }
+{
+    bytes.get(place..).unwrap_or_default()
+}
