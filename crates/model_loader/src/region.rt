@@ -31,4 +31,13 @@ impl Region {
             None
         }
     }
+
+    /// Returns the region of `size` bytes from `base` on, which are known to be whole pages, at
+    /// least one, and not to exceed the last address of 64 bits.
+    pub fn of_pages(base: u64, size: u64) -> Region
+        requires pages { IsRegion base size }
+        ensures { span_of result ≡ record { base = base; size = size } }
+    {
+        Region { base, size }
+    }
 }
