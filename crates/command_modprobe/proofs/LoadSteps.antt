@@ -48,25 +48,13 @@ abbrev pub after_machine : List ℕ → Images → Request → Known → Machine
 after_machine folder images request known machine = loads_request folder images request known machine
 
 -- what is asked for, where its folder, its images, its request and its Module.symvers are these
-pub loads-asked : (asked : ModprobeWords) (folder : List ℕ) (images : Images) (request : Request) (system_map : List ℕ) (symvers : Option (List ℕ)) (region : Region) (old new : World) (r : Result ⊤ Stop) → folder ≡ modules_folder asked.dirname asked.version → images ≡ images_asked asked → request ≡ request_of asked → symvers ≡ asked.symvers → Follows (λ x. x) (reads_known asked.config (modules_folder asked.dirname asked.version) asked.loaded >>= loads_known folder images request system_map symvers region) old new r → Follows (λ x. x) (loads_into asked (Some system_map) (Some region)) old new r
+pub loads-asked : (asked : ModprobeWords) (folder : List ℕ) (images : Images) (request : Request) (system_map : List ℕ) (symvers : Option (List ℕ)) (region : Region) (old new : World) (r : Result ⊤ Stop) → folder ≡ modules_folder asked.dirname asked.version → images ≡ images_asked asked → request ≡ request_of asked → symvers ≡ asked.symvers → Follows (λ x. x) (reads_known asked.config (modules_folder asked.dirname asked.version) asked.loaded >>= loads_known folder images request system_map symvers region) old new r → Follows (λ x. x) (loads_into asked system_map region) old new r
 loads-asked asked folder images request system_map symvers region old new r place shown what table f =
     let known = reads_known asked.config (modules_folder asked.dirname asked.version) asked.loaded in
     along (λ p. known >>= loads_known p (images_asked asked) (request_of asked) system_map asked.symvers region) folder (modules_folder asked.dirname asked.version) place
     (along (λ i. known >>= loads_known folder i (request_of asked) system_map asked.symvers region) images (images_asked asked) shown
     (along (λ q. known >>= loads_known folder images q system_map asked.symvers region) request (request_of asked) what
     (along (λ s. known >>= loads_known folder images request system_map s region) symvers asked.symvers table f)))
-
--- what isn't understood
-pub misunderstood : (stage : Stage ⊤) (w : World) (stop : Stop) → ends NotUnderstood ≡ stage → stop ≡ Ended NotUnderstood → Follows (λ x. x) stage w w (Err stop)
-misunderstood stage w stop is ended =
-    subst (λ s. Follows (λ (x : ⊤). x) s w w (Err stop)) is
-    (answered (λ (x : ⊤). x) (end NotUnderstood) w (Err stop)
-    (subst (λ s. Answers (λ (x : ⊤). x) (end NotUnderstood) (Err s)) (sym ended) refl))
-
--- without a region nothing is understood, with a System.map or without
-pub no-region : (asked : ModprobeWords) (system_map : Option (List ℕ)) → loads_into asked system_map None ≡ ends NotUnderstood
-no-region asked None = refl
-no-region asked (Some system_map) = refl
 
 -- steps of which none runs a command
 pub insert-more : (steps : List PlanStep) (i : ℕ) (step : PlanStep) (inserts more : List Insertion) → drop i steps ≡ step ∷ drop (i + 1) steps → more ≡ inserts ++ inserted step → inserts ++ flat_map inserted (drop i steps) ≡ flat_map inserted steps → more ++ flat_map inserted (drop (i + 1) steps) ≡ flat_map inserted steps

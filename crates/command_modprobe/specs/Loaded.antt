@@ -8,9 +8,9 @@ use Rattle.model_loader.specs.Machine.{Machine}
 use Rattle.plan_builder.specs.declared.request.Request.{Request}
 use Rattle.plan_builder.specs.declared.step.PlanStep.{PlanStep}
 use Rattle.plan_builder.specs.declared.step.PlanStep.TheVariants.{Insert, Install, Builtin}
-use Rattle.km_course.specs.Course.{Outcome, Stage, ◌>>=◌, given, gives, ends, says_any}
+use Rattle.km_course.specs.Course.{Outcome, Stage, ◌>>=◌, given, gives, says_any}
 use Rattle.km_course.specs.Course.Outcome.{value, end}
-use Rattle.km_course.specs.declared.end.End.TheVariants.{Refused, NotUnderstood}
+use Rattle.km_course.specs.declared.end.End.TheVariants.{Refused}
 use Rattle.km_course.specs.declared.refusal.Refusal.TheVariants.{InstallChosen}
 use Rattle.km_course.specs.declared.stop.Stop.{Stop}
 use Rattle.km_course.specs.declared.stop.Stop.TheVariants.{Ended}
@@ -19,7 +19,7 @@ use Rattle.stages_loads.specs.Listed.{loads_listed}
 use Rattle.stages_loads.specs.declared.load.Insertion.{Insertion}
 use Rattle.stages_loads.specs.declared.shown.Images.{Images}
 use Rattle.stages_loads.specs.Loads.{loads_all}
-use Rattle.stages_loads.specs.Region.{region_at}
+use Rattle.stages_loads.specs.Region.{on_machine, region_at}
 use Rattle.stages_loads.specs.Tables.{reads_machine}
 use Rattle.stages_known.specs.declared.known.Known.{Known}
 use Rattle.stages_known.specs.Known.{reads_known}
@@ -71,15 +71,13 @@ loads_request folder images request known machine = do
   inserts ← given (inserts_outcome steps)
   loads_steps folder images known machine steps inserts
 
--- The course of a load into the machine of a System.map and a region, if there are both.
-abbrev pub loads_into : ModprobeWords → Option (List ℕ) → Option Region → Stage ⊤
-loads_into asked None region = ends NotUnderstood
-loads_into asked (Some system_map) None = ends NotUnderstood
-loads_into asked (Some system_map) (Some region) = do
+-- The course of a load into the machine of a System.map and a region.
+abbrev pub loads_into : ModprobeWords → List ℕ → Region → Stage ⊤
+loads_into asked system_map region = do
   known ← reads_known asked.config (modules_folder asked.dirname asked.version) asked.loaded
   machine ← reads_machine system_map asked.symvers region
   loads_request (modules_folder asked.dirname asked.version) (images_asked asked) (request_of asked) known machine
 
 -- The course of `modprobe` without `-n`, `-D` and `-R`.
 abbrev pub loads_plan : ModprobeWords → Stage ⊤
-loads_plan asked = loads_into asked asked.system_map (region_at asked.region_base asked.region_size)
+loads_plan asked = on_machine asked.system_map (region_at asked.region_base asked.region_size) (loads_into asked)

@@ -1,4 +1,5 @@
 ghost use Rattle.std.specs.Prelude.{⊤};
+ghost use Rattle.kmod_words.specs.Modprobe.{HasAddresses};
 ghost use Rattle.km_course.specs.FollowsOn.{FollowsOnFilesAndOut};
 ghost use Rattle.command_modprobe.specs.Modprobe.{modprobe_course, modprobe_in_mode};
 
@@ -10,6 +11,7 @@ use km_course::{End, Stop};
 use km_names::Word;
 use km_outside::{Out, Writes};
 use kmod_words::{Mode, ModprobeWords, read_modprobe};
+use stages_loads::region_at;
 use std::alloc::Global;
 
 /// Does what the words after `modprobe` ask for. modprobe(8).
@@ -32,18 +34,27 @@ pub fn modprobe<F: Writes, O: Out>(
 fn in_mode<F: Writes, O: Out>(
     alloc: Global,
     mode: Mode,
-    asked: ModprobeWords,
+    mut asked: ModprobeWords,
     files: &mut F,
     out: &mut O,
 ) -> Result<(), Stop>
+    requires addresses { HasAddresses mode asked }
     ensures { FollowsOnFilesAndOut (modprobe_in_mode mode asked)
         F.seen files.old files.new O.seen out.old out.new result }
 {
     match mode {
         Mode::ResolveAlias => resolve_alias(alloc, asked, files, out),
-        Mode::Load => load_plan(alloc, asked, files, out),
+        Mode::Load => {
+            let system_map = asked.system_map.take().unwrap();
+            let region = region_at(asked.region_base, asked.region_size);
+            load_plan(alloc, asked, system_map, region, files, out)
+        }
         Mode::DryRun => show_plan(alloc, asked, files, out),
         Mode::ShowDepends => show_plan(alloc, asked, files, out),
-        Mode::Remove { dry_run } => remove(alloc, dry_run, asked, files, out),
+        Mode::Remove { dry_run } => {
+            let system_map = asked.system_map.take().unwrap();
+            let region = region_at(asked.region_base, asked.region_size);
+            remove(alloc, dry_run, asked, system_map, region, files, out)
+        }
     }
 }

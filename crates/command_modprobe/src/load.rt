@@ -1,56 +1,24 @@
 // Plans that are loaded.
 ghost use Rattle.std.specs.Prelude.{◌≡◌, ◌⊎◌, ◌++◌, OnOk, IfErr, None, Some, option_map};
 ghost use Rattle.km_course.specs.FollowsOn.{FollowsOnFilesAndOut, Returns};
-ghost use Rattle.command_modprobe.specs.Loaded.{command_owner, inserted, inserts_outcome, install_stop, loads_into, loads_plan, loads_request, loads_steps};
+ghost use Rattle.command_modprobe.specs.Loaded.{command_owner, inserted, inserts_outcome, install_stop, loads_into, loads_request, loads_steps};
 ghost use Rattle.command_modprobe.specs.Parts.{loads_known};
 
 use crate::basis::{Basis, read_basis};
 use crate::plan::{plan_in, say_plan};
-use km_course::{End, Refusal, Stop};
+use km_course::{Refusal, Stop};
 use km_names::{Blob, Name, PathText};
 use km_outside::{Out, Writes};
 use kmod_words::{Mode, ModprobeWords};
 use model_loader::{Machine, Region};
 use plan_builder::{PlanStep, PlanSteps};
-use stages_loads::{Images, Insertion, Insertions, load_all, load_listed, read_machine, region_at};
+use stages_loads::{Images, Insertion, Insertions, load_all, load_listed, read_machine};
 use std::alloc::Global;
 
-/// Prints the plan for the requested names. It loads the plan's modules into the modelled machine,
-/// after those that are listed as loaded. A plan that runs a command is refused. modprobe(8).
+/// Prints the plan for the requested names. It loads the plan's modules into the modelled machine of
+/// this System.map and region, after those that are listed as loaded. A plan that runs a command is
+/// refused. modprobe(8).
 pub(crate) fn load_plan<F: Writes, O: Out>(
-    alloc: Global,
-    asked: ModprobeWords,
-    files: &mut F,
-    out: &mut O,
-) -> Result<(), Stop>
-    ensures { FollowsOnFilesAndOut (loads_plan asked)
-        F.seen files.old files.new O.seen out.old out.new result }
-{
-    match region_at(asked.region_base, asked.region_size) {
-        Some(region) => load_into(alloc, asked, region, files, out),
-        None => Err(Stop::from(End::NotUnderstood)),
-    }
-}
-
-/// Loads the plan for the requested names into a machine with this region.
-fn load_into<F: Writes, O: Out>(
-    alloc: Global,
-    mut asked: ModprobeWords,
-    region: Region,
-    files: &mut F,
-    out: &mut O,
-) -> Result<(), Stop>
-    ensures { FollowsOnFilesAndOut (loads_into asked asked.system_map (Some region))
-        F.seen files.old files.new O.seen out.old out.new result }
-{
-    match asked.system_map.take() {
-        Some(system_map) => load_from(alloc, asked, system_map, region, files, out),
-        None => Err(Stop::from(End::NotUnderstood)),
-    }
-}
-
-/// Loads the plan for the requested names into a machine of this System.map and region.
-fn load_from<F: Writes, O: Out>(
     alloc: Global,
     mut asked: ModprobeWords,
     system_map: PathText,
@@ -58,7 +26,7 @@ fn load_from<F: Writes, O: Out>(
     files: &mut F,
     out: &mut O,
 ) -> Result<(), Stop>
-    ensures { FollowsOnFilesAndOut (loads_into asked (Some system_map) (Some region))
+    ensures { FollowsOnFilesAndOut (loads_into asked system_map region)
         F.seen files.old files.new O.seen out.old out.new result }
 {
     let symvers = asked.symvers.take();

@@ -72,28 +72,12 @@ abbrev pub after_known : List ℕ → Removal → List ℕ → Option (List ℕ)
 after_known folder removal system_map symvers region known = reads_machine system_map symvers region >>= after_machine folder removal known
 
 -- what is asked for, over the files that it names
-abbrev sources_of : ModprobeWords → Sources
-sources_of asked = record { config = asked.config; loaded = asked.loaded; system_map = asked.system_map; symvers = asked.symvers }
+abbrev sources_of : ModprobeWords → List ℕ → Sources
+sources_of asked map = record { config = asked.config; loaded = asked.loaded; system_map = map; symvers = asked.symvers }
 
-same-course : (dry_run : Bool) (asked : ModprobeWords) (map : Option (List ℕ)) (region : Region) → ◌≡◌ {A = Stage ⊤} (removes_over (modules_folder asked.dirname asked.version) (removal_of dry_run asked) (sources_of asked) map region) (removes_from dry_run asked map (Some region))
-same-course dry_run asked None region = refl
-same-course dry_run asked (Some map) region = refl
-
-pub removes-asked : (dry_run : Bool) (asked : ModprobeWords) (folder : List ℕ) (region : Region) (old new : World) (r : Result ⊤ Stop) → folder ≡ modules_folder asked.dirname asked.version → Follows (λ x. x) (removes_over folder (removal_of dry_run asked) (sources_of asked) asked.system_map region) old new r → Follows (λ x. x) (removes_from dry_run asked asked.system_map (Some region)) old new r
-removes-asked dry_run asked folder region old new r place f =
-    subst (λ s. Follows (λ (x : ⊤). x) s old new r) (same-course dry_run asked asked.system_map region)
-    (along (λ p. removes_over p (removal_of dry_run asked) (sources_of asked) asked.system_map region) folder (modules_folder asked.dirname asked.version) place f)
-
--- what isn't understood
-pub misunderstood : (stage : Stage ⊤) (w : World) (stop : Stop) → ends NotUnderstood ≡ stage → stop ≡ Ended NotUnderstood → Follows (λ x. x) stage w w (Err stop)
-misunderstood stage w stop is ended =
-    subst (λ s. Follows (λ (x : ⊤). x) s w w (Err stop)) is
-    (answered (λ (x : ⊤). x) (end NotUnderstood) w (Err stop)
-    (subst (λ s. Answers (λ (x : ⊤). x) (end NotUnderstood) (Err s)) (sym ended) refl))
-
-pub no-region : (dry_run : Bool) (asked : ModprobeWords) (system_map : Option (List ℕ)) → removes_from dry_run asked system_map None ≡ ends NotUnderstood
-no-region dry_run asked None = refl
-no-region dry_run asked (Some system_map) = refl
+pub removes-asked : (dry_run : Bool) (asked : ModprobeWords) (folder map : List ℕ) (region : Region) (old new : World) (r : Result ⊤ Stop) → folder ≡ modules_folder asked.dirname asked.version → Follows (λ x. x) (removes_over folder (removal_of dry_run asked) (sources_of asked map) region) old new r → Follows (λ x. x) (removes_from dry_run asked map region) old new r
+removes-asked dry_run asked folder map region old new r place f =
+    along (λ p. removes_over p (removal_of dry_run asked) (sources_of asked map) region) folder (modules_folder asked.dirname asked.version) place f
 
 -- ---- the steps
 

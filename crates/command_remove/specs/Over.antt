@@ -1,8 +1,7 @@
 -- A removal over the files that it reads. Only private contracts cite this file.
-use Rattle.std.specs.Prelude.{ℕ, List, Option, Some, None, ⊤}
+use Rattle.std.specs.Prelude.{ℕ, List, Option, ⊤}
 use Rattle.model_loader.specs.declared.region.Region.{Region}
-use Rattle.km_course.specs.Course.{Stage, ◌>>=◌, ends}
-use Rattle.km_course.specs.declared.end.End.TheVariants.{NotUnderstood}
+use Rattle.km_course.specs.Course.{Stage, ◌>>=◌}
 use Rattle.stages_known.specs.declared.known.Known.{Known}
 use Rattle.stages_known.specs.Known.{reads_known}
 use Rattle.stages_loads.specs.Tables.{reads_machine}
@@ -16,9 +15,8 @@ removes_known folder removal known system_map symvers region = do
   machine ← reads_machine system_map symvers region
   removes_listed folder removal known machine
 
--- A removal from the machine of a System.map, if there is one.
-abbrev pub removes_over : List ℕ → Removal → Sources → Option (List ℕ) → Region → Stage ⊤
-removes_over folder removal sources None region = ends NotUnderstood
-removes_over folder removal sources (Some system_map) region = do
+-- A removal from the machine of the System.map of these files.
+abbrev pub removes_over : List ℕ → Removal → Sources → Region → Stage ⊤
+removes_over folder removal sources region = do
   known ← reads_known sources.config folder sources.loaded
-  removes_known folder removal known system_map sources.symvers region
+  removes_known folder removal known sources.system_map sources.symvers region

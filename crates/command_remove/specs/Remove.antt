@@ -13,15 +13,15 @@ use Rattle.remove_plan.specs.declared.step.RemoveStep.{RemoveStep}
 use Rattle.remove_plan.specs.declared.step.RemoveStep.TheVariants.{Rmmod, Command}
 use Rattle.remove_plan.specs.Removal.{in_use, is_asked}
 use Rattle.remove_plan.specs.Steps.{removal_steps}
-use Rattle.km_course.specs.Course.{Outcome, Stage, ◌>>=◌, each_from, ends, given, gives, says, says_any}
+use Rattle.km_course.specs.Course.{Outcome, Stage, ◌>>=◌, each_from, given, gives, says, says_any}
 use Rattle.km_course.specs.Course.Outcome.{value, end}
-use Rattle.km_course.specs.declared.end.End.TheVariants.{NotUnderstood, Refused}
+use Rattle.km_course.specs.declared.end.End.TheVariants.{Refused}
 use Rattle.km_course.specs.declared.refusal.Refusal.TheVariants.{InUse, RemoveChosen}
 use Rattle.stages_files.specs.KernelModules.{modules_folder}
 use Rattle.stages_known.specs.declared.known.Known.{Known}
 use Rattle.stages_known.specs.Known.{reads_known}
 use Rattle.stages_known.specs.Named.{names_outcome}
-use Rattle.stages_loads.specs.Region.{region_at}
+use Rattle.stages_loads.specs.Region.{on_machine, region_at}
 use Rattle.stages_loads.specs.Tables.{reads_machine}
 use Rattle.command_remove.specs.declared.course.Removal.{Removal}
 use Rattle.command_remove.specs.Listed.{takes_listed}
@@ -120,15 +120,13 @@ removes_listed folder removal known machine = do
   listed ← takes_listed folder known.indexes machine known.loaded
   removes_names removal known listed
 
--- The course of a removal from the machine of a System.map and a region, if there are both.
-abbrev pub removes_from : Bool → ModprobeWords → Option (List ℕ) → Option Region → Stage ⊤
-removes_from dry_run asked None region = ends NotUnderstood
-removes_from dry_run asked (Some system_map) None = ends NotUnderstood
-removes_from dry_run asked (Some system_map) (Some region) = do
+-- The course of a removal from the machine of a System.map and a region.
+abbrev pub removes_from : Bool → ModprobeWords → List ℕ → Region → Stage ⊤
+removes_from dry_run asked system_map region = do
   known ← reads_known asked.config (modules_folder asked.dirname asked.version) asked.loaded
   machine ← reads_machine system_map asked.symvers region
   removes_listed (modules_folder asked.dirname asked.version) (removal_of dry_run asked) known machine
 
 -- The course of `modprobe -r`, with `-n` or without.
 abbrev pub removes : Bool → ModprobeWords → Stage ⊤
-removes dry_run asked = removes_from dry_run asked asked.system_map (region_at asked.region_base asked.region_size)
+removes dry_run asked = on_machine asked.system_map (region_at asked.region_base asked.region_size) (removes_from dry_run asked)

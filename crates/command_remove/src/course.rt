@@ -6,14 +6,14 @@ ghost use Rattle.model_loader.specs.declared.region.Region.{Region};
 ghost use Rattle.model_loader.specs.Machine.{new_machine};
 ghost use Rattle.laws_closed_plans.specs.Binding.{IsLoaded};
 ghost use Rattle.command_remove.specs.Over.{removes_known, removes_over};
-ghost use Rattle.command_remove.specs.Remove.{carries_out, removes, removes_from, removes_listed, removes_names};
+ghost use Rattle.command_remove.specs.Remove.{carries_out, removes_from, removes_listed, removes_names};
 ghost use Rattle.command_remove.specs.Taken.{CanBeTakenOut};
 
 use crate::lines::step_lines;
 use crate::listed::take_listed;
 use crate::plan::{check_chosen, steps_in};
 use crate::unloads::unload_unless;
-use km_course::{End, Stop, say_any};
+use km_course::{Stop, say_any};
 use km_names::{Names, PathText};
 use km_outside::{Out, Reads};
 use kmod_words::ModprobeWords;
@@ -21,7 +21,7 @@ use model_loader::{Machine, Region};
 use remove_plan::RemovePlan;
 use stages_files::modules_folder;
 use stages_known::{Known, names_found, read_known};
-use stages_loads::{read_machine, region_at};
+use stages_loads::read_machine;
 use std::alloc::Global;
 
 /// What is to be removed.
@@ -38,34 +38,19 @@ pub struct Removal {
 }
 
 /// Prints the steps that take the modules of the requested names out of the modelled machine of the
-/// listed modules. Unless it is a dry run, it takes them out, and then prints a line for each
-/// module that is left. A removal that runs a command is refused. modprobe(8), `-r`.
+/// listed modules, with the symbols of this System.map and in this region. Unless it is a dry run,
+/// it takes them out, and then prints a line for each module that is left. A removal that runs a
+/// command is refused. modprobe(8), `-r`.
 pub fn remove<F: Reads, O: Out>(
     alloc: Global,
     dry_run: bool,
     asked: ModprobeWords,
-    files: &mut F,
-    out: &mut O,
-) -> Result<(), Stop>
-    ensures { FollowsOnFilesAndOut (removes dry_run asked)
-        F.seen files.old files.new O.seen out.old out.new result }
-{
-    match region_at(asked.region_base, asked.region_size) {
-        Some(region) => remove_from(alloc, dry_run, asked, region, files, out),
-        None => Err(Stop::from(End::NotUnderstood)),
-    }
-}
-
-/// Removes modules from a machine with this region.
-fn remove_from<F: Reads, O: Out>(
-    alloc: Global,
-    dry_run: bool,
-    asked: ModprobeWords,
+    system_map: PathText,
     region: Region,
     files: &mut F,
     out: &mut O,
 ) -> Result<(), Stop>
-    ensures { FollowsOnFilesAndOut (removes_from dry_run asked asked.system_map (Some region))
+    ensures { FollowsOnFilesAndOut (removes_from dry_run asked system_map region)
         F.seen files.old files.new O.seen out.old out.new result }
 {
     let folder = modules_folder(alloc, &asked.dirname, &asked.version)?;
@@ -74,7 +59,6 @@ fn remove_from<F: Reads, O: Out>(
         ignore_install,
         config,
         loaded,
-        system_map,
         symvers,
         words,
         ..
@@ -99,7 +83,7 @@ fn remove_from<F: Reads, O: Out>(
 struct Sources {
     config: Option<PathText>,
     loaded: Option<PathText>,
-    system_map: Option<PathText>,
+    system_map: PathText,
     symvers: Option<PathText>,
 }
 
@@ -114,7 +98,7 @@ fn remove_over<F: Reads, O: Out>(
     out: &mut O,
 ) -> Result<(), Stop>
     ensures { FollowsOnFilesAndOut
-        (removes_over folder.now removal.now sources sources.system_map region)
+        (removes_over folder.now removal.now sources region)
         F.seen files.old files.new O.seen out.old out.new result }
 {
     let Sources {
@@ -123,15 +107,10 @@ fn remove_over<F: Reads, O: Out>(
         system_map,
         symvers,
     } = sources;
-    match system_map {
-        Some(system_map) => {
-            let known = read_known(alloc, config, folder, loaded, files)?;
-            remove_known(
-                alloc, folder, removal, &known, system_map, symvers, region, files, out,
-            )
-        }
-        None => Err(Stop::from(End::NotUnderstood)),
-    }
+    let known = read_known(alloc, config, folder, loaded, files)?;
+    remove_known(
+        alloc, folder, removal, &known, system_map, symvers, region, files, out,
+    )
 }
 
 /// Reads the symbols of the kernel, and removes modules from a machine with this region.

@@ -24,7 +24,7 @@ use Rattle.plan_builder.specs.Text.{first_text}
 use Rattle.stages_loads.specs.Tables.{reads_machine}
 use Rattle.stages_known.specs.declared.known.Known.{Known}
 use Rattle.stages_known.specs.Known.{reads_known}
-use Rattle.stages_loads.specs.Region.{region_at}
+use Rattle.stages_loads.specs.Region.{on_machine, region_at}
 use Rattle.command_modprobe.specs.Loaded.{images_asked, loads_into, loads_plan}
 use Rattle.command_modprobe.specs.Modprobe.{modprobe_asked_for, modprobe_course, modprobe_in_mode}
 use Rattle.command_modprobe.specs.Parts.{loads_known, prints_plan}
@@ -103,8 +103,8 @@ loaded-not held asked known kernel region has knows e met =
       before = a ++ b;
       reads = both-read a b only only';
       is =
-          ap (λ o. (loads_into asked o (region_at asked.region_base asked.region_size)).run held) has.mapped
-          ∙ ap (λ r. (loads_into asked (Some has.map) r).run held) has.in_region
+          ap (λ o. (on_machine o (region_at asked.region_base asked.region_size) (loads_into asked)).run held) has.mapped
+          ∙ ap (λ r. (on_machine (Some has.map) r (loads_into asked)).run held) has.in_region
           ∙ run-on reading (loads_known folder (images_asked asked) request has.map asked.symvers region) held known only knows
           ∙ ap (joined a)
           (run-on making (after_machine folder (images_asked asked) request known) held start only' has.made

@@ -1,3 +1,4 @@
+pub mod AddressLemmas
 pub mod ArgumentLemmas
 pub mod DecimalLemmas
 pub mod MatchLemmas

@@ -1,8 +1,8 @@
 -- What the words of `modprobe` ask for. modprobe(8).
-use Rattle.std.specs.Prelude.{◌&&◌, List, [], ◌∷◌, Bool, true, false, Option, Some, None, is_some, not, if◌then◌else◌, option_and_then, option_map, unwrap_or, codes}
+use Rattle.std.specs.Prelude.{◌≡◌, ◌&&◌, IsSome, List, [], ◌∷◌, Bool, true, false, Option, Some, None, is_some, not, if◌then◌else◌, option_and_then, option_map, unwrap_or, codes}
 use Rattle.clap.specs.Words.{App, Row, Text}
 use Rattle.kmod_words.specs.Arguments.{command, flag, required, valued, words}
-use Rattle.kmod_words.specs.Numbers.{region_or_usual}
+use Rattle.kmod_words.specs.Numbers.{is_region, region_or_usual}
 use Rattle.kmod_words.specs.Understood.{understood, is_given, value_of, words_of, is_version}
 use Rattle.kmod_words.specs.declared.modprobe.Choice.{Choice}
 use Rattle.kmod_words.specs.declared.modprobe.Mode.{Mode}
@@ -96,3 +96,16 @@ choice_parts choice = (choice.mode, choice.version.now, choice.region)
 -- What the words ask `modprobe` for, or nothing if they aren't understood.
 abbrev pub modprobe_request : List Text → Option ModprobeWords
 modprobe_request words = option_and_then modprobe_asked (understood modprobe_command words)
+
+-- Whether a mode needs the addresses of a System.map: a load and a removal do.
+abbrev pub needs_map : Mode → Bool
+needs_map Load = true
+needs_map DryRun = false
+needs_map ShowDepends = false
+needs_map ResolveAlias = false
+needs_map (Remove dry_run) = true
+
+-- What is always given: a region of modules and, in a mode that needs it, a System.map.
+pub record HasAddresses (mode : Mode) (asked : ModprobeWords) : Type 0 where
+  pub in_region : is_region asked.region_base asked.region_size ≡ true
+  pub mapped : needs_map mode ≡ true → IsSome asked.system_map

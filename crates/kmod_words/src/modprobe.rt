@@ -1,7 +1,8 @@
 ghost use Rattle.std.specs.Prelude.{◌≡◌, IfOk, Option, codes, option_map, unwrap_or};
+ghost use Rattle.std.specs.Option.{ForSome};
 ghost use Rattle.clap.specs.Words.{found_of, rows_of};
 ghost use Rattle.kmod_words.specs.Understood.{value_of};
-ghost use Rattle.kmod_words.specs.Modprobe.{modprobe_request, modprobe_asked, modprobe_of, mode_asked, mode_by_flags, goes_with, chosen, choice_parts};
+ghost use Rattle.kmod_words.specs.Modprobe.{HasAddresses, modprobe_request, modprobe_asked, modprobe_of, mode_asked, mode_by_flags, goes_with, chosen, choice_parts};
 
 use crate::arguments::{Argument, command};
 use crate::matches::{
@@ -84,9 +85,10 @@ pub struct ModprobeWords {
 }
 
 /// Reads what the words after `modprobe` ask for. It is `None` exactly if they aren't understood.
-/// modprobe(8).
+/// There is always a region of modules and, for a load or a removal, a System.map. modprobe(8).
 pub fn read_modprobe(alloc: Global, words: &[Word]) -> Result<Option<ModprobeWords>, AllocError>
-    ensures { IfOk result (λ asked. asked ≡ modprobe_request words.now) }
+    ensures request { IfOk result (λ asked. asked ≡ modprobe_request words.now) }
+    ensures addresses { IfOk result (λ asked. ForSome asked (λ words. HasAddresses words.mode words)) }
 {
     let command = command(alloc, "modprobe", &ARGUMENTS)?;
     let texts = texts_of(alloc, words)?;

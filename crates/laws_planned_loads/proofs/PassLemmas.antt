@@ -78,7 +78,7 @@ use Rattle.stages_loads.proofs.TableSteps.{both_added, both_read, both_understoo
 use Rattle.model_loader.specs.declared.entry.Entry.{Entry}
 use Rattle.stages_known.specs.declared.known.Known.{Known}
 use Rattle.stages_known.specs.Known.{reads_known, reads_loaded}
-use Rattle.stages_loads.specs.Region.{region_at}
+use Rattle.stages_loads.specs.Region.{on_machine, region_at}
 use Rattle.command_modprobe.specs.Loaded.{command_owner, images_asked, inserted, inserts_outcome, loads_into, loads_steps, unless_install}
 use Rattle.remove_plan.specs.declared.step.RemoveStep.{RemoveStep}
 use Rattle.remove_plan.specs.Removal.{in_use, is_asked}
@@ -446,12 +446,12 @@ module _ (held : Contents) (asked : ModprobeWords) where
     not-understood e at =
         (ends-given {X = ⊤} Other (end NotUnderstood) (λ d is. so-ends Other NotUnderstood d tt is)).ends held e at
 
-    loading : (map : Option (List ℕ)) (region : Option Region) → asked.system_map ≡ map → (e : End) → ((loads_into asked map region).run held).outcome ≡ end e → Other e
+    loading : (map : Option (List ℕ)) (region : Option Region) → asked.system_map ≡ map → (e : End) → ((on_machine map region (loads_into asked)).run held).outcome ≡ end e → Other e
     loading None region mapped e at = not-understood e at
     loading (Some map) None mapped e at = not-understood e at
     loading (Some map) (Some region) mapped e at = pass (loads_after map region) (other-loads map region mapped) e at
 
-    removing : (dry_run : Bool) (map : Option (List ℕ)) (region : Option Region) → asked.system_map ≡ map → (e : End) → ((removes_from dry_run asked map region).run held).outcome ≡ end e → Other e
+    removing : (dry_run : Bool) (map : Option (List ℕ)) (region : Option Region) → asked.system_map ≡ map → (e : End) → ((on_machine map region (removes_from dry_run asked)).run held).outcome ≡ end e → Other e
     removing dry_run None region mapped e at = not-understood e at
     removing dry_run (Some map) None mapped e at = not-understood e at
     removing dry_run (Some map) (Some region) mapped e at = pass (removes_after dry_run map region) (λ known fine. other-removal dry_run map region mapped known) e at

@@ -26,7 +26,7 @@ use Rattle.stages_known.specs.declared.known.Known.{Known}
 use Rattle.stages_known.specs.Known.{reads_known}
 use Rattle.command_modprobe.specs.Parts.{loads_known}
 use Rattle.command_modprobe.specs.Planned.{plan_lines, plan_outcome, request_of}
-use Rattle.stages_loads.specs.Region.{region_at}
+use Rattle.stages_loads.specs.Region.{on_machine, region_at}
 use Rattle.command_modprobe.specs.Loaded.{images_asked, inserts_outcome, loads_into, loads_plan}
 use Rattle.command_modprobe.proofs.LoadSteps.{after_lines, after_listed, after_loads, after_machine, after_inserts, after_steps}
 use Rattle.laws_planned_loads.specs.Acts.{is_reading, said}
@@ -143,8 +143,8 @@ module _ (held : Contents) (asked : ModprobeWords) (l : Loading) (has : HasMachi
 
   whole : (loads_plan asked).run held ≡ joined (knowing.run held).acts (joined (making.run held).acts (joined (listing.run held).acts rest))
   whole =
-      ap (λ o. (loads_into asked o (region_at asked.region_base asked.region_size)).run held) has.mapped
-      ∙ ap (λ r. (loads_into asked (Some has.map) r).run held) has.in_region
+      ap (λ o. (on_machine o (region_at asked.region_base asked.region_size) (loads_into asked)).run held) has.mapped
+      ∙ ap (λ r. (on_machine (Some has.map) r (loads_into asked)).run held) has.in_region
       ∙ run-on knowing (loads_known folder (images_asked asked) (request_of asked) has.map asked.symvers region) held known (only-known asked.config folder asked.loaded held) came.knows
       ∙ ap (joined (knowing.run held).acts) from-machine
 

@@ -16,7 +16,7 @@ use Rattle.model_unload.specs.Unload.{unload_all}
 use Rattle.remove_plan.specs.declared.step.RemoveStep.{RemoveStep}
 use Rattle.remove_plan.specs.Removal.{in_use, is_asked, left_after, removed_by}
 use Rattle.stages_files.specs.KernelModules.{modules_folder}
-use Rattle.stages_loads.specs.Region.{region_at}
+use Rattle.stages_loads.specs.Region.{on_machine, region_at}
 use Rattle.stages_loads.specs.Tables.{reads_machine}
 use Rattle.stages_known.specs.declared.known.Known.{Known}
 use Rattle.stages_known.specs.Known.{reads_known}
@@ -93,8 +93,8 @@ module _ (held : Contents) (dry_run : Bool) (asked : ModprobeWords) (r : Removin
 
   whole : (removes dry_run asked).run held ≡ joined (knowing.run held).acts (joined (making.run held).acts (joined (listing.run held).acts rest))
   whole =
-      ap (λ o. (removes_from dry_run asked o (region_at asked.region_base asked.region_size)).run held) came.tables.mapped
-      ∙ ap (λ r. (removes_from dry_run asked (Some came.tables.map) r).run held) came.tables.in_region
+      ap (λ o. (on_machine o (region_at asked.region_base asked.region_size) (removes_from dry_run asked)).run held) came.tables.mapped
+      ∙ ap (λ r. (on_machine (Some came.tables.map) r (removes_from dry_run asked)).run held) came.tables.in_region
       ∙ run-on knowing (after_known folder removal came.tables.map asked.symvers region) held known (only-known asked.config folder asked.loaded held) came.knows
       ∙ ap (joined (knowing.run held).acts) from-machine
 

@@ -1,5 +1,5 @@
 -- Regions that are made, by their base and size.
-use Rattle.std.proofs.Common.{◌≡◌, ℕ, Bool, true, false, refl, ap, subst}
+use Rattle.std.proofs.Common.{◌≡◌, ◌∙◌, ℕ, Bool, true, false, refl, sym, ap, subst}
 use Rattle.std.proofs.Props.{props}
 use Rattle.std.specs.Prelude.{Option, Some, None, if◌then◌else◌, option_map}
 use Rattle.model_loader.specs.declared.region.Region.{Region}
@@ -33,3 +33,8 @@ found-region base size false is (Some r) found = cc
 pub region-found : (base size : ℕ) (found : Option Region) → option_map span_of found ≡ (if is_region base size then Some (record { base = base; size = size }) else None) → found ≡ region_at base size
 unfolding region_at
 region-found base size found is = found-region base size (is_region base size) refl found is
+
+-- what passes the test makes the region that was made of it
+pub region-passes : (base size : ℕ) (region : Region) → is_region base size ≡ true → span_of region ≡ record { base = base; size = size } → region_at base size ≡ Some region
+region-passes base size region is made =
+    sym (region-found base size (Some region) (ap Some made ∙ ap (λ answer. if answer then Some (record { base = base; size = size }) else None) (sym is)))

@@ -1,15 +1,13 @@
-use Rattle.std.proofs.Common.{sym, ap, ◌∙◌}
-use Rattle.km_course.proofs.Following.{along}
-use Rattle.command_remove.specs.Remove.{removes_from}
-use Rattle.command_remove.proofs.RemoveSteps.{misunderstood, no-region}
+use Rattle.std.proofs.lemmas.Result.{err_from_is_err_and}
+use Rattle.km_course.proofs.Steps.{wants}
+use Rattle.command_remove.proofs.RemoveSteps.{removes-asked}
 use Rattle.command_remove.proofs.course.remove.Goals as goal
 
-pub returns-in-Some : goal.returns-in-Some
-returns-in-Some g c = λ err.
-    along (removes_from c.args.dry_run c.args.asked c.args.asked.system_map) _ _ (sym c.in-Some.is ∙ c.region_at.ensures) (c.remove_from.ensures err)
+pub returns-in_err-folder : goal.returns-in_err-folder
+returns-in_err-folder g c = λ err.
+    let p = err_from_is_err_and c.from_residual.result c.from_residual.ensures.1 in
+    wants _ _ _ _ p.1 p.2
 
-pub returns-in-None : goal.returns-in-None
-returns-in-None g c = λ err.
-    misunderstood _ _ c.from.result
-    (sym (ap (removes_from c.args.dry_run c.args.asked c.args.asked.system_map) (sym c.region_at.ensures ∙ c.in-None.is) ∙ no-region c.args.dry_run c.args.asked c.args.asked.system_map))
-    c.from.ensures
+pub returns : goal.returns
+returns g c = λ err.
+    removes-asked c.args.dry_run c.args.asked c.in_ok-folder.folder c.args.system_map c.args.region _ _ _ c.in_ok-folder.ensures (c.remove_over.ensures err)
