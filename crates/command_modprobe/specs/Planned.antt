@@ -12,7 +12,7 @@ use Rattle.plan_builder.specs.declared.step.PlanStep.TheVariants.{Insert, Instal
 use Rattle.plan_builder.specs.Needs.{Sources}
 use Rattle.plan_builder.specs.Sources.{sources}
 use Rattle.plan_builder.specs.Steps.{plan_steps}
-use Rattle.plan_builder.specs.Text.{first_text}
+use Rattle.plan_builder.specs.Text.{first_obstacle_text}
 use Rattle.km_course.specs.Course.{Outcome, Stage, ◌>>=◌, given, says_any}
 use Rattle.km_course.specs.Course.Outcome.{value, end}
 use Rattle.km_course.specs.declared.end.End.TheVariants.{Refused}
@@ -49,7 +49,7 @@ plan_unless (Some text) steps = end (Refused (Unplanned text))
 -- obstacle.
 unfoldable pub plan_outcome : Known → List (List ℕ) → Request → Outcome (List PlanStep)
 plan_outcome known loaded request =
-    plan_unless (first_text (sources_with known loaded request) request) (plan_steps (sources_with known loaded request) request)
+    plan_unless (first_obstacle_text (sources_with known loaded request) request) (plan_steps (sources_with known loaded request) request)
 
 -- What follows a path in its line: the parameters after a space, if there are any.
 abbrev pub after_space : List ℕ → List ℕ

@@ -20,7 +20,7 @@ use Rattle.model_loader.specs.declared.region.Region.{Region}
 use Rattle.model_loader.specs.Machine.{new_machine}
 use Rattle.plan_builder.specs.declared.step.PlanStep.{PlanStep}
 use Rattle.plan_builder.specs.Steps.{plan_steps}
-use Rattle.plan_builder.specs.Text.{first_text}
+use Rattle.plan_builder.specs.Text.{first_obstacle_text}
 use Rattle.stages_loads.specs.Tables.{reads_machine}
 use Rattle.stages_known.specs.declared.known.Known.{Known}
 use Rattle.stages_known.specs.Known.{reads_known}
@@ -44,7 +44,7 @@ use Rattle.kmod_cli.proofs.LoadsLeft.{AreOfLoads, loads-left, loads-part}
 
 -- ---- what a plan comes to
 
-outcome-is : (known : Known) (asked : ModprobeWords) (o : Option (List ℕ)) → first_text (sources_asked asked known) (request_of asked) ≡ o → plan_outcome known (loaded_in asked.mode known.loaded) (request_of asked) ≡ plan_unless o (plan_steps (sources_asked asked known) (request_of asked))
+outcome-is : (known : Known) (asked : ModprobeWords) (o : Option (List ℕ)) → first_obstacle_text (sources_asked asked known) (request_of asked) ≡ o → plan_outcome known (loaded_in asked.mode known.loaded) (request_of asked) ≡ plan_unless o (plan_steps (sources_asked asked known) (request_of asked))
 unfolding plan_outcome
 outcome-is known asked o is = ap (λ f. plan_unless f (plan_steps (sources_asked asked known) (request_of asked))) is
 
@@ -121,7 +121,7 @@ module _ (held : Contents) (words : List (List ℕ)) (asked : ModprobeWords) (kn
   of-words mode m lines outcome p =
       subst (λ (course : Stage ⊤). Prints lines outcome (course.run held)) (sym (in-mode words asked mode is m)) p
 
-  plan-printed : ¬ (asked.mode ≡ Load) → first_text (sources_asked asked known) (request_of asked) ≡ None → Prints (lines_asked asked known) (value tt) ((modprobe_course words).run held)
+  plan-printed : ¬ (asked.mode ≡ Load) → first_obstacle_text (sources_asked asked known) (request_of asked) ≡ None → Prints (lines_asked asked known) (value tt) ((modprobe_course words).run held)
   plan-printed other none = by_mode asked.mode refl came.ready
     where
       by_mode : (mode : Mode) → asked.mode ≡ mode → IsReady held asked mode → Prints (lines_asked asked known) (value tt) ((modprobe_course words).run held)
@@ -131,7 +131,7 @@ module _ (held : Contents) (words : List (List ℕ)) (asked : ModprobeWords) (kn
       by_mode ResolveAlias m ready = absurd ready
       by_mode (Remove dry_run) m ready = absurd ready
 
-  plan-refused : (text : List ℕ) → first_text (sources_asked asked known) (request_of asked) ≡ Some text → Prints [] (end (Refused (Unplanned text))) ((modprobe_course words).run held)
+  plan-refused : (text : List ℕ) → first_obstacle_text (sources_asked asked known) (request_of asked) ≡ Some text → Prints [] (end (Refused (Unplanned text))) ((modprobe_course words).run held)
   plan-refused text some = by_mode asked.mode refl came.ready
     where
       met : plan_outcome known (loaded_in asked.mode known.loaded) (request_of asked) ≡ end (Refused (Unplanned text))

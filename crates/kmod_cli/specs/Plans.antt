@@ -13,7 +13,7 @@ use Rattle.provider_rel.specs.declared.kernel.Kernel.{Kernel}
 use Rattle.model_loader.specs.declared.region.Region.{Region}
 use Rattle.plan_builder.specs.Needs.{Sources}
 use Rattle.plan_builder.specs.Steps.{plan_steps}
-use Rattle.plan_builder.specs.Text.{first_text}
+use Rattle.plan_builder.specs.Text.{first_obstacle_text}
 use Rattle.stages_known.specs.declared.known.Known.{Known}
 use Rattle.stages_known.specs.Known.{reads_known}
 use Rattle.command_modprobe.specs.Planned.{loaded_in, plan_lines, request_of, sources_with}
@@ -57,9 +57,9 @@ pub record IsPrintedPart (lines : List ℕ) (shown : Shown) (new : World) : Type
 pub record IsPlanned (asked : ModprobeWords) (known : Known) (shown : Shown) (old new : World) (status : ℕ) : Type 0 where
   -- if no load is asked for and nothing is in the way, the lines of the plan are printed, and
   -- nothing else is written
-  pub planned : ¬ (asked.mode ≡ Load) → first_text (sources_asked asked known) (request_of asked) ≡ None → CameTo 0 (record shown { out = shown.out ++ lines_asked asked known }) (IsPrintedPart (lines_asked asked known) shown) old new status
+  pub planned : ¬ (asked.mode ≡ Load) → first_obstacle_text (sources_asked asked known) (request_of asked) ≡ None → CameTo 0 (record shown { out = shown.out ++ lines_asked asked known }) (IsPrintedPart (lines_asked asked known) shown) old new status
   -- if something is, the first obstacle is named on err, and nothing else is written
-  pub refused : (text : List ℕ) → first_text (sources_asked asked known) (request_of asked) ≡ Some text → CameTo 1 (record shown { err = shown.err ++ line text }) (IsPrintedPart [] shown) old new status
+  pub refused : (text : List ℕ) → first_obstacle_text (sources_asked asked known) (request_of asked) ≡ Some text → CameTo 1 (record shown { err = shown.err ++ line text }) (IsPrintedPart [] shown) old new status
 
 -- modprobe with these words after its name, over files and outputs with known contents.
 abbrev pub Plans : List (List ℕ) → World → World → ℕ → Type 0

@@ -37,7 +37,7 @@ use Rattle.plan_builder.specs.declared.step.PlanStep.TheVariants.{Insert, Instal
 use Rattle.plan_builder.specs.Closed.{IsAtOwnPath, IsOwnPath}
 use Rattle.plan_builder.specs.Obstacles.{obstacle_of}
 use Rattle.plan_builder.specs.Steps.{plan_steps}
-use Rattle.plan_builder.specs.Text.{first_text as obstacle_first_text}
+use Rattle.plan_builder.specs.Text.{first_obstacle_text}
 use Rattle.plan_builder.proofs.PlanTexts.{no-obstacle}
 use Rattle.laws_closed_plans.specs.Loads.{IsPlaceFault, load_all, unless_refused}
 use Rattle.laws_closed_plans.specs.Binding.{Binds, IsLoaded}
@@ -142,7 +142,7 @@ pub was-planned : (known : Known) (request : Request) (steps : List PlanStep) �
 unfolding plan_outcome
 was-planned known request steps is =
     let s = sources_with known known.loaded request in
-    let h = planned (obstacle_first_text s request) (plan_steps s request) steps is in
+    let h = planned (first_obstacle_text s request) (plan_steps s request) steps is in
     (no-obstacle s request h.0, h.1)
 
 installed : (o : Option (List ℕ)) (made inserts : List Insertion) → unless_install o made ≡ value inserts → (o ≡ None) × (made ≡ inserts)

@@ -18,7 +18,7 @@ use Rattle.dependency_lines.specs.Modules.{bad_name, name_at}
 use Rattle.plan_builder.specs.Needs.{Sources, modules, before}
 use Rattle.plan_builder.specs.Members.{found_for, planned}
 use Rattle.plan_builder.specs.Obstacles.{is_unfound, is_unknown, all_names, not_found, is_path_of, stands, is_obstacle, as_obstacle, line_of, cycle_obstacle, plan_tests, obstacle_of}
-use Rattle.plan_builder.specs.Text.{first_text, obstacle_text, plan_text}
+use Rattle.plan_builder.specs.Text.{first_obstacle_text, obstacle_text, plan_text}
 
 -- each obstacle to a plan has a text
 pub has-text : (o : Obstacle) → (o ≡ Memory → ⊥) → plan_text o ≡ Some (obstacle_text o)
@@ -93,5 +93,5 @@ by-text (Some o) sure is =
     absurd (let bad : ◌≡◌ {A = Option (List ℕ)} (Some (obstacle_text o)) None = sym some ∙ is in cc)
 
 -- a request whose first obstacle has no text has none
-pub no-obstacle : (s : Sources) (request : Request) → first_text s request ≡ None → obstacle_of s request ≡ None
+pub no-obstacle : (s : Sources) (request : Request) → first_obstacle_text s request ≡ None → obstacle_of s request ≡ None
 no-obstacle s request is = by-text (obstacle_of s request) (never-memory s request) is

@@ -27,5 +27,5 @@ abbrev pub obstacle_text : Obstacle → List ℕ
 obstacle_text obstacle = unwrap_or (plan_text obstacle) (codes "out of memory")
 
 -- The text of the first obstacle of a request.
-abbrev pub first_text : Sources → Request → Option (List ℕ)
-first_text s request = option_and_then plan_text (obstacle_of s request)
+abbrev pub first_obstacle_text : Sources → Request → Option (List ℕ)
+first_obstacle_text s request = option_and_then plan_text (obstacle_of s request)
