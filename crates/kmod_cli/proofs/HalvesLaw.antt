@@ -65,6 +65,6 @@ halves-meet first second asked loads l shown told old new later last status d ov
         mode = m.mode;
         stands = left-for-loads shown.files asked i told.files loads l.kernel l.region h.is left m.after;
         machine = m.after.machine;
-        came = m.came;
+        came = record { knows = m.came.knows; listed = m.came.listed; planned = m.came.planned; runs_none = m.came.runs_none };
       }),
     )
