@@ -1,7 +1,7 @@
 -- What a command inside a trial resulted in, as its course and its status say.
 use Rattle.std.proofs.Common.{◌≡◌, ℕ, ◌≤◌, true, List, ◌++◌, length, drop, refl, sym, ◌∙◌, ap, subst, arith, inl, inr}
 use Rattle.std.proofs.Math.Seq.{drop-append_seam}
-use Rattle.std.specs.Prelude.{◌⊎◌, Some, Result, Ok, Err, ⊤}
+use Rattle.std.specs.Prelude.{Some, Result, Ok, Err, ⊤}
 use Rattle.km_outside.specs.Contents.{Contents}
 use Rattle.km_outside.specs.MemFilesSeen.{MemFilesSeen, mem_files_seen, no_kind_listed}
 use Rattle.km_outside.specs.MemOutSeen.{MemOutSeen, empty_with_room, mem_out_seen, mem_out-within}
@@ -15,38 +15,32 @@ use Rattle.km_course.specs.Carries.{Concludes, closed_status, stop_status, unwri
 use Rattle.km_course.specs.Inner.{Left, bare, inner_outcome}
 use Rattle.km_course.specs.Conclusion.{conclusion_status}
 use Rattle.km_course.specs.declared.conclusion.Conclusion.{Conclusion}
-use Rattle.km_course.specs.declared.conclusion.Conclusion.TheVariants as conclusions
 use Rattle.km_course.specs.declared.end.End.TheVariants.{Inner, NoFile, NotUnderstood, Refused, TooLarge}
 use Rattle.km_course.specs.declared.refusal.Refusal.TheVariants.{InnerOutputFull}
 use Rattle.km_course.specs.declared.stop.Stop.{Stop}
 use Rattle.km_course.specs.declared.stop.Stop.TheVariants.{Ended, FileFault, OutputFault, WarningFault, Memory}
 use Rattle.km_course.proofs.Carried.{carried}
 use Rattle.km_course.proofs.Inside.{Handed, InnerCame, done-calls, inner_came}
-use Rattle.command_trial.specs.Inside.{handed_on}
+use Rattle.command_trial.specs.Inside.{Came}
 use Rattle.command_trial.specs.Trial.{inner_room}
 
 -- The outcome is the one that the status states of a command that left these files and this output,
 -- and wrote this line.
-pub record Came (outcome : Outcome Left) (left : Left) (line : List ℕ) (status : ℕ) : Type 0 where
+pub record CameByStatus (outcome : Outcome Left) (left : Left) (line : List ℕ) (status : ℕ) : Type 0 where
   pub ended : status ≡ 0 → outcome ≡ value left
   pub refused : status ≡ 1 → outcome ≡ end (Inner line)
   pub misunderstood : status ≡ 2 → outcome ≡ end NotUnderstood
   pub full : status ≡ 3 → outcome ≡ end (Refused InnerOutputFull)
 
--- what is handed on answers the outcome
-answered_on : (conclusion : Conclusion) (outcome : Outcome Left) (left : Left) (line : List ℕ) → Came outcome left line (conclusion_status conclusion) → Answers (λ _. left) outcome (handed_on conclusion line)
-answered_on conclusions.Done outcome left line c = c.ended refl
-answered_on conclusions.Refused outcome left line c = c.refused refl
-answered_on conclusions.NotUnderstood outcome left line c = c.misunderstood refl
-answered_on conclusions.Fault outcome left line c = c.full refl
-answered_on conclusions.OutOfMemory outcome left line c = tt
-
--- The outcome is answered by what is handed on, and by a want of memory.
-pub handed : (conclusion : Conclusion) (outcome : Outcome Left) (left : Left) (line : List ℕ) (result : Result ⊤ Stop) → Came outcome left line (conclusion_status conclusion) → (result ≡ handed_on conclusion line) ⊎ (result ≡ Err Memory) → Answers (λ _. left) outcome result
-handed conclusion outcome left line result c (inl is) =
-    subst (λ r. Answers (λ (x : ⊤). left) outcome r) (sym is) (answered_on conclusion outcome left line c)
-handed conclusion outcome left line result c (inr is) =
-    subst (λ r. Answers (λ (x : ⊤). left) outcome r) (sym is) tt
+-- What the status of a conclusion states, the conclusion does.
+pub by_conclusion : (conclusion : Conclusion) (outcome : Outcome Left) (left : Left) (line : List ℕ) → CameByStatus outcome left line (conclusion_status conclusion) → Came outcome left line conclusion
+by_conclusion conclusion outcome left line c =
+    record {
+      ended = λ is. c.ended (ap conclusion_status is);
+      refused = λ is. c.refused (ap conclusion_status is);
+      misunderstood = λ is. c.misunderstood (ap conclusion_status is);
+      full = λ is. c.full (ap conclusion_status is);
+    }
 
 same-some : {A : Type 0} (a b : A) → Some a ≡ Some b → a ≡ b
 same-some a b is = cc
@@ -71,7 +65,7 @@ warnings course shown old mid err (Err Memory) status tells f (inr c) one = absu
 
 -- A command inside followed its course and was concluded. So its status says what the inner course
 -- resulted in.
-pub came : (room : ℕ) (course : Stage ⊤) (old mid : World) (err : OutSeen) (result : Result ⊤ Stop) (status : ℕ) (files : Contents) (left : Left) (warned bytes line : List ℕ) → Handed room files old → FitsRooms old × FitsRooms (world mid.files mid.out err) → Follows (λ x. x) course old mid result → Concludes result mid.err err status → mid.files.contents ≡ Some left.files → mid.out.told ≡ Some left.out → mid.err.told ≡ Some warned → err.told ≡ Some bytes → line ≡ drop (length warned) bytes → Came (inner_outcome room (course.run files) files) left line status
+pub came : (room : ℕ) (course : Stage ⊤) (old mid : World) (err : OutSeen) (result : Result ⊤ Stop) (status : ℕ) (files : Contents) (left : Left) (warned bytes line : List ℕ) → Handed room files old → FitsRooms old × FitsRooms (world mid.files mid.out err) → Follows (λ x. x) course old mid result → Concludes result mid.err err status → mid.files.contents ≡ Some left.files → mid.out.told ≡ Some left.out → mid.err.told ≡ Some warned → err.told ≡ Some bytes → line ≡ drop (length warned) bytes → CameByStatus (inner_outcome room (course.run files) files) left line status
 came room course old mid err result status files left warned bytes line handed rooms f c tells-files tells-out tells-warned tells-err is = record {
   ended = λ zero. by_left (status_says.ended zero);
   refused = λ one. by_line one (status_says.refused one);
@@ -101,7 +95,7 @@ came room course old mid err result status files left warned bytes line handed r
 
 -- The same for a command with these words over files in memory whose calls don't fail, and outputs
 -- in memory with this capacity.
-pub came_inside : (course : List (List ℕ) → Stage ⊤) (words want : List (List ℕ)) (files left : MemFilesSeen) (out err said warned concluded : MemOutSeen) (result : Result ⊤ Stop) (status : ℕ) (line : List ℕ) → words ≡ want → no_kind_listed files.kinds ≡ true → out ≡ empty_with_room inner_room → err ≡ empty_with_room inner_room → Follows (λ x. x) (course words) (world (mem_files_seen files) (mem_out_seen out) (mem_out_seen err)) (world (mem_files_seen left) (mem_out_seen said) (mem_out_seen warned)) result → Concludes result (mem_out_seen warned) (mem_out_seen concluded) status → line ≡ drop (length warned.bytes) concluded.bytes → Came (inner_outcome inner_room ((course want).run files.contents) files.contents) (record { files = left.contents; out = said.bytes }) line status
+pub came_inside : (course : List (List ℕ) → Stage ⊤) (words want : List (List ℕ)) (files left : MemFilesSeen) (out err said warned concluded : MemOutSeen) (result : Result ⊤ Stop) (status : ℕ) (line : List ℕ) → words ≡ want → no_kind_listed files.kinds ≡ true → out ≡ empty_with_room inner_room → err ≡ empty_with_room inner_room → Follows (λ x. x) (course words) (world (mem_files_seen files) (mem_out_seen out) (mem_out_seen err)) (world (mem_files_seen left) (mem_out_seen said) (mem_out_seen warned)) result → Concludes result (mem_out_seen warned) (mem_out_seen concluded) status → line ≡ drop (length warned.bytes) concluded.bytes → CameByStatus (inner_outcome inner_room ((course want).run files.contents) files.contents) (record { files = left.contents; out = said.bytes }) line status
 came_inside course words want files left out err said warned concluded result status line same listed out-is err-is f c is =
     came inner_room (course want) old mid (mem_out_seen concluded) result status files.contents (record { files = left.contents; out = said.bytes }) warned.bytes concluded.bytes line handed rooms
     (subst (λ ws. Follows (λ (x : ⊤). x) (course ws) old mid result) same f) c refl refl refl refl is

@@ -1,17 +1,18 @@
--- How a trial goes on after a command inside. The command is this project's own.
-use Rattle.std.specs.Prelude.{List, ℕ, Result, Ok, Err, ⊤}
+-- What a command inside a trial resulted in, as its conclusion says. The command is this project's
+-- own.
+use Rattle.std.specs.Prelude.{◌≡◌, ℕ, List}
+use Rattle.km_course.specs.Course.{Outcome}
+use Rattle.km_course.specs.Course.Outcome.{value, end}
+use Rattle.km_course.specs.Inner.{Left}
 use Rattle.km_course.specs.declared.conclusion.Conclusion.{Conclusion}
 use Rattle.km_course.specs.declared.conclusion.Conclusion.TheVariants as conclusions
 use Rattle.km_course.specs.declared.end.End.TheVariants.{Inner, NotUnderstood, Refused}
 use Rattle.km_course.specs.declared.refusal.Refusal.TheVariants.{InnerOutputFull}
-use Rattle.km_course.specs.declared.stop.Stop.{Stop}
-use Rattle.km_course.specs.declared.stop.Stop.TheVariants.{Ended, Memory}
 
--- What comes of a command inside that was concluded like this and wrote this line. Its files don't
--- fail, so that a fault is a full output.
-abbrev pub handed_on : Conclusion → List ℕ → Result ⊤ Stop
-handed_on conclusions.Done line = Ok tt
-handed_on conclusions.Refused line = Err (Ended (Inner line))
-handed_on conclusions.NotUnderstood line = Err (Ended NotUnderstood)
-handed_on conclusions.Fault line = Err (Ended (Refused InnerOutputFull))
-handed_on conclusions.OutOfMemory line = Err Memory
+-- The outcome is the one that the conclusion states of a command that left these files and this
+-- output, and wrote this line. Its files don't fail, so that a fault is a full output.
+pub record Came (outcome : Outcome Left) (left : Left) (line : List ℕ) (conclusion : Conclusion) : Type 0 where
+  pub ended : conclusion ≡ conclusions.Done → outcome ≡ value left
+  pub refused : conclusion ≡ conclusions.Refused → outcome ≡ end (Inner line)
+  pub misunderstood : conclusion ≡ conclusions.NotUnderstood → outcome ≡ end NotUnderstood
+  pub full : conclusion ≡ conclusions.Fault → outcome ≡ end (Refused InnerOutputFull)

@@ -1,7 +1,9 @@
 // How a trial goes on after a command inside.
-ghost use Rattle.std.specs.Prelude.{◌≡◌, ◌⊎◌, Err, drop};
-ghost use Rattle.km_course.specs.declared.stop.Stop.TheVariants.{Memory};
-ghost use Rattle.command_trial.specs.Inside.{handed_on};
+ghost use Rattle.std.specs.Prelude.{◌≡◌, drop};
+ghost use Rattle.km_course.specs.Course.{Outcome};
+ghost use Rattle.km_course.specs.Inner.{Left};
+ghost use Rattle.km_course.specs.Follows.{Answers};
+ghost use Rattle.command_trial.specs.Inside.{Came};
 
 use km_course::{Conclusion, End, Refusal, Stop};
 use km_names::Blob;
@@ -10,7 +12,8 @@ use std::alloc::Global;
 /// Returns how a command inside stops the trial, by its conclusion and the line that it wrote. The
 /// trial goes on if the command is done.
 pub(crate) fn hand_on(alloc: Global, conclusion: Conclusion, line: &[u8]) -> Result<(), Stop>
-    ensures { (result ≡ handed_on conclusion line.now) ⊎ (result ≡ Err Memory) }
+    ensures { (outcome : Outcome Left) (left : Left) → Came outcome left line.now conclusion
+        → Answers (λ _. left) outcome result }
 {
     match conclusion {
         Conclusion::Done => Ok(()),
