@@ -75,16 +75,31 @@ never-memory s request =
     option_map BadDepLine (bad_name s.maps.dep)
     ∷ option_map not_found (find (is_unfound s) request.names)
     ∷ option_map not_found (find (is_unknown s request.ignore_install) (all_names founds))
-    ∷ plan_tests s founds)
-    (mapped-sure BadDepLine (bad_name s.maps.dep) bad-other,
-    (mapped-sure not_found (find (is_unfound s) request.names) found-other,
-    (mapped-sure not_found (find (is_unknown s request.ignore_install) (all_names founds)) found-other,
-    (line-sure s founds kinds.Missing,
-    (line-sure s founds kinds.Gpl,
-    (line-sure s founds kinds.Version,
-    (line-sure s founds kinds.Namespace,
-    (cycle-sure (map (name_at (modules s)) (cycle (among (before s)) (planned s founds))),
-    (line-sure s founds kinds.Double, tt)))))))))
+    ∷ plan_tests s founds) (
+      mapped-sure BadDepLine (bad_name s.maps.dep) bad-other,
+      (
+        mapped-sure not_found (find (is_unfound s) request.names) found-other,
+        (
+          mapped-sure not_found (find (is_unknown s request.ignore_install) (all_names founds)) found-other,
+          (
+            line-sure s founds kinds.Missing,
+            (
+              line-sure s founds kinds.Gpl,
+              (
+                line-sure s founds kinds.Version,
+                (
+                  line-sure s founds kinds.Namespace,
+                  (
+                    cycle-sure (map (name_at (modules s)) (cycle (among (before s)) (planned s founds))),
+                    (line-sure s founds kinds.Double, tt),
+                  ),
+                ),
+              ),
+            ),
+          ),
+        ),
+      ),
+    )
 
 by-text : (o : Option Obstacle) → (o ≡ Some Memory → ⊥) → option_and_then plan_text o ≡ None → o ≡ None
 by-text None sure is = refl
