@@ -7,3 +7,5 @@ pub mod ReachLemmas
 pub mod ReadLemmas
 pub mod StateLemmas
 pub mod RunLemmas
+pub mod ShiftLemmas
+pub mod EndLemmas

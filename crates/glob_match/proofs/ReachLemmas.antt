@@ -1,11 +1,13 @@
 -- What the parts of a pattern take of a text, with one part more at their end.
-use Rattle.std.proofs.Common.{◌≡◌, refl, sym, ap, ◌∙◌, ⊎_elim, ℕ, zero, suc, ◌<◌, ◌≤◌, Bool, true, false, ◌&&◌, ◌||◌, ◌==◌, nat_le, List, [], ◌∷◌, ◌++◌, length, take, slice_index, arith, length-append}
-use Rattle.std.proofs.lemmas.Bool.{and_parts, and_from, and_right, or_left, or_right, cases_lt, le-leb, lt-leb, false≢true}
+use Rattle.std.proofs.Common.{◌≡◌, ◌↔◌, refl, sym, ap, subst, ◌∙◌, ⊎_elim, ℕ, zero, suc, ◌<◌, ◌≤◌, Bool, true, false, ◌&&◌, ◌||◌, ◌==◌, nat_le, List, [], ◌∷◌, ◌++◌, length, take, drop, slice_index, Option, Some, None, arith, length-append}
+use Rattle.std.specs.Option.{option_map, option_map_or}
+use Rattle.std.proofs.lemmas.Bool.{and_parts, and_from, and_right, or_left, or_right, or_cases, cases_lt, le-leb, lt-leb, false≢true}
 use Rattle.std.proofs.Math.Seq.{take-suc}
-use Rattle.std.proofs.lemmas.List.{take_all}
+use Rattle.std.proofs.lemmas.List.{take_all, take-append-drop}
 use Rattle.glob_pattern.specs.Parts.{Part, parts_take, some_end}
 use Rattle.glob_pattern.specs.Parts.Part.{Many, One}
 use Rattle.glob_match.specs.Progress.{reaches}
+use Rattle.glob_match.specs.Ends.{take_end}
 use Rattle.glob_pattern.proofs.DecisionLemmas.{not_same}
 use Rattle.glob_match.specs.Words.{moved, any_up_to}
 
@@ -166,31 +168,72 @@ reaches-end ps text =
 
 -- ---- parts that reach no place
 
-end_here : (f : List ℕ → Bool) (xs : List ℕ) → f xs ≡ true → some_end f xs ≡ true
+pub end_here : (f : List ℕ → Bool) (xs : List ℕ) → f xs ≡ true → some_end f xs ≡ true
 end_here f [] e = e
 end_here f (x ∷ xs) e = or_left (f (x ∷ xs)) (some_end f xs) e
 
-front_of_end : (f g : List ℕ → Bool) → ((xs : List ℕ) → f xs ≡ true → (n : ℕ) × (n ≤ length xs) × (g (take n xs) ≡ true)) → (xs : List ℕ) → some_end f xs ≡ true → (n : ℕ) × (n ≤ length xs) × (some_end g (take n xs) ≡ true)
-front_of_end f g each [] e = let h = each [] e in (h.0, h.1, end_here g (take h.0 []) h.2)
-front_of_end f g each (x ∷ xs) e =
-    elim (f (x ∷ xs)) as (λ t. f (x ∷ xs) ≡ t → (t || some_end f xs) ≡ true → (n : ℕ) × (n ≤ length (x ∷ xs)) × (some_end g (take n (x ∷ xs)) ≡ true)) [
-      | true ↦ λ is _. let h = each (x ∷ xs) is in (h.0, h.1, end_here g (take h.0 (x ∷ xs)) h.2)
-      | false ↦ λ _ later.
-          let h = front_of_end f g each xs later in
-          (suc h.0, omega (arith, h.1), or_right (g (x ∷ take h.0 xs)) (some_end g (take h.0 xs)) h.2)
-    ] refl e
+-- A front that the first parts take, and a rest that the parts after them take.
+record Splits (first after : List ℕ → Bool) (xs : List ℕ) : Type 0 where
+  count : ℕ
+  within : count ≤ length xs
+  front : first (take count xs) ≡ true
+  rest : after (drop count xs) ≡ true
 
-front_taken : (ps qs : List Part) (xs : List ℕ) → parts_take (ps ++ qs) xs ≡ true → (n : ℕ) × (n ≤ length xs) × (parts_take ps (take n xs) ≡ true)
-front_taken [] qs xs e = (0, omega arith, refl)
-front_taken (Many ∷ ps) qs xs e = front_of_end (parts_take (ps ++ qs)) (parts_take ps) (front_taken ps qs) xs e
-front_taken (One t ∷ ps) qs [] e = absurd (false≢true e)
-front_taken (One t ∷ ps) qs (x ∷ xs) e =
+split_end : (f g after : List ℕ → Bool) → ((xs : List ℕ) → f xs ≡ true → Splits g after xs) → (xs : List ℕ) → some_end f xs ≡ true → Splits (some_end g) after xs
+split_end f g after each [] e = let h = each [] e in record { count = h.count; within = h.within; front = end_here g (take h.count []) h.front; rest = h.rest }
+split_end f g after each (x ∷ xs) e =
+    ⊎_elim
+    (λ here. let h = each (x ∷ xs) here in record { count = h.count; within = h.within; front = end_here g (take h.count (x ∷ xs)) h.front; rest = h.rest })
+    (λ later.
+    let h = split_end f g after each xs later in
+    record { count = suc h.count; within = omega (arith, h.within); front = or_right (g (x ∷ take h.count xs)) (some_end g (take h.count xs)) h.front; rest = h.rest })
+    (or_cases (f (x ∷ xs)) (some_end f xs) e)
+
+split_parts : (ps qs : List Part) (xs : List ℕ) → parts_take (ps ++ qs) xs ≡ true → Splits (parts_take ps) (parts_take qs) xs
+split_parts [] qs xs e = record { count = 0; within = omega arith; front = refl; rest = e }
+split_parts (Many ∷ ps) qs xs e = split_end (parts_take (ps ++ qs)) (parts_take ps) (parts_take qs) (split_parts ps qs) xs e
+split_parts (One t ∷ ps) qs [] e = absurd (false≢true e)
+split_parts (One t ∷ ps) qs (x ∷ xs) e =
     let both = and_parts (t x) _ e in
-    let h = front_taken ps qs xs both.1 in
-    (suc h.0, omega (arith, h.1), and_from (t x) _ both.0 h.2)
+    let h = split_parts ps qs xs both.1 in
+    record { count = suc h.count; within = omega (arith, h.within); front = and_from (t x) _ both.0 h.front; rest = h.rest }
 
 -- Parts that reach no place take no text, whatever follows them.
 pub reaches-none : (ps qs : List Part) (text : List ℕ) → ((n : ℕ) → n ≤ length text → reaches ps text n ≡ false) → parts_take (ps ++ qs) text ≡ true → ⊥
 reaches-none ps qs text none e =
-    let h = front_taken ps qs text e in
-    false≢true (sym (none h.0 h.1) ∙ and_from (nat_le h.0 (length text)) _ (below_end h.0 text h.1) h.2)
+    let h = split_parts ps qs text e in
+    false≢true (sym (none h.count h.within) ∙ and_from (nat_le h.count (length text)) _ (below_end h.count text h.within) h.front)
+
+-- ---- parts, and what follows them
+
+join_end : (f g : List ℕ → Bool) (ys : List ℕ) → ((xs : List ℕ) → f xs ≡ true → g (xs ++ ys) ≡ true) → (xs : List ℕ) → some_end f xs ≡ true → some_end g (xs ++ ys) ≡ true
+join_end f g ys each [] e = end_here g ys (each [] e)
+join_end f g ys each (x ∷ xs) e =
+    ⊎_elim
+    (λ here. end_here g (x ∷ xs ++ ys) (each (x ∷ xs) here))
+    (λ later. or_right (g (x ∷ xs ++ ys)) (some_end g (xs ++ ys)) (join_end f g ys each xs later))
+    (or_cases (f (x ∷ xs)) (some_end f xs) e)
+
+join_parts : (ps qs : List Part) (xs ys : List ℕ) → parts_take ps xs ≡ true → parts_take qs ys ≡ true → parts_take (ps ++ qs) (xs ++ ys) ≡ true
+join_parts [] qs [] ys e h = h
+join_parts [] qs (x ∷ xs) ys e h = absurd (false≢true (sym (not_same (length (x ∷ xs)) 0 (λ f. omega (arith, f))) ∙ e))
+join_parts (Many ∷ ps) qs xs ys e h = join_end (parts_take ps) (parts_take (ps ++ qs)) ys (λ zs f. join_parts ps qs zs ys f h) xs e
+join_parts (One t ∷ ps) qs [] ys e h = absurd (false≢true e)
+join_parts (One t ∷ ps) qs (x ∷ xs) ys e h =
+    let both = and_parts (t x) _ e in
+    and_from (t x) _ both.0 (join_parts ps qs xs ys both.1 h)
+
+-- Parts that take a text after others do so from a place on that these reach.
+pub taken_after : (ps : List Part) (more : Option (List Part)) (text : List ℕ) → (option_map_or (λ qs. parts_take qs text) (option_map (λ qs. ps ++ qs) more) false ≡ true) ↔ ((n : ℕ) × (reaches ps text n ≡ true) × (take_end more text n ≡ true))
+taken_after ps None text = (λ e. absurd (false≢true e), λ m. absurd (false≢true (and_parts (nat_le m.0 (length text)) false m.2).1))
+taken_after ps (Some qs) text = (
+  λ e.
+      let h = split_parts ps qs text e in
+      let there = below_end h.count text h.within in
+      (h.count, and_from (nat_le h.count (length text)) _ there h.front, and_from (nat_le h.count (length text)) _ there h.rest),
+  λ m.
+      let n = m.0 in
+      let front = and_parts (nat_le n (length text)) (parts_take ps (take n text)) m.1 in
+      let rest = and_parts (nat_le n (length text)) (parts_take qs (drop n text)) m.2 in
+      subst (λ xs. parts_take (ps ++ qs) xs ≡ true) (take-append-drop n text) (join_parts ps qs (take n text) (drop n text) front.1 rest.1),
+)

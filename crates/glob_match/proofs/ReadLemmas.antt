@@ -174,7 +174,7 @@ module _ (text pattern : List ℕ) (first : ℕ) (reached listed : List ℕ) (s 
   }
 
 -- Bytes more of a set that stays open.
-run_step : (items run rest : List ℕ) → ((k : ℕ) → k < length run → slice_index run k ≢ closing) → parts_from (Some items) (run ++ rest) ≡ parts_from (Some (items ++ run)) rest
+pub run_step : (items run rest : List ℕ) → ((k : ℕ) → k < length run → slice_index run k ≢ closing) → parts_from (Some items) (run ++ rest) ≡ parts_from (Some (items ++ run)) rest
 run_step items [] rest inside = ap (λ xs. parts_from (Some xs) rest) (sym (append-nil items))
 run_step items (x ∷ run) rest inside =
     item_step items x (inside 0 (omega arith)) (run ++ rest)

@@ -37,7 +37,7 @@ module _ (b : List ℕ) (from end : ℕ) (within : end ≤ length b) (first : sl
       is_star (suc k) lt = run.stars (from + suc k) (omega arith) (omega (arith, lt))
 
 -- Two parts of the file, one after the other.
-part_more : (b : List ℕ) (start at next : ℕ) → start ≤ at → at ≤ next → take (next - start) (drop start b) ≡ take (at - start) (drop start b) ++ take (next - at) (drop at b)
+pub part_more : (b : List ℕ) (start at next : ℕ) → start ≤ at → at ≤ next → take (next - start) (drop start b) ≡ take (at - start) (drop start b) ++ take (next - at) (drop at b)
 part_more b start at next low high =
     let size : next - start ≡ (at - start) + (next - at) = omega (arith, low, high) in
     let there : start + (at - start) ≡ at = omega (arith, low) in
@@ -45,7 +45,7 @@ part_more b start at next low high =
     ∙ take-add (at - start) (next - at) (drop start b)
     ∙ ap (λ bs. take (at - start) (drop start b) ++ take (next - at) bs) (drop-drop (at - start) start b ∙ ap (λ n. drop n b) there)
 
-take_first : (b : List ℕ) (at next n : ℕ) → next ≡ at + 1 → at < length b → take (suc n) (drop at b) ≡ slice_index b at ∷ take n (drop next b)
+pub take_first : (b : List ℕ) (at next n : ℕ) → next ≡ at + 1 → at < length b → take (suc n) (drop at b) ≡ slice_index b at ∷ take n (drop next b)
 take_first b at next n is lt =
     ap (take (suc n)) (drop_more b at 0 lt) ∙ ap (λ m. slice_index b at ∷ take n (drop m b)) (sym is)
 
@@ -66,7 +66,7 @@ begins_with b start end rest order lt =
     ∙ ap (λ bs. slice_index (bs ++ slice_index b end ∷ rest) 0) (take_first b start (start + 1) (end - start - 1) refl lt))
     (cases_eq start end)
 
-low_first : (low : ℕ) (items : List ℕ) (x : ℕ) → slice_index items 0 ≢ dash → is_listed (low ∷ items) x ≡ ((x == low) || is_listed items x)
+pub low_first : (low : ℕ) (items : List ℕ) (x : ℕ) → slice_index items 0 ≢ dash → is_listed (low ∷ items) x ≡ ((x == low) || is_listed items x)
 low_first low [] x other = refl
 low_first low (byte ∷ rest) x other = listed_low low byte rest x other
 
@@ -214,7 +214,7 @@ module _ (b : List ℕ) (from to low : ℕ) (i : Items) (within : to ≤ length 
 
 -- ---- the items that are kept
 
-pub all_more : (P : Items → Type 0) (xs : List Items) (x : Items) → AllByRecursion P xs → P x → AllByRecursion P (xs ++ x ∷ [])
+pub all_more : {X : Type 0} (P : X → Type 0) (xs : List X) (x : X) → AllByRecursion P xs → P x → AllByRecursion P (xs ++ x ∷ [])
 all_more P [] x h p = (p, tt)
 all_more P (y ∷ ys) x h p = (h.0, all_more P ys x h.1 p)
 

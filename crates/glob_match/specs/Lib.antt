@@ -4,3 +4,5 @@ pub mod Words
 pub mod States
 pub mod Progress
 pub mod Runs
+pub mod Ends
+pub mod Backward

@@ -1,13 +1,15 @@
-ghost use Rattle.std.specs.Prelude.{◌≡◌, ℕ, ◌+◌, ◌-◌, ◌<◌, ◌≤◌, ◌^◌, take, drop, List, [], ◌∷◌, ◌++◌, IfOk, OnOk, IsTrue, ◌↔◌, length};
+ghost use Rattle.std.specs.Prelude.{◌≡◌, ℕ, ◌+◌, ◌-◌, ◌<◌, ◌≤◌, ◌^◌, take, drop, List, [], ◌∷◌, ◌++◌, IfOk, IfSome, OnOk, IsTrue, ◌↔◌, length};
 ghost use Rattle.glob_pattern.specs.Pattern.{Matches};
 ghost use Rattle.glob_match.specs.Runs.{AreRuns};
+ghost use Rattle.glob_match.specs.Ends.{AreEnds};
 ghost use Rattle.glob_match.specs.Progress.{IsOver, HasRead, WasRead, IsSaved, IsWhole};
 
+use crate::ends::Ends;
 use crate::place::{Pending, Place, last_low};
 use crate::reading::read;
 use crate::runs::Runs;
 use crate::state::State;
-use crate::words::{BITS, has, is_empty};
+use crate::words::{BITS, has, is_empty, meet};
 use std::alloc::{AllocError, Global};
 
 /// How far a pattern, which is read byte by byte, can match one text. It can be saved and taken up
@@ -133,16 +135,26 @@ impl Progress {
         }
     }
 
+    /// Returns whether the pattern so far, with the bytes of a file from a place up to another after
+    /// it, matches the text. The result is `None` if it isn't known what these bytes match.
+    pub fn is_match_with(&self, ends: &Ends, at: usize, to: usize) -> Option<bool>
+        requires whole { IsWhole self.now }
+        ensures { (file text pattern : List ℕ) → AreEnds file text ends.now → IsOver self.now text → HasRead self.now text pattern → IfSome result (λ r. IsTrue r ↔ Matches (pattern ++ take (to - at) (drop at file)) text) }
+    {
+        match self.place {
+            Place::Outside => {
+                let words = ends.words(at, to, self.size)?;
+                Some(meet(&self.state.reached, self.state.first, words))
+            }
+            Place::Opened | Place::Inside(_, _) => None,
+        }
+    }
+
     /// Returns whether no pattern that begins with the one so far matches the text.
     pub fn is_lost(&self) -> bool
         ensures { (text pattern : List ℕ) → IsOver self.now text → HasRead self.now text pattern → IsTrue result → (rest : List ℕ) → ¬ Matches (pattern ++ rest) text }
     {
         is_empty(&self.state.reached)
-    }
-
-    /// Returns how many words have the places that the pattern reaches.
-    pub fn words(&self) -> usize {
-        self.state.reached.len()
     }
 
     /// Adds the words of the pattern so far at the end.

@@ -1,8 +1,8 @@
 // Sets of numbers, as bits of words: the number n is the bit n % 64 of the word n / 64.
-ghost use Rattle.std.specs.Prelude.{◌≡◌, ℕ, ◌+◌, ◌*◌, ◌/◌, ◌<◌, ◌≤◌, ◌&&◌, ◌||◌, not, nat_le, Bool, false, length, map, slice_index, IsTrue};
+ghost use Rattle.std.specs.Prelude.{◌≡◌, ℕ, suc, ◌+◌, ◌*◌, ◌/◌, ◌^◌, ◌<◌, ◌≤◌, ◌==◌, ◌&&◌, ◌||◌, not, nat_le, Bool, true, false, length, map, slice_index, IsTrue, ◌↔◌};
 ghost use Rattle.std.specs.Int.{bit_at};
 ghost use Rattle.std.specs.Simd.Lanes.{mask_l};
-ghost use Rattle.glob_match.specs.Words.{bit, is_between, HasBits, any_up_to};
+ghost use Rattle.glob_match.specs.Words.{bit, is_between, HasBits, HasPlaces, any_up_to};
 
 use std::simd::prelude::*;
 
@@ -115,4 +115,96 @@ pub(crate) fn has(words: &[u64], place: usize) -> bool
     ensures { (test : ℕ → Bool) → HasBits words.now test → result ≡ test place }
 {
     words[place / BITS] >> (place % BITS) & 1 == 1
+}
+
+/// Moves all places down by one.
+pub(crate) fn shift_down(words: &mut [u64])
+    ensures { (test : ℕ → Bool) → HasBits words.old test → ((n : ℕ) → BITS * length words.old ≤ n → test n ≡ false) → HasBits words.new (λ n. test (suc n)) }
+{
+    let mut next = 0;
+    for at in (0..words.len()).rev() {
+        let word = words[at];
+        words[at] = word >> 1 | next << 63;
+        next = word;
+    }
+}
+
+/// Adds all places before one that is there.
+pub(crate) fn fill_down(words: &mut [u64])
+    ensures { (test filled : ℕ → Bool) → HasBits words.old test → ((n : ℕ) → filled n ≡ (test n || filled (suc n))) → filled (BITS * length words.old) ≡ false → HasBits words.new filled }
+{
+    let mut found = false;
+    for at in (0..words.len()).rev() {
+        let word = words[at];
+        if found {
+            words[at] = u64::MAX;
+        } else if word != 0 {
+            words[at] = u64::MAX >> word.leading_zeros();
+            found = true;
+        }
+    }
+}
+
+/// Keeps the places of the bytes in a range.
+pub(crate) fn keep_range(words: &mut [u64], bytes: &[u8], low: u8, high: u8)
+    requires { BITS * length words.old ≤ length bytes.now }
+    ensures { (test : ℕ → Bool) → HasBits words.old test → HasBits words.new (λ n. test n && is_between low high (slice_index bytes.now n)) }
+{
+    for at in 0..words.len() {
+        if words[at] != 0 {
+            words[at] &= in_range(&bytes[at * BITS..], low, high);
+        }
+    }
+}
+
+/// Keeps the places that aren't listed.
+pub(crate) fn keep_others(words: &mut [u64], listed: &[u64])
+    requires { length words.old ≡ length listed.now }
+    ensures { (test list : ℕ → Bool) → HasBits words.old test → HasBits listed.now list → HasBits words.new (λ n. test n && not (list n)) }
+{
+    for at in 0..words.len() {
+        words[at] &= !listed[at];
+    }
+}
+
+/// Has one place alone.
+pub(crate) fn set_only(words: &mut [u64], place: usize)
+    requires { place / 64 < length words.old }
+    ensures { HasBits words.new (λ n. n == place) }
+{
+    clear(words);
+    words[place / BITS] = 1 << (place % BITS);
+}
+
+/// Returns the 64 bits from a place on. There is no place after the words.
+fn word_from(words: &[u64], place: usize) -> u64
+    ensures { (test : ℕ → Bool) → HasBits words.now test → ((n : ℕ) → BITS * length words.now ≤ n → test n ≡ false) → (i : ℕ) → i < BITS → bit_at result i ≡ bit (test (place + i)) }
+{
+    let at = place / BITS;
+    let low = place % BITS;
+    if at >= words.len() {
+        return 0;
+    }
+    if low == 0 {
+        return words[at];
+    }
+    let next = if at + 1 < words.len() {
+        words[at + 1]
+    } else {
+        0
+    };
+    words[at] >> low | next << (BITS - low)
+}
+
+/// Returns whether some place is in both. The bits of the first words begin at a place.
+pub(crate) fn meet(reached: &[u64], first: usize, words: &[u64]) -> bool
+    requires { first + BITS * length reached.now < 2 ^ 64 }
+    ensures { (some other : ℕ → Bool) → HasPlaces first reached.now some → HasBits words.now other → ((n : ℕ) → BITS * length words.now ≤ n → other n ≡ false) → (IsTrue result ↔ ((n : ℕ) × (some n ≡ true) × (other n ≡ true))) }
+{
+    for at in 0..reached.len() {
+        if reached[at] & word_from(words, first + at * BITS) != 0 {
+            return true;
+        }
+    }
+    false
 }
