@@ -5,6 +5,7 @@ pub mod ListingLemmas
 pub mod CountLemmas
 pub mod RoundLemmas
 pub mod PlaceValues
+pub mod ReadLemmas
 pub mod SearchLemmas
 pub mod MatchLemmas
 pub mod SortLemmas

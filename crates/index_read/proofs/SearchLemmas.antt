@@ -1,7 +1,6 @@
 -- A search over the nodes of an index, level by level.
-use Rattle.std.proofs.Common.{◌≡◌, refl, sym, ap, subst, ◌∙◌, ℕ, zero, suc, ◌+◌, ◌-◌, ◌<◌, ◌≤◌, List, [], ◌∷◌, ◌++◌, length, vec_len, take, drop, Option, Some, None, arith, append_assoc, length-append}
-use Rattle.std.proofs.lemmas.List.{append-nil, drop-drop, take_at, take_all}
-use Rattle.std.proofs.Math.Seq.{take-add}
+use Rattle.std.proofs.Common.{◌≡◌, refl, sym, ap, subst, ◌∙◌, ℕ, zero, suc, ◌+◌, ◌-◌, ◌<◌, ◌≤◌, List, [], ◌∷◌, ◌++◌, length, vec_len, take, drop, Bool, true, false, ◌↔◌, IsTrue, Option, Some, None, arith, append_assoc, length-append}
+use Rattle.std.proofs.lemmas.List.{append-nil, take_at, take_all}
 use Rattle.index_format.specs.Link.{place_of}
 use Rattle.index_format.specs.Node.{root, prefix, child}
 use Rattle.index_format.specs.Check.{index_fault}
@@ -10,12 +9,13 @@ use Rattle.index_nodes.specs.Fields.{link_of, IsNodeOf}
 use Rattle.index_nodes.specs.declared.node.Node.{Node}
 use Rattle.index_nodes.proofs.SoundNodes.{node_sound, child_below}
 use Rattle.glob_pattern.specs.Pattern.{Matches}
-use Rattle.glob_match.specs.Progress.{IsWhole, IsOver, HasRead, WasRead}
+use Rattle.glob_match.specs.Progress.{IsWhole, IsOver, WasRead}
 use Rattle.glob_match.specs.declared.progress.Saved.{Saved}
 use Rattle.index_read.specs.declared.search.Branch.{Branch}
+use Rattle.index_read.specs.declared.search.Found.{Found}
 use Rattle.index_read.specs.declared.search.Search.{Search}
 use Rattle.index_read.specs.Keys.{Item, all_items, on_child, branches, key_bytes, items}
-use Rattle.index_read.specs.Searches.{IsLost, NoneMatches, below, Waits, bottom, above, branch_of, after_branch, IsSearching, Comes, count_left}
+use Rattle.index_read.specs.Searches.{IsLost, NoneMatches, below, Waits, bottom, above, branch_of, after_branch, AreKnown, IsWholeOrLeaf, DescendsTo, IsSearching, Comes, count_left}
 use Rattle.index_read.proofs.KeyLemmas.{branches_none, branches_some, items-node, items-begin, branches-begin, Begins}
 use Rattle.index_read.proofs.OrderLemmas.{all_weaker}
 
@@ -142,6 +142,14 @@ module _ (b : List ℕ) (accepted : index_fault b ≡ None) (l : Branch) (node :
         let one = ap length (items-node b accepted (place_of (link_of l.node)) at ([] ++ byte ∷ []) child_node (child_below b accepted (link_of l.node) byte at node.node is)) in
         omega (arith, all, one, length-append (items b (place_of (link_of l.node)) at ([] ++ byte ∷ [])) (below b (after_branch l byte) []))
 
+-- ---- a node without children
+
+leaf_items : (b : List ℕ) → index_fault b ≡ None → (d link : ℕ) (key : List ℕ) → IsNode b link → place_of link < d → ((k : ℕ) → child b link k ≡ None) → items b d link key ≡ (key ++ prefix b link, link) ∷ []
+leaf_items b accepted d link key node deep none =
+    let whole = key ++ prefix b link in
+    items-node b accepted d link key node deep
+    ∙ ap (λ xs. (whole, link) ∷ xs) (branches_none (items b (place_of link)) b link whole 0 key_bytes (λ k le. none k))
+
 -- ---- the root
 
 pub root_parts : (b : List ℕ) → index_fault b ≡ None → (n : Node) (saved : Saved) → link_of n ≡ root b → all_items b ≡ (prefix b (link_of n), link_of n) ∷ below b (branch_of n saved) (prefix b (link_of n))
@@ -164,26 +172,53 @@ root_lost b accepted text link name lost =
     let front : prefix b link ≡ prefix b (root b) = ap (prefix b) name in
     none_below text (prefix b (root b)) (all_items b) (subst (IsLost text) front lost) (begins_root b accepted)
 
--- ---- keys that are read
-
-pub lost_more : (text front more : List ℕ) → IsLost text front → IsLost text (front ++ more)
-lost_more text front more lost rest m = lost (more ++ rest) (subst (λ k. Matches k text) (append_assoc front more rest) m)
-
--- ---- bytes of the file, from a place up to another
-
-pub no_part : (b : List ℕ) (at : ℕ) → take (at - at) (drop at b) ≡ []
-no_part b at =
-    let none : at - at ≡ 0 = omega arith in
-    ap (λ n. take n (drop at b)) none
-
--- Two parts, one after the other.
-pub part_more : (b : List ℕ) (start at next : ℕ) → start ≤ at → at ≤ next → take (next - start) (drop start b) ≡ take (at - start) (drop start b) ++ take (next - at) (drop at b)
-part_more b start at next low high =
-    let size : next - start ≡ (at - start) + (next - at) = omega (arith, low, high) in
-    let there : start + (at - start) ≡ at = omega (arith, low) in
-    ap (λ n. take n (drop start b)) size
-    ∙ take-add (at - start) (next - at) (drop start b)
-    ∙ ap (λ bs. take (at - start) (drop start b) ++ take (next - at) bs) (drop-drop (at - start) start b ∙ ap (λ n. drop n b) there)
+-- The root is reached.
+pub root_comes : (b text : List ℕ) (link : ℕ) (old new : Search) (f : Found) (leaf : Bool) → index_fault b ≡ None → link ≡ root b → link_of f.node ≡ link → IsWhole old.progress → IsOver old.progress text → AreKnown b text old.known → old.levels.items ≡ [] → old.saved.items ≡ [] → IsNodeOf b f.node → (IsTrue f.is_match ↔ Matches (prefix b link) text) → IsWholeOrLeaf b text (prefix b link) link old.progress leaf → DescendsTo old new f.node leaf → Comes b text (all_items b) new f
+root_comes b text link old new f true accepted is_root name whole over known levels saved node decides none same =
+    let top_node : IsNode b (root b) = top in
+    let sound = node_sound b accepted (root b) top_node in
+    record {
+      skipped = [];
+      key = prefix b link;
+      left = [];
+      parts =
+          leaf_items b accepted (length b + 1) (root b) [] top_node (omega (arith, sound.within)) (λ k. ap (λ n. child b n k) (sym is_root) ∙ none k)
+          ∙ (λ i. (prefix b (sym is_root i), (sym is_root ∙ sym name) i) ∷ []);
+      none = tt;
+      node = node;
+      decides = decides;
+      searching = subst (λ s. IsSearching b text s []) (sym same)
+          (record {
+            whole = whole;
+            over = over;
+            known = known;
+            waits = subst (λ ls. Waits b text ls old.saved.items []) (sym levels) (subst (λ ws. Waits b text [] ws []) (sym saved) bottom);
+          });
+    }
+root_comes b text link old new f false accepted is_root name whole over known levels saved node decides read down =
+    let key = prefix b link in
+    let l = branch_of f.node down.key in
+    let here : prefix b (link_of f.node) ≡ key = ap (prefix b) name in
+    record {
+      skipped = [];
+      key = key;
+      left = below b l key ++ [];
+      parts =
+          root_parts b accepted f.node down.key (name ∙ is_root)
+          ∙ (λ i. (here i, link_of f.node) ∷ below b l (here i))
+          ∙ ap (λ xs. (key, link_of f.node) ∷ xs) (sym (append-nil (below b l key)));
+      none = tt;
+      node = node;
+      decides = decides;
+      searching = record {
+        whole = subst IsWhole (sym down.same) whole;
+        over = subst (λ p. IsOver p text) (sym down.same) over;
+        known = subst (AreKnown b text) (sym down.known) known;
+        waits = subst (λ ks. Waits b text ks new.saved.items (below b l key ++ [])) (sym (down.levels ∙ ap (λ ks. ks ++ l ∷ []) levels))
+            (subst (λ ws. Waits b text ([] ++ l ∷ []) ws (below b l key ++ [])) (sym (down.saved.added ∙ ap (λ ws. ws ++ down.saved.words) saved))
+            (above l down.saved.words key bottom node (omega arith) (down.saved.read text key over read)));
+      };
+    }
 
 -- ---- a search that goes on
 
@@ -213,8 +248,8 @@ top_words saved before words count e size =
 
 module _ (b text : List ℕ) (is : List Item) (now : Search) (h : Sought b text is now) (ls : List Branch) (l : Branch) (last : Last b text ls l now.saved.items h.left) where
   -- A level without a child is left.
-  pub seek_up : (new : Search) → new.progress ≡ now.progress → new.levels.items ≡ ls → new.saved.items ≡ last.before → below b l last.key ≡ [] → Sought b text is new
-  seek_up new same levels saved none = record {
+  pub seek_up : (new : Search) → new.progress ≡ now.progress → new.known ≡ now.known → new.levels.items ≡ ls → new.saved.items ≡ last.before → below b l last.key ≡ [] → Sought b text is new
+  seek_up new same known levels saved none = record {
     skipped = h.skipped;
     left = last.left;
     parts = h.parts ∙ ap (λ xs. h.skipped ++ xs) (last.items_are ∙ ap (λ xs. xs ++ last.left) none);
@@ -222,6 +257,7 @@ module _ (b text : List ℕ) (is : List Item) (now : Search) (h : Sought b text 
     searching = record {
       whole = subst IsWhole (sym same) h.searching.whole;
       over = subst (λ p. IsOver p text) (sym same) h.searching.over;
+      known = subst (AreKnown b text) (sym known) h.searching.known;
       waits = subst (λ ks. Waits b text ks new.saved.items last.left) (sym levels) (subst (λ ws. Waits b text ls ws last.left) (sym saved) last.waits);
     };
   }
@@ -247,9 +283,9 @@ module _ (b text : List ℕ) (is : List Item) (now : Search) (h : Sought b text 
         (above (after_branch l byte) last.words last.key last.waits last.node (omega (arith, ascii)) last.read)
 
     -- A child is passed over.
-    pub seek_on : (new : Search) → IsWhole new.progress → IsOver new.progress text → new.levels.items ≡ ls ++ after_branch l byte ∷ [] → new.saved.items ≡ now.saved.items → IsLost text ((last.key ++ byte ∷ []) ++ prefix b at) → Sought b text is new
+    pub seek_on : (new : Search) → IsWhole new.progress → IsOver new.progress text → AreKnown b text new.known → new.levels.items ≡ ls ++ after_branch l byte ∷ [] → new.saved.items ≡ now.saved.items → IsLost text ((last.key ++ byte ∷ []) ++ prefix b at) → Sought b text is new
     unfolding children
-    seek_on new whole over levels saved lost = record {
+    seek_on new whole over known levels saved lost = record {
       skipped = h.skipped ++ children;
       left = others;
       parts = h.parts ∙ ap (λ xs. h.skipped ++ xs) unfolding_parts ∙ sym (append_assoc h.skipped children others);
@@ -257,29 +293,51 @@ module _ (b text : List ℕ) (is : List Item) (now : Search) (h : Sought b text 
       searching = record {
         whole = whole;
         over = over;
+        known = known;
         waits = subst (λ ks. Waits b text ks new.saved.items others) (sym levels) (subst (λ ws. Waits b text (ls ++ after_branch l byte ∷ []) ws others) (sym saved) waits_on);
       };
     }
 
     -- A child is reached.
-    pub seek_down : (new : Search) (n : Node) (saved : Saved) (words : List ℕ) → IsWhole new.progress → IsOver new.progress text → IsNodeOf b n → link_of n ≡ at → HasRead new.progress text ((last.key ++ byte ∷ []) ++ prefix b at) → WasRead text ((last.key ++ byte ∷ []) ++ prefix b at) saved words → new.levels.items ≡ (ls ++ after_branch l byte ∷ []) ++ branch_of n saved ∷ [] → new.saved.items ≡ now.saved.items ++ words → Comes b text is new n
+    pub seek_down : (old new : Search) (f : Found) (leaf : Bool) → IsWhole old.progress → IsOver old.progress text → AreKnown b text old.known → old.levels.items ≡ ls ++ after_branch l byte ∷ [] → old.saved.items ≡ now.saved.items → IsNodeOf b f.node → link_of f.node ≡ at → (IsTrue f.is_match ↔ Matches ((last.key ++ byte ∷ []) ++ prefix b at) text) → IsWholeOrLeaf b text ((last.key ++ byte ∷ []) ++ prefix b at) at old.progress leaf → DescendsTo old new f.node leaf → Comes b text is new f
     unfolding children
-    seek_down new n saved words whole over node name read was levels more =
+    seek_down old new f true whole over known levels saved node name decides none same =
         let key = (last.key ++ byte ∷ []) ++ prefix b at in
+        let own = leaf_items b accepted (place_of (link_of l.node)) at (last.key ++ byte ∷ []) (child_node b accepted l last.node byte at last.next is_child from first ascii) (child_below b accepted (link_of l.node) byte at last.node.node is_child) none in
         record {
           skipped = h.skipped;
           key = key;
-          left = below b (branch_of n saved) key ++ others;
-          parts = h.parts ∙ ap (λ xs. h.skipped ++ xs) (unfolding_parts ∙ ap (λ xs. xs ++ others) (child_parts b accepted l last.node byte at last.next is_child from first ascii last.key n saved name));
+          left = others;
+          parts = h.parts ∙ ap (λ xs. h.skipped ++ xs) (unfolding_parts ∙ ap (λ xs. xs ++ others) (own ∙ ap (λ k. (key, k) ∷ []) (sym name)));
           none = h.none;
           node = node;
-          read = read;
+          decides = decides;
+          searching = subst (λ s. IsSearching b text s others) (sym same)
+              (record {
+                whole = whole;
+                over = over;
+                known = known;
+                waits = subst (λ ks. Waits b text ks old.saved.items others) (sym levels) (subst (λ ws. Waits b text (ls ++ after_branch l byte ∷ []) ws others) (sym saved) waits_on);
+              });
+        }
+    seek_down old new f false whole over known levels saved node name decides read down =
+        let key = (last.key ++ byte ∷ []) ++ prefix b at in
+        let own = branch_of f.node down.key in
+        record {
+          skipped = h.skipped;
+          key = key;
+          left = below b own key ++ others;
+          parts = h.parts ∙ ap (λ xs. h.skipped ++ xs) (unfolding_parts ∙ ap (λ xs. xs ++ others) (child_parts b accepted l last.node byte at last.next is_child from first ascii last.key f.node down.key name));
+          none = h.none;
+          node = node;
+          decides = decides;
           searching = record {
-            whole = whole;
-            over = over;
-            waits = subst (λ ks. Waits b text ks new.saved.items (below b (branch_of n saved) key ++ others)) (sym levels)
-                (subst (λ ws. Waits b text ((ls ++ after_branch l byte ∷ []) ++ branch_of n saved ∷ []) ws (below b (branch_of n saved) key ++ others)) (sym more)
-                (above (branch_of n saved) words key waits_on node (omega arith) was));
+            whole = subst IsWhole (sym down.same) whole;
+            over = subst (λ p. IsOver p text) (sym down.same) over;
+            known = subst (AreKnown b text) (sym down.known) known;
+            waits = subst (λ ks. Waits b text ks new.saved.items (below b own key ++ others)) (sym (down.levels ∙ ap (λ ks. ks ++ own ∷ []) levels))
+                (subst (λ ws. Waits b text ((ls ++ after_branch l byte ∷ []) ++ own ∷ []) ws (below b own key ++ others)) (sym (down.saved.added ∙ ap (λ ws. ws ++ down.saved.words) saved))
+                (above own down.saved.words key waits_on node (omega arith) (down.saved.read text key over read)));
           };
         }
 
@@ -296,11 +354,21 @@ pub level_words : (b text : List ℕ) (ls : List Branch) (l : Branch) (saved : L
 level_words b text ls l saved is count last size k = top_words saved k.before k.words count k.saved_is (omega (arith, size, k.read.size))
 
 -- How many nodes are left on a level after a child.
-pub counts_after : (b : List ℕ) → index_fault b ≡ None → (l : Branch) → IsNodeOf b l.node → (byte at : ℕ) → l.next ≤ key_bytes → child b (link_of l.node) byte ≡ Some at → l.next ≤ byte → ((k : ℕ) → l.next ≤ k → k < byte → child b (link_of l.node) k ≡ None) → byte ≤ 127 → (n : Node) (saved : Saved) → link_of n ≡ at → length (below b (branch_of n saved) []) + 1 + length (below b (after_branch l byte) []) ≡ length (below b l [])
+counts_after : (b : List ℕ) → index_fault b ≡ None → (l : Branch) → IsNodeOf b l.node → (byte at : ℕ) → l.next ≤ key_bytes → child b (link_of l.node) byte ≡ Some at → l.next ≤ byte → ((k : ℕ) → l.next ≤ k → k < byte → child b (link_of l.node) k ≡ None) → byte ≤ 127 → (n : Node) (saved : Saved) → link_of n ≡ at → length (below b (branch_of n saved) []) + 1 + length (below b (after_branch l byte) []) ≡ length (below b l [])
 counts_after b accepted l node byte at next is from first ascii n saved name =
     let all = ap length (first_child b accepted l node byte at next is from first ascii []) in
     let own = ap length (child_parts b accepted l node byte at next is from first ascii [] n saved name) in
     omega (arith, all, own, length-append (items b (place_of (link_of l.node)) at ([] ++ byte ∷ [])) (below b (after_branch l byte) []), same_below b (branch_of n saved) (([] ++ byte ∷ []) ++ prefix b at) [])
+
+-- How many nodes are left after a child is reached.
+pub count_down : (b : List ℕ) → index_fault b ≡ None → (ls : List Branch) (l : Branch) → IsNodeOf b l.node → (byte at : ℕ) → l.next ≤ key_bytes → child b (link_of l.node) byte ≡ Some at → l.next ≤ byte → ((k : ℕ) → l.next ≤ k → k < byte → child b (link_of l.node) k ≡ None) → byte ≤ 127 → (old new : Search) (n : Node) (leaf : Bool) → old.levels.items ≡ ls ++ after_branch l byte ∷ [] → link_of n ≡ at → DescendsTo old new n leaf → count_left b new.levels.items + 1 ≤ count_left b (ls ++ l ∷ [])
+count_down b accepted ls l node byte at next is from first ascii old new n true levels name same =
+    let all = ap (λ (s : Search). count_left b s.levels.items) same ∙ ap (count_left b) levels in
+    omega (arith, all, child_counts b accepted l node byte at next is from first ascii, count_push b ls l, count_push b ls (after_branch l byte))
+count_down b accepted ls l node byte at next is from first ascii old new n false levels name down =
+    let own = branch_of n down.key in
+    let all = ap (count_left b) (down.levels ∙ ap (λ ks. ks ++ own ∷ []) levels) in
+    omega (arith, all, counts_after b accepted l node byte at next is from first ascii n down.key name, count_push b ls l, count_push b ls (after_branch l byte), count_push b (ls ++ after_branch l byte ∷ []) own)
 
 pub omega_size : (b text : List ℕ) (ls : List Branch) (l : Branch) (now : Search) (is : List Item) → Last b text ls l now.saved.items is → (all words : ℕ) → all ≡ vec_len now.saved → words ≡ l.key.count + l.key.count → all - words + (l.key.count + l.key.count) ≡ length now.saved.items
 omega_size b text ls l now is last all words e f = omega (arith, e, f, now.saved.ok.0, words_within b text ls l now.saved.items is last)

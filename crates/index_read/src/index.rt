@@ -19,7 +19,6 @@ use crate::room::Room;
 use crate::search::Search;
 use crate::value::{Pair, Pairs, Value, Values, push_pairs, push_values};
 use crate::walk::KeyWalk;
-use glob_match::Runs;
 use index_nodes::{IndexFault, Node, Nodes, Place, Steps};
 use km_names::Blob;
 use std::alloc::{AllocError, Global};
@@ -115,16 +114,12 @@ impl Index {
     }
 
     /// Finds the values of every key that as a pattern matches the text: by rising priority, then
-    /// by the bytes of the key, then by place. Each node is read at most once.
+    /// by the bytes of the key, then by place. Each node is read at most once. The matching takes
+    /// time in proportion to the file for each 64 bytes of the text, whatever nodes overlap.
     ///
     /// # Errors
     ///
-    /// Out of memory, also if the list takes more than 268,435,456 bytes, or the matching more than
-    /// 17,179,869,184 steps. A byte of a key takes 16 steps, and one for every 64 bytes of the text
-    /// that are left; a long run of `*` or a long set takes fewer. A key is read while the text can
-    /// match, and the front that keys share once. Nodes that overlap in the file can meet this, but
-    /// no file under a megabyte with a text of up to 100 bytes. One that repeats no byte can with a
-    /// text of more than 15,000 bytes.
+    /// Out of memory, also if the list takes more than 268,435,456 bytes.
     pub fn wild<L: Ledger>(
         &self,
         alloc: Global,
@@ -155,14 +150,13 @@ impl Index {
     {
         let mut found = Vec::new(alloc);
         let mut room = Room::new();
-        let mut runs = Runs::new(alloc);
-        let (mut search, first) = Search::start(alloc, &self.nodes, text, &mut runs, steps)?;
+        let (mut search, first) = Search::start(alloc, &self.nodes, text, steps)?;
         let mut next = first;
-        while let Some(node) = next {
-            if search.is_match() {
-                push_values(alloc, &self.nodes, &node, &mut found, &mut room)?;
+        while let Some(reached) = next {
+            if reached.is_match {
+                push_values(alloc, &self.nodes, &reached.node, &mut found, &mut room)?;
             }
-            next = search.next(&self.nodes, &mut runs, steps)?;
+            next = search.next(&self.nodes, steps)?;
         }
         Ok(found)
     }

@@ -11,9 +11,12 @@
 //!
 //! A small file may have a map of any size. So the lookups in all keys count the bytes of the list
 //! that they answer, and past 268,435,456 they are out of memory. A listing writes a key only where
-//! it has a value. The bytes that are matched with a text take 17,179,869,184 steps at most. Once
-//! about as many were read as the file has, the runs of the file are found before a long prefix. So
-//! a run of `*`, or of the items of a set, is matched as one, also if many prefixes end with it.
+//! it has a value.
+//!
+//! Many prefixes may share their last bytes. Once as many bytes were read as the file has, tables
+//! are made before a long prefix: where runs of `*` and of the items of a set end, and which ends of
+//! keys match which ends of the text. So matching takes time in proportion to the file for each 64
+//! bytes of the text.
 //!
 //! Each node that is read is a step on the ledger that the caller gives; the lookups of [`plain`]
 //! and [`first_values`] count nothing. The crate builds on `index_nodes`, which reads the nodes, on
@@ -23,6 +26,7 @@
 
 mod first;
 mod index;
+mod known;
 pub mod plain;
 mod reach;
 mod room;
