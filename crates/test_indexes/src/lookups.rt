@@ -98,6 +98,32 @@ fn shared_end(rt: &impl Abort, alloc: Global) -> Index {
     adopted(rt, alloc, file)
 }
 
+/// Puts a piece at the end of a text so many times.
+fn put_often(rt: &impl Abort, text: &mut Blob, piece: &str, count: usize) {
+    for _ in 0..count {
+        put(rt, text, piece.as_bytes());
+    }
+}
+
+/// Returns "[ab]c" 120 times after a "*", 119 times after a "?" and 118 times after an "x", with "v"
+/// at 0. Their prefixes end with one NUL, and together have more bytes than the file.
+fn long_shared_end(rt: &impl Abort, alloc: Global) -> Index {
+    let mut file = bytes(rt, alloc, "b007f457 00020001 2000026f");
+    put_often(rt, &mut file, "[ab]c", 120);
+    let value = bytes(rt, alloc, "00 00000001 00000000 7600 2a 78");
+    put(rt, &mut file, value.as_bytes());
+    for byte in b'*'..=b'x' {
+        let child: u32 = match byte {
+            b'*' => 0xc000_000c,
+            b'?' => 0xc000_0011,
+            b'x' => 0xc000_0016,
+            _ => 0,
+        };
+        put(rt, &mut file, &child.to_be_bytes());
+    }
+    adopted(rt, alloc, file)
+}
+
 /// Returns one key of so many bytes "a", each a node of its own, with an empty text at 0.
 fn deep(rt: &impl Abort, alloc: Global, nodes: u32) -> Index {
     let mut below = Blob::new(alloc);
@@ -248,6 +274,17 @@ static BORDERS: [(&str, &str); 9] = [
 /// Texts, and the values of the patterns "x*b" and "yb" that they match.
 static SHARED: [(&str, &str); 4] = [("xb", "0v "), ("xqb", "0v "), ("yb", "0v "), ("yqb", "")];
 
+/// Texts, each by its first byte and by what follows so many times, and the values of the long
+/// patterns that they match.
+static LONG_SHARED: [(&str, &str, usize, &str); 6] = [
+    ("x", "ac", 118, "0v "),
+    ("x", "bc", 118, "0v "),
+    ("x", "ac", 117, ""),
+    ("x", "cc", 118, ""),
+    ("q", "ac", 119, "0v "),
+    ("q", "bc", 120, "0v "),
+];
+
 fn same(rt: &impl Abort, got: &[u8], want: &[u8]) {
     assert_eq!(rt; got, want);
 }
@@ -308,6 +345,18 @@ fn match_borders<L: Ledger>(rt: &impl Abort, alloc: Global, steps: &mut Steps<L>
     }
 }
 
+/// Looks up long texts, where long prefixes share their end.
+fn match_long_ends<L: Ledger>(rt: &impl Abort, alloc: Global, steps: &mut Steps<L>) {
+    let index = long_shared_end(rt, alloc);
+    for (first, piece, count, want) in &LONG_SHARED {
+        let mut text = Blob::new(alloc);
+        put(rt, &mut text, first.as_bytes());
+        put_often(rt, &mut text, piece, *count);
+        let got = wild(rt, alloc, &index, text.as_bytes(), steps);
+        same_for(rt, piece, got.as_bytes(), want.as_bytes());
+    }
+}
+
 /// Looks up the one key of a deep index, and the text before it.
 fn look_deep<L: Ledger>(rt: &impl Abort, alloc: Global, steps: &mut Steps<L>) {
     let index = deep(rt, alloc, 1_000_000);
@@ -333,6 +382,7 @@ fn look<L: Ledger>(rt: &impl Abort, alloc: Global, blank: Blank)
     look_up(rt, alloc, &mut steps);
     match_patterns(rt, alloc, &mut steps);
     match_borders(rt, alloc, &mut steps);
+    match_long_ends(rt, alloc, &mut steps);
     look_deep(rt, alloc, &mut steps);
 }
 
