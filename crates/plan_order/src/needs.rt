@@ -107,7 +107,7 @@ fn empty_lists(alloc: Global, count: usize) -> Result<Vec<Vec<usize>>, AllocErro
     ensures long { IfOk result (λ lists. length lists.items ≡ count) }
     ensures inside { IfOk result (λ lists. Inside count lists.items) }
 {
-    let mut lists = Vec::new(alloc);
+    let mut lists = Vec::with_capacity(alloc, count)?;
     for _ in 0..count {
         lists.push(Vec::new(alloc))?;
     }

@@ -1,14 +1,16 @@
 ghost use Rattle.std.specs.Prelude.{◌≡◌, [], ℕ, List, length, IfOk};
-ghost use Rattle.relation_order.specs.Sets.{goes, marked, successors};
+ghost use Rattle.relation_order.specs.Sets.{goes, marked as marked_spec, successors};
+ghost use Rattle.relation_order.specs.Answer.{IsAnswer as IsOrderOrCycle};
 ghost use Rattle.relation_order.specs.Search.{Inside};
 ghost use Rattle.relation_order.specs.Cycle.{cycle};
 ghost use Rattle.plan_order.specs.Plan.{planned as planned_spec};
 ghost use Rattle.plan_order.specs.Lists.{items_of, among, IsPlanned, AreKnown};
 ghost use Rattle.plan_order.specs.Answer.{IsPlan, IsAnswer};
 
+use crate::group::order_among;
 use crate::groups::Groups;
 use crate::needs::Planned;
-use relation_order::{OrderOrCycle, order_or_cycle};
+use relation_order::{OrderOrCycle, marked, named_cycle};
 use std::alloc::{AllocError, Global};
 
 /// The order of a plan.
@@ -37,11 +39,11 @@ pub fn plan_or_cycle(
     free: &[bool],
     requests: &[Vec<usize>],
 ) -> Result<PlanOrCycle, AllocError>
-    requires known { AreKnown (length free.now) (marked free.now) (items_of requests.now) planned.now }
+    requires known { AreKnown (length free.now) (marked_spec free.now) (items_of requests.now) planned.now }
     requires requests { Inside (length free.now) requests.now }
     ensures { IfOk result (λ answer. (before after : ℕ → List ℕ) →
-        IsPlanned (length free.now) before (marked free.now) after (items_of requests.now) planned.now →
-        IsAnswer (among before) (marked free.now) after (items_of requests.now) answer) }
+        IsPlanned (length free.now) before (marked_spec free.now) after (items_of requests.now) planned.now →
+        IsAnswer (among before) (marked_spec free.now) after (items_of requests.now) answer) }
 {
     match order_or_cycle(alloc, &planned.before, &planned.marks)? {
         OrderOrCycle::Order(_) => {
@@ -50,6 +52,25 @@ pub fn plan_or_cycle(
         }
         OrderOrCycle::Cycle(found) => Ok(PlanOrCycle::Cycle(found)),
     }
+}
+
+/// Finds the least order of the marked modules, or the named cycle. The order takes memory in
+/// proportion to the members and their lists, since most plans are of few modules.
+fn order_or_cycle(
+    alloc: Global,
+    lists: &[Vec<usize>],
+    marks: &[bool],
+) -> Result<OrderOrCycle, AllocError>
+    requires long { length marks.now ≡ length lists.now }
+    requires inside { Inside (length lists.now) lists.now }
+    ensures { IfOk result (IsOrderOrCycle (goes lists.now) (marked_spec marks.now)) }
+{
+    let members = marked(alloc, marks)?;
+    let order = order_among(alloc, lists, &members)?;
+    if order.len() == members.len() {
+        return Ok(OrderOrCycle::Order(order));
+    }
+    Ok(OrderOrCycle::Cycle(named_cycle(alloc, lists, marks)?))
 }
 
 // Makes the plan, if nothing planned comes before itself.
@@ -65,8 +86,8 @@ fn plan_without_cycle(
     requires inside { Inside (length before.now) before.now }
     requires post { Inside (length before.now) post.now }
     requires requests { Inside (length before.now) requests.now }
-    requires cycle { cycle (goes before.now) (planned_spec (goes before.now) (marked free.now) (successors post.now) (items_of requests.now)) ≡ [] }
-    ensures { IfOk result (IsPlan (goes before.now) (marked free.now) (successors post.now) (items_of requests.now)) }
+    requires cycle { cycle (goes before.now) (planned_spec (goes before.now) (marked_spec free.now) (successors post.now) (items_of requests.now)) ≡ [] }
+    ensures { IfOk result (IsPlan (goes before.now) (marked_spec free.now) (successors post.now) (items_of requests.now)) }
 {
     let mut groups = Groups::new(alloc, before.len())?;
     let ends = groups.add_all(alloc, before, free, requests)?;
