@@ -10,9 +10,9 @@ use Rattle.mod_tree.specs.DependencyLine.{is_line_path, are_needed, needed_paths
 abbrev pub is_good : (List ℕ → Bool) → List ℕ → Bool
 is_good has path = is_line_path path && has (module_name path)
 
--- Those of some texts that aren't empty are good.
-abbrev pub AreGood : (List ℕ → Bool) → List (Bor (List ℕ)) → Type 0
-AreGood has paths = All (λ path. 0 < length path.now → is_good has path.now ≡ true) paths
+-- Those of some texts that aren't empty pass a test.
+abbrev pub AreKept : (List ℕ → Bool) → List (Bor (List ℕ)) → Type 0
+AreKept test texts = All (λ text. 0 < length text.now → test text.now ≡ true) texts
 
 -- Whether what follows the `:` of a line is a sequence of paths of known modules, each after a
 -- space.

@@ -19,7 +19,7 @@
 #![tactic(auto)]
 
 mod fault;
-mod good_paths;
+mod good_texts;
 mod line;
 mod listed;
 mod modules;

@@ -5,12 +5,12 @@ ghost use Rattle.std.specs.Str.{bytes_eq};
 ghost use Rattle.km_names.specs.Path.{module_name};
 ghost use Rattle.index_read.specs.Contents.{contents};
 ghost use Rattle.mod_tree.specs.DependencyLine.{is_line_path, own_path};
-ghost use Rattle.dependency_lines.specs.GoodPaths.{AreGood, are_good_needs, is_good};
+ghost use Rattle.dependency_lines.specs.GoodPaths.{AreKept, are_good_needs, is_good};
 ghost use Rattle.dependency_lines.specs.Modules.{is_line_of, is_well_formed, bad_among};
 ghost use Rattle.dependency_lines.specs.Spaces.{IsAfterSpace};
 
 use crate::fault::LineFault;
-use crate::good_paths::{GoodPaths, slot_of};
+use crate::good_texts::{GoodTexts, slot_of};
 use crate::path_name::{has_name, is_plain, stem, write_name};
 use index_read::{FirstValues, Index, plain};
 use km_names::{Name, split_at_byte};
@@ -46,9 +46,17 @@ pub fn well_formed(alloc: Global, name: &Name, indexes: &Indexes) -> Result<bool
 {
     match plain::first_text(&indexes.dep, name.as_bytes()) {
         Some(line) => {
-            let mut paths = GoodPaths::without_slots(alloc);
+            let mut paths = GoodTexts::without_slots(alloc);
+            let mut lists = GoodTexts::without_slots(alloc);
             let mut buffer = Vec::new(alloc);
-            is_line(&mut paths, &mut buffer, &indexes.dep, name.as_bytes(), line)
+            is_line(
+                &mut paths,
+                &mut lists,
+                &mut buffer,
+                &indexes.dep,
+                name.as_bytes(),
+                line,
+            )
         }
         None => Ok(false),
     }
@@ -63,12 +71,13 @@ pub(crate) fn check_lines<K: Known>(
     ensures passed { OnOk result (bad_among (K.has known.now) values.now ≡ None) }
     ensures err { IfErr result (λ fault. (fault ≡ LineFault.Memory) ⊎ (option_map LineFault.BadLine (bad_among (K.has known.now) values.now) ≡ Some fault)) }
 {
-    let mut paths = GoodPaths::new(alloc)?;
+    let mut paths = GoodTexts::new(alloc)?;
+    let mut lists = GoodTexts::new(alloc)?;
     let mut buffer = Vec::new(alloc);
     for place in 0..values.len() {
         let name = values.key(place);
         let line = values.text(place);
-        if !is_line(&mut paths, &mut buffer, known, name, line)? {
+        if !is_line(&mut paths, &mut lists, &mut buffer, known, name, line)? {
             return Err(LineFault::BadLine {
                 name: Name::from_slice(alloc, name)?,
             });
@@ -81,21 +90,24 @@ pub(crate) fn check_lines<K: Known>(
 /// it needs is known. Names that aren't as in their paths are written to a buffer, one after the
 /// other.
 fn is_line<'a, K: Known>(
-    paths: &mut GoodPaths<'a>,
+    paths: &mut GoodTexts<'a>,
+    lists: &mut GoodTexts<'a>,
     buffer: &mut Vec<u8>,
     known: &K,
     name: &[u8],
     line: &'a [u8],
 ) -> Result<bool, AllocError>
-    requires { AreGood (K.has known.now) paths.old.slots.items }
+    requires paths { AreKept (is_good (K.has known.now)) paths.old.slots.items }
+    requires lists { AreKept (are_good_needs (K.has known.now)) lists.old.slots.items }
     ensures good { IfOk result (λ good. good ≡ is_line_of (K.has known.now) name.now line.now) }
-    ensures kept { OnOk result (AreGood (K.has known.now) paths.new.slots.items) }
+    ensures paths { OnOk result (AreKept (is_good (K.has known.now)) paths.new.slots.items) }
+    ensures lists { OnOk result (AreKept (are_good_needs (K.has known.now)) lists.new.slots.items) }
 {
     let (own, needs) = split_at_byte(line, b':');
     if !is_front(line, own) || !names_module(own, name) {
         return Ok(false);
     }
-    are_good(paths, buffer, known, needs)
+    are_found_good(paths, lists, buffer, known, needs)
 }
 
 /// Returns whether what a line has before its first `:` is a path and isn't the whole line.
@@ -126,17 +138,44 @@ fn is_known<K: Known>(buffer: &mut Vec<u8>, known: &K, path: &[u8]) -> Result<bo
     Ok(known.has(buffer.as_slice()))
 }
 
-/// Returns whether what follows the `:` of a line is a sequence of paths of known modules, maybe
-/// none, with a space before each.
-fn are_good<'a, K: Known>(
-    paths: &mut GoodPaths<'a>,
+/// Returns whether what follows the `:` of a line is a sequence of paths of known modules, as
+/// [`are_good`] does. Many lines need the same modules in the same order, so the whole text is
+/// looked for first.
+fn are_found_good<'a, K: Known>(
+    paths: &mut GoodTexts<'a>,
+    lists: &mut GoodTexts<'a>,
     buffer: &mut Vec<u8>,
     known: &K,
     needs: &'a [u8],
 ) -> Result<bool, AllocError>
-    requires { AreGood (K.has known.now) paths.old.slots.items }
+    requires paths { AreKept (is_good (K.has known.now)) paths.old.slots.items }
+    requires lists { AreKept (are_good_needs (K.has known.now)) lists.old.slots.items }
     ensures good { IfOk result (λ good. good ≡ are_good_needs (K.has known.now) needs.now) }
-    ensures kept { OnOk result (AreGood (K.has known.now) paths.new.slots.items) }
+    ensures paths { OnOk result (AreKept (is_good (K.has known.now)) paths.new.slots.items) }
+    ensures lists { OnOk result (AreKept (are_good_needs (K.has known.now)) lists.new.slots.items) }
+{
+    let slot = slot_of(needs);
+    if lists.has(slot, needs) {
+        return Ok(true);
+    }
+    if !are_good(paths, buffer, known, needs)? {
+        return Ok(false);
+    }
+    lists.put(slot, needs);
+    Ok(true)
+}
+
+/// Returns whether what follows the `:` of a line is a sequence of paths of known modules, maybe
+/// none, with a space before each.
+fn are_good<'a, K: Known>(
+    paths: &mut GoodTexts<'a>,
+    buffer: &mut Vec<u8>,
+    known: &K,
+    needs: &'a [u8],
+) -> Result<bool, AllocError>
+    requires { AreKept (is_good (K.has known.now)) paths.old.slots.items }
+    ensures good { IfOk result (λ good. good ≡ are_good_needs (K.has known.now) needs.now) }
+    ensures kept { OnOk result (AreKept (is_good (K.has known.now)) paths.new.slots.items) }
 {
     let mut rest = needs;
     while !rest.is_empty() {
@@ -154,14 +193,14 @@ fn are_good<'a, K: Known>(
 
 /// Returns whether a text is the path of a known module.
 fn is_good<'a, K: Known>(
-    paths: &mut GoodPaths<'a>,
+    paths: &mut GoodTexts<'a>,
     buffer: &mut Vec<u8>,
     known: &K,
     path: &'a [u8],
 ) -> Result<bool, AllocError>
-    requires { AreGood (K.has known.now) paths.old.slots.items }
+    requires { AreKept (is_good (K.has known.now)) paths.old.slots.items }
     ensures good { IfOk result (λ good. good ≡ is_good (K.has known.now) path.now) }
-    ensures kept { OnOk result (AreGood (K.has known.now) paths.new.slots.items) }
+    ensures kept { OnOk result (AreKept (is_good (K.has known.now)) paths.new.slots.items) }
 {
     let slot = slot_of(path);
     if paths.has(slot, path) {

@@ -1,9 +1,10 @@
-use Rattle.std.proofs.Common.{◌≡◌, ℕ, ◌+◌, ◌<◌, Bool, true, false, List, [], length, take, get_or, Some, None, ap, sym, ◌∙◌, inr, arith}
+use Rattle.std.proofs.Common.{◌≡◌, ℕ, ◌+◌, ◌<◌, Bool, true, false, List, [], length, take, get_or, Some, None, refl, ap, sym, ◌∙◌, inr, arith}
 use Rattle.std.specs.Prelude.{not}
 use Rattle.std.specs.List.{find}
 use Rattle.std.specs.Option.{option_map}
 use Rattle.std.proofs.lemmas.List.{get_or_default}
 use Rattle.index_format.specs.Listing.{KeyValue}
+use Rattle.dependency_lines.specs.GoodPaths.{are_good_needs, is_good}
 use Rattle.dependency_lines.specs.Modules.{bad_among, is_line_of, module_at}
 use Rattle.dependency_lines.specs.declared.fault.LineFault.TheVariants.{BadLine}
 use Rattle.dependency_lines.proofs.Finds.{plain-here, plain-more, option-none}
@@ -25,6 +26,15 @@ module _ (has : List ℕ → Bool) (vs : List KeyValue) (i : ℕ) (good : Bool) 
   more : good ≡ true → bad_among has (take (i + 1) vs) ≡ None
   more fine = ap (option_map (λ (m : KeyValue). m.0)) (plain-more test vs i (module_at vs i) low own before (ap not (sym is ∙ fine)))
 
+pub loop-place-init : goal.loop-place-init
+loop-place-init g c =
+    let has = g.K.Known.has c.args.known.now in
+    record {
+      none = refl;
+      paths = c.in_ok-paths.ensures (is_good has);
+      lists = c.in_ok-lists.ensures (are_good_needs has);
+    }
+
 pub returns-then-not-branch-clause-err : goal.returns-then-not-branch-clause-err
 returns-then-not-branch-clause-err g c =
     let has = g.K.Known.has c.args.known.now in
@@ -40,5 +50,6 @@ loop-place-preserved g c =
     let text = c.text-line.ensures ([], (0, [])) in
     record {
       none = more has c.args.values.now c.loop-place.place c.in_ok-is_line.field-0 (omega (arith, c.loop-place-test.true, c.len-place-end.ensures)) c.loop-place.invariant.none (c.in_ok-is_line.ensures.good ∙ (λ i. is_line_of has (key i) (text i))) c.if-not-branch.false;
-      kept = c.in_ok-is_line.ensures.kept;
+      paths = c.in_ok-is_line.ensures.paths;
+      lists = c.in_ok-is_line.ensures.lists;
     }

@@ -1,5 +1,5 @@
 use Rattle.std.proofs.Common.{◌≡◌, take, None}
-use Rattle.dependency_lines.specs.GoodPaths.{AreGood}
+use Rattle.dependency_lines.specs.GoodPaths.{AreKept, are_good_needs, is_good}
 use Rattle.dependency_lines.specs.Modules.{bad_among}
 use Rattle.dependency_lines.proofs.line.check_lines.Given as goal
 
@@ -7,5 +7,6 @@ abbrev pub invariant-loop-place : goal.invariant-loop-place
 invariant-loop-place g l =
     record {
       none : bad_among (g.K.Known.has l.known) (take l.place l.values) ≡ None;
-      kept : AreGood (g.K.Known.has l.known) l.paths.slots.items;
+      paths : AreKept (is_good (g.K.Known.has l.known)) l.paths.slots.items;
+      lists : AreKept (are_good_needs (g.K.Known.has l.known)) l.lists.slots.items;
     }

@@ -35,7 +35,7 @@ returns-clause-good g c =
     let needs = are_good_needs has (after_first (λ b. b == 58) line) in
     let front : (list_any (λ b. b == 58) line && is_line_path (own_path line)) ≡ true = ap (λ p. list_any (λ b. b == 58) line && is_line_path p) (sym before) ∙ sym c.is_front.ensures ∙ c.if-not-is_front.false in
     let same : bytes_eq (module_name (own_path line)) name ≡ true = ap (λ p. bytes_eq (module_name p) name) (sym before) ∙ sym c.names_module.ensures ∙ c.if-not-names_module.false in
-    subst (λ b. IfOk c.are_good.result (λ good. good ≡ b))
+    subst (λ b. IfOk c.are_found_good.result (λ good. good ≡ b))
     (ap (are_good_needs has) c.split_at_byte.ensures.after
     ∙ sym (line-parts has name line ∙ (λ i. front i && (same i && needs))))
-    c.are_good.ensures.good
+    c.are_found_good.ensures.good

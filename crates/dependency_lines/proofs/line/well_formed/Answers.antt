@@ -6,6 +6,7 @@ use Rattle.index_read.specs.Contents.{contents}
 use Rattle.index_read.specs.Lookups.{text_of_first}
 use Rattle.name_lookup.specs.Maps.{has_value}
 use Rattle.dependency_lines.specs.Modules.{is_line_of}
+use Rattle.dependency_lines.specs.GoodPaths.{are_good_needs, is_good}
 use Rattle.dependency_lines.proofs.line.well_formed.Goals as goal
 
 -- a test of the text of the first value
@@ -32,5 +33,8 @@ returns-in-None c =
     ap (λ o. option_map_or test o false) (c.in-None.ensures.held ∙ ap (λ n. text_of_first (values_of dep n)) c.as_bytes.ensures)
     ∙ sym (by-text test (values_of dep name))
 
-pub is_line-requires : goal.is_line-requires
-is_line-requires c = c.without_slots-paths.ensures (has_value (contents c.args.indexes.now.dep.nodes))
+pub is_line-requires-clause-paths : goal.is_line-requires-clause-paths
+is_line-requires-clause-paths c = c.without_slots-paths.ensures (is_good (has_value (contents c.args.indexes.now.dep.nodes)))
+
+pub is_line-requires-clause-lists : goal.is_line-requires-clause-lists
+is_line-requires-clause-lists c = c.without_slots-lists.ensures (are_good_needs (has_value (contents c.args.indexes.now.dep.nodes)))
