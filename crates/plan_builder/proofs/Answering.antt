@@ -2,6 +2,7 @@
 use Rattle.std.proofs.Common.{◌≡◌, ℕ, zero, suc, ◌<◌, Bool, true, false, cond, eqb, List, [], ◌∷◌, ◌++◌, length, map, Option, Some, None, refl, sym, ap, ◌∙◌, subst, inl, inr, arith}
 use Rattle.std.specs.Prelude.{All, ◌⊎◌, nat_eq, not}
 use Rattle.std.specs.List.{find}
+use Rattle.std.specs.Option.{option_map}
 use Rattle.std.proofs.lemmas.Bool.{true≢false, or_cases, eqb-true}
 use Rattle.km_names.specs.First.{first}
 use Rattle.relation_order.specs.Sets.{Relation, has, below, marked}
@@ -24,7 +25,7 @@ use Rattle.plan_builder.specs.declared.obstacle.Obstacle.{Obstacle}
 use Rattle.plan_builder.specs.declared.obstacle.Obstacle.TheVariants.{Cycle}
 use Rattle.dependency_lines.specs.Modules.{name_at}
 use Rattle.plan_builder.specs.Needs.{Sources, modules, unloaded}
-use Rattle.plan_builder.specs.Obstacles.{cycle_obstacle}
+use Rattle.plan_builder.specs.Obstacles.{as_obstacle, cycle_obstacle}
 use Rattle.plan_builder.specs.Answers.{ShortCycle, IsCycleOf}
 
 pub first-none : {F : Type 0} (xs ys : List (Option F)) → first xs ≡ None → first (xs ++ ys) ≡ first ys
@@ -32,10 +33,14 @@ first-none [] ys e = refl
 first-none (None ∷ xs) ys e = first-none xs ys e
 first-none (Some x ∷ xs) ys e = absurd (let bad = e in cc)
 
-pub first-some : {F : Type 0} (xs ys : List (Option F)) (x : F) → first xs ≡ Some x → first (xs ++ ys) ≡ Some x
-first-some [] ys x e = absurd (let bad = e in cc)
-first-some (None ∷ xs) ys x e = first-some xs ys x e
-first-some (Some y ∷ xs) ys x e = e
+pub first-some : {F G : Type 0} (f : F → G) (xs ys : List (Option F)) (x : G) → option_map f (first xs) ≡ Some x → option_map f (first (xs ++ ys)) ≡ Some x
+first-some f [] ys x e = absurd (let bad = e in cc)
+first-some f (None ∷ xs) ys x e = first-some f xs ys x e
+first-some f (Some y ∷ xs) ys x e = e
+
+pub first-here : {F G : Type 0} (f : F → G) (t : Option F) (ts : List (Option F)) (x : G) → option_map f t ≡ Some x → option_map f (first (t ∷ ts)) ≡ Some x
+first-here f None ts x e = absurd (let bad = e in cc)
+first-here f (Some y) ts x e = e
 
 module _ (r : Relation) (set : List ℕ) where
   way-inside : (goal k : ℕ) (from : Option ℕ) → ((x : ℕ) → from ≡ Some x → has set x ≡ true) → (y : ℕ) → has (way_to r set goal k from) y ≡ true → has set y ≡ true
@@ -70,11 +75,11 @@ marked-inside marks n long = all-within n (marked marks) (λ y h. let l = seen-i
 
 module _ (ms : List KeyValue) (r : Relation) (set : List ℕ) (post : ℕ → List ℕ) (requests : List (List ℕ)) where
   -- the cycle that is answered is the obstacle
-  pub cycle-answer : (a : PlanOrCycle) (o : Obstacle) → IsAnswer r set post requests a → IsCycleOf ms a o → cycle_obstacle (map (name_at ms) (cycle r (planned r set post requests))) ≡ Some o
+  pub cycle-answer : (a : PlanOrCycle) (o : Obstacle) → IsAnswer r set post requests a → IsCycleOf ms a o → option_map as_obstacle (cycle_obstacle (map (name_at ms) (cycle r (planned r set post requests)))) ≡ Some o
   cycle-answer (answers.Plan order) o is c = absurd c
-  cycle-answer (answers.Cycle found) o is c = ap (λ xs. cycle_obstacle (map (name_at ms) xs)) (sym is.0) ∙ go found.items is.1 ∙ ap (λ x. Some x) (sym c)
+  cycle-answer (answers.Cycle found) o is c = ap (λ xs. option_map as_obstacle (cycle_obstacle (map (name_at ms) xs))) (sym is.0) ∙ go found.items is.1 ∙ ap (λ x. Some x) (sym c)
     where
-      go : (xs : List ℕ) → Closes r xs → cycle_obstacle (map (name_at ms) xs) ≡ Some (Cycle (map (name_at ms) xs))
+      go : (xs : List ℕ) → Closes r xs → option_map as_obstacle (cycle_obstacle (map (name_at ms) xs)) ≡ Some (Cycle (map (name_at ms) xs))
       go [] closes = absurd closes
       go (x ∷ xs) closes = refl
 

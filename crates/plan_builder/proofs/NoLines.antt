@@ -11,10 +11,9 @@ use Rattle.relation_order.specs.Cycle.{cycle}
 use Rattle.plan_order.specs.Lists.{among}
 use Rattle.unmet_file.specs.declared.kind.LineKind.TheVariants as kinds
 use Rattle.dependency_lines.specs.Modules.{name_at, path_at, line_places}
-use Rattle.plan_builder.specs.declared.obstacle.Obstacle.{Obstacle}
 use Rattle.plan_builder.specs.Needs.{Sources, modules, before, is_troubled, is_available}
 use Rattle.plan_builder.specs.Members.{planned}
-use Rattle.plan_builder.specs.Obstacles.{is_path_of, stands, first_line, cycle_obstacle, plan_tests}
+use Rattle.plan_builder.specs.Obstacles.{PlanObstacle, is_path_of, stands, first_line, cycle_obstacle, plan_tests}
 
 -- ---- modules that can be loaded
 
@@ -39,7 +38,7 @@ all-loadable ms unmet xs none = keeps-all (is_available ms unmet) (can-load ms u
 
 -- ---- obstacles
 
-none-of : (in_plan there : List ℕ → Bool) (lines : List Unbound) (o : Option Obstacle) → length lines ≡ 0
+none-of : (in_plan there : List ℕ → Bool) (lines : List Unbound) (o : Option PlanObstacle) → length lines ≡ 0
     → first (first_line kinds.Missing in_plan there lines
     ∷ first_line kinds.Gpl in_plan there lines
     ∷ first_line kinds.Version in_plan there lines

@@ -16,50 +16,50 @@ use Rattle.dependency_lines.specs.declared.fault.LineFault.TheVariants as faults
 use Rattle.dependency_lines.specs.Modules.{bad_name, places_of}
 use Rattle.plan_builder.specs.declared.request.Request.{Request}
 use Rattle.plan_builder.specs.declared.obstacle.Obstacle.{Obstacle}
-use Rattle.plan_builder.specs.declared.obstacle.Obstacle.TheVariants.{BadDepLine, Memory}
+use Rattle.plan_builder.specs.declared.obstacle.Obstacle.TheVariants.{Memory}
 use Rattle.plan_builder.specs.Answers.{line_obstacle}
 use Rattle.plan_builder.specs.Needs.{Sources, modules, before, after, unloaded}
 use Rattle.plan_builder.specs.Members.{found_for, asked}
 use Rattle.plan_builder.specs.Steps.{module_step, later, plan_steps}
 use Rattle.plan_builder.specs.Ends.{steps_by}
-use Rattle.plan_builder.specs.Obstacles.{is_unfound, is_unknown, all_names, not_found, plan_tests, obstacle_of}
+use Rattle.plan_builder.specs.Obstacles.{PlanObstacle, as_obstacle, bad_dep_line, is_unfound, is_unknown, all_names, not_found, plan_tests, obstacle_of}
+use Rattle.plan_builder.proofs.Answering.{first-here}
 use Rattle.plan_builder.proofs.StepLaws.{steps-groups, plan-front}
 use Rattle.plan_builder.proofs.StepPlaces.{steps_from, plan-placed}
 
 module _ (s : Sources) (request : Request) where
-  pub when-bad : (o : Obstacle) → option_map BadDepLine (bad_name s.maps.dep) ≡ Some o → obstacle_of s request ≡ Some o
+  pub when-bad : (o : Obstacle) → option_map as_obstacle (option_map bad_dep_line (bad_name s.maps.dep)) ≡ Some o → option_map as_obstacle (obstacle_of s request) ≡ Some o
   unfolding obstacle_of
-  when-bad o e =
-      ap (λ x. first (x ∷ option_map not_found (find (is_unfound s) request.names) ∷ option_map not_found (find (is_unknown s request.ignore_install) (all_names (found_for s request))) ∷ plan_tests s (found_for s request))) e
+  when-bad o e = first-here as_obstacle (option_map bad_dep_line (bad_name s.maps.dep)) _ o e
 
   -- a fault of dependency lines is the first obstacle
-  pub when-fault : (fault : LineFault) → (fault ≡ faults.Memory) ⊎ (option_map faults.BadLine (bad_name s.maps.dep) ≡ Some fault) → (line_obstacle fault ≡ Memory) ⊎ (obstacle_of s request ≡ Some (line_obstacle fault))
+  pub when-fault : (fault : LineFault) → (fault ≡ faults.Memory) ⊎ (option_map faults.BadLine (bad_name s.maps.dep) ≡ Some fault) → (line_obstacle fault ≡ Memory) ⊎ (option_map as_obstacle (obstacle_of s request) ≡ Some (line_obstacle fault))
   when-fault fault (inl e) = inl (ap line_obstacle e)
   when-fault fault (inr e) = inr (when-bad (line_obstacle fault) (mapped (bad_name s.maps.dep) e))
     where
-      mapped : (o : Option (List ℕ)) → option_map faults.BadLine o ≡ Some fault → option_map BadDepLine o ≡ Some (line_obstacle fault)
+      mapped : (o : Option (List ℕ)) → option_map faults.BadLine o ≡ Some fault → option_map as_obstacle (option_map bad_dep_line o) ≡ Some (line_obstacle fault)
       mapped None e = absurd (let bad = e in cc)
       mapped (Some name) e = let same : faults.BadLine name ≡ fault = cc in ap (λ f. Some (line_obstacle f)) same
 
   module _ (sound : bad_name s.maps.dep ≡ None) where
-    pub when-unfound : (o : Obstacle) → option_map not_found (find (is_unfound s) request.names) ≡ Some o → obstacle_of s request ≡ Some o
+    pub when-unfound : (o : Obstacle) → option_map as_obstacle (option_map not_found (find (is_unfound s) request.names)) ≡ Some o → option_map as_obstacle (obstacle_of s request) ≡ Some o
     unfolding obstacle_of
     when-unfound o e =
-        ap (λ x. first (option_map BadDepLine x ∷ option_map not_found (find (is_unfound s) request.names) ∷ option_map not_found (find (is_unknown s request.ignore_install) (all_names (found_for s request))) ∷ plan_tests s (found_for s request))) sound
-        ∙ ap (λ x. first (x ∷ option_map not_found (find (is_unknown s request.ignore_install) (all_names (found_for s request))) ∷ plan_tests s (found_for s request))) e
+        ap (λ x. option_map as_obstacle (first (option_map bad_dep_line x ∷ option_map not_found (find (is_unfound s) request.names) ∷ option_map not_found (find (is_unknown s request.ignore_install) (all_names (found_for s request))) ∷ plan_tests s (found_for s request)))) sound
+        ∙ first-here as_obstacle (option_map not_found (find (is_unfound s) request.names)) _ o e
 
     module _ (found : find (is_unfound s) request.names ≡ None) where
-      pub when-unknown : (o : Obstacle) → option_map not_found (find (is_unknown s request.ignore_install) (all_names (found_for s request))) ≡ Some o → obstacle_of s request ≡ Some o
+      pub when-unknown : (o : Obstacle) → option_map as_obstacle (option_map not_found (find (is_unknown s request.ignore_install) (all_names (found_for s request)))) ≡ Some o → option_map as_obstacle (obstacle_of s request) ≡ Some o
       unfolding obstacle_of
       when-unknown o e =
-          ap (λ x. first (option_map BadDepLine x ∷ option_map not_found (find (is_unfound s) request.names) ∷ option_map not_found (find (is_unknown s request.ignore_install) (all_names (found_for s request))) ∷ plan_tests s (found_for s request))) sound
-          ∙ ap (λ x. first (option_map not_found x ∷ option_map not_found (find (is_unknown s request.ignore_install) (all_names (found_for s request))) ∷ plan_tests s (found_for s request))) found
-          ∙ ap (λ x. first (x ∷ plan_tests s (found_for s request))) e
+          ap (λ x. option_map as_obstacle (first (option_map bad_dep_line x ∷ option_map not_found (find (is_unfound s) request.names) ∷ option_map not_found (find (is_unknown s request.ignore_install) (all_names (found_for s request))) ∷ plan_tests s (found_for s request)))) sound
+          ∙ ap (λ x. option_map as_obstacle (first (option_map not_found x ∷ option_map not_found (find (is_unknown s request.ignore_install) (all_names (found_for s request))) ∷ plan_tests s (found_for s request)))) found
+          ∙ first-here as_obstacle (option_map not_found (find (is_unknown s request.ignore_install) (all_names (found_for s request)))) _ o e
 
-      pub when-known : find (is_unknown s request.ignore_install) (all_names (found_for s request)) ≡ None → (x : Option Obstacle) → first (plan_tests s (found_for s request)) ≡ x → obstacle_of s request ≡ x
+      pub when-known : find (is_unknown s request.ignore_install) (all_names (found_for s request)) ≡ None → (x : Option PlanObstacle) → first (plan_tests s (found_for s request)) ≡ x → obstacle_of s request ≡ x
       unfolding obstacle_of
       when-known known x e =
-          ap (λ x. first (option_map BadDepLine x ∷ option_map not_found (find (is_unfound s) request.names) ∷ option_map not_found (find (is_unknown s request.ignore_install) (all_names (found_for s request))) ∷ plan_tests s (found_for s request))) sound
+          ap (λ x. first (option_map bad_dep_line x ∷ option_map not_found (find (is_unfound s) request.names) ∷ option_map not_found (find (is_unknown s request.ignore_install) (all_names (found_for s request))) ∷ plan_tests s (found_for s request))) sound
           ∙ ap (λ x. first (option_map not_found x ∷ option_map not_found (find (is_unknown s request.ignore_install) (all_names (found_for s request))) ∷ plan_tests s (found_for s request))) found
           ∙ ap (λ x. first (option_map not_found x ∷ plan_tests s (found_for s request))) known
           ∙ e

@@ -8,11 +8,10 @@ use Rattle.plan_order.specs.Lists.{among}
 use Rattle.unmet_file.specs.declared.kind.LineKind.{LineKind}
 use Rattle.unmet_file.specs.declared.kind.LineKind.TheVariants as kinds
 use Rattle.plan_builder.specs.declared.request.Request.{Request}
-use Rattle.plan_builder.specs.declared.obstacle.Obstacle.TheVariants.{BadDepLine}
 use Rattle.dependency_lines.specs.Modules.{bad_name, name_at}
 use Rattle.plan_builder.specs.Needs.{Sources, modules, before}
 use Rattle.plan_builder.specs.Members.{found_for, planned}
-use Rattle.plan_builder.specs.Obstacles.{is_unfound, is_unknown, all_names, not_found, is_path_of, stands, is_obstacle, as_obstacle, line_of, cycle_obstacle, plan_tests, obstacle_of}
+use Rattle.plan_builder.specs.Obstacles.{bad_dep_line, unbound_line, is_unfound, is_unknown, all_names, not_found, is_path_of, stands, is_obstacle, line_of, cycle_obstacle, plan_tests, obstacle_of}
 use Rattle.dependency_lines.proofs.Finds.{option-none}
 
 first-two : {F : Type 0} (t : Option F) (ts : List (Option F)) → first (t ∷ ts) ≡ None → (t ≡ None) × (first ts ≡ None)
@@ -29,10 +28,10 @@ unfolding obstacle_of
 sound-lines s request none =
     let unfound = option_map not_found (find (is_unfound s) request.names) in
     let unknown = option_map not_found (find (is_unknown s request.ignore_install) (all_names (found_for s request))) in
-    let a = first-two (option_map BadDepLine (bad_name s.maps.dep)) (unfound ∷ unknown ∷ plan_tests s (found_for s request)) none in
+    let a = first-two (option_map bad_dep_line (bad_name s.maps.dep)) (unfound ∷ unknown ∷ plan_tests s (found_for s request)) none in
     let b = first-two unfound (unknown ∷ plan_tests s (found_for s request)) a.1 in
     let c = first-two unknown (plan_tests s (found_for s request)) b.1 in
-    (option-none BadDepLine (bad_name s.maps.dep) a.0, c.1)
+    (option-none bad_dep_line (bad_name s.maps.dep) a.0, c.1)
 
 -- no line of a kind is an obstacle to what is planned
 abbrev NoLine : Sources → Request → LineKind → Type 0
@@ -59,10 +58,10 @@ lines-none s request tests =
     let e = first-two order (line kinds.Double ∷ []) d.1 in
     let f = first-two (line kinds.Double) [] e.1 in
     record {
-      missing = option-none as_obstacle _ a.0;
-      gpl = option-none as_obstacle _ b.0;
-      version = option-none as_obstacle _ c.0;
-      namespace = option-none as_obstacle _ d.0;
+      missing = option-none unbound_line _ a.0;
+      gpl = option-none unbound_line _ b.0;
+      version = option-none unbound_line _ c.0;
+      namespace = option-none unbound_line _ d.0;
       acyclic = cycle-none (name_at (modules s)) _ e.0;
-      double = option-none as_obstacle _ f.0;
+      double = option-none unbound_line _ f.0;
     }

@@ -12,7 +12,7 @@ use Rattle.dependency_lines.specs.Modules.{name_at}
 use Rattle.plan_builder.specs.declared.obstacle.Obstacle.{Obstacle}
 use Rattle.plan_builder.specs.declared.obstacle.Obstacle.TheVariants.{BadDepLine, Cycle}
 use Rattle.plan_builder.specs.declared.obstacle.Obstacle.TheVariants as obstacles
-use Rattle.plan_builder.specs.Obstacles.{first_line}
+use Rattle.plan_builder.specs.Obstacles.{PlanObstacle, first_line}
 
 -- What a fault of dependency lines keeps a request from.
 abbrev pub line_obstacle : LineFault → Obstacle
@@ -20,7 +20,7 @@ line_obstacle (faults.BadLine name) = BadDepLine name
 line_obstacle faults.Memory = obstacles.Memory
 
 -- The tests of the lines on needs.
-abbrev pub need_tests : (List ℕ → Bool) → (List ℕ → Bool) → List Unbound → List (Option Obstacle)
+abbrev pub need_tests : (List ℕ → Bool) → (List ℕ → Bool) → List Unbound → List (Option PlanObstacle)
 need_tests in_plan there unmet =
     first_line kinds.Missing in_plan there unmet
     ∷ first_line kinds.Gpl in_plan there unmet

@@ -17,14 +17,22 @@ use Rattle.unmet_file.specs.declared.kind.LineKind.{LineKind}
 use Rattle.unmet_file.specs.declared.kind.LineKind.TheVariants as kinds
 use Rattle.plan_builder.specs.declared.request.Request.{Request}
 use Rattle.plan_builder.specs.declared.obstacle.Obstacle.{Obstacle}
-use Rattle.plan_builder.specs.declared.obstacle.Obstacle.TheVariants.{BadDepLine, NotFound, Missing, Gpl, Version, Namespace, Cycle, Double}
+use Rattle.plan_builder.specs.declared.obstacle.Obstacle.TheVariants as obstacles
 use Rattle.dependency_lines.specs.Modules.{bad_name, name_at, path_at, places_of}
 use Rattle.plan_builder.specs.Needs.{Sources, modules, before}
 use Rattle.plan_builder.specs.Members.{found_for, planned, ResolvedKind, loadable, installed, inside, unknown, kind_of}
 
+-- What keeps a request from having a plan: the name of a bad dependency line, a name that isn't
+-- found, a line of modules.unmet, or the names of modules in a cycle.
+pub data PlanObstacle : Type 0 where
+  bad_dep_line : List ℕ → PlanObstacle
+  name_not_found : List ℕ → PlanObstacle
+  unbound_line : Unbound → PlanObstacle
+  plan_cycle : List (List ℕ) → PlanObstacle
+
 -- A name that isn't found.
-abbrev pub not_found : List ℕ → Obstacle
-not_found name = NotFound (normal_or_itself name)
+abbrev pub not_found : List ℕ → PlanObstacle
+not_found name = name_not_found (normal_or_itself name)
 
 -- Whether all lists of a name are empty.
 abbrev pub is_unfound : Sources → List ℕ → Bool
@@ -63,29 +71,21 @@ is_obstacle kinds.Namespace in_plan there (lines.Namespace path symbol by) = in_
 is_obstacle kinds.Double in_plan there line = collides (λ path. in_plan path || there path) in_plan line
 is_obstacle kind in_plan there line = false
 
--- A line as an obstacle.
-abbrev pub as_obstacle : Unbound → Obstacle
-as_obstacle (lines.Missing path symbol) = Missing path symbol
-as_obstacle (lines.Gpl path symbol by) = Gpl path symbol by
-as_obstacle (lines.Version path symbol by) = Version path symbol by
-as_obstacle (lines.Namespace path symbol by) = Namespace path symbol by
-as_obstacle (lines.Double symbol a b) = Double symbol a b
-
 -- The first line of a kind that is an obstacle.
-abbrev pub first_line : LineKind → (List ℕ → Bool) → (List ℕ → Bool) → List Unbound → Option Obstacle
-first_line kind in_plan there unmet = option_map as_obstacle (find (is_obstacle kind in_plan there) unmet)
+abbrev pub first_line : LineKind → (List ℕ → Bool) → (List ℕ → Bool) → List Unbound → Option PlanObstacle
+first_line kind in_plan there unmet = option_map unbound_line (find (is_obstacle kind in_plan there) unmet)
 
 -- The first line of a kind that is an obstacle to what is planned.
-abbrev pub line_of : Sources → List Found → LineKind → Option Obstacle
+abbrev pub line_of : Sources → List Found → LineKind → Option PlanObstacle
 line_of s founds kind = first_line kind (is_path_of (modules s) (planned s founds)) (stands s) s.unmet
 
 -- The cycle of some modules, if there are any.
-abbrev pub cycle_obstacle : List (List ℕ) → Option Obstacle
+abbrev pub cycle_obstacle : List (List ℕ) → Option PlanObstacle
 cycle_obstacle [] = None
-cycle_obstacle (name ∷ names) = Some (Cycle (name ∷ names))
+cycle_obstacle (name ∷ names) = Some (plan_cycle (name ∷ names))
 
 -- The tests of what is planned.
-abbrev pub plan_tests : Sources → List Found → List (Option Obstacle)
+abbrev pub plan_tests : Sources → List Found → List (Option PlanObstacle)
 plan_tests s founds =
     line_of s founds kinds.Missing
     ∷ line_of s founds kinds.Gpl
@@ -96,9 +96,20 @@ plan_tests s founds =
     ∷ []
 
 -- The first obstacle of a request.
-unfoldable pub obstacle_of : Sources → Request → Option Obstacle
+unfoldable pub obstacle_of : Sources → Request → Option PlanObstacle
 obstacle_of s request = first (
-    option_map BadDepLine (bad_name s.maps.dep)
+    option_map bad_dep_line (bad_name s.maps.dep)
     ∷ option_map not_found (find (is_unfound s) request.names)
     ∷ option_map not_found (find (is_unknown s request.ignore_install) (all_names (found_for s request)))
     ∷ plan_tests s (found_for s request))
+
+-- An obstacle as the code answers it.
+abbrev pub as_obstacle : PlanObstacle → Obstacle
+as_obstacle (bad_dep_line name) = obstacles.BadDepLine name
+as_obstacle (name_not_found name) = obstacles.NotFound name
+as_obstacle (unbound_line (lines.Missing path symbol)) = obstacles.Missing path symbol
+as_obstacle (unbound_line (lines.Gpl path symbol by)) = obstacles.Gpl path symbol by
+as_obstacle (unbound_line (lines.Version path symbol by)) = obstacles.Version path symbol by
+as_obstacle (unbound_line (lines.Namespace path symbol by)) = obstacles.Namespace path symbol by
+as_obstacle (unbound_line (lines.Double symbol a b)) = obstacles.Double symbol a b
+as_obstacle (plan_cycle names) = obstacles.Cycle names

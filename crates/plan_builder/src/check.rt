@@ -1,10 +1,10 @@
 // What keeps a request from having a plan.
-ghost use Rattle.std.specs.Prelude.{◌≡◌, ◌<◌, ◌⊎◌, ◌||◌, ℕ, List, length, All, Some, None, IfOk, IfErr, OnOk};
+ghost use Rattle.std.specs.Prelude.{◌≡◌, ◌<◌, ◌⊎◌, ◌||◌, ℕ, List, length, All, Some, None, IfOk, IfErr, OnOk, option_map};
 ghost use Rattle.km_names.specs.First.{first as first_spec};
 ghost use Rattle.symbol_binding.specs.Unmet.{collides};
 ghost use Rattle.name_table.specs.FirstSeen.{is_among};
 ghost use Rattle.relation_order.specs.Sets.{marked};
-ghost use Rattle.plan_builder.specs.Obstacles.{is_path_of, is_obstacle, as_obstacle, first_line, stands};
+ghost use Rattle.plan_builder.specs.Obstacles.{is_path_of, is_obstacle, as_obstacle, first_line, stands, unbound_line};
 ghost use Rattle.plan_builder.specs.Needs.{modules as modules_spec};
 ghost use Rattle.plan_builder.specs.Answers.{need_tests};
 ghost use Rattle.plan_builder.specs.Planner.{sources_of};
@@ -91,7 +91,7 @@ pub(crate) fn check_needs(
     there: &NameSet<'_>,
 ) -> Result<(), Obstacle>
     ensures passed { OnOk result (first_spec (need_tests (is_among planned.now) (is_among there.now) unmet.now) ≡ None) }
-    ensures err { IfErr result (λ o. (o ≡ Obstacle.Memory) ⊎ (first_spec (need_tests (is_among planned.now) (is_among there.now) unmet.now) ≡ Some o)) }
+    ensures err { IfErr result (λ o. (o ≡ Obstacle.Memory) ⊎ (option_map as_obstacle (first_spec (need_tests (is_among planned.now) (is_among there.now) unmet.now)) ≡ Some o)) }
 {
     check_unmet(alloc, LineKind::Missing, unmet, planned, there)?;
     check_unmet(alloc, LineKind::Gpl, unmet, planned, there)?;
@@ -109,7 +109,7 @@ pub(crate) fn check_unmet(
     there: &NameSet<'_>,
 ) -> Result<(), Obstacle>
     ensures passed { OnOk result (first_line kind (is_among planned.now) (is_among there.now) unmet.now ≡ None) }
-    ensures err { IfErr result (λ o. (o ≡ Obstacle.Memory) ⊎ (first_line kind (is_among planned.now) (is_among there.now) unmet.now ≡ Some o)) }
+    ensures err { IfErr result (λ o. (o ≡ Obstacle.Memory) ⊎ (option_map as_obstacle (first_line kind (is_among planned.now) (is_among there.now) unmet.now) ≡ Some o)) }
 {
     for line in unmet {
         if is_obstacle(kind, line, planned, there) {
@@ -163,7 +163,7 @@ fn collides(planned: &NameSet<'_>, there: &NameSet<'_>, first: &[u8], second: &[
 
 /// Makes an obstacle of a line.
 fn as_obstacle(alloc: Global, line: &Unbound) -> Result<Obstacle, AllocError>
-    ensures { IfOk result (λ obstacle. obstacle ≡ as_obstacle line.now) }
+    ensures { IfOk result (λ obstacle. obstacle ≡ as_obstacle (unbound_line line.now)) }
 {
     match line {
         Unbound::Missing { path, symbol } => Ok(Obstacle::Missing {

@@ -9,7 +9,7 @@ ghost use Rattle.dependency_lines.specs.Modules.{places_of, name_at};
 ghost use Rattle.plan_builder.specs.Needs.{modules as modules_spec, unloaded};
 ghost use Rattle.plan_builder.specs.Planner.{sources_of, texts};
 ghost use Rattle.plan_builder.specs.Members.{founds_of, is_member_of, chosen_command, install_command, command_of};
-ghost use Rattle.plan_builder.specs.Obstacles.{is_unfound, is_unknown, all_names, not_found};
+ghost use Rattle.plan_builder.specs.Obstacles.{as_obstacle, is_unfound, is_unknown, all_names, not_found};
 
 use crate::needs::push_all;
 use crate::obstacle::Obstacle;
@@ -30,7 +30,7 @@ pub(crate) fn find_each(
 ) -> Result<Vec<Found>, Obstacle>
     ensures found { IfOk result (λ founds. founds.items ≡ founds_of (sources_of planner.now) names.now) }
     ensures passed { OnOk result (find (is_unfound (sources_of planner.now)) names.now ≡ None) }
-    ensures err { IfErr result (λ o. (o ≡ Obstacle.Memory) ⊎ (option_map not_found (find (is_unfound (sources_of planner.now)) names.now) ≡ Some o)) }
+    ensures err { IfErr result (λ o. (o ≡ Obstacle.Memory) ⊎ (option_map as_obstacle (option_map not_found (find (is_unfound (sources_of planner.now)) names.now)) ≡ Some o)) }
 {
     let mut founds = Vec::new(alloc);
     for name in names.as_slice() {
@@ -45,7 +45,7 @@ pub(crate) fn find_each(
 
 /// Returns the name that isn't found, in its normal form if it has one.
 fn not_found(alloc: Global, name: &Name) -> Result<Obstacle, AllocError>
-    ensures { IfOk result (λ o. o ≡ not_found name.now) }
+    ensures { IfOk result (λ o. o ≡ as_obstacle (not_found name.now)) }
 {
     Ok(Obstacle::NotFound {
         name: normal_or_itself(alloc, name.as_bytes())?,
@@ -60,7 +60,7 @@ pub(crate) fn check_known(
     founds: &[Found],
 ) -> Result<(), Obstacle>
     ensures passed { OnOk result (find (is_unknown (sources_of planner.now) ignored) (all_names founds.now) ≡ None) }
-    ensures err { IfErr result (λ o. (o ≡ Obstacle.Memory) ⊎ (option_map not_found (find (is_unknown (sources_of planner.now) ignored) (all_names founds.now)) ≡ Some o)) }
+    ensures err { IfErr result (λ o. (o ≡ Obstacle.Memory) ⊎ (option_map as_obstacle (option_map not_found (find (is_unknown (sources_of planner.now) ignored) (all_names founds.now))) ≡ Some o)) }
 {
     let names = names_in(alloc, founds)?;
     for name in &names {

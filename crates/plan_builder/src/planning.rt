@@ -1,4 +1,4 @@
-ghost use Rattle.std.specs.Prelude.{◌≡◌, ◌<◌, ◌⊎◌, ℕ, List, Some, None, map, length, All, IfOk, IfErr, OnOk};
+ghost use Rattle.std.specs.Prelude.{◌≡◌, ◌<◌, ◌⊎◌, ℕ, List, Some, None, map, length, All, IfOk, IfErr, OnOk, option_map};
 ghost use Rattle.km_names.specs.First.{first};
 ghost use Rattle.name_table.specs.FirstSeen.{is_among};
 ghost use Rattle.relation_order.specs.Sets.{marked};
@@ -10,7 +10,7 @@ ghost use Rattle.plan_builder.specs.Needs.{modules as modules_spec, before, afte
 ghost use Rattle.plan_builder.specs.Members.{asked, planned as planned_spec};
 ghost use Rattle.plan_builder.specs.Steps.{plan_steps};
 ghost use Rattle.plan_builder.specs.Closed.{IsClosedPlan};
-ghost use Rattle.plan_builder.specs.Obstacles.{is_path_of, stands, plan_tests, obstacle_of};
+ghost use Rattle.plan_builder.specs.Obstacles.{as_obstacle, is_path_of, stands, plan_tests, obstacle_of};
 ghost use Rattle.plan_builder.specs.Answers.{ShortCycle, IsCycleOf};
 ghost use Rattle.plan_builder.specs.Sources.{sources};
 ghost use Rattle.plan_builder.specs.Planner.{sources_of};
@@ -73,7 +73,7 @@ pub fn plan(
     ensures plan { IfOk result (λ steps. steps ≡ plan_steps (sources rules.now indexes.now unmet.now loaded.now request.now) request.now) }
     ensures passed { OnOk result (obstacle_of (sources rules.now indexes.now unmet.now loaded.now request.now) request.now ≡ None) }
     ensures closed { IfOk result (IsClosedPlan (sources rules.now indexes.now unmet.now loaded.now request.now)) }
-    ensures err { IfErr result (λ o. (o ≡ Obstacle.Memory) ⊎ (obstacle_of (sources rules.now indexes.now unmet.now loaded.now request.now) request.now ≡ Some o)) }
+    ensures err { IfErr result (λ o. (o ≡ Obstacle.Memory) ⊎ (option_map as_obstacle (obstacle_of (sources rules.now indexes.now unmet.now loaded.now request.now) request.now) ≡ Some o)) }
 {
     let values = first_values(alloc, &indexes.dep)?;
     let modules = Modules::new(alloc, &values)?;
@@ -95,7 +95,7 @@ fn planned_over(
     ensures plan { IfOk result (λ steps. steps ≡ plan_steps (sources rules.now indexes.now unmet.now loaded.now request.now) request.now) }
     ensures passed { OnOk result (obstacle_of (sources rules.now indexes.now unmet.now loaded.now request.now) request.now ≡ None) }
     ensures closed { IfOk result (IsClosedPlan (sources rules.now indexes.now unmet.now loaded.now request.now)) }
-    ensures err { IfErr result (λ o. (o ≡ Obstacle.Memory) ⊎ (obstacle_of (sources rules.now indexes.now unmet.now loaded.now request.now) request.now ≡ Some o)) }
+    ensures err { IfErr result (λ o. (o ≡ Obstacle.Memory) ⊎ (option_map as_obstacle (obstacle_of (sources rules.now indexes.now unmet.now loaded.now request.now) request.now) ≡ Some o)) }
 {
     let planner = Planner::new(
         alloc,
@@ -119,7 +119,7 @@ fn planned_steps(
     ensures plan { IfOk result (λ steps. steps ≡ plan_steps (sources_of planner.now) request.now) }
     ensures passed { OnOk result (obstacle_of (sources_of planner.now) request.now ≡ None) }
     ensures closed { IfOk result (IsClosedPlan (sources_of planner.now)) }
-    ensures err { IfErr result (λ o. (o ≡ Obstacle.Memory) ⊎ (obstacle_of (sources_of planner.now) request.now ≡ Some o)) }
+    ensures err { IfErr result (λ o. (o ≡ Obstacle.Memory) ⊎ (option_map as_obstacle (obstacle_of (sources_of planner.now) request.now) ≡ Some o)) }
 {
     let founds = find_each(alloc, planner, &request.names)?;
     check_known(alloc, planner, request.ignore_install, &founds)?;
@@ -193,7 +193,7 @@ fn checked_plan(
 ) -> Result<GroupedOrder, Obstacle>
     ensures plan { IfOk result (IsPlan (among (before (sources_of planner.now))) (unloaded (sources_of planner.now)) (after (sources_of planner.now)) (asked (sources_of planner.now) founds.now)) }
     ensures passed { OnOk result (first (plan_tests (sources_of planner.now) founds.now) ≡ None) }
-    ensures err { IfErr result (λ o. (o ≡ Obstacle.Memory) ⊎ (first (plan_tests (sources_of planner.now) founds.now) ≡ Some o)) }
+    ensures err { IfErr result (λ o. (o ≡ Obstacle.Memory) ⊎ (option_map as_obstacle (first (plan_tests (sources_of planner.now) founds.now)) ≡ Some o)) }
 {
     let Planning { marks, answer } = planned_answer(alloc, planner, founds)?;
     if planner.unmet().is_empty() {
@@ -215,7 +215,7 @@ fn order_without_lines(
     requires answer { IsAnswer (among (before (sources_of planner.now))) (unloaded (sources_of planner.now)) (after (sources_of planner.now)) (asked (sources_of planner.now) founds.now) answer }
     ensures plan { IfOk result (IsPlan (among (before (sources_of planner.now))) (unloaded (sources_of planner.now)) (after (sources_of planner.now)) (asked (sources_of planner.now) founds.now)) }
     ensures passed { OnOk result (first (plan_tests (sources_of planner.now) founds.now) ≡ None) }
-    ensures err { IfErr result (λ o. (o ≡ Obstacle.Memory) ⊎ (first (plan_tests (sources_of planner.now) founds.now) ≡ Some o)) }
+    ensures err { IfErr result (λ o. (o ≡ Obstacle.Memory) ⊎ (option_map as_obstacle (first (plan_tests (sources_of planner.now) founds.now)) ≡ Some o)) }
 {
     let order = order_of(alloc, planner, answer)?;
     Ok(order)
@@ -235,7 +235,7 @@ fn checked_order(
     requires there { (path : List ℕ) → is_among paths.now.there path ≡ stands (sources_of planner.now) path }
     ensures plan { IfOk result (IsPlan (among (before (sources_of planner.now))) (unloaded (sources_of planner.now)) (after (sources_of planner.now)) (asked (sources_of planner.now) founds.now)) }
     ensures passed { OnOk result (first (plan_tests (sources_of planner.now) founds.now) ≡ None) }
-    ensures err { IfErr result (λ o. (o ≡ Obstacle.Memory) ⊎ (first (plan_tests (sources_of planner.now) founds.now) ≡ Some o)) }
+    ensures err { IfErr result (λ o. (o ≡ Obstacle.Memory) ⊎ (option_map as_obstacle (first (plan_tests (sources_of planner.now) founds.now)) ≡ Some o)) }
 {
     let unmet = planner.unmet();
     check_needs(alloc, unmet, &paths.planned, &paths.there)?;

@@ -4,7 +4,7 @@ use Rattle.std.specs.Option.{option_map}
 use Rattle.std.proofs.lemmas.Bool.Decides.{nat_tests}
 use Rattle.name_lookup.specs.Found.{found}
 use Rattle.plan_builder.specs.Members.{founds_of}
-use Rattle.plan_builder.specs.Obstacles.{is_unfound, not_found}
+use Rattle.plan_builder.specs.Obstacles.{as_obstacle, is_unfound, not_found}
 use Rattle.plan_builder.specs.Planner.{sources_of}
 use Rattle.dependency_lines.proofs.Finds.{plain-here, plain-more}
 use Rattle.plan_builder.proofs.Finds.{map-more}
@@ -16,7 +16,7 @@ returns-then-found-eq0-clause-err c =
     let e = c.as_slice-name-items.ensures in
     let none : find (is_unfound (sources_of c.args.planner.now)) (take c.loop-name.name-index c.as_slice-name-items.result.now) ≡ None = ap (λ ys. find (is_unfound (sources_of c.args.planner.now)) (take c.loop-name.name-index ys)) e ∙ c.loop-name.invariant.passed in
     let zero : (c.in_ok-found.found.list == 0) ≡ true = grind (arith, nat_tests) in
-    inr (ap (option_map not_found)
+    inr (ap (λ n. option_map as_obstacle (option_map not_found n))
     (ap (find p) (sym e) ∙ plain-here p c.as_slice-name-items.result.now c.loop-name.name-index c.name-item.result c.loop-name-test.true c.name-item.is none (ap (λ f. f.list == 0) (sym c.in_ok-found.ensures) ∙ zero))
     ∙ ap (λ o. Some o) (sym c.in_ok-not_found.ensures))
 

@@ -1,9 +1,11 @@
-use Rattle.std.proofs.Common.{length, ◌∙◌}
+use Rattle.std.proofs.Common.{length, ap, ◌∙◌}
+use Rattle.std.specs.Option.{option_map}
 use Rattle.std.proofs.lemmas.Result.{err_from_is_err_and}
 use Rattle.plan_order.specs.Lists.{among}
 use Rattle.dependency_lines.proofs.Faults.{right}
 use Rattle.plan_builder.specs.Needs.{modules, before, after, unloaded}
 use Rattle.plan_builder.specs.Members.{asked}
+use Rattle.plan_builder.specs.Obstacles.{as_obstacle}
 use Rattle.plan_builder.specs.Planner.{sources_of}
 use Rattle.plan_builder.proofs.Answering.{cycle-answer, plan-answer, short-answer, unloaded-low}
 use Rattle.plan_builder.proofs.NoLines.{no-lines}
@@ -21,7 +23,7 @@ returns-in_err-order-clause-err c =
     let p = err_from_is_err_and c.from_residual.result c.from_residual.ensures.1 in
     rw (p.1, p.2)
     (right (λ e.
-    no-lines s founds c.requires.lines
+    ap (option_map as_obstacle) (no-lines s founds c.requires.lines)
     ∙ cycle-answer (modules s) (among (before s)) (unloaded s) (after s) (asked s founds) c.args.answer c.in_err-order.field-0.0 c.requires.answer e)
     c.in_err-order.ensures.err)
 

@@ -1,9 +1,9 @@
 use Rattle.std.proofs.Common.{◌≡◌, Some, None, ap, ◌∙◌, subst}
-use Rattle.std.specs.Prelude.{◌⊎◌, IfOk, OnOk, IfErr}
+use Rattle.std.specs.Prelude.{◌⊎◌, IfOk, OnOk, IfErr, option_map}
 use Rattle.dependency_lines.specs.Modules.{bad_name}
 use Rattle.plan_builder.specs.declared.obstacle.Obstacle.TheVariants.{Memory}
 use Rattle.plan_builder.specs.Steps.{plan_steps}
-use Rattle.plan_builder.specs.Obstacles.{obstacle_of}
+use Rattle.plan_builder.specs.Obstacles.{as_obstacle, obstacle_of}
 use Rattle.plan_builder.specs.Planner.{sources_of}
 use Rattle.plan_builder.specs.Sources.{sources}
 use Rattle.plan_builder.specs.Closed.{IsClosedPlan}
@@ -37,4 +37,4 @@ returns-clause-err c =
     let request = c.args.request.now in
     let same : sources_of c.in_ok-planner.planner ≡ sources c.args.rules.now c.args.indexes.now c.args.unmet.now c.args.loaded.now c.args.request.now =
     ap sources_of c.in_ok-planner.ensures ∙ (λ i. sources c.args.rules.now c.args.indexes.now (c.as_slice.ensures i) (c.as_slice-2.ensures i) c.args.request.now) in
-    subst (λ s. IfErr c.planned_steps.result (λ o. (o ≡ Memory) ⊎ (obstacle_of s request ≡ Some o))) same c.planned_steps.ensures.err
+    subst (λ s. IfErr c.planned_steps.result (λ o. (o ≡ Memory) ⊎ (option_map as_obstacle (obstacle_of s request) ≡ Some o))) same c.planned_steps.ensures.err

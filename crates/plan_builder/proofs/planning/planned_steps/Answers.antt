@@ -1,4 +1,4 @@
-use Rattle.std.proofs.Common.{◌≡◌, length, Some, None, ap, sym, ◌∙◌, subst}
+use Rattle.std.proofs.Common.{◌≡◌, length, None, ap, sym, ◌∙◌, subst}
 use Rattle.std.specs.List.{find}
 use Rattle.std.specs.Option.{option_map}
 use Rattle.std.proofs.lemmas.Result.{err_from_is_err_and}
@@ -11,7 +11,7 @@ use Rattle.plan_order.specs.Answer.{IsPlan}
 use Rattle.dependency_lines.proofs.Faults.{right}
 use Rattle.plan_builder.specs.Needs.{modules, before, after, unloaded}
 use Rattle.plan_builder.specs.Members.{found_for, asked}
-use Rattle.plan_builder.specs.Obstacles.{is_unknown, all_names, not_found, plan_tests}
+use Rattle.plan_builder.specs.Obstacles.{as_obstacle, is_unknown, all_names, not_found, plan_tests}
 use Rattle.plan_builder.specs.Planner.{sources_of}
 use Rattle.plan_builder.proofs.Answering.{unloaded-low}
 use Rattle.plan_builder.proofs.Obstacles.{when-unfound, when-unknown, when-known, steps-are}
@@ -36,7 +36,7 @@ returns-in_err-check_known-clause-err c =
     let p = err_from_is_err_and c.from_residual-in_err-check_known.result c.from_residual-in_err-check_known.ensures.1 in
     rw (p.1, p.2)
     (right (λ e. when-unknown s request c.requires c.in_ok-founds.ensures.passed c.in_err-check_known.field-0.0
-    (ap (λ fs. option_map not_found (find (is_unknown s request.ignore_install) (all_names fs))) (sym are) ∙ e)) c.in_err-check_known.ensures.err)
+    (ap (λ fs. option_map as_obstacle (option_map not_found (find (is_unknown s request.ignore_install) (all_names fs)))) (sym are) ∙ e)) c.in_err-check_known.ensures.err)
 
 pub returns-in_err-plan-clause-err : goal.returns-in_err-plan-clause-err
 returns-in_err-plan-clause-err c =
@@ -46,8 +46,8 @@ returns-in_err-plan-clause-err c =
     ap (λ fs. find (is_unknown s request.ignore_install) (all_names fs)) (sym (c.deref.ensures.value ∙ c.in_ok-founds.ensures.found)) ∙ c.in_ok-check_known.ensures.passed in
     let p = err_from_is_err_and c.from_residual-in_err-plan.result c.from_residual-in_err-plan.ensures.1 in
     rw (p.1, p.2)
-    (right (λ e. when-known s request c.requires c.in_ok-founds.ensures.passed known (Some c.in_err-plan.field-0.0)
-    (ap (λ fs. first (plan_tests s fs)) (sym (c.deref-2.ensures.value ∙ c.in_ok-founds.ensures.found)) ∙ e)) c.in_err-plan.ensures.err)
+    (right (λ e. ap (option_map as_obstacle) (when-known s request c.requires c.in_ok-founds.ensures.passed known (first (plan_tests s c.deref-2.result.now))
+    (ap (λ fs. first (plan_tests s fs)) (sym (c.deref-2.ensures.value ∙ c.in_ok-founds.ensures.found)))) ∙ e) c.in_err-plan.ensures.err)
 
 pub all_steps-requires-clause-ends : goal.all_steps-requires-clause-ends
 all_steps-requires-clause-ends c =
