@@ -5,7 +5,7 @@ use Rattle.std.specs.List.{flat_map}
 use Rattle.std.proofs.lemmas.List.{drop_all}
 use Rattle.km_names.specs.First.{first}
 use Rattle.kmod_words.specs.declared.modprobe.ModprobeWords.{ModprobeWords}
-use Rattle.model_loader.specs.declared.region.Region.{Region}
+use Rattle.module_region.specs.declared.region.Region.{Region}
 use Rattle.model_loader.specs.Machine.{Machine}
 use Rattle.plan_builder.specs.declared.request.Request.{Request}
 use Rattle.plan_builder.specs.declared.step.PlanStep.{PlanStep}
@@ -48,7 +48,7 @@ abbrev pub after_machine : List ℕ → Images → Request → Known → Machine
 after_machine folder images request known machine = loads_request folder images request known machine
 
 -- what is asked for, where its folder, its images, its request and its Module.symvers are these
-pub loads-asked : (asked : ModprobeWords) (folder : List ℕ) (images : Images) (request : Request) (system_map : List ℕ) (symvers : Option (List ℕ)) (region : Region) (old new : World) (r : Result ⊤ Stop) → folder ≡ modules_folder asked.dirname asked.version → images ≡ images_asked asked → request ≡ request_of asked → symvers ≡ asked.symvers → Follows (λ x. x) (reads_known asked.config (modules_folder asked.dirname asked.version) asked.loaded >>= loads_known folder images request system_map symvers region) old new r → Follows (λ x. x) (loads_into asked system_map region) old new r
+pub loads-asked : (asked : ModprobeWords) (folder : List ℕ) (images : Images) (request : Request) (system_map : List ℕ) (symvers : Option (List ℕ)) (region : Region) (old new : World) (r : Result ⊤ Stop) → folder ≡ modules_folder asked.dirname asked.version → images ≡ images_asked asked → request ≡ request_of asked → symvers ≡ asked.symvers → Follows (λ x. x) (reads_known asked.config (modules_folder asked.dirname asked.version) asked.loaded >>= loads_known folder images request system_map symvers region) old new r → Follows (λ x. x) (loads_into asked region system_map) old new r
 loads-asked asked folder images request system_map symvers region old new r place shown what table f =
     let known = reads_known asked.config (modules_folder asked.dirname asked.version) asked.loaded in
     along (λ p. known >>= loads_known p (images_asked asked) (request_of asked) system_map asked.symvers region) folder (modules_folder asked.dirname asked.version) place

@@ -1,6 +1,6 @@
 -- The stages of a plan that is made and shown, joined.
 use Rattle.std.proofs.Common.{◌≡◌, ℕ, Bool, true, false, List, [], ◌∷◌, length, drop, refl, sym, ap, subst, ◌∙◌, inl, inr, arith}
-use Rattle.std.specs.Prelude.{Some, None, Result, Err, ◌⊎◌, if◌then◌else◌, option_and_then, ⊤}
+use Rattle.std.specs.Prelude.{Option, Some, None, Result, Err, ◌⊎◌, if◌then◌else◌, option_map, ⊤}
 use Rattle.std.proofs.lemmas.List.{drop_all}
 use Rattle.km_names.specs.Texts.{spaced}
 use Rattle.kmod_words.specs.declared.modprobe.ModprobeWords.{ModprobeWords}
@@ -8,10 +8,10 @@ use Rattle.plan_builder.specs.declared.obstacle.Obstacle.{Obstacle}
 use Rattle.plan_builder.specs.declared.obstacle.Obstacle.TheVariants as obstacles
 use Rattle.plan_builder.specs.declared.request.Request.{Request}
 use Rattle.plan_builder.specs.declared.step.PlanStep.{PlanStep}
-use Rattle.plan_builder.specs.Obstacles.{obstacle_of}
+use Rattle.plan_builder.specs.Obstacles.{PlanObstacle, as_obstacle, obstacle_of}
 use Rattle.plan_builder.specs.Steps.{plan_steps}
 use Rattle.plan_builder.specs.Text.{obstacle_text, plan_text}
-use Rattle.plan_builder.proofs.PlanTexts.{has-text}
+use Rattle.plan_builder.proofs.PlanTexts.{same-text}
 use Rattle.km_course.specs.Course.{Stage, ◌>>=◌, says_any}
 use Rattle.km_course.specs.Course.Outcome.{value, end}
 use Rattle.km_course.specs.World.{World}
@@ -49,19 +49,21 @@ options-after false (word ∷ words) = refl
 pub planned : (known : Known) (loaded : List (List ℕ)) (request : Request) (steps : List PlanStep) → obstacle_of (sources_with known loaded request) request ≡ None → steps ≡ plan_steps (sources_with known loaded request) request → plan_outcome known loaded request ≡ value steps
 unfolding plan_outcome
 planned known loaded request steps passed is =
-    ap (λ o. plan_unless (option_and_then plan_text o) (plan_steps (sources_with known loaded request) request)) passed ∙ ap value (sym is)
+    ap (λ o. plan_unless (option_map plan_text o) (plan_steps (sources_with known loaded request) request)) passed ∙ ap value (sym is)
 
--- what an obstacle that was met comes to
-met : (known : Known) (loaded : List (List ℕ)) (request : Request) (o : Obstacle) → ¬ (o ≡ obstacles.Memory) → obstacle_of (sources_with known loaded request) request ≡ Some o → plan_outcome known loaded request ≡ end (Refused (Unplanned (obstacle_text o)))
-unfolding plan_outcome
-met known loaded request o other found =
-    let steps = plan_steps (sources_with known loaded request) request in
-    ap (λ f. plan_unless (option_and_then plan_text f) steps) found ∙ ap (λ text. plan_unless text steps) (has-text o other)
+-- what an obstacle that was met results in
+met : (first : Option PlanObstacle) (steps : List PlanStep) (o : Obstacle) → option_map as_obstacle first ≡ Some o → plan_unless (option_map plan_text first) steps ≡ end (Refused (Unplanned (obstacle_text o)))
+met None steps o found = cc
+met (Some first) steps o found =
+    let same : as_obstacle first ≡ o = cc in
+    ap (λ text. end (Refused (Unplanned text))) (sym (same-text first) ∙ ap obstacle_text same)
 
 -- an obstacle that was met stops the command with its text, unless memory ran out
-pub not-planned : (known : Known) (loaded : List (List ℕ)) (request : Request) (o : Obstacle) (stop : Stop) → (stop ≡ Memory) ⊎ ((stop ≡ Ended (Refused (Unplanned (obstacle_text o)))) × ¬ (o ≡ obstacles.Memory)) → (o ≡ obstacles.Memory) ⊎ (obstacle_of (sources_with known loaded request) request ≡ Some o) → Answers (λ (x : List PlanStep). x) (plan_outcome known loaded request) (Err stop)
+pub not-planned : (known : Known) (loaded : List (List ℕ)) (request : Request) (o : Obstacle) (stop : Stop) → (stop ≡ Memory) ⊎ ((stop ≡ Ended (Refused (Unplanned (obstacle_text o)))) × ¬ (o ≡ obstacles.Memory)) → (o ≡ obstacles.Memory) ⊎ (option_map as_obstacle (obstacle_of (sources_with known loaded request) request) ≡ Some o) → Answers (λ (x : List PlanStep). x) (plan_outcome known loaded request) (Err stop)
+unfolding plan_outcome
 not-planned known loaded request o stop (inl memory) why =
     subst (λ s. Answers (λ (x : List PlanStep). x) (plan_outcome known loaded request) (Err s)) (sym memory) tt
 not-planned known loaded request o stop (inr (is, other)) (inl memory) = absurd (other memory)
 not-planned known loaded request o stop (inr (is, other)) (inr found) =
-    subst (λ s. Answers (λ (x : List PlanStep). x) (plan_outcome known loaded request) (Err s)) (sym is) (met known loaded request o other found)
+    subst (λ s. Answers (λ (x : List PlanStep). x) (plan_outcome known loaded request) (Err s)) (sym is)
+    (met (obstacle_of (sources_with known loaded request) request) (plan_steps (sources_with known loaded request) request) o found)

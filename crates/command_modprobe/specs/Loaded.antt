@@ -3,7 +3,7 @@ use Rattle.std.specs.Prelude.{ℕ, List, [], ◌∷◌, map, Option, Some, None,
 use Rattle.std.specs.List.{flat_map}
 use Rattle.km_names.specs.First.{first}
 use Rattle.kmod_words.specs.declared.modprobe.ModprobeWords.{ModprobeWords}
-use Rattle.model_loader.specs.declared.region.Region.{Region}
+use Rattle.kmod_words.specs.Modprobe.{region_asked}
 use Rattle.model_loader.specs.Machine.{Machine}
 use Rattle.plan_builder.specs.declared.request.Request.{Request}
 use Rattle.plan_builder.specs.declared.step.PlanStep.{PlanStep}
@@ -19,7 +19,8 @@ use Rattle.stages_loads.specs.Listed.{loads_listed}
 use Rattle.stages_loads.specs.declared.load.Insertion.{Insertion}
 use Rattle.stages_loads.specs.declared.shown.Images.{Images}
 use Rattle.stages_loads.specs.Loads.{loads_all}
-use Rattle.stages_loads.specs.Region.{on_machine, region_at}
+use Rattle.module_region.specs.declared.region.Region.{Region}
+use Rattle.stages_loads.specs.Understood.{if_understood}
 use Rattle.stages_loads.specs.Tables.{reads_machine}
 use Rattle.stages_known.specs.declared.known.Known.{Known}
 use Rattle.stages_known.specs.Known.{reads_known}
@@ -71,13 +72,13 @@ loads_request folder images request known machine = do
   inserts ← given (inserts_outcome steps)
   loads_steps folder images known machine steps inserts
 
--- The course of a load into the machine of a System.map and a region.
-abbrev pub loads_into : ModprobeWords → List ℕ → Region → Stage ⊤
-loads_into asked system_map region = do
+-- The course of a load into the machine of a System.map, in a region.
+abbrev pub loads_into : ModprobeWords → Region → List ℕ → Stage ⊤
+loads_into asked region system_map = do
   known ← reads_known asked.config (modules_folder asked.dirname asked.version) asked.loaded
   machine ← reads_machine system_map asked.symvers region
   loads_request (modules_folder asked.dirname asked.version) (images_asked asked) (request_of asked) known machine
 
 -- The course of `modprobe` without `-n`, `-D` and `-R`.
 abbrev pub loads_plan : ModprobeWords → Stage ⊤
-loads_plan asked = on_machine asked.system_map (region_at asked.region_base asked.region_size) (loads_into asked)
+loads_plan asked = if_understood asked.system_map (loads_into asked (region_asked asked))

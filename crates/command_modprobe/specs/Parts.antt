@@ -2,7 +2,7 @@
 use Rattle.std.specs.Prelude.{ℕ, List, Option, ⊤}
 use Rattle.kmod_words.specs.declared.modprobe.Mode.{Mode}
 use Rattle.km_course.specs.Course.{Stage, ◌>>=◌, given, says_any}
-use Rattle.model_loader.specs.declared.region.Region.{Region}
+use Rattle.module_region.specs.declared.region.Region.{Region}
 use Rattle.plan_builder.specs.declared.request.Request.{Request}
 use Rattle.stages_known.specs.declared.known.Known.{Known}
 use Rattle.stages_known.specs.Named.{names_outcome}

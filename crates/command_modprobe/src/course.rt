@@ -11,7 +11,6 @@ use km_course::{End, Stop};
 use km_names::Word;
 use km_outside::{Out, Writes};
 use kmod_words::{Mode, ModprobeWords, read_modprobe};
-use stages_loads::region_at;
 use std::alloc::Global;
 
 /// Does what the words after `modprobe` ask for. modprobe(8).
@@ -45,16 +44,16 @@ fn in_mode<F: Writes, O: Out>(
     match mode {
         Mode::ResolveAlias => resolve_alias(alloc, asked, files, out),
         Mode::Load => {
+            let region = asked.region();
             let system_map = asked.system_map.take().unwrap();
-            let region = region_at(asked.region_base, asked.region_size);
-            load_plan(alloc, asked, system_map, region, files, out)
+            load_plan(alloc, asked, region, system_map, files, out)
         }
         Mode::DryRun => show_plan(alloc, asked, files, out),
         Mode::ShowDepends => show_plan(alloc, asked, files, out),
         Mode::Remove { dry_run } => {
+            let region = asked.region();
             let system_map = asked.system_map.take().unwrap();
-            let region = region_at(asked.region_base, asked.region_size);
-            remove(alloc, dry_run, asked, system_map, region, files, out)
+            remove(alloc, dry_run, asked, region, system_map, files, out)
         }
     }
 }

@@ -1,7 +1,8 @@
 // Plans that are loaded.
 ghost use Rattle.std.specs.Prelude.{◌≡◌, ◌⊎◌, ◌++◌, OnOk, IfErr, None, Some, option_map};
 ghost use Rattle.km_course.specs.FollowsOn.{FollowsOnFilesAndOut, Returns};
-ghost use Rattle.command_modprobe.specs.Loaded.{command_owner, inserted, inserts_outcome, install_stop, loads_into, loads_request, loads_steps};
+ghost use Rattle.command_modprobe.specs.Loaded.{command_owner, inserted, inserts_outcome, install_stop};
+ghost use Rattle.command_modprobe.specs.Loaded.{loads_into, loads_request, loads_steps};
 ghost use Rattle.command_modprobe.specs.Parts.{loads_known};
 
 use crate::basis::{Basis, read_basis};
@@ -21,12 +22,12 @@ use std::alloc::Global;
 pub(crate) fn load_plan<F: Writes, O: Out>(
     alloc: Global,
     mut asked: ModprobeWords,
-    system_map: PathText,
     region: Region,
+    system_map: PathText,
     files: &mut F,
     out: &mut O,
 ) -> Result<(), Stop>
-    ensures { FollowsOnFilesAndOut (loads_into asked system_map region)
+    ensures { FollowsOnFilesAndOut (loads_into asked region system_map)
         F.seen files.old files.new O.seen out.old out.new result }
 {
     let symvers = asked.symvers.take();

@@ -86,7 +86,8 @@ fn plan_with(
 
 /// Returns how an obstacle stops the command: by the refusal that carries its text.
 fn refused(alloc: Global, obstacle: &Obstacle) -> Stop
-    ensures { (result ≡ Memory) ⊎ ((result ≡ Ended (Refused (Obstacle_spec (obstacle_text obstacle.now)))) × ¬ (obstacle.now ≡ obstacles.Memory)) }
+    ensures { (result ≡ Memory)
+        ⊎ ((result ≡ Ended (Refused (Obstacle_spec (obstacle_text obstacle.now)))) × ¬ (obstacle.now ≡ obstacles.Memory)) }
 {
     if matches!(obstacle, Obstacle::Memory) {
         return Stop::Memory;

@@ -16,7 +16,7 @@ use Rattle.km_course.proofs.Steps.{answered}
 use Rattle.km_course.proofs.Following.{along}
 use Rattle.kmod_words.specs.declared.modprobe.ModprobeWords.{ModprobeWords}
 use Rattle.modprobe_conf.specs.declared.rule.Rule.{Rule}
-use Rattle.model_loader.specs.declared.region.Region.{Region}
+use Rattle.module_region.specs.declared.region.Region.{Region}
 use Rattle.model_loader.specs.Machine.{Machine}
 use Rattle.model_loader.specs.Use.{name_at, without}
 use Rattle.model_unload.specs.declared.UnloadFault.{UnloadFault}
@@ -75,7 +75,7 @@ after_known folder removal system_map symvers region known = reads_machine syste
 abbrev sources_of : ModprobeWords → List ℕ → Sources
 sources_of asked map = record { config = asked.config; loaded = asked.loaded; system_map = map; symvers = asked.symvers }
 
-pub removes-asked : (dry_run : Bool) (asked : ModprobeWords) (folder map : List ℕ) (region : Region) (old new : World) (r : Result ⊤ Stop) → folder ≡ modules_folder asked.dirname asked.version → Follows (λ x. x) (removes_over folder (removal_of dry_run asked) (sources_of asked map) region) old new r → Follows (λ x. x) (removes_from dry_run asked map region) old new r
+pub removes-asked : (dry_run : Bool) (asked : ModprobeWords) (folder map : List ℕ) (region : Region) (old new : World) (r : Result ⊤ Stop) → folder ≡ modules_folder asked.dirname asked.version → Follows (λ x. x) (removes_over folder (removal_of dry_run asked) (sources_of asked map) region) old new r → Follows (λ x. x) (removes_from dry_run asked region map) old new r
 removes-asked dry_run asked folder map region old new r place f =
     along (λ p. removes_over p (removal_of dry_run asked) (sources_of asked map) region) folder (modules_folder asked.dirname asked.version) place f
 

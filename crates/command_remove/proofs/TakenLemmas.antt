@@ -10,7 +10,7 @@ use Rattle.module_facts.specs.declared.module.Module.{Module}
 use Rattle.provider_rel.specs.declared.kernel.Kernel.{Kernel}
 use Rattle.model_loader.specs.declared.fault.LoadFault.{LoadFault}
 use Rattle.provider_rel.specs.declared.kernel.KernelExport.{KernelExport}
-use Rattle.model_loader.specs.declared.region.Region.{Region}
+use Rattle.module_region.specs.declared.region.Region.{Region}
 use Rattle.model_loader.specs.Machine.{Machine, new_machine}
 use Rattle.model_loader.specs.Step.{step}
 use Rattle.model_loader.specs.Use.{name_at}

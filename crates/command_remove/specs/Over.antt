@@ -1,6 +1,6 @@
 -- A removal over the files that it reads. Only private contracts cite this file.
 use Rattle.std.specs.Prelude.{ℕ, List, Option, ⊤}
-use Rattle.model_loader.specs.declared.region.Region.{Region}
+use Rattle.module_region.specs.declared.region.Region.{Region}
 use Rattle.km_course.specs.Course.{Stage, ◌>>=◌}
 use Rattle.stages_known.specs.declared.known.Known.{Known}
 use Rattle.stages_known.specs.Known.{reads_known}

@@ -2,7 +2,7 @@ ghost use Rattle.std.specs.Prelude.{◌≡◌, List, length};
 ghost use Rattle.km_course.specs.FollowsOn.{FollowsOnFilesAndOut, FollowsOnOut};
 ghost use Rattle.module_facts.specs.declared.module.Module.{Module};
 ghost use Rattle.provider_rel.specs.declared.kernel.Kernel.{Kernel};
-ghost use Rattle.model_loader.specs.declared.region.Region.{Region};
+ghost use Rattle.module_region.specs.declared.region.Region.{Region};
 ghost use Rattle.model_loader.specs.Machine.{new_machine};
 ghost use Rattle.laws_closed_plans.specs.Binding.{IsLoaded};
 ghost use Rattle.command_remove.specs.Over.{removes_known, removes_over};
@@ -45,12 +45,12 @@ pub fn remove<F: Reads, O: Out>(
     alloc: Global,
     dry_run: bool,
     asked: ModprobeWords,
-    system_map: PathText,
     region: Region,
+    system_map: PathText,
     files: &mut F,
     out: &mut O,
 ) -> Result<(), Stop>
-    ensures { FollowsOnFilesAndOut (removes_from dry_run asked system_map region)
+    ensures { FollowsOnFilesAndOut (removes_from dry_run asked region system_map)
         F.seen files.old files.new O.seen out.old out.new result }
 {
     let folder = modules_folder(alloc, &asked.dirname, &asked.version)?;

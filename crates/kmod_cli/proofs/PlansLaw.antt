@@ -5,7 +5,7 @@ use Rattle.std.specs.Prelude.{Option, Some, ⊤}
 use Rattle.std.specs.List.{list_all}
 use Rattle.km_outside.specs.Contents.{Contents}
 use Rattle.km_course.specs.Carries.{Carries, outcome_line, outcome_status, whole_acts}
-use Rattle.km_course.specs.Course.{Act, Outcome, Run, Stage, given}
+use Rattle.km_course.specs.Course.{Act, Outcome, Run, Stage, ◌>>=◌, given}
 use Rattle.km_course.specs.Course.Outcome.{value, end}
 use Rattle.km_course.specs.World.{World, Shown, done}
 use Rattle.km_course.specs.declared.end.End.{End}
@@ -14,9 +14,9 @@ use Rattle.km_course.specs.declared.refusal.Refusal.TheVariants.{Obstacle as Unp
 use Rattle.kmod_words.specs.declared.modprobe.Mode.{Mode}
 use Rattle.kmod_words.specs.declared.modprobe.Mode.TheVariants.{Load, DryRun, ShowDepends, ResolveAlias, Remove}
 use Rattle.kmod_words.specs.declared.modprobe.ModprobeWords.{ModprobeWords}
-use Rattle.kmod_words.specs.Modprobe.{modprobe_request}
+use Rattle.kmod_words.specs.Modprobe.{modprobe_request, region_asked}
 use Rattle.provider_rel.specs.declared.kernel.Kernel.{Kernel}
-use Rattle.model_loader.specs.declared.region.Region.{Region}
+use Rattle.module_region.specs.declared.region.Region.{Region}
 use Rattle.model_loader.specs.Machine.{new_machine}
 use Rattle.plan_builder.specs.declared.step.PlanStep.{PlanStep}
 use Rattle.plan_builder.specs.Steps.{plan_steps}
@@ -24,9 +24,9 @@ use Rattle.plan_builder.specs.Text.{first_obstacle_text}
 use Rattle.stages_loads.specs.Tables.{reads_machine}
 use Rattle.stages_known.specs.declared.known.Known.{Known}
 use Rattle.stages_known.specs.Known.{reads_known}
-use Rattle.stages_loads.specs.Region.{on_machine, region_at}
+use Rattle.stages_loads.specs.Understood.{if_understood}
 use Rattle.command_modprobe.specs.Loaded.{images_asked, loads_into, loads_plan}
-use Rattle.command_modprobe.specs.Modprobe.{modprobe_asked_for, modprobe_course, modprobe_in_mode}
+use Rattle.command_modprobe.specs.Modprobe.{modprobe_course, modprobe_in_mode}
 use Rattle.command_modprobe.specs.Parts.{loads_known, prints_plan}
 use Rattle.command_modprobe.specs.Planned.{loaded_in, plan_lines, plan_outcome, plan_unless, request_of, shows_plan}
 use Rattle.command_modprobe.proofs.LoadSteps.{after_machine, after_steps}
@@ -103,8 +103,8 @@ loaded-not held asked known kernel region has knows e met =
       before = a ++ b;
       reads = both-read a b only only';
       is =
-          ap (λ o. (on_machine o (region_at asked.region_base asked.region_size) (loads_into asked)).run held) has.mapped
-          ∙ ap (λ r. (on_machine (Some has.map) r (loads_into asked)).run held) has.in_region
+          ap (λ o. (if_understood o (loads_into asked (region_asked asked))).run held) has.mapped
+          ∙ ap (λ r. (reading >>= loads_known folder (images_asked asked) request has.map asked.symvers r).run held) has.in_region
           ∙ run-on reading (loads_known folder (images_asked asked) request has.map asked.symvers region) held known only knows
           ∙ ap (joined a)
           (run-on making (after_machine folder (images_asked asked) request known) held start only' has.made
@@ -114,7 +114,7 @@ loaded-not held asked known kernel region has knows e met =
 
 -- words that ask for this mode
 in-mode : (words : List (List ℕ)) (asked : ModprobeWords) (mode : Mode) → modprobe_request words ≡ Some asked → asked.mode ≡ mode → modprobe_course words ≡ modprobe_in_mode mode asked
-in-mode words asked mode is m = ap modprobe_asked_for is ∙ ap (λ x. modprobe_in_mode x asked) m
+in-mode words asked mode is m = ap (λ request. if_understood request (λ (words : ModprobeWords). modprobe_in_mode words.mode words)) is ∙ ap (λ x. modprobe_in_mode x asked) m
 
 module _ (held : Contents) (words : List (List ℕ)) (asked : ModprobeWords) (known : Known) (is : modprobe_request words ≡ Some asked) (came : CameToPlan held asked known) where
   of-words : (mode : Mode) → asked.mode ≡ mode → (lines : List ℕ) (outcome : Outcome ⊤) → Prints lines outcome ((modprobe_in_mode mode asked).run held) → Prints lines outcome ((modprobe_course words).run held)

@@ -6,7 +6,7 @@ use Rattle.kmod_words.specs.Modprobe.{chosen, mode_asked, goes_with}
 use Rattle.kmod_words.specs.Numbers.{region_or_usual}
 use Rattle.kmod_words.specs.Understood.{understood, value_of, is_version}
 use Rattle.kmod_words.specs.declared.modprobe.Mode.{Mode}
-use Rattle.kmod_words.specs.declared.region.AddressRange.{AddressRange}
+use Rattle.module_region.specs.declared.region.Region.{Region}
 
 module _ {W : Type 0} (asked : List Row → Option W) (app command : App) (words given : List Text) (app_is : app ≡ command) (words_are : words ≡ given) where
   -- words that are understood ask for what their matches ask for
@@ -18,7 +18,7 @@ module _ {W : Type 0} (asked : List Row → Option W) (app command : App) (words
   asked-none matches is none = ap (option_and_then asked) (sym none ∙ is ∙ ap₂ understood app_is words_are)
 
 -- what the matches choose, where they have a mode, a version and a region
-pub chosen-among : (rows : List Row) (mode : Mode) (version : Text) (region : AddressRange) (b : Bool) → Some mode ≡ mode_asked rows → Some version ≡ value_of (codes "set-version") rows
+pub chosen-among : (rows : List Row) (mode : Mode) (version : Text) (region : Region) (b : Bool) → Some mode ≡ mode_asked rows → Some version ≡ value_of (codes "set-version") rows
     → Some region ≡ region_or_usual (value_of (codes "region") rows) → is_version version && goes_with rows mode ≡ b
     → (if b then Some (mode, version, region) else None) ≡ chosen rows
 unfolding chosen

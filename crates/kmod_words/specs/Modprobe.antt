@@ -2,13 +2,13 @@
 use Rattle.std.specs.Prelude.{◌≡◌, ◌&&◌, IsSome, List, [], ◌∷◌, Bool, true, false, Option, Some, None, is_some, not, if◌then◌else◌, option_and_then, option_map, unwrap_or, codes}
 use Rattle.clap.specs.Words.{App, Row, Text}
 use Rattle.kmod_words.specs.Arguments.{command, flag, required, valued, words}
-use Rattle.kmod_words.specs.Numbers.{is_region, region_or_usual}
+use Rattle.kmod_words.specs.Numbers.{region_or_usual}
 use Rattle.kmod_words.specs.Understood.{understood, is_given, value_of, words_of, is_version}
-use Rattle.kmod_words.specs.declared.modprobe.Choice.{Choice}
+use Rattle.kmod_words.specs.declared.modprobe_request.Choice.{Choice}
 use Rattle.kmod_words.specs.declared.modprobe.Mode.{Mode}
 use Rattle.kmod_words.specs.declared.modprobe.Mode.TheVariants.{Load, DryRun, ShowDepends, ResolveAlias, Remove}
 use Rattle.kmod_words.specs.declared.modprobe.ModprobeWords.{ModprobeWords}
-use Rattle.kmod_words.specs.declared.region.AddressRange.{AddressRange}
+use Rattle.module_region.specs.declared.region.Region.{Region}
 
 -- The options and the words of `modprobe`.
 unfoldable pub modprobe_command : App
@@ -56,7 +56,7 @@ goes_with rows ResolveAlias = not (is_given (codes "params") rows)
 goes_with rows (Remove dry_run) = is_some (value_of (codes "system-map") rows) && not (is_some (value_of (codes "image") rows)) && not (is_given (codes "params") rows)
 
 -- What is asked for in this mode, of this version and in this region.
-abbrev pub modprobe_of : List Row → Mode → Text → AddressRange → ModprobeWords
+abbrev pub modprobe_of : List Row → Mode → Text → Region → ModprobeWords
 modprobe_of rows mode version region = record {
   mode = mode;
   all = is_given (codes "all") rows;
@@ -73,11 +73,16 @@ modprobe_of rows mode version region = record {
   image = value_of (codes "image") rows;
   params = is_given (codes "params") rows;
   words = words_of (codes "words") rows;
+  pages = region.pages;
 }
+
+-- The region of addresses in which modules are placed.
+abbrev pub region_asked : ModprobeWords → Region
+region_asked asked = record { base = asked.region_base; size = asked.region_size; pages = asked.pages }
 
 -- The mode, the version and the region that the matches choose: a mode with which the other options
 -- go, a version without `/`, and a region of modules.
-unfoldable pub chosen : List Row → Option (Mode × Text × AddressRange)
+unfoldable pub chosen : List Row → Option (Mode × Text × Region)
 chosen rows =
     option_and_then (λ mode. option_and_then (λ version. option_and_then (λ region.
     if is_version version && goes_with rows mode then Some (mode, version, region) else None)
@@ -90,7 +95,7 @@ abbrev pub modprobe_asked : List Row → Option ModprobeWords
 modprobe_asked rows = option_map (λ choice. modprobe_of rows choice.0 choice.1 choice.2) (chosen rows)
 
 -- what a choice of the code says
-abbrev pub choice_parts : Choice → Mode × Text × AddressRange
+abbrev pub choice_parts : Choice → Mode × Text × Region
 choice_parts choice = (choice.mode, choice.version.now, choice.region)
 
 -- What the words ask `modprobe` for, or nothing if they aren't understood.
@@ -105,7 +110,6 @@ needs_map ShowDepends = false
 needs_map ResolveAlias = false
 needs_map (Remove dry_run) = true
 
--- What is always given: a region of modules and, in a mode that needs it, a System.map.
+-- What is always given: a System.map, in a mode that needs it.
 pub record HasAddresses (mode : Mode) (asked : ModprobeWords) : Type 0 where
-  pub in_region : is_region asked.region_base asked.region_size ≡ true
   pub mapped : needs_map mode ≡ true → IsSome asked.system_map

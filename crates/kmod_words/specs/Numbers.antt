@@ -1,10 +1,11 @@
 -- Numbers as words state them: decimal numbers, and a region of addresses.
-use Rattle.std.specs.Prelude.{ℕ, ◌+◌, ◌%◌, ◌^◌, ◌==◌, ◌&&◌, List, Bool, not, Option, Some, None, length, drop, nat_eq, nat_le, nat_lt, if◌then◌else◌, option_and_then, codes}
+use Rattle.std.specs.Prelude.{ℕ, ◌^◌, ◌==◌, ◌&&◌, List, not, Option, Some, None, length, drop, nat_eq, nat_le, nat_lt, if◌then◌else◌, option_and_then, codes}
 use Rattle.std.specs.List.{list_all, before_first, after_first, starts_with}
 use Rattle.std.specs.Char.{is_digit}
 use Rattle.std.specs.Str.Parse.{digits_value}
 use Rattle.km_names.specs.Ascii.{hexadecimal}
-use Rattle.kmod_words.specs.declared.region.AddressRange.{AddressRange}
+use Rattle.module_region.specs.declared.region.Region.{Region}
+use Rattle.module_region.specs.RegionAt.{region_at}
 
 -- The number below 2^64 that a text states in 1 to this many decimal digits, if it is such a text.
 unfoldable pub decimal : ℕ → List ℕ → Option ℕ
@@ -16,23 +17,14 @@ decimal most text =
 unfoldable pub prefixed_hexadecimal : List ℕ → Option ℕ
 prefixed_hexadecimal text = if starts_with nat_eq text (codes "0x") then hexadecimal (drop 2 text) else None
 
--- Whether modules can be placed in a region: it is of whole pages of 4096 bytes, at least one, and
--- doesn't pass the last address of 64 bits.
-abbrev pub is_region : ℕ → ℕ → Bool
-is_region base size = base % 4096 == 0 && size % 4096 == 0 && nat_lt 0 size && nat_le (base + size) (2 ^ 64)
-
--- the region of two numbers
-abbrev pub region_from : ℕ → ℕ → Option AddressRange
-region_from base size = if is_region base size then Some (record { base = base; size = size }) else None
-
 -- The region that a text states as `BASE:SIZE`.
-unfoldable pub region_of : List ℕ → Option AddressRange
+unfoldable pub region_of : List ℕ → Option Region
 region_of text =
-    option_and_then (λ base. option_and_then (region_from base) (prefixed_hexadecimal (after_first (λ b. b == 58) text)))
+    option_and_then (λ base. option_and_then (region_at base) (prefixed_hexadecimal (after_first (λ b. b == 58) text)))
     (prefixed_hexadecimal (before_first (λ b. b == 58) text))
 
 -- The region that is asked for, or else the one of the kernel on x86-64: MODULES_VADDR up to
 -- MODULES_END of arch/x86/include/asm/pgtable_64_types.h.
-abbrev pub region_or_usual : Option (List ℕ) → Option AddressRange
-region_or_usual None = Some (record { base = 0xffffffffc0000000; size = 0x3f000000 })
+abbrev pub region_or_usual : Option (List ℕ) → Option Region
+region_or_usual None = region_at 0xffffffffc0000000 0x3f000000
 region_or_usual (Some text) = region_of text

@@ -1,42 +1,29 @@
 // A region of addresses in which modules are placed.
 ghost use Rattle.std.specs.Prelude.{◌≡◌, option_map};
-ghost use Rattle.kmod_words.specs.Numbers.{is_region, region_of, region_or_usual, prefixed_hexadecimal};
+ghost use Rattle.kmod_words.specs.Numbers.{region_of, region_or_usual, prefixed_hexadecimal};
 
 use km_names::{hexadecimal, split_at_byte};
-
-/// A region of addresses: its first address and its number of bytes.
-#[derive(Clone, Copy)]
-pub(crate) struct AddressRange {
-    pub base: u64,
-    pub size: u64,
-}
+use module_region::Region;
 
 /// Returns the region that a text states, or the usual one if there is no text.
-pub(crate) fn region_or_usual(text: Option<&str>) -> Option<AddressRange>
+pub(crate) fn region_or_usual(text: Option<&str>) -> Option<Region>
     ensures { result ≡ region_or_usual (option_map (λ t. t.now) text.entry) }
 {
     match text {
         Some(text) => region_of(text.as_bytes()),
-        None => Some(AddressRange {
-            base: 0xffff_ffff_c000_0000,
-            size: 0x3f00_0000,
-        }),
+        None => Region::new(0xffff_ffff_c000_0000, 0x3f00_0000),
     }
 }
 
 // Returns the region of a text `BASE:SIZE`.
 #[tactic(auto, unfolding(crate::specs::Numbers::region_of))]
-fn region_of(text: &[u8]) -> Option<AddressRange>
+fn region_of(text: &[u8]) -> Option<Region>
     ensures { result ≡ region_of text.now }
 {
     let (base, size) = split_at_byte(text, b':');
     let base = prefixed_hexadecimal(base)?;
     let size = prefixed_hexadecimal(size)?;
-    if is_region(base, size) {
-        Some(AddressRange { base, size })
-    } else {
-        None
-    }
+    Region::new(base, size)
 }
 
 // Returns the number of a text of `0x` and hexadecimal digits.
@@ -49,11 +36,4 @@ fn prefixed_hexadecimal(text: &[u8]) -> Option<u64>
     } else {
         None
     }
-}
-
-// Returns whether modules can be placed in the region.
-fn is_region(base: u64, size: u64) -> bool
-    ensures { result ≡ is_region base size }
-{
-    base % 4096 == 0 && size % 4096 == 0 && size > 0 && base <= u64::MAX - (size - 1)
 }

@@ -15,7 +15,7 @@ use Rattle.provider_rel.specs.declared.kernel.Kernel.{Kernel}
 use Rattle.provider_rel.specs.declared.kernel.KernelExport.{KernelExport}
 use Rattle.provider_rel.specs.Faces.{face_of, module_of, modules_of, kernel_of}
 use Rattle.provider_rel.specs.Relation.{uses_at}
-use Rattle.model_loader.specs.declared.region.Region.{Region}
+use Rattle.module_region.specs.declared.region.Region.{Region}
 use Rattle.model_loader.specs.Machine.{Machine, new_machine}
 use Rattle.model_loader.specs.Step.{refusal}
 use Rattle.model_loader.specs.Sound.{IsSound}

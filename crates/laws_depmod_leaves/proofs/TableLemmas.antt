@@ -10,7 +10,7 @@ use Rattle.provider_rel.specs.declared.kernel.Kernel.{Kernel}
 use Rattle.provider_rel.specs.declared.kernel.KernelExport.{KernelExport}
 use Rattle.provider_rel.specs.Faces.{kernel_of}
 use Rattle.provider_rel.specs.KernelTable.{exports_of_map, exports_of_symvers, exports_with_addresses}
-use Rattle.model_loader.specs.declared.region.Region.{Region}
+use Rattle.module_region.specs.declared.region.Region.{Region}
 use Rattle.model_loader.specs.Machine.{Machine, new_machine}
 use Rattle.stages_files.specs.KernelTable.{Table, reads_kernel, reads_map, reads_symvers, table_of, table_outcome}
 use Rattle.stages_loads.specs.Tables.{addressed_outcome, kernel_with, machine_outcome, reads_addressed, reads_machine, unplaced}

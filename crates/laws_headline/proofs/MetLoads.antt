@@ -1,6 +1,6 @@
 -- A load from the folder that a depmod left, computed.
 use Rattle.std.proofs.Common.{◌≡◌, ◌∙◌, ℕ, false, List, [], ◌∷◌, length, map, codes, refl, sym, ap}
-use Rattle.std.specs.Prelude.{Some, None, Ok, nat_lt, option_and_then, if◌then◌else◌}
+use Rattle.std.specs.Prelude.{Some, None, Ok, nat_lt, option_map, if◌then◌else◌}
 use Rattle.std.specs.Ordering.{nat_cmp}
 use Rattle.std.specs.Cmp.Lexicographic.{nat_list_cmp_total, slice_cmp}
 use Rattle.std.specs.FinMap.{find, get, get-from_entries}
@@ -17,8 +17,8 @@ use Rattle.provider_rel.specs.KernelTable.{exports_of_map}
 use Rattle.depmod_core.specs.Files.{content}
 use Rattle.depmod_core.specs.declared.file.OutputFile.TheVariants.{Dep, DepBin, Alias, AliasBin, Softdep, Symbols, SymbolsBin, BuiltinBin, Unmet}
 use Rattle.depmod_core.specs.declared.files.OutputFiles.{OutputFiles}
-use Rattle.model_loader.specs.declared.region.Region.{Region}
-use Rattle.model_loader.specs.Regions.{IsRegion}
+use Rattle.module_region.specs.declared.region.Region.{Region}
+use Rattle.module_region.specs.Regions.{IsRegion}
 use Rattle.name_lookup.specs.declared.indexes.Indexes.{Indexes}
 use Rattle.plan_builder.specs.Steps.{plan_steps}
 use Rattle.plan_builder.specs.Text.{plan_text}
@@ -30,7 +30,7 @@ use Rattle.stages_loads.specs.Listed.{loads_listed}
 use Rattle.stages_loads.specs.Tables.{kernel_with, machine_outcome, reads_machine, unplaced}
 use Rattle.stages_known.specs.declared.known.Known.{Known}
 use Rattle.stages_known.specs.Known.{reads_index_in, reads_indexes, reads_known, reads_loaded, reads_rules, reads_unmet}
-use Rattle.stages_loads.specs.Region.{region-by, region_at}
+use Rattle.module_region.specs.RegionAt.{region-by}
 use Rattle.stages_loads.specs.declared.load.Insertion.{Insertion}
 use Rattle.stages_loads.specs.Loads.{paths_of}
 use Rattle.command_modprobe.specs.Loaded.{inserts_outcome}
@@ -200,7 +200,7 @@ two_inserts = record { path = codes "p.ko"; options = [] } ∷ record { path = c
 planned : plan_outcome known [] (request_of load_asked) ≡ value two_steps
 unfolding plan_outcome
 planned =
-    ap (λ o. plan_unless (option_and_then plan_text o) (plan_steps (sources_by [] [] dep_bytes) request)) plain-unhindered
+    ap (λ o. plan_unless (option_map plan_text o) (plan_steps (sources_by [] [] dep_bytes) request)) plain-unhindered
     ∙ ap (λ steps. value steps) plain-steps
 
 runs-none : inserts_outcome two_steps ≡ value two_inserts
@@ -217,10 +217,6 @@ pages_of_region = region-by 65536 65536 refl
 
 abbrev whole : Region
 whole = region pages_of_region
-
-in-region : region_at load_asked.region_base load_asked.region_size ≡ Some whole
-unfolding region_at
-in-region = refl
 
 abbrev map_path : List ℕ
 map_path = codes "/S"
@@ -245,7 +241,7 @@ made-machine =
     ∙ machine-so
 
 has-machine : HasMachine left load_asked kernel whole
-has-machine = record { map = map_path; mapped = refl; in_region = in-region; made = made-machine }
+has-machine = record { map = map_path; mapped = refl; in_region = refl; made = made-machine }
 
 none-listed : ((loads_listed folder_found known.indexes.dep (start pages_of_region) known.loaded).run left).outcome ≡ value (start pages_of_region)
 none-listed = given-is (value (start pages_of_region)) left

@@ -8,9 +8,9 @@ use Rattle.module_facts.specs.declared.module.Module.{Module}
 use Rattle.module_facts.specs.Facts.{facts_of}
 use Rattle.module_facts.specs.Faults.{fact_fault}
 use Rattle.model_loader.specs.declared.entry.Entry.{Entry}
-use Rattle.model_loader.specs.declared.region.Region.{Region}
+use Rattle.module_region.specs.declared.region.Region.{Region}
 use Rattle.model_loader.specs.Machine.{Machine, new_machine}
-use Rattle.model_loader.specs.Regions.{IsRegion}
+use Rattle.module_region.specs.Regions.{IsRegion}
 use Rattle.model_loader.specs.Step.{entry_at, module_base, refusal, step, with_entry}
 use Rattle.stages_loads.specs.Modules.{module_at}
 use Rattle.stages_loads.specs.Tables.{kernel_with}

@@ -22,11 +22,9 @@ use Rattle.relation_order.specs.Sets.{below}
 use Rattle.plan_builder.specs.Members.{chosen_command, found_for, kind_unless}
 use Rattle.dependency_lines.specs.Modules.{line_places, bad_among, bad_name, by_number, first_value, modules_of, name_at, path_at, place_of, places_of}
 use Rattle.plan_builder.specs.Needs.{Sources, after, before, modules, unloaded}
-use Rattle.plan_builder.specs.Obstacles.{cycle_obstacle, is_unknown_kind, not_found, obstacle_of, plan_tests, is_unfound, is_unknown, all_names}
+use Rattle.plan_builder.specs.Obstacles.{PlanObstacle, bad_dep_line, cycle_obstacle, is_unknown_kind, not_found, obstacle_of, plan_tests, is_unfound, is_unknown, all_names}
 use Rattle.plan_builder.specs.Sources.{sources}
 use Rattle.plan_builder.specs.Steps.{found_steps, later, plan_steps, rule_options, step_of_kind, step_unless, module_step}
-use Rattle.plan_builder.specs.declared.obstacle.Obstacle.{Obstacle}
-use Rattle.plan_builder.specs.declared.obstacle.Obstacle.TheVariants.{BadDepLine}
 use Rattle.plan_builder.specs.declared.request.Request.{Request}
 use Rattle.plan_builder.specs.declared.step.PlanStep.{PlanStep}
 use Rattle.plan_builder.specs.declared.step.PlanStep.TheVariants.{Insert, Install}
@@ -76,7 +74,7 @@ abbrev unknown_by : List Rule → List ℕ → List KeyValue → List ℕ → Bo
 unknown_by stated dep ms name =
     is_unknown_kind (kind_unless (place_of ms name) (chosen_command stated false name) (has_value (maps_of (indexes_by dep)).builtin name))
 
-abbrev obstacle_by : Option Obstacle → List Rule → List ℕ → (ℕ → List ℕ) → List ℕ → List KeyValue → Found → Option Obstacle
+abbrev obstacle_by : Option PlanObstacle → List Rule → List ℕ → (ℕ → List ℕ) → List ℕ → List KeyValue → Found → Option PlanObstacle
 obstacle_by bad stated dep b u ms f = first (
     bad
     ∷ option_map not_found (find_in (λ name. f.list == 0) (codes "m" ∷ []))
@@ -109,7 +107,7 @@ obstacle-so : (stated : List Rule) (loaded : List (List ℕ)) (dep : List ℕ) (
 unfolding obstacle_of
 obstacle-so stated loaded dep b u ms p =
     let s = sources_by stated loaded dep in
-    ap (λ bad. first (option_map BadDepLine bad ∷ option_map not_found (find_in (is_unfound s) (codes "m" ∷ [])) ∷ option_map not_found (find_in (is_unknown s false) (all_names (found_for s request))) ∷ plan_tests s (found_for s request))) p.bad
+    ap (λ bad. first (option_map bad_dep_line bad ∷ option_map not_found (find_in (is_unfound s) (codes "m" ∷ [])) ∷ option_map not_found (find_in (is_unknown s false) (all_names (found_for s request))) ∷ plan_tests s (found_for s request))) p.bad
     ∙ ap (λ f. first (None ∷ option_map not_found (find_in (λ name. f.list == 0) (codes "m" ∷ [])) ∷ option_map not_found (find_in (is_unknown s false) (all_names (f ∷ []))) ∷ plan_tests s (f ∷ []))) p.itself
     ∙ ap (λ post. first (None ∷ option_map not_found (find_in (λ name. found_itself.list == 0) (codes "m" ∷ [])) ∷ option_map not_found (find_in (unknown_by stated dep (modules s)) (codes "m" ∷ [])) ∷ None ∷ None ∷ None ∷ None ∷ cycle_obstacle (map (name_at (modules s)) (cycle (among (before s)) (planned (among (before s)) (unloaded s) post (places_of (modules s) (codes "m" ∷ []) ∷ [])))) ∷ None ∷ [])) p.is_after
     ∙ ap (λ b. obstacle_by None stated dep b (unloaded s) (modules s) found_itself) p.is_before

@@ -1,6 +1,6 @@
 -- What becomes of the load of two modules where a premise doesn't hold, computed.
 use Rattle.std.proofs.Common.{◌≡◌, ◌∙◌, ℕ, List, [], ◌∷◌, codes, refl, ap}
-use Rattle.std.specs.Prelude.{option_and_then}
+use Rattle.std.specs.Prelude.{option_map}
 use Rattle.km_course.specs.Course.Outcome.{value}
 use Rattle.modprobe_conf.specs.declared.rule.Rule.{Rule}
 use Rattle.name_lookup.specs.declared.indexes.Indexes.{Indexes}
@@ -30,7 +30,7 @@ alone = Insert (codes "m") (codes "m.ko") [] ∷ []
 left-alone : plan_outcome (known_with [] loaded_other (indexes_by dep_bytes)) loaded_other (request_of load_asked) ≡ value alone
 unfolding plan_outcome
 left-alone =
-    ap (λ o. plan_unless (option_and_then plan_text o) (plan_steps (sources_by [] loaded_other dep_bytes) request)) left-unhindered ∙ ap (λ steps. value steps) left-steps
+    ap (λ o. plan_unless (option_map plan_text o) (plan_steps (sources_by [] loaded_other dep_bytes) request)) left-unhindered ∙ ap (λ steps. value steps) left-steps
 
 pub listed-left_out : ListedIsLeftOut
 listed-left_out =
@@ -39,7 +39,7 @@ listed-left_out =
 commanded : plan_outcome (known_with command [] (indexes_by dep_bytes)) [] (request_of load_asked) ≡ value commanded_steps
 unfolding plan_outcome
 commanded =
-    ap (λ o. plan_unless (option_and_then plan_text o) (plan_steps (sources_by command [] dep_bytes) request)) commanded-unhindered ∙ ap (λ steps. value steps) commanded-steps
+    ap (λ o. plan_unless (option_map plan_text o) (plan_steps (sources_by command [] dep_bytes) request)) commanded-unhindered ∙ ap (λ steps. value steps) commanded-steps
 
 pub command-refused : CommandIsRefused
 unfolding inserts_outcome
@@ -49,7 +49,7 @@ command-refused =
 planned-alone : plan_outcome (known_with [] [] (indexes_by earlier_bytes)) [] (request_of load_asked) ≡ value alone
 unfolding plan_outcome
 planned-alone =
-    ap (λ o. plan_unless (option_and_then plan_text o) (plan_steps (sources_by [] [] earlier_bytes) request)) earlier-unhindered ∙ ap (λ steps. value steps) earlier-steps
+    ap (λ o. plan_unless (option_map plan_text o) (plan_steps (sources_by [] [] earlier_bytes) request)) earlier-unhindered ∙ ap (λ steps. value steps) earlier-steps
 
 pub earlier-alone : EarlierIsPlannedAlone
 earlier-alone =

@@ -1,5 +1,6 @@
 -- The headline is met: a depmod of a folder with two modules, and a load of the one that uses the
 -- other. depmod(8), modprobe(8); gABI 4, "Relocation".
+use Rattle.std.proofs.Common.{refl}
 use Rattle.std.specs.Prelude.{◌≡◌, true, false, List, [], ◌∷◌, map, codes, Some, None, Ok}
 use Rattle.km_names.specs.Number.{le}
 use Rattle.km_outside.specs.Contents.{Contents}
@@ -7,6 +8,7 @@ use Rattle.kmod_words.specs.declared.depmod.DepmodWords.{DepmodWords}
 use Rattle.kmod_words.specs.declared.modprobe.Mode.TheVariants.{Load}
 use Rattle.kmod_words.specs.declared.modprobe.ModprobeWords.{ModprobeWords}
 use Rattle.module_facts.specs.declared.module.Module.{Module}
+use Rattle.module_region.specs.RegionAt.{region-by}
 use Rattle.model_loader.specs.declared.entry.Entry.{Entry}
 use Rattle.model_loader.specs.Machine.{Machine}
 use Rattle.command_depmod.specs.Depmod.{target_of_request}
@@ -63,8 +65,7 @@ load_asked = record {
   loaded = None;
   system_map = Some (codes "/S");
   symvers = None;
-  region_base = 65536;
-  region_size = 65536;
+  region = record { base = 65536; size = 65536; pages = region-by 65536 65536 refl };
   image = None;
   params = false;
   words = codes "m" ∷ [];

@@ -13,7 +13,7 @@ use Rattle.symbol_binding.specs.Unmet.{unmet}
 use Rattle.symbol_binding.specs.declared.unbound.Unbound.{Unbound}
 use Rattle.provider_rel.specs.declared.kernel.Kernel.{Kernel}
 use Rattle.provider_rel.specs.Faces.{modules_of, kernel_of}
-use Rattle.model_loader.specs.declared.region.Region.{Region}
+use Rattle.module_region.specs.declared.region.Region.{Region}
 use Rattle.model_loader.specs.Machine.{new_machine}
 use Rattle.depmod_core.specs.declared.file.OutputFile.TheVariants.{Unmet}
 use Rattle.depmod_core.specs.Files.{file_name}

@@ -11,16 +11,13 @@ use Rattle.index_format.specs.Listing.{KeyValue}
 use Rattle.mod_tree.specs.DependencyLine.{line_needs, own_path}
 use Rattle.module_facts.specs.declared.facts.Facts.{Facts}
 use Rattle.symbol_binding.specs.declared.unbound.Unbound.{Unbound}
-use Rattle.symbol_binding.specs.declared.unbound.Unbound.TheVariants as lines
 use Rattle.provider_rel.specs.declared.kernel.Kernel.{Kernel}
 use Rattle.name_lookup.specs.Maps.{has_value}
 use Rattle.name_lookup.specs.declared.found.Found.{Found}
-use Rattle.plan_builder.specs.declared.obstacle.Obstacle.{Obstacle}
-use Rattle.plan_builder.specs.declared.obstacle.Obstacle.TheVariants.{BadDepLine}
 use Rattle.plan_builder.specs.Members.{found_for}
 use Rattle.dependency_lines.specs.Modules.{bad_name, first_values, is_line_of, module_at, modules_of, name_at}
 use Rattle.plan_builder.specs.Needs.{Sources}
-use Rattle.plan_builder.specs.Obstacles.{all_names, as_obstacle, cycle_obstacle, is_unfound, is_unknown, not_found, obstacle_of, plan_tests}
+use Rattle.plan_builder.specs.Obstacles.{PlanObstacle, bad_dep_line, unbound_line, all_names, cycle_obstacle, is_unfound, is_unknown, not_found, obstacle_of, plan_tests}
 use Rattle.dependency_lines.proofs.Firsts.{any-by, modules-are}
 use Rattle.dependency_lines.proofs.Keys.{module-first}
 use Rattle.laws_closed_plans.specs.Members.{Member}
@@ -68,10 +65,10 @@ module _ (tree : List Facts) (kernel : Kernel) (dep : KeyValues) (indexed : Stan
 
 -- ---- no other test is for a dependency line
 
-abbrev OtherThan : List ℕ → Option Obstacle → Type 0
-OtherThan name o = o ≡ Some (BadDepLine name) → ⊥
+abbrev OtherThan : List ℕ → Option PlanObstacle → Type 0
+OtherThan name o = o ≡ Some (bad_dep_line name) → ⊥
 
-first-other : (name : List ℕ) (tests : List (Option Obstacle)) → AllByRecursion (OtherThan name) tests → OtherThan name (first tests)
+first-other : (name : List ℕ) (tests : List (Option PlanObstacle)) → AllByRecursion (OtherThan name) tests → OtherThan name (first tests)
 first-other name [] all = λ is. cc
 first-other name (None ∷ tests) all = first-other name tests all.1
 first-other name (Some o ∷ tests) all = all.0
@@ -80,13 +77,9 @@ unfound-other : (name : List ℕ) (o : Option (List ℕ)) → OtherThan name (op
 unfound-other name None = λ is. cc
 unfound-other name (Some n) = λ is. cc
 
-as-other : (name : List ℕ) (o : Option Unbound) → OtherThan name (option_map as_obstacle o)
+as-other : (name : List ℕ) (o : Option Unbound) → OtherThan name (option_map unbound_line o)
 as-other name None = λ is. cc
-as-other name (Some (lines.Missing path symbol)) = λ is. cc
-as-other name (Some (lines.Gpl path symbol by)) = λ is. cc
-as-other name (Some (lines.Version path symbol by)) = λ is. cc
-as-other name (Some (lines.Namespace path symbol by)) = λ is. cc
-as-other name (Some (lines.Double symbol a b)) = λ is. cc
+as-other name (Some line) = λ is. cc
 
 cycle-other : (name : List ℕ) (names : List (List ℕ)) → OtherThan name (cycle_obstacle names)
 cycle-other name [] = λ is. cc
@@ -113,10 +106,10 @@ plan-other name s founds = (
 pub lines-are-no-obstacle : LinesAreNoObstacle
 unfolding obstacle_of
 lines-are-no-obstacle tree kernel s request name indexed is =
-    let bad : OtherThan name (option_map BadDepLine (bad_name s.maps.dep)) =
-    λ at. let never : None ≡ Some (BadDepLine name) = sym (ap (option_map BadDepLine) (no-bad-name tree kernel s.maps.dep indexed)) ∙ at in cc in
+    let bad : OtherThan name (option_map bad_dep_line (bad_name s.maps.dep)) =
+    λ at. let never : None ≡ Some (bad_dep_line name) = sym (ap (option_map bad_dep_line) (no-bad-name tree kernel s.maps.dep indexed)) ∙ at in cc in
     first-other name
-    (option_map BadDepLine (bad_name s.maps.dep)
+    (option_map bad_dep_line (bad_name s.maps.dep)
     ∷ option_map not_found (find (is_unfound s) request.names)
     ∷ option_map not_found (find (is_unknown s request.ignore_install) (all_names (found_for s request)))
     ∷ plan_tests s (found_for s request)) (

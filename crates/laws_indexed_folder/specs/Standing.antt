@@ -5,10 +5,9 @@ use Rattle.symbol_binding.specs.Symbols.{Kernel as SeenKernel}
 use Rattle.provider_rel.specs.declared.kernel.Kernel.{Kernel}
 use Rattle.provider_rel.specs.Tree.{IsTree}
 use Rattle.depmod_core.specs.Files.{StandFor, files, output_fault}
-use Rattle.plan_builder.specs.declared.obstacle.Obstacle.TheVariants.{BadDepLine}
 use Rattle.plan_builder.specs.declared.request.Request.{Request}
 use Rattle.plan_builder.specs.Needs.{Sources}
-use Rattle.plan_builder.specs.Obstacles.{obstacle_of}
+use Rattle.plan_builder.specs.Obstacles.{bad_dep_line, obstacle_of}
 use Rattle.laws_indexed_folder.specs.Binding.{StandsAsIndexed}
 
 -- The files that depmod makes of a tree represent what they are made of, if none of them is too
@@ -25,5 +24,5 @@ abbrev pub LinesAreNoObstacle : Type 0
 LinesAreNoObstacle =
     (tree : List Facts) (kernel : Kernel) (s : Sources) (request : Request) (name : List ℕ)
     → StandsAsIndexed tree kernel s.maps.dep
-    → obstacle_of s request ≡ Some (BadDepLine name)
+    → obstacle_of s request ≡ Some (bad_dep_line name)
     → ⊥

@@ -27,7 +27,7 @@ use Rattle.module_facts.specs.Faults.{fact_fault}
 use Rattle.provider_rel.specs.declared.kernel.Kernel.{Kernel}
 use Rattle.provider_rel.specs.Faces.{kernel_of}
 use Rattle.model_loader.specs.declared.fault.LoadFault.{LoadFault}
-use Rattle.model_loader.specs.declared.region.Region.{Region}
+use Rattle.module_region.specs.declared.region.Region.{Region}
 use Rattle.model_loader.specs.Machine.{Machine, new_machine}
 use Rattle.name_lookup.specs.Maps.{has_value}
 use Rattle.name_table.specs.FirstSeen.{is_among}

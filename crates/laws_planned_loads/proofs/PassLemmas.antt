@@ -1,7 +1,7 @@
 -- The courses of modprobe over a folder that is as it was indexed end for no file that depmod
 -- wrote.
 use Rattle.std.proofs.Common.{◌≡◌, ◌∙◌, ℕ, Bool, true, false, List, [], ◌∷◌, ◌++◌, find, get_or, map, reverse, flat_map, take, None, refl, sym, ap, subst, arith}
-use Rattle.std.specs.Prelude.{Option, Some, Result, Ok, Err, codes, nat_eq, option_and_then, ⊤}
+use Rattle.std.specs.Prelude.{Option, Some, Result, Ok, Err, codes, nat_eq, option_map, ⊤}
 use Rattle.std.specs.List.{ends_with}
 use Rattle.km_names.specs.AliasForm.{normal_or_itself}
 use Rattle.km_names.specs.First.{first}
@@ -12,6 +12,7 @@ use Rattle.km_outside.specs.Contents.{Contents}
 use Rattle.kmod_words.specs.declared.modprobe.Mode.{Mode}
 use Rattle.kmod_words.specs.declared.modprobe.Mode.TheVariants.{Load, DryRun, ShowDepends, ResolveAlias, Remove}
 use Rattle.kmod_words.specs.declared.modprobe.ModprobeWords.{ModprobeWords}
+use Rattle.kmod_words.specs.Modprobe.{region_asked}
 use Rattle.km_course.specs.Course.{Outcome, Stage, ◌>>=◌, each_from, ends, given, lists_any_conf, lists_conf, reads, says, says_any}
 use Rattle.km_course.specs.Course.Outcome.{value, end}
 use Rattle.km_course.specs.declared.end.End.{End}
@@ -33,20 +34,19 @@ use Rattle.provider_rel.specs.declared.kernel.KernelExport.{KernelExport}
 use Rattle.provider_rel.specs.Faces.{kernel_of}
 use Rattle.provider_rel.specs.KernelTable.{exports_of_map, exports_of_symvers, exports_with_addresses}
 use Rattle.model_loader.specs.declared.fault.LoadFault.{LoadFault}
-use Rattle.model_loader.specs.declared.region.Region.{Region}
+use Rattle.module_region.specs.declared.region.Region.{Region}
 use Rattle.model_loader.specs.FaultText.{load_fault_text}
 use Rattle.model_loader.specs.Machine.{Machine}
 use Rattle.model_loader.specs.Step.{step}
 use Rattle.model_loader.specs.Use.{name_at}
 use Rattle.name_lookup.specs.declared.indexes.Indexes.{Indexes}
-use Rattle.plan_builder.specs.declared.obstacle.Obstacle.{Obstacle}
+use Rattle.symbol_binding.specs.declared.unbound.Unbound.TheVariants as lines
 use Rattle.unmet_file.specs.Line.{line_text}
-use Rattle.plan_builder.specs.declared.obstacle.Obstacle.TheVariants as obstacles
 use Rattle.plan_builder.specs.declared.request.Request.{Request}
 use Rattle.plan_builder.specs.declared.step.PlanStep.{PlanStep}
-use Rattle.plan_builder.specs.Obstacles.{obstacle_of}
+use Rattle.plan_builder.specs.Obstacles.{PlanObstacle, bad_dep_line, name_not_found, unbound_line, plan_cycle, obstacle_of}
 use Rattle.plan_builder.specs.Steps.{plan_steps}
-use Rattle.plan_builder.specs.Text.{obstacle_text, plan_text}
+use Rattle.plan_builder.specs.Text.{plan_text}
 use Rattle.depmod_core.specs.Files.{files}
 use Rattle.laws_indexed_folder.specs.Binding.{StandsAsIndexed}
 use Rattle.laws_indexed_folder.specs.Indexed.{Indexed}
@@ -78,7 +78,7 @@ use Rattle.stages_loads.proofs.TableSteps.{both_added, both_read, both_understoo
 use Rattle.model_loader.specs.declared.entry.Entry.{Entry}
 use Rattle.stages_known.specs.declared.known.Known.{Known}
 use Rattle.stages_known.specs.Known.{reads_known, reads_loaded}
-use Rattle.stages_loads.specs.Region.{on_machine, region_at}
+use Rattle.stages_loads.specs.Understood.{if_understood}
 use Rattle.command_modprobe.specs.Loaded.{command_owner, images_asked, inserted, inserts_outcome, loads_into, loads_steps, unless_install}
 use Rattle.remove_plan.specs.declared.step.RemoveStep.{RemoveStep}
 use Rattle.remove_plan.specs.Removal.{in_use, is_asked}
@@ -265,28 +265,27 @@ module _ (held : Contents) (asked : ModprobeWords) where
   -- ---- plans
 
   -- a text that begins with another letter isn't that of a dependency line
-  is-text : (o : Obstacle) (e : End) (letter : ℕ) → take 1 (obstacle_text o) ≡ letter ∷ [] → (letter ≡ 98 → ⊥) → ◌≡◌ {A = Outcome (List PlanStep)} (end (Refused (Unplanned (obstacle_text o)))) (end e) → Other e
+  is-text : (o : PlanObstacle) (e : End) (letter : ℕ) → take 1 (plan_text o) ≡ letter ∷ [] → (letter ≡ 98 → ⊥) → ◌≡◌ {A = Outcome (List PlanStep)} (end (Refused (Unplanned (plan_text o)))) (end e) → Other e
   is-text o e letter begins other is =
-      so-ends Other (Refused (Unplanned (obstacle_text o))) e
+      so-ends Other (Refused (Unplanned (plan_text o))) e
       (λ name same. other (ap (λ bs. get_or bs 0 0) (sym begins ∙ ap (take 1) same)))
       is
 
-  other-obstacle : (o : Option Obstacle) (steps : List PlanStep) → ((name : List ℕ) → o ≡ Some (obstacles.BadDepLine name) → ⊥) → (e : End) → plan_unless (option_and_then plan_text o) steps ≡ end e → Other e
+  other-obstacle : (o : Option PlanObstacle) (steps : List PlanStep) → ((name : List ℕ) → o ≡ Some (bad_dep_line name) → ⊥) → (e : End) → plan_unless (option_map plan_text o) steps ≡ end e → Other e
   unfolding line_text
   other-obstacle None steps fine e is = absurd (no-end steps e is)
-  other-obstacle (Some (obstacles.BadDepLine name)) steps fine e is = absurd (fine name refl)
-  other-obstacle (Some (obstacles.NotFound name)) steps fine e is = is-text (obstacles.NotFound name) e 110 refl (omega arith) is
-  other-obstacle (Some (obstacles.Missing path symbol)) steps fine e is = is-text (obstacles.Missing path symbol) e 109 refl (omega arith) is
-  other-obstacle (Some (obstacles.Gpl path symbol by)) steps fine e is = is-text (obstacles.Gpl path symbol by) e 103 refl (omega arith) is
-  other-obstacle (Some (obstacles.Version path symbol by)) steps fine e is = is-text (obstacles.Version path symbol by) e 118 refl (omega arith) is
-  other-obstacle (Some (obstacles.Namespace path symbol by)) steps fine e is = is-text (obstacles.Namespace path symbol by) e 110 refl (omega arith) is
-  other-obstacle (Some (obstacles.Cycle names)) steps fine e is = is-text (obstacles.Cycle names) e 99 refl (omega arith) is
-  other-obstacle (Some (obstacles.Double symbol a b)) steps fine e is = is-text (obstacles.Double symbol a b) e 100 refl (omega arith) is
-  other-obstacle (Some obstacles.Memory) steps fine e is = absurd (no-end steps e is)
+  other-obstacle (Some (bad_dep_line name)) steps fine e is = absurd (fine name refl)
+  other-obstacle (Some (name_not_found name)) steps fine e is = is-text (name_not_found name) e 110 refl (omega arith) is
+  other-obstacle (Some (unbound_line (lines.Missing path symbol))) steps fine e is = is-text (unbound_line (lines.Missing path symbol)) e 109 refl (omega arith) is
+  other-obstacle (Some (unbound_line (lines.Gpl path symbol by))) steps fine e is = is-text (unbound_line (lines.Gpl path symbol by)) e 103 refl (omega arith) is
+  other-obstacle (Some (unbound_line (lines.Version path symbol by))) steps fine e is = is-text (unbound_line (lines.Version path symbol by)) e 118 refl (omega arith) is
+  other-obstacle (Some (unbound_line (lines.Namespace path symbol by))) steps fine e is = is-text (unbound_line (lines.Namespace path symbol by)) e 110 refl (omega arith) is
+  other-obstacle (Some (plan_cycle names)) steps fine e is = is-text (plan_cycle names) e 99 refl (omega arith) is
+  other-obstacle (Some (unbound_line (lines.Double symbol a b))) steps fine e is = is-text (unbound_line (lines.Double symbol a b)) e 100 refl (omega arith) is
 
   -- no dependency line is an obstacle over what is known
   abbrev Fine : Known → Type 0
-  Fine known = (loaded : List (List ℕ)) (request : Request) (name : List ℕ) → obstacle_of (sources_with known loaded request) request ≡ Some (obstacles.BadDepLine name) → ⊥
+  Fine known = (loaded : List (List ℕ)) (request : Request) (name : List ℕ) → obstacle_of (sources_with known loaded request) request ≡ Some (bad_dep_line name) → ⊥
 
   other-plan : (known : Known) (loaded : List (List ℕ)) (request : Request) → Fine known → EndsIn Other (given (plan_outcome known loaded request))
   unfolding plan_outcome
@@ -446,22 +445,20 @@ module _ (held : Contents) (asked : ModprobeWords) where
     not-understood e at =
         (ends-given {X = ⊤} Other (end NotUnderstood) (λ d is. so-ends Other NotUnderstood d tt is)).ends held e at
 
-    loading : (map : Option (List ℕ)) (region : Option Region) → asked.system_map ≡ map → (e : End) → ((on_machine map region (loads_into asked)).run held).outcome ≡ end e → Other e
-    loading None region mapped e at = not-understood e at
-    loading (Some map) None mapped e at = not-understood e at
-    loading (Some map) (Some region) mapped e at = pass (loads_after map region) (other-loads map region mapped) e at
+    loading : (map : Option (List ℕ)) → asked.system_map ≡ map → (e : End) → ((if_understood map (loads_into asked (region_asked asked))).run held).outcome ≡ end e → Other e
+    loading None mapped e at = not-understood e at
+    loading (Some map) mapped e at = pass (loads_after map (region_asked asked)) (other-loads map (region_asked asked) mapped) e at
 
-    removing : (dry_run : Bool) (map : Option (List ℕ)) (region : Option Region) → asked.system_map ≡ map → (e : End) → ((on_machine map region (removes_from dry_run asked)).run held).outcome ≡ end e → Other e
-    removing dry_run None region mapped e at = not-understood e at
-    removing dry_run (Some map) None mapped e at = not-understood e at
-    removing dry_run (Some map) (Some region) mapped e at = pass (removes_after dry_run map region) (λ known fine. other-removal dry_run map region mapped known) e at
+    removing : (dry_run : Bool) (map : Option (List ℕ)) → asked.system_map ≡ map → (e : End) → ((if_understood map (removes_from dry_run asked (region_asked asked))).run held).outcome ≡ end e → Other e
+    removing dry_run None mapped e at = not-understood e at
+    removing dry_run (Some map) mapped e at = pass (removes_after dry_run map (region_asked asked)) (λ known fine. other-removal dry_run map (region_asked asked) mapped known) e at
 
     in-mode : (mode : Mode) (e : End) → ((modprobe_in_mode mode asked).run held).outcome ≡ end e → Other e
     in-mode ResolveAlias e at = pass resolves (λ known fine. other-resolves known) e at
-    in-mode Load e at = loading asked.system_map (region_at asked.region_base asked.region_size) refl e at
+    in-mode Load e at = loading asked.system_map refl e at
     in-mode DryRun e at = pass plans other-plans e at
     in-mode ShowDepends e at = pass plans other-plans e at
-    in-mode (Remove dry_run) e at = removing dry_run asked.system_map (region_at asked.region_base asked.region_size) refl e at
+    in-mode (Remove dry_run) e at = removing dry_run asked.system_map refl e at
 
 pub courses-pass : CoursesPass
 courses-pass held asked tree kernel builtin indexed mode e at = in-mode held asked tree kernel builtin indexed mode e at

@@ -5,12 +5,13 @@ use Rattle.std.specs.List.{list_all}
 use Rattle.km_names.specs.Path.{path_below}
 use Rattle.km_outside.specs.Contents.{Contents}
 use Rattle.kmod_words.specs.declared.modprobe.ModprobeWords.{ModprobeWords}
+use Rattle.kmod_words.specs.Modprobe.{region_asked}
 use Rattle.km_course.specs.Course.{Act, Outcome, Run, Stage, ◌>>=◌, act_with, after, continued, given, reads, says_any}
 use Rattle.km_course.specs.Course.Act.{read}
 use Rattle.km_course.specs.Course.Outcome.{value, end}
 use Rattle.km_course.specs.declared.end.End.TheVariants.{NoFile}
 use Rattle.provider_rel.specs.KernelTable.{exports_of_map}
-use Rattle.model_loader.specs.declared.region.Region.{Region}
+use Rattle.module_region.specs.declared.region.Region.{Region}
 use Rattle.model_loader.specs.Machine.{Machine, new_machine}
 use Rattle.plan_builder.specs.declared.step.PlanStep.{PlanStep}
 use Rattle.stages_files.specs.KernelModules.{modules_folder}
@@ -26,7 +27,7 @@ use Rattle.stages_known.specs.declared.known.Known.{Known}
 use Rattle.stages_known.specs.Known.{reads_known}
 use Rattle.command_modprobe.specs.Parts.{loads_known}
 use Rattle.command_modprobe.specs.Planned.{plan_lines, plan_outcome, request_of}
-use Rattle.stages_loads.specs.Region.{on_machine, region_at}
+use Rattle.stages_loads.specs.Understood.{if_understood}
 use Rattle.command_modprobe.specs.Loaded.{images_asked, inserts_outcome, loads_into, loads_plan}
 use Rattle.command_modprobe.proofs.LoadSteps.{after_lines, after_listed, after_loads, after_machine, after_inserts, after_steps}
 use Rattle.laws_planned_loads.specs.Acts.{is_reading, said}
@@ -143,8 +144,8 @@ module _ (held : Contents) (asked : ModprobeWords) (l : Loading) (has : HasMachi
 
   whole : (loads_plan asked).run held ≡ joined (knowing.run held).acts (joined (making.run held).acts (joined (listing.run held).acts rest))
   whole =
-      ap (λ o. (on_machine o (region_at asked.region_base asked.region_size) (loads_into asked)).run held) has.mapped
-      ∙ ap (λ r. (on_machine (Some has.map) r (loads_into asked)).run held) has.in_region
+      ap (λ o. (if_understood o (loads_into asked (region_asked asked))).run held) has.mapped
+      ∙ ap (λ r. (knowing >>= loads_known folder (images_asked asked) (request_of asked) has.map asked.symvers r).run held) has.in_region
       ∙ run-on knowing (loads_known folder (images_asked asked) (request_of asked) has.map asked.symvers region) held known (only-known asked.config folder asked.loaded held) came.knows
       ∙ ap (joined (knowing.run held).acts) from-machine
 

@@ -4,6 +4,7 @@ use Rattle.std.specs.Prelude.{◌≡◌, ℕ, Bool, true, List, ◌++◌, revers
 use Rattle.std.specs.List.{list_all}
 use Rattle.km_outside.specs.Contents.{Contents}
 use Rattle.kmod_words.specs.declared.modprobe.ModprobeWords.{ModprobeWords}
+use Rattle.kmod_words.specs.Modprobe.{region_asked}
 use Rattle.km_course.specs.Course.{Act, Outcome, Run}
 use Rattle.km_course.specs.Course.Outcome.{value, end}
 use Rattle.km_course.specs.declared.end.End.TheVariants.{Refused}
@@ -14,7 +15,7 @@ use Rattle.module_facts.specs.declared.facts.Facts.{Facts}
 use Rattle.module_facts.specs.declared.module.Module.{Module}
 use Rattle.provider_rel.specs.declared.kernel.Kernel.{Kernel}
 use Rattle.provider_rel.specs.Faces.{kernel_of}
-use Rattle.model_loader.specs.declared.region.Region.{Region}
+use Rattle.module_region.specs.declared.region.Region.{Region}
 use Rattle.model_loader.specs.declared.fault.LoadFault.{LoadFault}
 use Rattle.model_loader.specs.FaultText.{load_fault_text}
 use Rattle.model_loader.specs.Machine.{Machine, new_machine}
@@ -114,7 +115,7 @@ pub record IsLoadingCourse (held : Contents) (folder : List ℕ) (images : Image
 pub record HasMachine (held : Contents) (asked : ModprobeWords) (addressed : Kernel) (region : Region) : Type 0 where
   pub map : List ℕ
   pub mapped : asked.system_map ≡ Some map
-  pub in_region : region_at asked.region_base asked.region_size ≡ Some region
+  pub in_region : region_asked asked ≡ region
   pub made : ((reads_machine map asked.symvers region).run held).outcome ≡ value (new_machine addressed region)
 
 -- A course that got past its reading is one of loads, over any files.

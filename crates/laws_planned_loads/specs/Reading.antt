@@ -11,8 +11,8 @@ use Rattle.km_course.specs.Course.Outcome.{value, end}
 use Rattle.km_course.specs.declared.end.End.{End}
 use Rattle.km_course.specs.declared.end.End.TheVariants.{Refused}
 use Rattle.km_course.specs.declared.refusal.Refusal.TheVariants.{Obstacle as Unplanned, BadIndex, BadLine}
-use Rattle.plan_builder.specs.declared.obstacle.Obstacle.TheVariants.{BadDepLine}
-use Rattle.plan_builder.specs.Text.{obstacle_text}
+use Rattle.plan_builder.specs.Obstacles.{bad_dep_line}
+use Rattle.plan_builder.specs.Text.{plan_text}
 use Rattle.modprobe_conf.specs.declared.rule.Rule.{Rule}
 use Rattle.modprobe_conf.specs.declared.rule.Rule.TheVariants as rules
 use Rattle.modprobe_conf.specs.Rules.{rules_of, words_after}
@@ -106,7 +106,7 @@ pub data IsOtherLine (held : Contents) (asked : ModprobeWords) (file : List ℕ)
 -- line that isn't understood is another's.
 abbrev pub IsOtherEnd : Contents → ModprobeWords → End → Type 0
 IsOtherEnd held asked (Refused (BadIndex file text)) = ⊥
-IsOtherEnd held asked (Refused (Unplanned text)) = (name : List ℕ) → text ≡ obstacle_text (BadDepLine name) → ⊥
+IsOtherEnd held asked (Refused (Unplanned text)) = (name : List ℕ) → text ≡ plan_text (bad_dep_line name) → ⊥
 IsOtherEnd held asked (Refused (BadLine file number)) = IsOtherLine held asked file number
 IsOtherEnd held asked _ = ⊤
 

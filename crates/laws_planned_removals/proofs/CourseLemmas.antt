@@ -3,20 +3,21 @@ use Rattle.std.proofs.Common.{◌≡◌, ◌∙◌, ℕ, Bool, true, false, List
 use Rattle.std.specs.Prelude.{flat_map, reverse, codes, Some, None, Ok, ⊤}
 use Rattle.km_outside.specs.Contents.{Contents}
 use Rattle.kmod_words.specs.declared.modprobe.ModprobeWords.{ModprobeWords}
-use Rattle.km_course.specs.Course.{Act, Outcome, Run, Stage, each_from, given, says_any}
+use Rattle.kmod_words.specs.Modprobe.{region_asked}
+use Rattle.km_course.specs.Course.{Act, Outcome, Run, Stage, ◌>>=◌, each_from, given, says_any}
 use Rattle.km_course.specs.Course.Outcome.{value, end}
 use Rattle.km_course.specs.declared.end.End.{End}
 use Rattle.km_course.specs.declared.end.End.TheVariants.{Refused}
 use Rattle.km_course.specs.declared.refusal.Refusal.TheVariants.{InUse}
 use Rattle.provider_rel.specs.declared.kernel.Kernel.{Kernel}
-use Rattle.model_loader.specs.declared.region.Region.{Region}
+use Rattle.module_region.specs.declared.region.Region.{Region}
 use Rattle.model_loader.specs.Machine.{Machine, new_machine}
 use Rattle.model_loader.specs.Use.{name_at}
 use Rattle.model_unload.specs.Unload.{unload_all}
 use Rattle.remove_plan.specs.declared.step.RemoveStep.{RemoveStep}
 use Rattle.remove_plan.specs.Removal.{in_use, is_asked, left_after, removed_by}
 use Rattle.stages_files.specs.KernelModules.{modules_folder}
-use Rattle.stages_loads.specs.Region.{on_machine, region_at}
+use Rattle.stages_loads.specs.Understood.{if_understood}
 use Rattle.stages_loads.specs.Tables.{reads_machine}
 use Rattle.stages_known.specs.declared.known.Known.{Known}
 use Rattle.stages_known.specs.Known.{reads_known}
@@ -93,8 +94,8 @@ module _ (held : Contents) (dry_run : Bool) (asked : ModprobeWords) (r : Removin
 
   whole : (removes dry_run asked).run held ≡ joined (knowing.run held).acts (joined (making.run held).acts (joined (listing.run held).acts rest))
   whole =
-      ap (λ o. (on_machine o (region_at asked.region_base asked.region_size) (removes_from dry_run asked)).run held) came.tables.mapped
-      ∙ ap (λ r. (on_machine (Some came.tables.map) r (removes_from dry_run asked)).run held) came.tables.in_region
+      ap (λ o. (if_understood o (removes_from dry_run asked (region_asked asked))).run held) came.tables.mapped
+      ∙ ap (λ r. (knowing >>= after_known folder removal came.tables.map asked.symvers r).run held) came.tables.in_region
       ∙ run-on knowing (after_known folder removal came.tables.map asked.symvers region) held known (only-known asked.config folder asked.loaded held) came.knows
       ∙ ap (joined (knowing.run held).acts) from-machine
 

@@ -2,7 +2,7 @@
 ghost use Rattle.std.specs.Prelude.{◌≡◌, ◌∷◌, [], true, false, Some, codes};
 ghost use Rattle.provider_rel.specs.declared.kernel.Kernel.{Kernel};
 ghost use Rattle.modprobe_conf.specs.declared.rule.Rule.TheVariants.{Remove};
-ghost use Rattle.model_loader.specs.declared.region.Region.{Region};
+ghost use Rattle.module_region.specs.declared.region.Region.{Region};
 ghost use Rattle.remove_plan.specs.Removal.{left_after};
 ghost use Rattle.remove_plan.specs.Steps.{removal_fault, removal_steps};
 ghost use Rattle.remove_plan.specs.declared.step.RemoveStep.TheVariants.{Rmmod, Command};

@@ -11,9 +11,9 @@ use Rattle.std.proofs.lemmas.List.Folds.{list_any-append, list_any_none}
 use Rattle.std.proofs.lemmas.List.FromFn.{get_or-map-range_with_len, length-map-range_with_len}
 use Rattle.std.proofs.lemmas.List.Sorted.{list_any-IsPermutation, All-permutation}
 use Rattle.model_loader.specs.declared.entry.Entry.{Entry}
-use Rattle.model_loader.specs.declared.region.Region.{Region}
+use Rattle.module_region.specs.declared.region.Region.{Region}
 use Rattle.model_loader.specs.declared.gap.Run.{Run}
-use Rattle.model_loader.specs.Regions.{IsRegion}
+use Rattle.module_region.specs.Regions.{IsRegion}
 use Rattle.model_loader.specs.Gap.{meets_entry, is_gap, pages, gap_among}
 use Rattle.model_loader.specs.Runs.{IsLowest, IsPaged, run_of, meets_run, meets_any}
 

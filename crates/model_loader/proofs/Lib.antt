@@ -1,4 +1,3 @@
-pub mod RegionLemmas
 pub mod TableLemmas
 pub mod GapLemmas
 pub mod StandingLemmas

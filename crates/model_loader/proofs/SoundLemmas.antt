@@ -24,7 +24,7 @@ use Rattle.model_loader.specs.declared.entry.PlacedExport.{PlacedExport}
 use Rattle.model_loader.specs.declared.entry.Entry.{Entry}
 use Rattle.model_loader.specs.declared.fault.LoadFault.{LoadFault}
 use Rattle.model_loader.specs.declared.fault.LoadFault.TheVariants.{AlreadyLoaded, MissingSymbol, GplOnly, VersionDiffers, NotImported, ExportTaken}
-use Rattle.model_loader.specs.declared.region.Region.{Region}
+use Rattle.module_region.specs.declared.region.Region.{Region}
 use Rattle.model_loader.specs.declared.standing.Standing.{Standing}
 use Rattle.model_loader.specs.Machine.{Machine, bound_export, entry_face, export_named, facts_face, facts_need, is_loaded, kernel_placed, need_face, new_machine, standing, table}
 use Rattle.model_loader.specs.Gap.{meets_entry}

@@ -4,7 +4,7 @@ use Rattle.std.specs.Prelude.{ℕ, ◌+◌, ◌*◌, ◌/◌, ◌&&◌, nat_le, 
 use Rattle.std.specs.List.{list_any, range_with_len}
 use Rattle.elf_format.specs.declared.section.TheConstants.{PAGE}
 use Rattle.model_loader.specs.declared.entry.Entry.{Entry}
-use Rattle.model_loader.specs.declared.region.Region.{Region}
+use Rattle.module_region.specs.declared.region.Region.{Region}
 use Rattle.model_loader.specs.Machine.{Machine}
 
 -- Whether this many bytes from one place on, and this many from another, share a byte.

@@ -1,5 +1,3 @@
-pub mod Regions
-pub mod Spans
 pub mod FaultText
 pub mod Machine
 pub mod Gap

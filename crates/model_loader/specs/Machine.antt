@@ -15,7 +15,7 @@ use Rattle.model_loader.specs.declared.fault.MachineFault.TheVariants.{KernelWit
 use Rattle.model_loader.specs.declared.entry.PlacedExport.{PlacedExport}
 use Rattle.model_loader.specs.declared.entry.BoundNeed.{BoundNeed}
 use Rattle.model_loader.specs.declared.entry.Entry.{Entry}
-use Rattle.model_loader.specs.declared.region.Region.{Region}
+use Rattle.module_region.specs.declared.region.Region.{Region}
 use Rattle.model_loader.specs.declared.standing.Standing.{Standing}
 
 -- A machine. Each export of its kernel has an address.

@@ -22,7 +22,6 @@ mod names;
 mod needs;
 mod parts;
 mod prepare;
-mod region;
 mod standing;
 mod uses;
 
@@ -30,4 +29,4 @@ pub use entry::LoadedModule;
 pub use fault::{LoadFault, MachineFault};
 pub use image_layout::section_at;
 pub use machine::{LoadedAt, Machine};
-pub use region::Region;
+pub use module_region::Region;

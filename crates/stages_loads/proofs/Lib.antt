@@ -3,4 +3,3 @@ pub mod KernelLemmas
 pub mod ModuleSteps
 pub mod LoadSteps
 pub mod ListedSteps
-pub mod RegionLemmas

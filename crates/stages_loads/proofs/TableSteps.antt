@@ -12,7 +12,7 @@ use Rattle.provider_rel.specs.KernelTable.{IsTable, first_of_each, exports_of_ma
 use Rattle.provider_rel.specs.MapLines.{MapSymbol, map_line}
 use Rattle.provider_rel.specs.TableLines.{refused_line, stated}
 use Rattle.provider_rel.proofs.NameSteps.{bytes-same}
-use Rattle.model_loader.specs.declared.region.Region.{Region}
+use Rattle.module_region.specs.declared.region.Region.{Region}
 use Rattle.model_loader.specs.declared.fault.MachineFault.{MachineFault}
 use Rattle.model_loader.specs.declared.fault.MachineFault.TheVariants as faults
 use Rattle.model_loader.specs.Machine.{Machine, new_machine}

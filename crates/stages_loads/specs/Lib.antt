@@ -3,4 +3,4 @@ pub mod Modules
 pub mod Loads
 pub mod Listed
 pub mod Read
-pub mod Region
+pub mod Understood

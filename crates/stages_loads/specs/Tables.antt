@@ -12,7 +12,7 @@ use Rattle.provider_rel.specs.declared.kernel.KernelExport.{KernelExport}
 use Rattle.provider_rel.specs.KernelTable.{first_of_each, export_of_symbol, exports_of_map, exports_with_addresses, with_addresses}
 use Rattle.provider_rel.specs.MapLines.{MapSymbol}
 use Rattle.provider_rel.proofs.NameSteps.{bytes-refl}
-use Rattle.model_loader.specs.declared.region.Region.{Region}
+use Rattle.module_region.specs.declared.region.Region.{Region}
 use Rattle.model_loader.specs.Machine.{Machine, new_machine}
 use Rattle.km_course.specs.Course.{Outcome, Stage, ◌>>=◌, given, reads}
 use Rattle.km_course.specs.Course.Outcome.{value, end}

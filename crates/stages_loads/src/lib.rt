@@ -12,11 +12,9 @@ mod listed;
 mod load;
 mod machine;
 mod module;
-mod region;
 mod shown;
 
 pub use listed::{load_listed, load_listed_at};
 pub use load::{Cause, Insertion, Insertions, load_all};
 pub use machine::read_machine;
-pub use region::region_at;
 pub use shown::{Images, entry_line};

@@ -11,7 +11,7 @@ returns-in-ResolveAlias g c = λ err.
 pub returns-in-Load : goal.returns-in-Load
 returns-in-Load g c = λ err.
     along (λ mode. modprobe_in_mode mode c.args.asked) _ c.args.mode (sym c.in-Load.is)
-    (loads-on c.args.asked c.unwrap-system_map.result c.region_at-region.result (sym c.take.ensures.value ∙ c.unwrap-system_map.ensures) c.region_at-region.ensures (c.load_plan.ensures err))
+    (loads-on c.args.asked c.unwrap-system_map.result c.region-region.result (sym c.take.ensures.value ∙ c.unwrap-system_map.ensures) c.region-region.ensures (c.load_plan.ensures err))
 
 pub returns-in-DryRun : goal.returns-in-DryRun
 returns-in-DryRun g c = λ err.
@@ -24,4 +24,4 @@ returns-in-ShowDepends g c = λ err.
 pub returns-in-Remove : goal.returns-in-Remove
 returns-in-Remove g c = λ err.
     along (λ mode. modprobe_in_mode mode c.args.asked) _ c.args.mode (sym c.in-Remove.is)
-    (removes-on c.in-Remove.dry_run c.args.asked c.unwrap-system_map-in-Remove.result c.region_at-region-in-Remove.result (sym c.take-in-Remove.ensures.value ∙ c.unwrap-system_map-in-Remove.ensures) c.region_at-region-in-Remove.ensures (c.remove.ensures err))
+    (removes-on c.in-Remove.dry_run c.args.asked c.unwrap-system_map-in-Remove.result c.region-region-in-Remove.result (sym c.take-in-Remove.ensures.value ∙ c.unwrap-system_map-in-Remove.ensures) c.region-region-in-Remove.ensures (c.remove.ensures err))

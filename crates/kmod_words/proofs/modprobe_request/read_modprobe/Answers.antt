@@ -5,7 +5,7 @@ use Rattle.clap.specs.declared.parser.matches.ArgMatches.{ArgMatches}
 use Rattle.kmod_words.specs.Modprobe.{modprobe_asked, modprobe_command}
 use Rattle.kmod_words.proofs.AddressLemmas.{has-addresses}
 use Rattle.kmod_words.proofs.RequestLemmas.{asked-some, asked-none}
-use Rattle.kmod_words.proofs.modprobe.read_modprobe.Goals as goal
+use Rattle.kmod_words.proofs.modprobe_request.read_modprobe.Goals as goal
 
 pub returns-in-Some-clause-request : goal.returns-in-Some-clause-request
 unfolding modprobe_command

@@ -1,11 +1,9 @@
--- The region of a load by its base and its size. modprobe(8); the region is this project's own.
+-- The region of a base and a size.
 use Rattle.std.proofs.Common.{refl, arith}
 use Rattle.std.proofs.lemmas.Bool.Decides.{nat_tests}
-use Rattle.std.specs.Prelude.{◌≡◌, ℕ, Bool, true, false, List, Option, Some, None, ⊤}
-use Rattle.km_course.specs.Course.{Stage, ends}
-use Rattle.km_course.specs.declared.end.End.TheVariants.{NotUnderstood}
-use Rattle.model_loader.specs.declared.region.Region.{Region}
-use Rattle.model_loader.specs.Regions.{IsRegion, is_region}
+use Rattle.std.specs.Prelude.{◌≡◌, ℕ, Bool, true, false, Option, Some, None}
+use Rattle.module_region.specs.declared.region.Region.{Region}
+use Rattle.module_region.specs.Regions.{IsRegion, is_region}
 
 -- what passes the test is a region
 pub region-by : (base size : ℕ) → is_region base size ≡ true → IsRegion base size
@@ -24,9 +22,3 @@ region_when base size false is = None
 -- The region of a base and a size, if there is one.
 unfoldable pub region_at : ℕ → ℕ → Option Region
 region_at base size = region_when base size (is_region base size) refl
-
--- The course for the System.map and the region of a machine, if there are both. Words that ask for
--- a load or a removal have both.
-abbrev pub on_machine : Option (List ℕ) → Option Region → (List ℕ → Region → Stage ⊤) → Stage ⊤
-on_machine (Some system_map) (Some region) course = course system_map region
-on_machine system_map region course = ends NotUnderstood

@@ -1,8 +1,8 @@
-use Rattle.std.proofs.Common.{◌≡◌, Bool, ap, ◌∙◌, codes}
+use Rattle.std.proofs.Common.{Bool, ap, ◌∙◌, codes}
 use Rattle.clap.specs.Words.{found_of, rows_of}
 use Rattle.kmod_words.specs.Modprobe.{mode_by_flags}
 use Rattle.kmod_words.specs.Understood.{is_given}
-use Rattle.kmod_words.proofs.modprobe.mode_asked.Goals as goal
+use Rattle.kmod_words.proofs.modprobe_request.mode_asked.Goals as goal
 
 pub returns : goal.returns
 returns c =

@@ -6,8 +6,8 @@ use Rattle.elf_format.specs.declared.section.TheConstants.{PAGE}
 -- This many bytes from a base on are whole pages, at least one, and end no later than the last
 -- address of 64 bits.
 pub record IsRegion (base size : ℕ) : Type 0 where
-  pub begins : base % 4096 ≡ 0
-  pub whole : size % 4096 ≡ 0
+  pub begins : base % PAGE ≡ 0
+  pub whole : size % PAGE ≡ 0
   pub some : 0 < size
   pub ends : base + size ≤ 2 ^ 64
 

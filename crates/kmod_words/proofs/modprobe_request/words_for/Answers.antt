@@ -1,8 +1,10 @@
 use Rattle.std.proofs.Common.{◌∙◌}
-use Rattle.kmod_words.proofs.modprobe.words_for.Goals as goal
+use Rattle.module_region.proofs.RegionLemmas.{IsRegion-prop}
+use Rattle.kmod_words.proofs.modprobe_request.words_for.Goals as goal
 
 pub returns : goal.returns
 returns c =
+    let region = c.args.choice.now.region in
     let version = c.in_ok-version.ensures ∙ c.as_bytes.ensures.value in
     λ i. record {
       mode = c.args.choice.now.mode;
@@ -15,9 +17,10 @@ returns c =
       loaded = c.in_ok-plan.ensures.loaded i;
       system_map = c.in_ok-load.ensures.system_map i;
       symvers = c.in_ok-load.ensures.symvers i;
-      region_base = c.args.choice.now.region.base;
-      region_size = c.args.choice.now.region.size;
+      region_base = region.base;
+      region_size = region.size;
       image = c.in_ok-load.ensures.image i;
       params = c.is_given-4.ensures i;
       words = c.in_ok-words.ensures i;
+      pages = IsRegion-prop region.base region.size c.result-2-1.given.0 region.pages i;
     }

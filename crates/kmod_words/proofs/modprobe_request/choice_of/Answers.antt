@@ -3,8 +3,8 @@ use Rattle.clap.specs.Words.{found_of, rows_of}
 use Rattle.kmod_words.specs.Numbers.{region_or_usual}
 use Rattle.kmod_words.specs.Modprobe.{goes_with}
 use Rattle.kmod_words.proofs.RequestLemmas.{chosen-among}
-use Rattle.kmod_words.proofs.modprobe.choice_of.Goals as goal
-use Rattle.kmod_words.proofs.modprobe.choice_of.Goals.{else-is_version-via-then-is_version+else-goes_with, else-is_version-via-else-is_version}
+use Rattle.kmod_words.proofs.modprobe_request.choice_of.Goals as goal
+use Rattle.kmod_words.proofs.modprobe_request.choice_of.Goals.{else-is_version-via-then-is_version+else-goes_with, else-is_version-via-else-is_version}
 
 pub returns-then-goes_with : goal.returns-then-goes_with
 returns-then-goes_with c =
