@@ -37,7 +37,6 @@ use Rattle.stages_loads.specs.Tables.{reads_machine}
 use Rattle.stages_known.specs.declared.known.Known.{Known}
 use Rattle.stages_known.specs.Known.{reads_known}
 use Rattle.command_modprobe.specs.Planned.{plan_lines, plan_outcome, request_of}
-use Rattle.stages_loads.specs.Region.{region_at}
 use Rattle.command_modprobe.specs.Loaded.{images_asked, inserts_outcome, loads_plan}
 use Rattle.laws_planned_loads.specs.Acts.{is_reading, said}
 use Rattle.laws_planned_loads.specs.Files.{AreFileModules}
