@@ -65,10 +65,12 @@ load_asked = record {
   loaded = None;
   system_map = Some (codes "/S");
   symvers = None;
-  region = record { base = 65536; size = 65536; pages = region-by 65536 65536 refl };
+  region_base = 65536;
+  region_size = 65536;
   image = None;
   params = false;
   words = codes "m" ∷ [];
+  pages = region-by 65536 65536 refl;
 }
 
 -- ---- the result
