@@ -20,7 +20,7 @@ use name_lookup::Indexes;
 use std::alloc::{AllocError, Global};
 
 /// Who knows which names modules.dep.bin has a value of.
-pub(crate) trait Known {
+pub(crate) trait KnownNames {
     /// Whether it has a value of the name.
     ghost has: { Self → List ℕ → Bool };
 
@@ -28,7 +28,7 @@ pub(crate) trait Known {
         ensures { result ≡ has self.now name.now };
 }
 
-impl Known for Index {
+impl KnownNames for Index {
     ghost use Rattle.index_read.specs.Contents.{contents};
     ghost use Rattle.name_lookup.specs.Maps.{has_value};
 
@@ -63,7 +63,7 @@ pub fn well_formed(alloc: Global, name: &Name, indexes: &Indexes) -> Result<bool
 }
 
 /// Tests that each module has a dependency line of its own.
-pub(crate) fn check_lines<K: Known>(
+pub(crate) fn check_lines<K: KnownNames>(
     alloc: Global,
     known: &K,
     values: &FirstValues<'_>,
@@ -89,7 +89,7 @@ pub(crate) fn check_lines<K: Known>(
 /// Returns whether a text is the dependency line of the module of this name, and each module that
 /// it needs is known. Names that aren't as in their paths are written to a buffer, one after the
 /// other.
-fn is_line<'a, K: Known>(
+fn is_line<'a, K: KnownNames>(
     paths: &mut GoodTexts<'a>,
     lists: &mut GoodTexts<'a>,
     buffer: &mut Vec<u8>,
@@ -127,7 +127,7 @@ fn names_module(path: &[u8], name: &[u8]) -> bool
 
 /// Returns whether the module at a path is known. Most names are the same as in their paths, and
 /// aren't copied.
-fn is_known<K: Known>(buffer: &mut Vec<u8>, known: &K, path: &[u8]) -> Result<bool, AllocError>
+fn is_known<K: KnownNames>(buffer: &mut Vec<u8>, known: &K, path: &[u8]) -> Result<bool, AllocError>
     ensures { IfOk result (λ there. there ≡ K.has known.now (module_name path.now)) }
 {
     let text = stem(path);
@@ -141,7 +141,7 @@ fn is_known<K: Known>(buffer: &mut Vec<u8>, known: &K, path: &[u8]) -> Result<bo
 /// Returns whether what follows the `:` of a line is a sequence of paths of known modules, as
 /// [`are_good`] does. Many lines need the same modules in the same order, so the whole text is
 /// looked for first.
-fn are_found_good<'a, K: Known>(
+fn are_found_good<'a, K: KnownNames>(
     paths: &mut GoodTexts<'a>,
     lists: &mut GoodTexts<'a>,
     buffer: &mut Vec<u8>,
@@ -167,7 +167,7 @@ fn are_found_good<'a, K: Known>(
 
 /// Returns whether what follows the `:` of a line is a sequence of paths of known modules, maybe
 /// none, with a space before each.
-fn are_good<'a, K: Known>(
+fn are_good<'a, K: KnownNames>(
     paths: &mut GoodTexts<'a>,
     buffer: &mut Vec<u8>,
     known: &K,
@@ -192,7 +192,7 @@ fn are_good<'a, K: Known>(
 }
 
 /// Returns whether a text is the path of a known module.
-fn is_good<'a, K: Known>(
+fn is_good<'a, K: KnownNames>(
     paths: &mut GoodTexts<'a>,
     buffer: &mut Vec<u8>,
     known: &K,

@@ -9,7 +9,7 @@ ghost use Rattle.dependency_lines.specs.Places.{AreFirst};
 ghost use Rattle.dependency_lines.specs.Tables.{module_of, listed_modules, IsNamed};
 
 use crate::fault::LineFault;
-use crate::line::{Known, check_lines};
+use crate::line::{KnownNames, check_lines};
 use crate::listed::{Line, lines_of};
 use crate::order::{names_rise, number_of, places_by_number, sorted};
 use crate::places::{push_needed, push_place};
@@ -190,7 +190,7 @@ fn table_of<'a>(alloc: Global, lines: &[Line<'a>]) -> Result<NameTable<'a>, Allo
     Ok(names)
 }
 
-impl<'a> Known for Modules<'a> {
+impl<'a> KnownNames for Modules<'a> {
     ghost use Rattle.std.specs.Prelude.{is_some};
     ghost use Rattle.dependency_lines.specs.Modules.{place_of};
 

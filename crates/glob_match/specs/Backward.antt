@@ -15,7 +15,7 @@ AreListed file text at close words = HasBits words (λ t. is_listed (part file a
 
 -- A bracket closes the set that is open at a place: what its items list from there on, and what
 -- follows it.
-pub record IsClosed (file text : List ℕ) (at to : ℕ) (a : Ahead) : Type 0 where
+pub record IsSetClosed (file text : List ℕ) (at to : ℕ) (a : Ahead) : Type 0 where
   pub bracket : slice_index file a.close ≡ closing
   pub after : HasBits a.after.items (λ t. is_end (part file (a.close + 1) to) text (suc t))
   pub first : AreListed file text at a.close a.first.items
@@ -27,7 +27,7 @@ pub record IsAhead (file text : List ℕ) (at to : ℕ) (a : Ahead) : Type 0 whe
   pub low : at ≤ a.close
   pub high : a.close ≤ to
   pub items : (k : ℕ) → at ≤ k → k < a.close → slice_index file k ≢ closing
-  pub closed : a.close < to → IsClosed file text at to a
+  pub closed : a.close < to → IsSetClosed file text at to a
 
 -- There are so many words in each list.
 pub record AreSized (count : ℕ) (a : Ahead) : Type 0 where

@@ -7,7 +7,7 @@ use Rattle.std.proofs.Math.Seq.{take-add}
 use Rattle.glob_pattern.specs.Pattern.{Matches}
 use Rattle.glob_match.specs.Progress.{IsText, IsWhole, IsOver, HasRead}
 use Rattle.glob_match.specs.declared.progress.Progress.{Progress}
-use Rattle.index_read.specs.declared.known.Known.{Known}
+use Rattle.index_read.specs.declared.key_tables.KeyTables.{KeyTables}
 use Rattle.index_read.specs.Searches.{IsLost, AreKnown, IsReady}
 
 -- ---- the text of a progress
@@ -17,7 +17,7 @@ same_text text other bytes size t o =
     same_number_lists text other (sym t.size_is ∙ o.size_is) (λ k lt. sym (t.same k) ∙ o.same k)
 
 -- What is known is for the text that the progress is over.
-pub known_over : (b text : List ℕ) (p : Progress) (k : Known) → IsReady b p k → IsOver p text → AreKnown b text k
+pub known_over : (b text : List ℕ) (p : Progress) (k : KeyTables) → IsReady b p k → IsOver p text → AreKnown b text k
 known_over b text p k r over = subst (λ t. AreKnown b t k) (same_text r.text text p.bytes.items p.size r.over over) r.known
 
 pub on_none : {A P : Type 0} (o : Option A) → is_some o ≡ false → IfNone o P → P

@@ -12,7 +12,7 @@ use Rattle.glob_pattern.specs.Pattern.{Matches}
 use Rattle.glob_match.specs.Progress.{IsWhole, IsOver, WasRead}
 use Rattle.glob_match.specs.declared.progress.Saved.{Saved}
 use Rattle.index_read.specs.declared.search.Branch.{Branch}
-use Rattle.index_read.specs.declared.search.Found.{Found}
+use Rattle.index_read.specs.declared.search.FoundNode.{FoundNode}
 use Rattle.index_read.specs.declared.search.Search.{Search}
 use Rattle.index_read.specs.Keys.{Item, all_items, on_child, branches, key_bytes, items}
 use Rattle.index_read.specs.Searches.{IsLost, NoneMatches, below, Waits, bottom, above, branch_of, after_branch, AreKnown, IsWholeOrLeaf, DescendsTo, IsSearching, Comes, count_left}
@@ -173,7 +173,7 @@ root_lost b accepted text link name lost =
     none_below text (prefix b (root b)) (all_items b) (subst (IsLost text) front lost) (begins_root b accepted)
 
 -- The root is reached.
-pub root_comes : (b text : List ℕ) (link : ℕ) (old new : Search) (f : Found) (leaf : Bool) → index_fault b ≡ None → link ≡ root b → link_of f.node ≡ link → IsWhole old.progress → IsOver old.progress text → AreKnown b text old.known → old.levels.items ≡ [] → old.saved.items ≡ [] → IsNodeOf b f.node → (IsTrue f.is_match ↔ Matches (prefix b link) text) → IsWholeOrLeaf b text (prefix b link) link old.progress leaf → DescendsTo old new f.node leaf → Comes b text (all_items b) new f
+pub root_comes : (b text : List ℕ) (link : ℕ) (old new : Search) (f : FoundNode) (leaf : Bool) → index_fault b ≡ None → link ≡ root b → link_of f.node ≡ link → IsWhole old.progress → IsOver old.progress text → AreKnown b text old.known → old.levels.items ≡ [] → old.saved.items ≡ [] → IsNodeOf b f.node → (IsTrue f.is_match ↔ Matches (prefix b link) text) → IsWholeOrLeaf b text (prefix b link) link old.progress leaf → DescendsTo old new f.node leaf → Comes b text (all_items b) new f
 root_comes b text link old new f true accepted is_root name whole over known levels saved node decides none same =
     let top_node : IsNode b (root b) = top in
     let sound = node_sound b accepted (root b) top_node in
@@ -299,7 +299,7 @@ module _ (b text : List ℕ) (is : List Item) (now : Search) (h : Sought b text 
     }
 
     -- A child is reached.
-    pub seek_down : (old new : Search) (f : Found) (leaf : Bool) → IsWhole old.progress → IsOver old.progress text → AreKnown b text old.known → old.levels.items ≡ ls ++ after_branch l byte ∷ [] → old.saved.items ≡ now.saved.items → IsNodeOf b f.node → link_of f.node ≡ at → (IsTrue f.is_match ↔ Matches ((last.key ++ byte ∷ []) ++ prefix b at) text) → IsWholeOrLeaf b text ((last.key ++ byte ∷ []) ++ prefix b at) at old.progress leaf → DescendsTo old new f.node leaf → Comes b text is new f
+    pub seek_down : (old new : Search) (f : FoundNode) (leaf : Bool) → IsWhole old.progress → IsOver old.progress text → AreKnown b text old.known → old.levels.items ≡ ls ++ after_branch l byte ∷ [] → old.saved.items ≡ now.saved.items → IsNodeOf b f.node → link_of f.node ≡ at → (IsTrue f.is_match ↔ Matches ((last.key ++ byte ∷ []) ++ prefix b at) text) → IsWholeOrLeaf b text ((last.key ++ byte ∷ []) ++ prefix b at) at old.progress leaf → DescendsTo old new f.node leaf → Comes b text is new f
     unfolding children
     seek_down old new f true whole over known levels saved node name decides none same =
         let key = (last.key ++ byte ∷ []) ++ prefix b at in

@@ -12,8 +12,8 @@ use Rattle.glob_match.specs.Runs.{AreRuns}
 use Rattle.glob_match.specs.Progress.{IsWhole, IsOver, HasRead, WasRead, IsSaved}
 use Rattle.glob_match.specs.declared.progress.Progress.{Progress}
 use Rattle.glob_match.specs.declared.progress.Saved.{Saved}
-use Rattle.index_read.specs.declared.known.Known.{Known}
-use Rattle.index_read.specs.declared.search.Found.{Found}
+use Rattle.index_read.specs.declared.key_tables.KeyTables.{KeyTables}
+use Rattle.index_read.specs.declared.search.FoundNode.{FoundNode}
 use Rattle.index_read.specs.declared.search.Branch.{Branch}
 use Rattle.index_read.specs.declared.search.Search.{Search}
 use Rattle.index_read.specs.Keys.{Item, branches, key_bytes, items}
@@ -32,12 +32,12 @@ Reads text key p true = HasRead p text key
 Reads text key p false = IsLost text key
 
 -- What is known of a file, for a text.
-pub record AreKnown (b text : List ℕ) (k : Known) : Type 0 where
+pub record AreKnown (b text : List ℕ) (k : KeyTables) : Type 0 where
   pub runs : AreRuns b k.runs
   pub ends : AreEnds b text k.ends
 
 -- The progress is over a text for which this is known.
-pub record IsReady (b : List ℕ) (p : Progress) (k : Known) : Type 0 where
+pub record IsReady (b : List ℕ) (p : Progress) (k : KeyTables) : Type 0 where
   pub text : List ℕ
   pub over : IsOver p text
   pub known : AreKnown b text k
@@ -48,14 +48,14 @@ IsWholeOrLeaf b text key link p true = (byte : ℕ) → child b link byte ≡ No
 IsWholeOrLeaf b text key link p false = HasRead p text key
 
 -- The node was reached with its key.
-pub record Arrives (b text key : List ℕ) (link : ℕ) (p : Progress) (f : Found) : Type 0 where
+pub record Arrives (b text key : List ℕ) (link : ℕ) (p : Progress) (f : FoundNode) : Type 0 where
   pub node : IsNodeOf b f.node
   pub name : link_of f.node ≡ link
   pub decides : IsTrue f.is_match ↔ Matches key text
   pub under : IsWholeOrLeaf b text key link p f.is_leaf
 
 -- The node was reached with its key, or it was found that nothing there matches.
-abbrev pub Enters : List ℕ → List ℕ → List ℕ → ℕ → Progress → Option Found → Type 0
+abbrev pub Enters : List ℕ → List ℕ → List ℕ → ℕ → Progress → Option FoundNode → Type 0
 Enters b text key link p None = IsLost text key
 Enters b text key link p (Some f) = Arrives b text key link p f
 
@@ -89,7 +89,7 @@ abbrev pub DescendsTo : Search → Search → Node → Bool → Type 0
 DescendsTo old new n true = new ≡ old
 DescendsTo old new n false = IsDeeper old new n
 
-abbrev pub Descends : Search → Search → Found → Type 0
+abbrev pub Descends : Search → Search → FoundNode → Type 0
 Descends old new f = DescendsTo old new f.node f.is_leaf
 
 -- The search is over this text, and has these nodes still to come.
@@ -100,7 +100,7 @@ pub record IsSearching (b text : List ℕ) (s : Search) (is : List Item) : Type 
   pub waits : Waits b text s.levels.items s.saved.items is
 
 -- A node was reached: those before it don't match, and others are still to come.
-pub record Comes (b text : List ℕ) (is : List Item) (s : Search) (f : Found) : Type 0 where
+pub record Comes (b text : List ℕ) (is : List Item) (s : Search) (f : FoundNode) : Type 0 where
   pub skipped : List Item
   pub key : List ℕ
   pub left : List Item
@@ -111,7 +111,7 @@ pub record Comes (b text : List ℕ) (is : List Item) (s : Search) (f : Found) :
   pub searching : IsSearching b text s left
 
 -- A step of the search: no key matches, or a node comes.
-abbrev pub Finds : List ℕ → List ℕ → List Item → Search → Option Found → Type 0
+abbrev pub Finds : List ℕ → List ℕ → List Item → Search → Option FoundNode → Type 0
 Finds b text is s None = NoneMatches text is
 Finds b text is s (Some f) = Comes b text is s f
 
@@ -121,6 +121,6 @@ count_left b [] = 0
 count_left b (l ∷ ls) = length (below b l []) + count_left b ls
 
 -- How many are after a step. After a refusal there are none.
-abbrev pub count_after : {E : Type 0} → Result (Option Found) E → List ℕ → List Branch → ℕ
+abbrev pub count_after : {E : Type 0} → Result (Option FoundNode) E → List ℕ → List Branch → ℕ
 count_after (Ok o) b ls = count_left b ls
 count_after (Err e) b ls = 0

@@ -26,7 +26,7 @@
 
 mod first;
 mod index;
-mod known;
+mod key_tables;
 pub mod plain;
 mod reach;
 mod room;

@@ -10,7 +10,7 @@ ghost use Rattle.glob_match.specs.Runs.{AreRuns};
 ghost use Rattle.index_read.specs.Keys.{Item, all_items};
 ghost use Rattle.index_read.specs.Searches.{IsReady, IsSearching, Finds, Descends, Enters, Reads, count_left, count_after};
 
-use crate::known::Known;
+use crate::key_tables::KeyTables;
 use glob_match::{Ends, Progress, Runs, Saved};
 use index_nodes::{Node, NodeRef, Nodes, Steps};
 use std::alloc::{AllocError, Global};
@@ -18,7 +18,7 @@ use std::sync::ledger::Ledger;
 
 /// A node that was reached.
 #[derive(Clone, Copy)]
-pub(crate) struct Found {
+pub(crate) struct FoundNode {
     pub(crate) node: Node,
     /// Whether its key matches the text.
     pub(crate) is_match: bool,
@@ -41,7 +41,7 @@ pub(crate) struct Branch {
 pub(crate) struct Search {
     /// How far the key that was read last can match.
     pub(crate) progress: Progress,
-    pub(crate) known: Known,
+    pub(crate) known: KeyTables,
     pub(crate) levels: Vec<Branch>,
     /// The words of the keys of the levels, in their order.
     pub(crate) saved: Vec<u64>,
@@ -129,8 +129,8 @@ fn read_prefix(
     progress: &mut Progress,
     nodes: &Nodes,
     node: &Node,
-    known: &mut Known,
-) -> Result<Option<Found>, AllocError>
+    known: &mut KeyTables,
+) -> Result<Option<FoundNode>, AllocError>
     requires node { IsNodeOf nodes.now node.now }
     requires whole { IsWhole progress.old }
     requires ready { IsReady nodes.now progress.old known.old }
@@ -146,7 +146,7 @@ fn read_prefix(
     if is_leaf {
         let read = &mut known.read;
         let is_match = read_end(progress, file, range, &known.runs, &known.ends, read)?;
-        return Ok(Some(Found {
+        return Ok(Some(FoundNode {
             node: *node,
             is_match,
             is_leaf,
@@ -155,7 +155,7 @@ fn read_prefix(
     if !read_range(progress, file, range, &known.runs, &mut known.read)? {
         return Ok(None);
     }
-    Ok(Some(Found {
+    Ok(Some(FoundNode {
         node: *node,
         is_match: progress.is_match(),
         is_leaf,
@@ -168,9 +168,9 @@ fn enter<L: Ledger>(
     progress: &mut Progress,
     nodes: &Nodes,
     child: (u8, NodeRef),
-    known: &mut Known,
+    known: &mut KeyTables,
     steps: &mut Steps<L>,
-) -> Result<Option<Found>, AllocError>
+) -> Result<Option<FoundNode>, AllocError>
     requires node { IsNode nodes.now child.1 }
     requires whole { IsWhole progress.old }
     requires ready { IsReady nodes.now progress.old known.old }
@@ -196,14 +196,14 @@ impl Search {
         nodes: &Nodes,
         text: &[u8],
         steps: &mut Steps<L>,
-    ) -> Result<(Search, Option<Found>), AllocError>
+    ) -> Result<(Search, Option<FoundNode>), AllocError>
         ensures cost { steps.new ≤ steps.old + 1 }
         ensures finds { IfOk result (λ r. Finds nodes.now text.now (all_items nodes.now) r.0 r.1) }
         ensures accepted { index_fault nodes.now ≡ None }
     {
         let node = nodes.node(&nodes.root(), steps);
         let mut progress = Progress::new(alloc, text)?;
-        let mut known = Known::new(alloc);
+        let mut known = KeyTables::new(alloc);
         let reached = read_prefix(&mut progress, nodes, &node, &mut known)?;
         let mut search = Search {
             progress,
@@ -219,7 +219,7 @@ impl Search {
     }
 
     /// Adds the level of the node that was reached, if it has children.
-    fn descend(&mut self, found: &Found) -> Result<(), AllocError>
+    fn descend(&mut self, found: &FoundNode) -> Result<(), AllocError>
         requires { IsWhole self.old.progress }
         ensures { OnOk result (Descends self.old self.new found.now) }
     {
@@ -241,7 +241,7 @@ impl Search {
         &mut self,
         nodes: &Nodes,
         steps: &mut Steps<L>,
-    ) -> Result<Option<Found>, AllocError>
+    ) -> Result<Option<FoundNode>, AllocError>
         requires accepted { index_fault nodes.now ≡ None }
         requires searching { (text : List ℕ) × ((is : List Item) × IsSearching nodes.now text self.old is) }
         ensures finds { IfOk result (λ o. (text : List ℕ) (is : List Item) → IsSearching nodes.now text self.old is → Finds nodes.now text is self.new o) }

@@ -7,7 +7,7 @@ use Rattle.dependency_lines.proofs.line.are_good.Goals as goal
 
 pub returns-then-not-branch-clause-good : goal.returns-then-not-branch-clause-good
 returns-then-not-branch-clause-good g c =
-    let has = g.K.Known.has c.args.known.now in
+    let has = g.K.KnownNames.has c.args.known.now in
     let text = c.loop-rest.rest.now in
     let after = c.up_to_space.result.1.now in
     let some : 0 < length text = grind arith in
@@ -16,7 +16,7 @@ returns-then-not-branch-clause-good g c =
 
 pub loop-rest-preserved : goal.loop-rest-preserved
 loop-rest-preserved g c =
-    let has = g.K.Known.has c.args.known.now in
+    let has = g.K.KnownNames.has c.args.known.now in
     let text = c.loop-rest.rest.now in
     let after = c.up_to_space.result.1.now in
     let some : 0 < length text = grind arith in

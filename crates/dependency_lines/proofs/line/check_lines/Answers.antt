@@ -28,7 +28,7 @@ module _ (has : List ℕ → Bool) (vs : List KeyValue) (i : ℕ) (good : Bool) 
 
 pub loop-place-init : goal.loop-place-init
 loop-place-init g c =
-    let has = g.K.Known.has c.args.known.now in
+    let has = g.K.KnownNames.has c.args.known.now in
     record {
       none = refl;
       paths = c.in_ok-paths.ensures (is_good has);
@@ -37,7 +37,7 @@ loop-place-init g c =
 
 pub returns-then-not-branch-clause-err : goal.returns-then-not-branch-clause-err
 returns-then-not-branch-clause-err g c =
-    let has = g.K.Known.has c.args.known.now in
+    let has = g.K.KnownNames.has c.args.known.now in
     let key = c.key-name.ensures ([], (0, [])) in
     let text = c.text-line.ensures ([], (0, [])) in
     inr (ap (option_map BadLine) (here has c.args.values.now c.loop-place.place c.in_ok-is_line.field-0 (omega (arith, c.loop-place-test.true, c.len-place-end.ensures)) c.loop-place.invariant.none (c.in_ok-is_line.ensures.good ∙ (λ i. is_line_of has (key i) (text i))) c.if-not-branch.true)
@@ -45,7 +45,7 @@ returns-then-not-branch-clause-err g c =
 
 pub loop-place-preserved : goal.loop-place-preserved
 loop-place-preserved g c =
-    let has = g.K.Known.has c.args.known.now in
+    let has = g.K.KnownNames.has c.args.known.now in
     let key = c.key-name.ensures ([], (0, [])) in
     let text = c.text-line.ensures ([], (0, [])) in
     record {

@@ -6,7 +6,7 @@ use Rattle.dependency_lines.proofs.line.check_lines.Given as goal
 abbrev pub invariant-loop-place : goal.invariant-loop-place
 invariant-loop-place g l =
     record {
-      none : bad_among (g.K.Known.has l.known) (take l.place l.values) ≡ None;
-      paths : AreKept (is_good (g.K.Known.has l.known)) l.paths.slots.items;
-      lists : AreKept (are_good_needs (g.K.Known.has l.known)) l.lists.slots.items;
+      none : bad_among (g.K.KnownNames.has l.known) (take l.place l.values) ≡ None;
+      paths : AreKept (is_good (g.K.KnownNames.has l.known)) l.paths.slots.items;
+      lists : AreKept (are_good_needs (g.K.KnownNames.has l.known)) l.lists.slots.items;
     }

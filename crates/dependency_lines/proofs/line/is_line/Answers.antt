@@ -12,7 +12,7 @@ use Rattle.dependency_lines.proofs.line.is_line.Goals as goal
 
 pub returns-then-not-is_front-clause-good : goal.returns-then-not-is_front-clause-good
 returns-then-not-is_front-clause-good g c =
-    let has = g.K.Known.has c.args.known.now in
+    let has = g.K.KnownNames.has c.args.known.now in
     let line = c.args.line.now in
     let name = c.args.name.now in
     let before = c.split_at_byte.ensures.before in
@@ -28,7 +28,7 @@ returns-then-not-is_front-clause-good g c =
 
 pub returns-clause-good : goal.returns-clause-good
 returns-clause-good g c =
-    let has = g.K.Known.has c.args.known.now in
+    let has = g.K.KnownNames.has c.args.known.now in
     let line = c.args.line.now in
     let name = c.args.name.now in
     let before = c.split_at_byte.ensures.before in

@@ -1,5 +1,5 @@
 use Rattle.index_read.proofs.ReadLemmas.{known_over}
-use Rattle.index_read.proofs.known.Known.find.Goals as goal
+use Rattle.index_read.proofs.key_tables.KeyTables.find.Goals as goal
 
 pub find-requires-then-is_leaf-clause-ends : goal.find-requires-then-is_leaf-clause-ends
 find-requires-then-is_leaf-clause-ends c text over =

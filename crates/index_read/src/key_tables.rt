@@ -11,19 +11,19 @@ const LONG: usize = 128;
 /// What is known of a file before its keys are read, so that bytes that many prefixes share aren't
 /// read again for each of them.
 #[derive(Drop)]
-pub(crate) struct Known {
+pub(crate) struct KeyTables {
     pub(crate) runs: Runs,
     pub(crate) ends: Ends,
     /// How many bytes of prefixes were read.
     pub(crate) read: usize,
 }
 
-impl Known {
+impl KeyTables {
     /// Makes one that knows nothing, for any file and any text.
-    pub(crate) fn new(alloc: Global) -> Known
+    pub(crate) fn new(alloc: Global) -> KeyTables
         ensures { (bytes text : List ℕ) → AreKnown bytes text result }
     {
-        Known {
+        KeyTables {
             runs: Runs::new(alloc),
             ends: Ends::new(alloc),
             read: 0,
