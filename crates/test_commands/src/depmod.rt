@@ -11,3 +11,5 @@ mod indexing;
 mod modinfo_names;
 mod modprobe_names;
 mod sheets;
+
+pub(crate) use expect::want_two;

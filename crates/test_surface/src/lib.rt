@@ -3,8 +3,9 @@
 //!
 //! A module of it has the calls of one layer: names and words, files and outputs, objects and
 //! facts, indexes, the relation of a tree, built-in modules, device nodes, plans, the machine and
-//! its users, removals, parameters, the words of the commands, and the commands. It builds on the
-//! crates whose calls these are, and on `test_objects` for small modules that are written out.
+//! its users, removals, parameters, the words of the commands, and the tree of a trial. It builds on
+//! the crates whose calls these are, and on `test_objects` for small modules that are written out.
+//! The commands themselves are called in `test_commands`.
 //!
 //! A call with a long contract is made by a function that promises nothing, so that the contract
 //! isn't carried through the test.
@@ -12,8 +13,6 @@
 
 #[cfg(test)]
 mod builtin;
-#[cfg(test)]
-mod commands;
 #[cfg(test)]
 mod indexes;
 #[cfg(test)]
@@ -40,6 +39,8 @@ mod relation;
 mod removals;
 #[cfg(test)]
 mod same;
+#[cfg(test)]
+mod trees;
 #[cfg(test)]
 mod users;
 #[cfg(test)]

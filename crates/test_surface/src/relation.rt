@@ -140,7 +140,7 @@ fn a_kernel_of_ones_own_is_made(rt: &impl Abort, alloc: Global) {
 }
 
 /// The table of a kernel that exports `printk`.
-pub(crate) static SYMVERS: &[u8] = b"0x11111111\tprintk\tvmlinux\tEXPORT_SYMBOL\n";
+static SYMVERS: &[u8] = b"0x11111111\tprintk\tvmlinux\tEXPORT_SYMBOL\n";
 
 /// Its addresses.
 pub(crate) static SYSTEM_MAP: &[u8] = b"ffffffff81000000 T printk\n";

@@ -101,6 +101,15 @@ pub(crate) fn want_in(
     put_at(rt, &mut objects.wanted, &path, bytes);
 }
 
+/// Wants the files of the index of two modules. All other files are to stay.
+pub(crate) fn want_two(rt: &impl Abort, alloc: Global, objects: &mut Objects) {
+    let row = IndexRow {
+        index: Index::TwoModules,
+        ..DONE
+    };
+    want_replaced(rt, alloc, objects, &row);
+}
+
 /// Wants the first files of an index, which a row replaces. All other files are to stay.
 fn want_replaced(rt: &impl Abort, alloc: Global, objects: &mut Objects, row: &IndexRow<'_>) {
     for (name, bytes) in NAMES.iter().zip(files_of(row.index)).take(row.replaced) {

@@ -95,7 +95,7 @@ fn run_over(alloc: Global, words: &[Word], objects: &mut Objects) {
 }
 
 /// Returns the words of a text, with one space between each and the next. An empty text has none.
-fn words_of(rt: &impl Abort, alloc: Global, text: &str) -> List<Word> {
+pub(crate) fn words_of(rt: &impl Abort, alloc: Global, text: &str) -> List<Word> {
     let mut words = List::new(alloc);
     if !text.is_empty() {
         for word in text.split(' ') {

@@ -45,3 +45,10 @@ pub(crate) fn same_files(rt: &impl Abort, alloc: Global, objects: &mut Objects, 
     let paths = paths_of(rt, alloc, &mut objects.wanted);
     same_at(rt, objects, &paths, name);
 }
+
+/// Stops unless the last command answered what a row says, and every file is as it is to be.
+pub(crate) fn same_all(rt: &impl Abort, alloc: Global, objects: &mut Objects, row: RowOf<'_>) {
+    let (name, ..) = row;
+    same_seen(rt, objects, row, name);
+    same_files(rt, alloc, objects, name);
+}
