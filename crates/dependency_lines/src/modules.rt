@@ -49,7 +49,7 @@ impl<'a> Modules<'a> {
     ///
     /// `BadLine` exactly if a value isn't the dependency line of its module over names that the
     /// index has. Or `Memory`.
-    pub fn new(alloc: Global, lines: &'a DependencyLines<'a>) -> Result<Modules<'a>, LineFault>
+    pub fn new(alloc: Global, lines: &'a DependencyLines<'_>) -> Result<Modules<'a>, LineFault>
         ensures modules { IfOk result (λ modules. (dep : KeyValues) → lines.now ≡ first_values dep → modules ≡ modules_of dep) }
         ensures passed { OnOk result ((dep : KeyValues) → lines.now ≡ first_values dep → bad_name dep ≡ None) }
         ensures err { IfErr result (λ fault. (fault ≡ LineFault.Memory) ⊎ ((dep : KeyValues) → lines.now ≡ first_values dep → option_map LineFault.BadLine (bad_name dep) ≡ Some fault)) }
