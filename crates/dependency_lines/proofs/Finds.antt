@@ -1,5 +1,5 @@
 -- The first of some items that passes a test, an item more at a time.
-use Rattle.std.proofs.Common.{◌≡◌, ℕ, zero, suc, ◌+◌, ◌<◌, Bool, true, false, cond, List, [], ◌∷◌, length, take, map, get_or, Option, Some, None, refl, sym, ap, ◌∙◌, arith}
+use Rattle.std.proofs.Common.{◌≡◌, ℕ, zero, suc, ◌+◌, ◌<◌, Bool, true, false, cond, List, [], ◌∷◌, ◌++◌, length, take, map, get_or, Option, Some, None, refl, sym, ap, ◌∙◌, arith}
 use Rattle.std.specs.List.{find}
 use Rattle.std.specs.Option.{option_map}
 
@@ -42,6 +42,23 @@ module _ {X : Type 0} (p : X → Bool) where
 
   pub plain-more : (xs : List X) (i : ℕ) (x : X) → i < length xs → x ≡ get_or xs i x → find p (take i xs) ≡ None → p x ≡ false → find p (take (i + 1) xs) ≡ None
   plain-more xs i x l is none t = ap (find p) (sym (same (take (i + 1) xs))) ∙ find-more p (λ x. x) xs i x l is (ap (find p) (same (take i xs)) ∙ none) t
+
+  -- the items behind those of which one passes, or none
+  pub before-others : (xs ys : List X) (x : X) → find p xs ≡ Some x → find p (xs ++ ys) ≡ Some x
+  before-others [] ys x e = absurd (let bad = e in cc)
+  before-others (z ∷ zs) ys x e = go (p z) e (before-others zs ys x)
+    where
+      go : (b : Bool) → cond b (Some z) (find p zs) ≡ Some x → (find p zs ≡ Some x → find p (zs ++ ys) ≡ Some x) → cond b (Some z) (find p (zs ++ ys)) ≡ Some x
+      go true e ih = e
+      go false e ih = ih e
+
+  pub behind-none : (xs ys : List X) → find p xs ≡ None → find p (xs ++ ys) ≡ find p ys
+  behind-none [] ys e = refl
+  behind-none (z ∷ zs) ys e = go (p z) e (behind-none zs ys)
+    where
+      go : (b : Bool) → cond b (Some z) (find p zs) ≡ None → (find p zs ≡ None → find p (zs ++ ys) ≡ find p ys) → cond b (Some z) (find p (zs ++ ys)) ≡ find p ys
+      go true e ih = absurd (let bad = e in cc)
+      go false e ih = ih e
 
 pub option-none : {X Y : Type 0} (f : X → Y) (o : Option X) → option_map f o ≡ None → o ≡ None
 option-none f None e = refl

@@ -1,3 +1,5 @@
+mod Begins
+pub mod Buffer
 pub mod ByNumber
 pub mod Faults
 pub mod Finds

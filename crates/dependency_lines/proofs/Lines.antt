@@ -9,7 +9,7 @@ use Rattle.std.proofs.lemmas.List.Splits.{slice_split-cons_no, slice_split-cons_
 use Rattle.mod_tree.specs.DependencyLine.{is_line_path, are_needed, needed_paths, line_needs, is_dependency_line, own_path}
 use Rattle.mod_tree.proofs.PieceSteps.{needed-none}
 use Rattle.dependency_lines.specs.Modules.{is_line_of, needed_names}
-use Rattle.dependency_lines.specs.GoodPaths.{is_good, are_good_needs}
+use Rattle.dependency_lines.specs.GoodPaths.{begins_line, is_good, are_good_needs}
 use Rattle.km_names.specs.Path.{module_name}
 
 take_next : (n x : ℕ) (xs : List ℕ) → take (1 + n) (x ∷ xs) ≡ x ∷ take n xs
@@ -156,3 +156,13 @@ module _ (has : List ℕ → Bool) where
   unfolding is_dependency_line line_needs
   line-parts name line =
       parts (list_any (λ b. b == 58) line) (is_line_path (own_path line)) (are_needed (slice_split (λ b. b == 32) (after_first (λ b. b == 58) line))) (bytes_eq (module_name (own_path line)) name) (list_all has (needed_names line))
+
+  -- the same by how it begins
+  and-parts : (a b c : Bool) → (a && (b && c)) ≡ ((a && b) && c)
+  and-parts true b c = refl
+  and-parts false b c = refl
+
+  pub line-begins : (name line : List ℕ) → is_line_of has name line ≡ (begins_line name line && are_good_needs has (after_first (λ b. b == 58) line))
+  line-begins name line =
+      line-parts name line
+      ∙ and-parts (list_any (λ b. b == 58) line && is_line_path (own_path line)) (bytes_eq (module_name (own_path line)) name) (are_good_needs has (after_first (λ b. b == 58) line))

@@ -9,16 +9,15 @@ use Rattle.std.proofs.Math.Seq.{get_or-append_seam}
 use Rattle.std.specs.List.Sorted.{IsSortedByKey, IsStableByKey, ties}
 use Rattle.std.specs.Ordering.{nat_cmp, is_lt}
 use Rattle.std.specs.declared.cmp.Ordering.TheVariants.{Less, Equal, Greater}
-use Rattle.dependency_lines.specs.declared.listed.Line.{Line}
+use Rattle.index_format.specs.Listing.{KeyValue}
 use Rattle.dependency_lines.specs.Modules.{by_number}
 use Rattle.dependency_lines.specs.Places.{ArePlaces, number_at}
-use Rattle.dependency_lines.specs.Tables.{listed_modules}
-use Rattle.dependency_lines.proofs.Sorting.{sorted-is}
+use Rattle.dependency_lines.proofs.ByNumber.{by_number-is}
 
 -- ---- the items that pass a test
 
 module _ {X : Type 0} (p : X → Bool) (d : X) where
-  filter-nothing : (xs : List X) → ((k : ℕ) → k < length xs → p (get_or xs k d) ≡ true → ⊥) → filter p xs ≡ []
+  pub filter-nothing : (xs : List X) → ((k : ℕ) → k < length xs → p (get_or xs k d) ≡ true → ⊥) → filter p xs ≡ []
   filter-nothing [] h = refl
   filter-nothing (x ∷ xs) h =
       ap (λ t. cond t (x ∷ filter p xs) (filter p xs)) (false_from_ne_true _ (h 0 (omega arith)))
@@ -45,58 +44,58 @@ not-lt a b l = ap (λ t. is_lt (cond t Less (cond (a == b) Equal Greater))) (le-
 yes-lt : (a b : ℕ) → a < b → is_lt (nat_cmp a b) ≡ true
 yes-lt a b l = ap (λ t. is_lt (cond t Less (cond (a == b) Equal Greater))) (lt-ltb a b l)
 
-abbrev lt : Line → Line → Bool
-lt a b = is_lt (nat_cmp a.number b.number)
+abbrev lt : KeyValue → KeyValue → Bool
+lt a b = is_lt (nat_cmp a.1.0 b.1.0)
 
-tied : (x y : Line) → y.number ≡ x.number → ties lt x y ≡ true
-tied x y e = λ i. not (not-lt x.number y.number (omega (arith, e)) i) && not (not-lt y.number x.number (omega (arith, e)) i)
+tied : (x y : KeyValue) → y.1.0 ≡ x.1.0 → ties lt x y ≡ true
+tied x y e = λ i. not (not-lt x.1.0 y.1.0 (omega (arith, e)) i) && not (not-lt y.1.0 x.1.0 (omega (arith, e)) i)
 
-same-number : (x y : Line) → ties lt x y ≡ true → y.number ≡ x.number
-same-number x y t = go (cases_lt x.number y.number) (cases_lt y.number x.number)
+pub same-number : (x y : KeyValue) → ties lt x y ≡ true → y.1.0 ≡ x.1.0
+same-number x y t = go (cases_lt x.1.0 y.1.0) (cases_lt y.1.0 x.1.0)
   where
-    go : (x.number < y.number) ⊎ (y.number ≤ x.number) → (y.number < x.number) ⊎ (x.number ≤ y.number) → y.number ≡ x.number
-    go (inl l) other = absurd (false≢true (sym (ap (λ b. not b && not (lt y x)) (yes-lt x.number y.number l)) ∙ t))
-    go (inr l) (inl m) = absurd (false≢true (sym (ap (λ b. not (lt x y) && not b) (yes-lt y.number x.number m) ∙ and-false (not (lt x y))) ∙ t))
+    go : (x.1.0 < y.1.0) ⊎ (y.1.0 ≤ x.1.0) → (y.1.0 < x.1.0) ⊎ (x.1.0 ≤ y.1.0) → y.1.0 ≡ x.1.0
+    go (inl l) other = absurd (false≢true (sym (ap (λ b. not b && not (lt y x)) (yes-lt x.1.0 y.1.0 l)) ∙ t))
+    go (inr l) (inl m) = absurd (false≢true (sym (ap (λ b. not (lt x y) && not b) (yes-lt y.1.0 x.1.0 m) ∙ and-false (not (lt x y))) ∙ t))
     go (inr l) (inr m) = omega (arith, l, m)
 
 -- ---- the modules at their places
 
 -- Each of these modules is the one at the place under its own place.
-abbrev pub IsAtPlaces : List Line → List ℕ → List Line → ℕ → Type 0
-IsAtPlaces lines places placed count = (k : ℕ) (d : Line) → k < count → (get_or places k 0 < length lines) × (get_or placed k d ≡ get_or lines (get_or places k 0) d)
+abbrev pub IsAtPlaces : List KeyValue → List ℕ → List KeyValue → ℕ → Type 0
+IsAtPlaces lines places placed count = (k : ℕ) (d : KeyValue) → k < count → (get_or places k 0 < length lines) × (get_or placed k d ≡ get_or lines (get_or places k 0) d)
 
-module _ (lines placed : List Line) (places : List ℕ) (are : ArePlaces lines places (length lines)) (long : length placed ≡ length lines) (each : IsAtPlaces lines places placed (length lines)) where
-  number-is : (k : ℕ) (d : Line) → k < length lines → number_at placed k d ≡ k
-  number-is k d l = let e = each k d l in ap (λ x. x.number) e.1 ∙ (are.there k d l e.0).1
+module _ (lines placed : List KeyValue) (places : List ℕ) (are : ArePlaces lines places (length lines)) (long : length placed ≡ length lines) (each : IsAtPlaces lines places placed (length lines)) where
+  number-is : (k : ℕ) (d : KeyValue) → k < length lines → number_at placed k d ≡ k
+  number-is k d l = let e = each k d l in ap (λ x. x.1.0) e.1 ∙ (are.there k d l e.0).1
 
-  rises : IsSortedByKey (λ (l : Line). l.number) nat_cmp placed
+  rises : IsSortedByKey (λ (l : KeyValue). l.1.0) nat_cmp placed
   rises k d low high =
       let a : number_at placed (k + 1) d ≡ k + 1 = number-is (k + 1) d (omega (arith, high, long)) in
       let b : number_at placed k d ≡ k = number-is k d (omega (arith, high, long)) in
       not-lt (number_at placed (k + 1) d) (number_at placed k d) (omega (arith, a, b))
 
-  stays : IsStableByKey (λ (l : Line). l.number) nat_cmp lines placed
-  stays x = go (cases_lt x.number (length lines))
+  stays : IsStableByKey (λ (l : KeyValue). l.1.0) nat_cmp lines placed
+  stays x = go (cases_lt x.1.0 (length lines))
     where
-      go : (x.number < length lines) ⊎ (length lines ≤ x.number) → filter (ties lt x) placed ≡ filter (ties lt x) lines
+      go : (x.1.0 < length lines) ⊎ (length lines ≤ x.1.0) → filter (ties lt x) placed ≡ filter (ties lt x) lines
       go (inl l) =
-          let e = each x.number x l in
-          let own = number-is x.number x l in
-          filter-only (ties lt x) x placed x.number (omega (arith, l, long)) (tied x (get_or placed x.number x) own)
+          let e = each x.1.0 x l in
+          let own = number-is x.1.0 x l in
+          filter-only (ties lt x) x placed x.1.0 (omega (arith, l, long)) (tied x (get_or placed x.1.0 x) own)
           (λ k m t. sym (number-is k x (omega (arith, m, long))) ∙ same-number x (get_or placed k x) t)
           ∙ ap (λ y. y ∷ []) e.1
-          ∙ sym (filter-only (ties lt x) x lines (get_or places x.number 0) e.0 (tied x (get_or lines (get_or places x.number 0) x) (are.there x.number x l e.0).1)
+          ∙ sym (filter-only (ties lt x) x lines (get_or places x.1.0 0) e.0 (tied x (get_or lines (get_or places x.1.0 0) x) (are.there x.1.0 x l e.0).1)
           (λ r m t. sym (are.back r x m).1 ∙ ap (λ n. get_or places n 0) (same-number x (get_or lines r x) t)))
       go (inr l) =
           filter-nothing (ties lt x) x placed (λ k m t. let e : number_at placed k x ≡ k = number-is k x (omega (arith, m, long)) in let s = same-number x (get_or placed k x) t in omega (arith, e, s, l, m, long))
           ∙ sym (filter-nothing (ties lt x) x lines (λ r m t. let s = same-number x (get_or lines r x) t in omega (arith, (are.back r x m).0, s, l)))
 
-  pub placed-is : listed_modules placed ≡ by_number (listed_modules lines)
-  placed-is = sorted-is lines placed rises stays
+  pub placed-is : placed ≡ by_number lines
+  placed-is = by_number-is lines placed rises stays
 
 -- ---- a place more
 
-pub placing-more : (lines : List Line) (places : List ℕ) (i : ℕ) (e : Line) → i < length lines → number_at lines i e < length lines → length lines ≤ get_or places (number_at lines i e) 0 → ArePlaces lines places i → ArePlaces lines (set places (number_at lines i e) i) (i + 1)
+pub placing-more : (lines : List KeyValue) (places : List ℕ) (i : ℕ) (e : KeyValue) → i < length lines → number_at lines i e < length lines → length lines ≤ get_or places (number_at lines i e) 0 → ArePlaces lines places i → ArePlaces lines (set places (number_at lines i e) i) (i + 1)
 placing-more lines places i e low inside free are = record {
   long = length-set places p i ∙ are.long;
   back = λ r d l. back-at r d l (cases_lt r i);
@@ -109,31 +108,31 @@ placing-more lines places i e low inside free are = record {
     room : p < length places
     room = omega (arith, inside, are.long)
 
-    back-at : (r : ℕ) (d : Line) → r < i + 1 → (r < i) ⊎ (i ≤ r) → (number_at lines r d < length lines) × (get_or (set places p i) (number_at lines r d) 0 ≡ r)
+    back-at : (r : ℕ) (d : KeyValue) → r < i + 1 → (r < i) ⊎ (i ≤ r) → (number_at lines r d < length lines) × (get_or (set places p i) (number_at lines r d) 0 ≡ r)
     back-at r d l (inl before) =
         let b = are.back r d before in
         (b.0, get_or-set_other places p (number_at lines r d) i 0 (λ same. omega (arith, ap (λ n. get_or places n 0) same, b.1, free, before, low)) ∙ b.1)
     back-at r d l (inr last) =
         let here : r ≡ i = omega (arith, l, last) in
-        let own : number_at lines r d ≡ p = ap (λ n. number_at lines n d) here ∙ ap (λ x. x.number) (get_or_default lines i d e low) in
+        let own : number_at lines r d ≡ p = ap (λ n. number_at lines n d) here ∙ ap (λ x. x.1.0) (get_or_default lines i d e low) in
         (omega (arith, own, inside), get_or-set_at places p (number_at lines r d) i 0 own room ∙ sym here)
 
-    there-at : (k : ℕ) (d : Line) → k < length lines → (k ≡ p) ⊎ (k ≡ p → ⊥) → get_or (set places p i) k 0 < length lines → (get_or (set places p i) k 0 < i + 1) × (number_at lines (get_or (set places p i) k 0) d ≡ k)
+    there-at : (k : ℕ) (d : KeyValue) → k < length lines → (k ≡ p) ⊎ (k ≡ p → ⊥) → get_or (set places p i) k 0 < length lines → (get_or (set places p i) k 0 < i + 1) × (number_at lines (get_or (set places p i) k 0) d ≡ k)
     there-at k d l (inl same) m =
         let at = get_or-set_at places p k i 0 same room in
-        (omega (arith, at), ap (λ n. number_at lines n d) at ∙ ap (λ x. x.number) (get_or_default lines i d e low) ∙ sym same)
+        (omega (arith, at), ap (λ n. number_at lines n d) at ∙ ap (λ x. x.1.0) (get_or_default lines i d e low) ∙ sym same)
     there-at k d l (inr apart) m =
         let at = get_or-set_other places p k i 0 apart in
         let b = are.there k d l (omega (arith, at, m)) in
         (omega (arith, at, b.0), ap (λ n. number_at lines n d) at ∙ b.1)
 
-pub at-more : (lines placed : List Line) (places : List ℕ) (i : ℕ) (e : Line) → get_or places i 0 < length lines → length placed ≡ i → IsAtPlaces lines places placed i → IsAtPlaces lines places (placed ++ get_or lines (get_or places i 0) e ∷ []) (i + 1)
+pub at-more : (lines placed : List KeyValue) (places : List ℕ) (i : ℕ) (e : KeyValue) → get_or places i 0 < length lines → length placed ≡ i → IsAtPlaces lines places placed i → IsAtPlaces lines places (placed ++ get_or lines (get_or places i 0) e ∷ []) (i + 1)
 at-more lines placed places i e inside long each = λ k d l. go k d l (cases_lt k i)
   where
-    x : Line
+    x : KeyValue
     x = get_or lines (get_or places i 0) e
 
-    go : (k : ℕ) (d : Line) → k < i + 1 → (k < i) ⊎ (i ≤ k) → (get_or places k 0 < length lines) × (get_or (placed ++ x ∷ []) k d ≡ get_or lines (get_or places k 0) d)
+    go : (k : ℕ) (d : KeyValue) → k < i + 1 → (k < i) ⊎ (i ≤ k) → (get_or places k 0 < length lines) × (get_or (placed ++ x ∷ []) k d ≡ get_or lines (get_or places k 0) d)
     go k d l (inl before) =
         let b = each k d before in
         (b.0, get_or_append_left placed (x ∷ []) d k (omega (arith, before, long)) ∙ b.1)
@@ -146,5 +145,5 @@ at-more lines placed places i e inside long each = λ k d l. go k d l (cases_lt 
               ∙ ap (λ n. get_or lines (get_or places n 0) d) (sym here),
         )
 
-pub length-more : (before after : List Line) (x : Line) (i : ℕ) → after ≡ before ++ x ∷ [] → length before ≡ i → length after ≡ i + 1
+pub length-more : (before after : List KeyValue) (x : KeyValue) (i : ℕ) → after ≡ before ++ x ∷ [] → length before ≡ i → length after ≡ i + 1
 length-more before after x i is long = omega (arith, ap length is, length-append before (x ∷ []), long)

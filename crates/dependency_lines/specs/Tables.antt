@@ -1,21 +1,23 @@
 -- Modules as the code keeps them.
 -- It belongs to the code: no public meaning rests on it.
-use Rattle.std.specs.Prelude.{◌≡◌, ℕ, ◌+◌, ◌<◌, List, length, map, Some, slice_index_or}
+use Rattle.std.specs.Prelude.{◌≡◌, ℕ, ◌+◌, ◌-◌, ◌<◌, ◌≤◌, true, List, All, length, map, take, drop, Some}
 use Rattle.std.specs.Cmp.Lexicographic.{slice_cmp}
 use Rattle.std.specs.Ordering.{nat_cmp}
 use Rattle.std.specs.declared.cmp.Ordering.TheVariants.{Less}
 use Rattle.index_format.specs.Listing.{KeyValue}
 use Rattle.name_table.specs.NameTable.{Table, IsTableOf}
-use Rattle.dependency_lines.specs.declared.listed.Line.{Line}
-use Rattle.dependency_lines.specs.Modules.{module_at}
+use Rattle.dependency_lines.specs.declared.named_lines.Line.{Line}
+use Rattle.dependency_lines.specs.GoodPaths.{begins_line}
+use Rattle.dependency_lines.specs.Modules.{module_at, name_at}
 
--- A module as a key with its value.
-abbrev pub module_of : Line → KeyValue
-module_of line = (line.name.now, (line.number, line.text.now))
+-- A module whose name is in a buffer, as a key with its value.
+abbrev pub line_in : List ℕ → Line → KeyValue
+line_in names line = (take (line.end - line.start) (drop line.start names), (line.number, line.text.now))
 
--- Modules as keys with their values.
-abbrev pub listed_modules : List Line → List KeyValue
-listed_modules lines = map module_of lines
+-- Its name lies in the buffer.
+pub record IsInside (names : List ℕ) (line : Line) : Type 0 where
+  pub order : line.start ≤ line.end
+  pub within : line.end ≤ length names
 
 -- A table has the names of modules.
 abbrev pub IsNamed : Table → List KeyValue → Type 0
@@ -25,11 +27,12 @@ IsNamed names modules = IsTableOf names (map (λ m. Some m.0) modules)
 abbrev pub at_places : List KeyValue → List ℕ → List KeyValue
 at_places modules places = map (module_at modules) places
 
--- The name of the module of a line.
-abbrev pub line_name : List Line → ℕ → Line → List ℕ
-line_name lines place other = (slice_index_or lines place other).name.now
-
 -- Each name is below the next, by their bytes.
-abbrev pub NamesRise : List Line → Type 0
-NamesRise lines =
-    (place : ℕ) (other : Line) → place + 1 < length lines → slice_cmp nat_cmp (line_name lines place other) (line_name lines (place + 1) other) ≡ Less
+abbrev pub NamesRise : List KeyValue → Type 0
+NamesRise modules =
+    (place : ℕ) → place + 1 < length modules → slice_cmp nat_cmp (name_at modules place) (name_at modules (place + 1)) ≡ Less
+
+-- The names rise, and each line begins with the path of the module of its name.
+pub record AreLines (modules : List KeyValue) : Type 0 where
+  pub rise : NamesRise modules
+  pub begin : All (λ m. begins_line m.0 m.1.1 ≡ true) modules

@@ -1,18 +1,19 @@
 // Dependency lines by what they name.
-ghost use Rattle.std.specs.Prelude.{◌≡◌, ◌==◌, ◌&&◌, ◌⊎◌, ℕ, List, Bool, Some, None, IfOk, IfErr, OnOk, drop, length, option_copied, option_map};
+ghost use Rattle.std.specs.Prelude.{◌≡◌, ◌==◌, ◌&&◌, ◌⊎◌, ℕ, List, Bool, true, All, Some, None, IfOk, IfErr, OnOk, drop, length, option_copied, option_map};
 ghost use Rattle.std.specs.List.{before_first, list_any};
 ghost use Rattle.std.specs.Str.{bytes_eq};
 ghost use Rattle.km_names.specs.Path.{module_name};
 ghost use Rattle.index_read.specs.Contents.{contents};
 ghost use Rattle.mod_tree.specs.DependencyLine.{is_line_path, own_path};
-ghost use Rattle.dependency_lines.specs.GoodPaths.{AreKept, are_good_needs, is_good};
+ghost use Rattle.dependency_lines.specs.GoodPaths.{AreKept, are_good_needs, begins_line, is_good};
 ghost use Rattle.dependency_lines.specs.Modules.{is_line_of, is_well_formed, bad_among};
 ghost use Rattle.dependency_lines.specs.Spaces.{IsAfterSpace};
 
 use crate::fault::LineFault;
 use crate::good_texts::{GoodTexts, slot_of};
+use crate::named_lines::Lines;
 use crate::path_name::{has_name, is_plain, stem, write_name};
-use index_read::{FirstValues, Index, plain};
+use index_read::{Index, plain};
 use km_names::{Name, split_at_byte};
 use memchr::memchr;
 use mod_tree::is_line_path;
@@ -62,24 +63,24 @@ pub fn well_formed(alloc: Global, name: &Name, indexes: &Indexes) -> Result<bool
     }
 }
 
-/// Tests that each module has a dependency line of its own.
-pub(crate) fn check_lines<K: KnownNames>(
+/// Tests that each module that lines need is known.
+pub(crate) fn check_needs<K: KnownNames>(
     alloc: Global,
     known: &K,
-    values: &FirstValues<'_>,
+    lines: &Lines<'_>,
 ) -> Result<(), LineFault>
-    ensures passed { OnOk result (bad_among (K.has known.now) values.now ≡ None) }
-    ensures err { IfErr result (λ fault. (fault ≡ LineFault.Memory) ⊎ (option_map LineFault.BadLine (bad_among (K.has known.now) values.now) ≡ Some fault)) }
+    requires { All (λ m. begins_line m.0 m.1.1 ≡ true) lines.now }
+    ensures passed { OnOk result (bad_among (K.has known.now) lines.now ≡ None) }
+    ensures err { IfErr result (λ fault. (fault ≡ LineFault.Memory) ⊎ (option_map LineFault.BadLine (bad_among (K.has known.now) lines.now) ≡ Some fault)) }
 {
     let mut paths = GoodTexts::new(alloc)?;
     let mut lists = GoodTexts::new(alloc)?;
     let mut buffer = Vec::new(alloc);
-    for place in 0..values.len() {
-        let name = values.key(place);
-        let line = values.text(place);
-        if !is_line(&mut paths, &mut lists, &mut buffer, known, name, line)? {
+    for place in 0..lines.len() {
+        let needs = split_at_byte(lines.text(place), b':').1;
+        if !are_found_good(&mut paths, &mut lists, &mut buffer, known, needs)? {
             return Err(LineFault::BadLine {
-                name: Name::from_slice(alloc, name)?,
+                name: Name::from_slice(alloc, lines.name(place))?,
             });
         }
     }
@@ -103,11 +104,18 @@ fn is_line<'a, K: KnownNames>(
     ensures paths { OnOk result (AreKept (is_good (K.has known.now)) paths.new.slots.items) }
     ensures lists { OnOk result (AreKept (are_good_needs (K.has known.now)) lists.new.slots.items) }
 {
-    let (own, needs) = split_at_byte(line, b':');
-    if !is_front(line, own) || !names_module(own, name) {
+    if !begins_line(line, name) {
         return Ok(false);
     }
-    are_found_good(paths, lists, buffer, known, needs)
+    are_found_good(paths, lists, buffer, known, split_at_byte(line, b':').1)
+}
+
+/// Returns whether a text begins as the dependency line of the module of this name does.
+pub(crate) fn begins_line(line: &[u8], name: &[u8]) -> bool
+    ensures { result ≡ begins_line name.now line.now }
+{
+    let own = split_at_byte(line, b':').0;
+    is_front(line, own) && names_module(own, name)
 }
 
 /// Returns whether what a line has before its first `:` is a path and isn't the whole line.

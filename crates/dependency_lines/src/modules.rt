@@ -1,19 +1,16 @@
 // The modules of modules.dep.bin, in the order of the tree.
-ghost use Rattle.std.specs.Prelude.{◌≡◌, ◌<◌, ◌⊎◌, Some, None, length, IfOk, IfErr, OnOk, option_map};
-ghost use Rattle.std.specs.FinMap.{entries};
+ghost use Rattle.std.specs.Prelude.{◌≡◌, ◌<◌, ◌⊎◌, All, Some, None, length, IfOk, IfErr, OnOk, option_map};
 ghost use Rattle.index_format.specs.Map.{KeyValues};
-ghost use Rattle.index_read.specs.Firsts.{firsts_of};
 ghost use Rattle.name_table.specs.NameTable.{place_of as place_of_spec};
-ghost use Rattle.dependency_lines.specs.Modules.{bad_name, by_number, line_at, line_places, module_at, modules_of, name_at, path_at, place_of, places_of};
-ghost use Rattle.dependency_lines.specs.Places.{AreFirst};
-ghost use Rattle.dependency_lines.specs.Tables.{module_of, listed_modules, IsNamed};
+ghost use Rattle.dependency_lines.specs.Modules.{bad_name, by_number, first_values, line_at, line_places, modules_of, name_at, path_at, place_of, places_of};
+ghost use Rattle.dependency_lines.specs.Tables.{NamesRise, at_places, IsNamed};
 
 use crate::fault::LineFault;
-use crate::line::{KnownNames, check_lines};
-use crate::listed::{Line, lines_of};
-use crate::order::{names_rise, number_of, places_by_number, sorted};
+use crate::line::{KnownNames, check_needs};
+use crate::named_lines::Lines;
+use crate::order::{number_of, places_by_number, sorted_places};
 use crate::places::{push_needed, push_place};
-use index_read::FirstValues;
+use crate::read::DependencyLines;
 use km_names::{Name, split_at_byte};
 use name_table::NameTable;
 use std::alloc::{AllocError, Global};
@@ -24,42 +21,42 @@ use std::marker::Model;
 /// dependency line.
 #[derive(Drop)]
 pub struct Modules<'a> {
-    lines: Vec<Line<'a>>,
+    lines: &'a Lines<'a>,
     /// Where the line of the module at each place is.
     places: Vec<usize>,
-    /// The places of names. There is no table if the names of the lines rise and the numbers of
-    /// modules are their places: then a name is searched for among the lines.
+    /// The places of names. There is no table if the numbers of modules are their places: then a
+    /// name is searched for among the lines.
     names: Option<NameTable<'a>>,
 }
 
 impl<'a> Model for Modules<'a> {
     ghost use Rattle.std.specs.Prelude.{List};
     ghost use Rattle.index_format.specs.Listing.{KeyValue};
-    ghost use Rattle.dependency_lines.specs.Tables.{listed_modules, at_places};
+    ghost use Rattle.dependency_lines.specs.Tables.{at_places};
     ghost use Rattle.dependency_lines.specs.Places.{IsKept};
 
     ghost Value = { List KeyValue };
 
-    ghost view = { λ m. at_places (listed_modules m.lines.items) m.places.items };
+    ghost view = { λ m. at_places m.lines.now m.places.items };
 
-    ghost invariant = { λ m. IsKept m.lines.items m.places.items m.names };
+    ghost invariant = { λ m. IsKept m.lines.now m.places.items m.names };
 }
 
 impl<'a> Modules<'a> {
-    /// Returns the modules of the index that has these first values. modules.dep(5).
+    /// Returns the modules of the index that has these lines. modules.dep(5).
     ///
     /// # Errors
     ///
     /// `BadLine` exactly if a value isn't the dependency line of its module over names that the
     /// index has. Or `Memory`.
-    pub fn new(alloc: Global, values: &'a FirstValues<'_>) -> Result<Modules<'a>, LineFault>
-        ensures modules { IfOk result (λ modules. (dep : KeyValues) → values.now ≡ firsts_of (entries dep) → modules ≡ modules_of dep) }
-        ensures passed { OnOk result ((dep : KeyValues) → values.now ≡ firsts_of (entries dep) → bad_name dep ≡ None) }
-        ensures err { IfErr result (λ fault. (fault ≡ LineFault.Memory) ⊎ ((dep : KeyValues) → values.now ≡ firsts_of (entries dep) → option_map LineFault.BadLine (bad_name dep) ≡ Some fault)) }
+    pub fn new(alloc: Global, lines: &'a DependencyLines<'_>) -> Result<Modules<'a>, LineFault>
+        ensures modules { IfOk result (λ modules. (dep : KeyValues) → lines.now ≡ first_values dep → modules ≡ modules_of dep) }
+        ensures passed { OnOk result ((dep : KeyValues) → lines.now ≡ first_values dep → bad_name dep ≡ None) }
+        ensures err { IfErr result (λ fault. (fault ≡ LineFault.Memory) ⊎ ((dep : KeyValues) → lines.now ≡ first_values dep → option_map LineFault.BadLine (bad_name dep) ≡ Some fault)) }
     {
-        let lines = lines_of(alloc, values)?;
-        let modules = numbered(alloc, lines)?;
-        check_lines(alloc, &modules, values)?;
+        let kept = lines.lines();
+        let modules = numbered(alloc, kept)?;
+        check_needs(alloc, &modules, kept)?;
         Ok(modules)
     }
 
@@ -76,16 +73,8 @@ impl<'a> Modules<'a> {
     {
         match &self.names {
             Some(names) => place_in(names, name),
-            None => number_of(&self.lines, name),
+            None => number_of(self.lines, name),
         }
-    }
-
-    /// Returns the module at a place.
-    fn at(&self, place: usize) -> Line<'a>
-        requires { place < length self.now }
-        ensures { module_of result ≡ module_at self.now place }
-    {
-        self.lines[self.places[place]]
     }
 
     /// Returns the name of the module at a place.
@@ -93,7 +82,7 @@ impl<'a> Modules<'a> {
         requires { place < length self.now }
         ensures { result.now ≡ name_at self.now place }
     {
-        self.at(place).name
+        self.lines.name(self.places[place])
     }
 
     /// Returns the dependency line of the module at a place.
@@ -101,7 +90,7 @@ impl<'a> Modules<'a> {
         requires { place < length self.now }
         ensures { result.now ≡ line_at self.now place }
     {
-        self.at(place).text
+        self.lines.text(self.places[place])
     }
 
     /// Returns the path of the module at a place, the first of its dependency line.
@@ -136,28 +125,26 @@ impl<'a> Modules<'a> {
 }
 
 /// Returns modules by their numbers.
-fn numbered<'a>(alloc: Global, lines: Vec<Line<'a>>) -> Result<Modules<'a>, AllocError>
-    ensures { IfOk result (λ modules. modules ≡ by_number (listed_modules lines.entry.items)) }
+fn numbered<'a>(alloc: Global, lines: &'a Lines<'a>) -> Result<Modules<'a>, AllocError>
+    requires { NamesRise lines.now }
+    ensures { IfOk result (λ modules. modules ≡ by_number lines.now) }
 {
-    if names_rise(&lines) {
-        if let Some(places) = places_by_number(alloc, &lines)? {
-            return Ok(Modules {
-                lines,
-                places,
-                names: None,
-            });
-        }
+    if let Some(places) = places_by_number(alloc, lines)? {
+        return Ok(Modules {
+            lines,
+            places,
+            names: None,
+        });
     }
-    with_table(alloc, &lines)
+    with_table(alloc, lines)
 }
 
 /// Returns modules by their numbers, with a table of their names.
-fn with_table<'a>(alloc: Global, lines: &[Line<'a>]) -> Result<Modules<'a>, AllocError>
-    ensures { IfOk result (λ modules. modules ≡ by_number (listed_modules lines.now)) }
+fn with_table<'a>(alloc: Global, lines: &'a Lines<'a>) -> Result<Modules<'a>, AllocError>
+    ensures { IfOk result (λ modules. modules ≡ by_number lines.now) }
 {
-    let lines = sorted(alloc, lines)?;
-    let names = table_of(alloc, &lines)?;
-    let places = first_places(alloc, lines.len())?;
+    let places = sorted_places(alloc, lines)?;
+    let names = table_of(alloc, lines, &places)?;
     Ok(Modules {
         lines,
         places,
@@ -165,27 +152,21 @@ fn with_table<'a>(alloc: Global, lines: &[Line<'a>]) -> Result<Modules<'a>, Allo
     })
 }
 
-/// Lists the first places.
-fn first_places(alloc: Global, count: usize) -> Result<Vec<usize>, AllocError>
-    ensures { IfOk result (λ places. AreFirst count places.items) }
+/// Returns the table of the names of modules at some places.
+fn table_of<'a>(
+    alloc: Global,
+    lines: &'a Lines<'a>,
+    places: &[usize],
+) -> Result<NameTable<'a>, AllocError>
+    requires { All (λ place. place < length lines.now) places.now }
+    ensures { IfOk result (λ names. IsNamed names (at_places lines.now places.now)) }
 {
-    let mut places = Vec::with_capacity(alloc, count)?;
-    for place in 0..count {
-        places.push(place)?;
-    }
-    Ok(places)
-}
-
-/// Returns the table of the names of modules.
-fn table_of<'a>(alloc: Global, lines: &[Line<'a>]) -> Result<NameTable<'a>, AllocError>
-    ensures { IfOk result (λ names. IsNamed names (listed_modules lines.now)) }
-{
-    if lines.len() >= u32::MAX as usize {
+    if places.len() >= u32::MAX as usize {
         return Err(AllocError);
     }
-    let mut names = NameTable::with_capacity(alloc, lines.len())?;
-    for line in lines {
-        names.push(Some(line.name))?;
+    let mut names = NameTable::with_capacity(alloc, places.len())?;
+    for place in places {
+        names.push(Some(lines.name(*place)))?;
     }
     Ok(names)
 }

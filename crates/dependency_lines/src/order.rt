@@ -1,26 +1,39 @@
 // Modules by their numbers in the tree.
 ghost use Rattle.std.specs.Prelude.{◌≡◌, ◌<◌, true, All, IfOk, IfSome, length};
 ghost use Rattle.dependency_lines.specs.Modules.{by_number};
-ghost use Rattle.dependency_lines.specs.Places.{ArePlaces, IsNumberOf};
-ghost use Rattle.dependency_lines.specs.Tables.{NamesRise, listed_modules};
+ghost use Rattle.dependency_lines.specs.Places.{AreFirst, ArePlaces, IsNumberOf};
+ghost use Rattle.dependency_lines.specs.Tables.{NamesRise, at_places};
 
-use crate::listed::Line;
+use crate::named_lines::Lines;
 use std::alloc::{AllocError, Global};
+use std::cmp::Ordering;
 
-/// Sorts modules by their numbers.
-pub(crate) fn sorted<'a>(alloc: Global, lines: &[Line<'a>]) -> Result<Vec<Line<'a>>, AllocError>
-    ensures { IfOk result (λ sorted. listed_modules sorted.items ≡ by_number (listed_modules lines.now)) }
+/// Sorts the places of modules by the modules' numbers.
+pub(crate) fn sorted_places(alloc: Global, lines: &Lines<'_>) -> Result<Vec<usize>, AllocError>
+    ensures order { IfOk result (λ places. at_places lines.now places.items ≡ by_number lines.now) }
+    ensures inside { IfOk result (λ places. All (λ place. place < length lines.now) places.items) }
 {
-    let mut sorted = Vec::from_slice(alloc, lines)?;
-    sorted.sort_by_key(|line| line.number)?;
-    Ok(sorted)
+    let mut places = first_places(alloc, lines.len())?;
+    places.sort_by_key(|place| lines.number(*place))?;
+    Ok(places)
+}
+
+/// Lists the first places.
+fn first_places(alloc: Global, count: usize) -> Result<Vec<usize>, AllocError>
+    ensures { IfOk result (λ places. AreFirst count places.items) }
+{
+    let mut places = Vec::with_capacity(alloc, count)?;
+    for place in 0..count {
+        places.push(place)?;
+    }
+    Ok(places)
 }
 
 /// Finds where the module of each number is. Returns `None` unless the modules have the numbers from
 /// 0 on, each once, as depmod gives them.
 pub(crate) fn places_by_number(
     alloc: Global,
-    lines: &[Line<'_>],
+    lines: &Lines<'_>,
 ) -> Result<Option<Vec<usize>>, AllocError>
     ensures are { IfOk result (λ found. IfSome found (λ places. ArePlaces lines.now places.items (length lines.now))) }
     ensures inside { IfOk result (λ found. IfSome found (λ places. All (λ place. place < length lines.now) places.items)) }
@@ -36,13 +49,13 @@ pub(crate) fn places_by_number(
 }
 
 /// Finds the same. A number that no module has gets the count of modules.
-fn places_or_count(alloc: Global, lines: &[Line<'_>]) -> Result<Option<Vec<usize>>, AllocError>
+fn places_or_count(alloc: Global, lines: &Lines<'_>) -> Result<Option<Vec<usize>>, AllocError>
     ensures { IfOk result (λ found. IfSome found (λ places. ArePlaces lines.now places.items (length lines.now))) }
 {
     let count = lines.len();
     let mut places = vec![in alloc; count; count]?;
     for place in 0..count {
-        let number = lines[place].number as usize;
+        let number = lines.number(place) as usize;
         if number >= count || places[number] < count {
             return Ok(None);
         }
@@ -63,20 +76,20 @@ fn are_inside(places: &[usize], count: usize) -> bool
     true
 }
 
-/// Returns whether the names of modules rise, as the keys of an index do.
-pub(crate) fn names_rise(lines: &[Line<'_>]) -> bool
-    ensures { result ≡ true → NamesRise lines.now }
-{
-    lines.is_sorted_by(|a, b| a.name.cmp(&b.name).is_lt())
-}
-
 /// Finds the number of the module of this name, among modules whose names rise.
-pub(crate) fn number_of(lines: &[Line<'_>], name: &[u8]) -> Option<usize>
+pub(crate) fn number_of(lines: &Lines<'_>, name: &[u8]) -> Option<usize>
     requires { NamesRise lines.now }
     ensures { IsNumberOf lines.now name.now result }
 {
-    match lines.binary_search_by_key(&name, |line| line.name) {
-        Ok(place) => Some(lines[place].number as usize),
-        Err(_) => None,
+    let mut low = 0;
+    let mut high = lines.len();
+    while low < high {
+        let middle = low + (high - low) / 2;
+        match lines.name(middle).cmp(name) {
+            Ordering::Less => low = middle + 1,
+            Ordering::Greater => high = middle,
+            Ordering::Equal => return Some(lines.number(middle) as usize),
+        }
     }
+    None
 }

@@ -26,7 +26,7 @@ use Rattle.glob_match.proofs.MatchLemmas.{decides}
 use Rattle.index_read.proofs.ListingLemmas.{Chosen, none, taken, passed, bare, pairs_of}
 use Rattle.index_read.proofs.MatchLemmas.{values_in}
 use Rattle.index_read.specs.Firsts.{firsts_of}
-use Rattle.index_read.proofs.FirstLemmas.{first_of}
+use Rattle.index_read.specs.FirstSteps.{first_of}
 
 abbrev Entry : Type 0
 Entry = List ℕ × List Value

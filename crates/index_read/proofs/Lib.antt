@@ -11,5 +11,4 @@ pub mod MatchLemmas
 pub mod SortLemmas
 pub mod SelectLemmas
 pub mod PriorityLemmas
-pub mod FirstLemmas
 pub mod ContentsLemmas

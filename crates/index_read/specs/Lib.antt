@@ -5,3 +5,4 @@ pub mod Searches
 pub mod Contents
 pub mod Lookups
 pub mod Firsts
+pub mod FirstSteps

@@ -1,170 +1,159 @@
 // The first value of each key of an index.
-ghost use Rattle.std.specs.Prelude.{◌≡◌, ◌<◌, ◌++◌, ◌∷◌, [], length, map, take, IfOk, OnOk, slice_index_or};
+ghost use Rattle.std.specs.Prelude.{◌≡◌, ◌<◌, [], ◌∷◌, None, IfOk, IfSome, OnOk, OnErr, MatchOption};
 ghost use Rattle.std.specs.FinMap.{entries};
-ghost use Rattle.index_format.specs.Listing.{KeyValue};
-ghost use Rattle.index_format.specs.Node.{values};
+ghost use Rattle.index_format.specs.Check.{index_fault};
 ghost use Rattle.index_nodes.specs.Fields.{link_of, IsNodeOf};
 ghost use Rattle.index_read.specs.Contents.{contents};
 ghost use Rattle.index_read.specs.Firsts.{firsts_of};
-ghost use Rattle.index_read.specs.Walks.{walk_key, IsWalking};
+ghost use Rattle.index_read.specs.FirstSteps.{IsOnWay, IsReached, first_items, reached, still};
+ghost use Rattle.index_read.specs.Walks.{IsWalking};
 
 use crate::index::Index;
-use crate::room::Room;
 use crate::walk::KeyWalk;
 use index_nodes::{Node, Nodes, Steps};
 use std::alloc::{AllocError, Global};
 use std::marker::{Brand, Model};
-use std::mem::size_of;
 use std::sync::ledger::{Blank, Ledger};
 
-/// Where a key is in the buffer of keys, with its first value.
+/// The first value of a key.
 #[derive(Clone, Copy)]
-pub(crate) struct FirstValue<'a> {
-    start: usize,
-    end: usize,
-    priority: u32,
-    text: &'a [u8],
+pub struct FirstValue<'a> {
+    /// Its priority.
+    pub priority: u32,
+    /// Its text, without a NUL.
+    pub text: &'a [u8],
 }
 
-/// The keys of an index that have a value, each with its first one, by the bytes of the keys. The
-/// keys are in one buffer, and the texts are those of the index. Contracts see each key with its
-/// value.
+/// A walk over the keys of an index that have a value, by the bytes of the keys, each with its first
+/// value. Each node is read at most once, no text is copied, and of the keys only the last one is
+/// kept. Contracts see the key of the value that came last, and what is still to come.
 #[derive(Drop)]
-pub struct FirstValues<'a> {
-    keys: Vec<u8>,
-    values: Vec<FirstValue<'a>>,
+pub struct FirstWalk<'a> {
+    nodes: &'a Nodes,
+    walk: KeyWalk,
+    /// The root, until it is looked at.
+    root: Option<Node>,
 }
 
-impl<'a> Model for FirstValues<'a> {
-    ghost use Rattle.std.specs.Prelude.{List, All, map};
-    ghost use Rattle.index_format.specs.Listing.{KeyValue};
-    ghost use Rattle.index_read.specs.Firsts.{first_in, IsInside};
+impl<'a> Model for FirstWalk<'a> {
+    ghost use Rattle.index_read.specs.Firsts.{FirstsLeft};
+    ghost use Rattle.index_read.specs.FirstSteps.{IsOnWay, first_items, still};
 
-    ghost Value = { List KeyValue };
+    ghost Value = { FirstsLeft };
 
-    ghost view = { λ f. map (first_in f.keys.items) f.values.items };
+    ghost view = { λ w. record { key = w.walk.key.items; left = first_items w.nodes.now (still w.nodes.now w.walk w.root) } };
 
-    ghost invariant = { λ f. All (IsInside f.keys.items) f.values.items };
+    ghost invariant = { λ w. IsOnWay w.nodes.now w.walk w.root };
 }
 
-impl<'a> FirstValues<'a> {
-    /// Begins without keys.
-    fn new(alloc: Global) -> Self
-        ensures { result ≡ [] }
+impl<'a> FirstWalk<'a> {
+    /// Begins before the first key of an index that has a value.
+    ///
+    /// # Errors
+    ///
+    /// Out of memory.
+    pub fn start(alloc: Global, index: &'a Index) -> Result<FirstWalk<'a>, AllocError>
+        ensures { IfOk result (λ walk. walk.left ≡ firsts_of (entries (contents index.now.nodes))) }
     {
-        FirstValues {
-            keys: Vec::new(alloc),
-            values: Vec::new(alloc),
+        start_over::<Brand>(alloc, &index.nodes, Blank::new(1))
+    }
+
+    /// Goes on to the next key that has a value, and returns its first value. Returns `None` exactly
+    /// if there is none left.
+    ///
+    /// # Errors
+    ///
+    /// Out of memory. Then nothing is left.
+    pub fn next(&mut self) -> Result<Option<FirstValue<'a>>, AllocError>
+        ensures next { IfOk result (λ found. MatchOption found (self.old.left ≡ []) (λ first. self.old.left ≡ (self.new.key, (first.priority, first.text.now)) ∷ self.new.left)) }
+        ensures none { IfOk result (λ found. MatchOption found (self.new.left ≡ []) (λ first. Unit {0})) }
+        ensures over { OnErr result (self.new.left ≡ []) }
+    {
+        let nodes = self.nodes;
+        match next_over::<Brand>(nodes, &mut self.walk, &mut self.root, Blank::new(1)) {
+            Ok(Some(first)) => Ok(Some(first)),
+            Ok(None) => {
+                self.walk.stop();
+                self.root = None;
+                Ok(None)
+            }
+            Err(error) => {
+                self.walk.stop();
+                self.root = None;
+                Err(error)
+            }
         }
     }
 
-    /// Puts a key with its first value behind the others.
-    fn push(&mut self, key: &[u8], priority: u32, text: &'a [u8]) -> Result<(), AllocError>
-        ensures { OnOk result (self.new ≡ self.old ++ (key.now, (priority, text.now)) ∷ []) }
+    /// Returns the key of the value that came last.
+    pub fn key(&self) -> &[u8]
+        ensures { result.now ≡ self.now.key }
     {
-        let start = self.keys.len();
-        self.keys.extend_from_slice(key)?;
-        let end = self.keys.len();
-        self.values.push(FirstValue {
-            start,
-            end,
-            priority,
-            text,
-        })?;
-        Ok(())
-    }
-
-    /// Puts the key of the node that a walk reached last behind the others with its first value, if
-    /// it has one and there is room. Many keys may lead to one node, so the text counts though it
-    /// isn't copied: its end is looked for each time.
-    fn push_node(
-        &mut self,
-        nodes: &'a Nodes,
-        node: &Node,
-        walk: &mut KeyWalk,
-        room: &mut Room,
-    ) -> Result<(), AllocError>
-        requires node { IsNodeOf nodes.now node.now }
-        requires walking { IsWalking nodes.now walk.old }
-        ensures walking { OnOk result (IsWalking nodes.now walk.new) }
-        ensures levels { OnOk result (walk.new.levels.items ≡ walk.old.levels.items) }
-        ensures first { OnOk result (self.new ≡ self.old ++ map (λ v. (walk_key nodes.now walk.old, v)) (take 1 (values nodes.now (link_of node.now)))) }
-    {
-        let Some(place) = nodes.first_value(node) else {
-            return Ok(());
-        };
-        walk.write_key(nodes)?;
-        let key = walk.key.as_slice();
-        let text = nodes.text(&place);
-        room.take(size_of::<FirstValue<'_>>())?;
-        room.take(key.len())?;
-        room.take(text.len())?;
-        self.push(key, place.priority(), text)
-    }
-
-    /// Returns how many keys there are.
-    pub fn len(&self) -> usize
-        ensures { result ≡ length self.now }
-    {
-        self.values.len()
-    }
-
-    /// Returns the key at a place.
-    pub fn key(&self, place: usize) -> &[u8]
-        requires { place < length self.now }
-        ensures { (other : KeyValue) → result.now ≡ (slice_index_or self.now place other).0 }
-    {
-        let value = self.values[place];
-        &self.keys[value.start..value.end]
-    }
-
-    /// Returns the priority of the value at a place.
-    pub fn priority(&self, place: usize) -> u32
-        requires { place < length self.now }
-        ensures { (other : KeyValue) → result ≡ (slice_index_or self.now place other).1.0 }
-    {
-        self.values[place].priority
-    }
-
-    /// Returns the text of the value at a place.
-    pub fn text(&self, place: usize) -> &[u8]
-        requires { place < length self.now }
-        ensures { (other : KeyValue) → result.now ≡ (slice_index_or self.now place other).1.1 }
-    {
-        self.values[place].text
+        self.walk.key.as_slice()
     }
 }
 
-/// Lists the keys of an index that have a value, each with its first one. Each node is read at most
-/// once, and no text is copied.
-///
-/// # Errors
-///
-/// Out of memory, also if the list with its texts has more than 268,435,456 bytes.
-pub fn first_values(alloc: Global, index: &Index) -> Result<FirstValues<'_>, AllocError>
-    ensures { IfOk result (λ found. found ≡ firsts_of (entries (contents index.now.nodes))) }
-{
-    first_values_over::<Brand>(alloc, index, Blank::new(1))
-}
-
-fn first_values_over<L: Ledger>(
+fn start_over<'a, L: Ledger>(
     alloc: Global,
-    index: &Index,
+    nodes: &'a Nodes,
     blank: Blank,
-) -> Result<FirstValues<'_>, AllocError>
+) -> Result<FirstWalk<'a>, AllocError>
     requires ledger { blank.name ≡ L.name }
     requires parts { blank.parts ≡ L.parts }
     requires some { 0 < blank.parts }
-    ensures { IfOk result (λ found. found ≡ firsts_of (entries (contents index.now.nodes))) }
+    ensures { IfOk result (λ walk. walk.left ≡ firsts_of (entries (contents nodes.now))) }
 {
     let mut steps = Steps::<L>::new(blank);
-    let mut found = FirstValues::new(alloc);
-    let mut room = Room::new();
-    let (mut walk, root) = KeyWalk::start(alloc, &index.nodes, &mut steps)?;
-    let mut next = Some(root);
-    while let Some(node) = next {
-        found.push_node(&index.nodes, &node, &mut walk, &mut room)?;
-        next = walk.next(&index.nodes, &mut steps)?;
+    let (walk, root) = KeyWalk::start(alloc, nodes, &mut steps)?;
+    Ok(FirstWalk {
+        nodes,
+        walk,
+        root: Some(root),
+    })
+}
+
+/// Goes on to the next node that has a value, and writes its key.
+fn next_over<'a, L: Ledger>(
+    nodes: &'a Nodes,
+    walk: &mut KeyWalk,
+    root: &mut Option<Node>,
+    blank: Blank,
+) -> Result<Option<FirstValue<'a>>, AllocError>
+    requires ledger { blank.name ≡ L.name }
+    requires parts { blank.parts ≡ L.parts }
+    requires some { 0 < blank.parts }
+    requires way { IsOnWay nodes.now walk.old root.old }
+    ensures next { IfOk result (λ found. MatchOption found (first_items nodes.now (still nodes.now walk.old root.old) ≡ []) (λ first. first_items nodes.now (still nodes.now walk.old root.old) ≡ (walk.new.key.items, (first.priority, first.text.now)) ∷ first_items nodes.now (still nodes.now walk.new root.new))) }
+    ensures way { IfOk result (λ found. IfSome found (λ first. IsOnWay nodes.now walk.new root.new)) }
+{
+    let mut steps = Steps::<L>::new(blank);
+    while let Some(node) = go_on(nodes, walk, root, &mut steps)? {
+        if let Some(place) = nodes.first_value(&node) {
+            walk.write_key(nodes)?;
+            return Ok(Some(FirstValue {
+                priority: place.priority(),
+                text: nodes.text(&place),
+            }));
+        }
     }
-    Ok(found)
+    Ok(None)
+}
+
+/// Goes on to the root if it is still to be looked at, or else to the next node. Returns `None` if
+/// none is left.
+fn go_on<L: Ledger>(
+    nodes: &Nodes,
+    walk: &mut KeyWalk,
+    root: &mut Option<Node>,
+    steps: &mut Steps<L>,
+) -> Result<Option<Node>, AllocError>
+    requires way { IsOnWay nodes.now walk.old root.old }
+    ensures goes_on { IfOk result (λ found. reached nodes.now walk.new found ≡ still nodes.now walk.old root.old) }
+    ensures way { IfOk result (IsReached nodes.now walk.new) }
+    ensures root { OnOk result (root.new ≡ None) }
+{
+    if let Some(node) = root.take() {
+        return Ok(Some(node));
+    }
+    walk.next(nodes, steps)
 }

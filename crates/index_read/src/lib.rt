@@ -11,7 +11,7 @@
 //!
 //! A small file may have a map of any size. So the lookups in all keys count the bytes of the list
 //! that they answer, and past 268,435,456 they are out of memory. A listing writes a key only where
-//! it has a value.
+//! it has a value. A [`FirstWalk`] answers one key at a time, and has no limit.
 //!
 //! Many prefixes may share their last bytes. Once as many bytes were read as the file has, tables
 //! are made before a long prefix: where runs of `*` and of the items of a set end, and which ends of
@@ -19,7 +19,7 @@
 //! bytes of the text.
 //!
 //! Each node that is read is a step on the ledger that the caller gives; the lookups of [`plain`]
-//! and [`first_values`] count nothing. The crate builds on `index_nodes`, which reads the nodes, on
+//! and a [`FirstWalk`] count nothing. The crate builds on `index_nodes`, which reads the nodes, on
 //! `glob_match` for the patterns, and on `km_names` for bytes and lists. `IndexFault`, `Place` and
 //! `Steps` come from `index_nodes`.
 #![tactic(auto)]
@@ -34,7 +34,7 @@ mod search;
 mod value;
 mod walk;
 
-pub use first::{FirstValues, first_values};
+pub use first::{FirstValue, FirstWalk};
 pub use index::Index;
 pub use index_nodes::{IndexFault, Place, Steps};
 pub use value::{Pair, Pairs, Value, Values};

@@ -1,10 +1,9 @@
-ghost use Rattle.std.specs.Prelude.{◌≡◌, ◌+◌, ◌≤◌, ◌∷◌, ◌++◌, [], length, IfOk, OnOk, Some, None};
+ghost use Rattle.std.specs.Prelude.{◌≡◌, ℕ, List, ◌+◌, ◌≤◌, ◌∷◌, ◌++◌, [], length, IfOk, OnOk, Some, None};
 ghost use Rattle.index_format.specs.Check.{index_fault};
 ghost use Rattle.index_nodes.specs.Fields.{link_of, IsNodeOf};
 ghost use Rattle.index_read.specs.Keys.{all_items, piece};
 ghost use Rattle.index_read.specs.Walks.{walk_key, left, left_after, IsWritten, IsWalking, GoesOn, after_byte, level_of};
 
-use crate::room::Room;
 use index_nodes::{Node, Nodes, Steps};
 use std::alloc::{AllocError, Global};
 use std::sync::ledger::Ledger;
@@ -20,15 +19,14 @@ pub(crate) struct Level {
 
 /// A walk over all nodes in the order of their keys. It keeps the levels that it is on. The key of
 /// a node is written only if it is asked for. What is written goes on from the levels that it has
-/// in common with the key that was written before.
+/// in common with the key that was written before. Nodes on one way down that have children have
+/// no bytes of their prefixes in common, so a key is no longer than thrice the file.
 #[derive(Drop)]
 pub(crate) struct KeyWalk {
     /// The key of the first levels, as many as are written.
     pub(crate) key: Vec<u8>,
     pub(crate) written: usize,
     pub(crate) levels: Vec<Level>,
-    /// For the bytes that are written. They are no more than the keys that are asked for have.
-    pub(crate) room: Room,
 }
 
 impl KeyWalk {
@@ -55,7 +53,6 @@ impl KeyWalk {
             key: Vec::new(alloc),
             written: 0,
             levels,
-            room: Room::new(),
         };
         Ok((walk, node))
     }
@@ -95,6 +92,16 @@ impl KeyWalk {
         }
     }
 
+    /// Ends the walk, so that no node is left.
+    pub(crate) fn stop(&mut self)
+        ensures levels { self.new.levels.items ≡ [] }
+        ensures walking { (b : List ℕ) → IsWalking b self.new }
+    {
+        self.key.clear();
+        self.written = 0;
+        self.levels.clear();
+    }
+
     /// Goes on to the next node, which is one step. Returns `None` if none is left.
     pub(crate) fn next<L: Ledger>(
         &mut self,
@@ -125,7 +132,6 @@ impl KeyWalk {
         ensures levels { OnOk result (self.new.levels ≡ self.old.levels) }
     {
         let prefix = nodes.prefix(&level.node);
-        self.room.take(prefix.len() + 1)?;
         if let Some(byte) = level.byte {
             self.key.push(byte)?;
         }
