@@ -33,6 +33,7 @@ mod places;
 mod symbol;
 mod tables;
 mod view;
+mod widths;
 
 pub use elf_sections::{NAME_LIMIT, Section, SectionFault, SectionRef, Sections};
 pub use fault::ObjectFault;
