@@ -10,7 +10,7 @@
 //! A file may come from anywhere, and names may share their bytes in it, as may tables of
 //! relocations. So what may overlap is added up before it is kept. The names of the sections have
 //! at most [`NAME_LIMIT`] bytes together, and so have the names of the symbols. The tables have no
-//! more than a file may have. Otherwise the answer is out of memory, before more than that was
+//! more than four times as many as a file may have. Otherwise the answer is out of memory, before more than that was
 //! searched or copied. Time is linear in the file and those bytes, except for sorting places that
 //! aren't in order.
 //!
@@ -33,6 +33,7 @@ mod places;
 mod symbol;
 mod tables;
 mod view;
+mod widths;
 
 pub use elf_sections::{NAME_LIMIT, Section, SectionFault, SectionRef, Sections};
 pub use fault::ObjectFault;

@@ -70,7 +70,7 @@ impl Object {
     /// The first test of the file that fails, or `Memory`. `Memory` also comes if the names of the
     /// sections together, or the names of the symbols together, have more than
     /// [`NAME_LIMIT`](crate::NAME_LIMIT) bytes. It also comes if the tables of relocations share
-    /// their bytes and together have more than a file may have.
+    /// their bytes and together have more than four times as many as a file may have.
     pub fn read(alloc: Global, bytes: Blob) -> Result<Object, ObjectFault>
         requires { length bytes ≤ file_limit }
         ensures object { IfOk result (λ o. o ≡ file_object bytes) }

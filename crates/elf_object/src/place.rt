@@ -9,8 +9,9 @@ ghost use Rattle.elf_object.specs.Places.{is_bad_place, lies_unkept, place_in, p
 ghost use Rattle.elf_sections.specs.Sections.{owned_section};
 ghost use Rattle.elf_object.specs.Symbols.{owned_symbol};
 
+use crate::widths::{UNKNOWN, width_or_unknown};
 use crate::{ObjectFault, SymbolRef};
-use elf_format::{R_X86_64_NONE, RELA_SIZE, SHN_UNDEF, SHT_NOBITS, width};
+use elf_format::{R_X86_64_NONE, RELA_SIZE, SHN_UNDEF, SHT_NOBITS};
 use elf_sections::SectionRef;
 use km_names::le_u64_at;
 use std::alloc::{AllocError, Global};
@@ -120,13 +121,14 @@ pub(crate) fn check_place(unkept: &[bool], room: u64, place: &RelaPlace) -> Resu
     if unkept.len() <= place.symbol as usize {
         return Err(ObjectFault::BadRela { section, entry });
     }
-    let Some(size) = width(place.kind) else {
+    let size = width_or_unknown(place.kind);
+    if size == UNKNOWN {
         return Err(ObjectFault::UnknownType {
             section,
             entry,
             kind: place.kind,
         });
-    };
+    }
     let unkept = unkept[place.symbol as usize];
     if place.kind != R_X86_64_NONE && is_bad_place(unkept, room, place, size) {
         return Err(ObjectFault::BadRela { section, entry });

@@ -21,9 +21,9 @@ use elf_sections::SectionTable;
 use km_names::{FILE_LIMIT, List};
 use std::alloc::{AllocError, Global};
 
-/// The greatest total size of the tables of relocations, in bytes: as many as a file may have. Only
-/// tables that share their bytes have more.
-const TABLE_LIMIT: usize = FILE_LIMIT;
+/// The greatest total size of the tables of relocations, in bytes: four times as many as a file may
+/// have. Only tables that share their bytes have more.
+const TABLE_LIMIT: usize = 4 * FILE_LIMIT;
 
 /// Returns whether an alignment is a power of two of at most a page, or 0.
 #[tactic(auto, unfolding(crate::specs::Places::is_alignment))]

@@ -14,9 +14,10 @@ use std::simd::prelude::*;
 /// How many bytes are looked at together before a search. Nearly all names are shorter.
 const NEAR: usize = 32;
 
-/// The greatest total size, in bytes, of the names of a file's sections, and of the names of its
-/// symbols: four times as many as a file may have. Names may share their bytes, so a small file can
-/// ask for any number. The names of a real module together have less than a tenth of this.
+/// The greatest total size, in bytes, of the names of a file's sections, of the names of its
+/// symbols, and of the namespaces of its exports: four times as many as a file may have. Names may
+/// share their bytes, so a small file can ask for any number. The names of a real module together
+/// have less than a tenth of this.
 pub const NAME_LIMIT: usize = 4 * FILE_LIMIT;
 
 /// Returns which of the bytes are NUL, with a bit for each.

@@ -12,8 +12,8 @@ use crate::role::{Role, stated_name};
 use crate::tables::{SymbolTables, symbol_of};
 use crate::{Export, Exports};
 use elf_format::SHN_ABS;
-use elf_object::{ObjectView, SymbolRef};
-use km_names::{FILE_LIMIT, Name, le_u32_at, string_at};
+use elf_object::{NAME_LIMIT, ObjectView, SymbolRef};
+use km_names::{Name, le_u32_at, string_at};
 use std::alloc::{AllocError, Global};
 
 /// Returns the version that a symbol gives. If the symbol is absolute, it is its value. Otherwise
@@ -116,7 +116,7 @@ fn read_export(
 
 /// Returns the exports, in the order of the symbols that state them. Namespaces may share their
 /// bytes in the file, so a small file can ask for any number of them. If together they would have
-/// more bytes than a file may have, the answer is out of memory.
+/// more than `NAME_LIMIT` bytes, the answer is out of memory.
 #[tactic(auto, unfolding(crate::specs::Exports::exports_of))]
 fn read_exports(
     alloc: Global,
@@ -127,7 +127,7 @@ fn read_exports(
     ensures { IfOk result (λ exports. exports ≡ exports_of object.now) }
 {
     let mut exports = Exports::new(alloc);
-    let mut left = FILE_LIMIT;
+    let mut left = NAME_LIMIT;
     for i in 0..object.symbol_count() {
         if let Some(name) = stated_name(Role::Export, object.symbol(i)) {
             let export = read_export(alloc, object, tables, name, left)?;
