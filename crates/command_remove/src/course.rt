@@ -1,7 +1,7 @@
 ghost use Rattle.std.specs.Prelude.{◌≡◌, List, length};
 ghost use Rattle.km_course.specs.FollowsOn.{FollowsOnFilesAndOut, FollowsOnOut};
 ghost use Rattle.module_facts.specs.declared.module.Module.{Module};
-ghost use Rattle.provider_rel.specs.declared.kernel.Kernel.{Kernel};
+ghost use Rattle.kernel_exports.specs.declared.kernel.Kernel.{Kernel};
 ghost use Rattle.module_region.specs.declared.region.Region.{Region};
 ghost use Rattle.model_loader.specs.Machine.{new_machine};
 ghost use Rattle.laws_closed_plans.specs.Binding.{IsLoaded};

@@ -3,10 +3,11 @@ use Rattle.std.proofs.Common.{◌≡◌, ◌∙◌, ℕ, List, [], ◌∷◌, ma
 use Rattle.std.specs.Prelude.{Ok}
 use Rattle.km_names.specs.Statements.{unless_fault}
 use Rattle.symbol_binding.specs.Symbols.{Kernel as SeenKernel}
-use Rattle.provider_rel.specs.declared.kernel.KernelExport.{KernelExport}
-use Rattle.provider_rel.specs.KernelTable.{exports_with_addresses, seen_export, with_addresses}
-use Rattle.provider_rel.specs.MapLines.{MapSymbol, map_line}
-use Rattle.provider_rel.specs.TableLines.{stated, refused_line}
+use Rattle.kernel_exports.specs.declared.kernel.KernelExport.{KernelExport}
+use Rattle.kernel_exports.specs.KernelTable.{exports_with_addresses, with_addresses}
+use Rattle.provider_rel.specs.Faces.{seen_export}
+use Rattle.kernel_exports.specs.MapLines.{MapSymbol, map_line}
+use Rattle.kernel_exports.specs.TableLines.{stated, refused_line}
 use Rattle.laws_closed_plans.specs.Binding.{AddressesAreUnseen}
 
 seen-same : (symbols : List MapSymbol) (es : List KernelExport) → map seen_export (with_addresses symbols es) ≡ map seen_export es

@@ -11,8 +11,8 @@ use Rattle.module_facts.specs.declared.facts.Facts.{Facts}
 use Rattle.module_facts.specs.declared.module.Module.{Module}
 use Rattle.symbol_binding.specs.Symbols.{Module as SeenModule}
 use Rattle.symbol_binding.specs.Unmet.{unmet}
-use Rattle.provider_rel.specs.declared.kernel.Kernel.{Kernel}
-use Rattle.provider_rel.specs.declared.kernel.KernelExport.{KernelExport}
+use Rattle.kernel_exports.specs.declared.kernel.Kernel.{Kernel}
+use Rattle.kernel_exports.specs.declared.kernel.KernelExport.{KernelExport}
 use Rattle.provider_rel.specs.Faces.{face_of, module_of, modules_of, kernel_of}
 use Rattle.provider_rel.specs.Relation.{uses_at}
 use Rattle.module_region.specs.declared.region.Region.{Region}

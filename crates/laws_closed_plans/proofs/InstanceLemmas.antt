@@ -15,7 +15,7 @@ use Rattle.name_table.specs.FirstSeen.{is_among}
 use Rattle.symbol_binding.specs.Symbols.{Module, Kernel as SeenKernel}
 use Rattle.symbol_binding.specs.Needs.{agree}
 use Rattle.symbol_binding.specs.Unmet.{unmet}
-use Rattle.provider_rel.specs.declared.kernel.Kernel.{Kernel}
+use Rattle.kernel_exports.specs.declared.kernel.Kernel.{Kernel}
 use Rattle.provider_rel.specs.Faces.{module_of, modules_of, kernel_of}
 use Rattle.provider_rel.specs.Relation.{name_at, uses_at}
 use Rattle.laws_closed_plans.specs.Members.{Member}

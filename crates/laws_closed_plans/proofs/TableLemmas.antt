@@ -12,9 +12,8 @@ use Rattle.symbol_binding.specs.Symbols.{Export, Need, Face, Kernel}
 use Rattle.symbol_binding.specs.Provider.{Owner, ByKernel, ByModule, Provided, export_under, of_one, face_exports}
 use Rattle.symbol_binding.specs.Needs.{NeedTest, is_missing, is_hidden, is_other_version, is_barred}
 use Rattle.symbol_binding.specs.Unmet.{vmlinux}
-use Rattle.provider_rel.specs.declared.kernel.KernelExport.{KernelExport}
-use Rattle.provider_rel.specs.KernelTable.{seen_export}
-use Rattle.provider_rel.specs.Faces.{kernel_of, export_of_facts}
+use Rattle.kernel_exports.specs.declared.kernel.KernelExport.{KernelExport}
+use Rattle.provider_rel.specs.Faces.{kernel_of, export_of_facts, seen_export}
 use Rattle.model_loader.specs.declared.entry.PlacedExport.{PlacedExport}
 use Rattle.model_loader.specs.declared.entry.Entry.{Entry}
 use Rattle.model_loader.specs.declared.standing.Standing.{Standing}

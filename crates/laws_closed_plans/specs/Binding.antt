@@ -5,8 +5,8 @@ use Rattle.relation_order.specs.Cycle.{cycle}
 use Rattle.module_facts.specs.declared.facts.Facts.{Facts}
 use Rattle.module_facts.specs.declared.module.Module.{Module}
 use Rattle.symbol_binding.specs.Unmet.{unmet}
-use Rattle.provider_rel.specs.declared.kernel.Kernel.{Kernel}
-use Rattle.provider_rel.specs.KernelTable.{exports_with_addresses}
+use Rattle.kernel_exports.specs.declared.kernel.Kernel.{Kernel}
+use Rattle.kernel_exports.specs.KernelTable.{exports_with_addresses}
 use Rattle.provider_rel.specs.Faces.{modules_of, kernel_of}
 use Rattle.provider_rel.specs.Relation.{uses_at}
 use Rattle.module_region.specs.declared.region.Region.{Region}

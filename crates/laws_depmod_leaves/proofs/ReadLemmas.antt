@@ -29,9 +29,9 @@ use Rattle.module_facts.proofs.SoundLemmas.{IsSound-passed}
 use Rattle.mod_tree.specs.Tree.{is_module_path, tree_of}
 use Rattle.symbol_binding.specs.Symbols.{Kernel as SeenKernel, Module}
 use Rattle.symbol_binding.specs.Unmet.{doubles}
-use Rattle.provider_rel.specs.declared.kernel.KernelExport.{KernelExport}
+use Rattle.kernel_exports.specs.declared.kernel.KernelExport.{KernelExport}
 use Rattle.provider_rel.specs.Faces.{module_of, modules_of}
-use Rattle.provider_rel.specs.KernelTable.{IsTable, exports_of_map, exports_of_symvers}
+use Rattle.kernel_exports.specs.KernelTable.{IsTable, exports_of_map, exports_of_symvers}
 use Rattle.provider_rel.specs.Relation.{dependencies, deps_fault, doubles_fault, name_at, relation_fault, uses_at}
 use Rattle.provider_rel.specs.Tree.{IsTree}
 use Rattle.stages_files.specs.KernelTable.{Table, reads_kernel, seen_kernel, table_of, table_outcome, unknown_table}

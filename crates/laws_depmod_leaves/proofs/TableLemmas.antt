@@ -6,10 +6,10 @@ use Rattle.km_outside.specs.Contents.{Contents}
 use Rattle.km_course.specs.Course.{Outcome, after, ◌>>=◌, given, reads}
 use Rattle.km_course.specs.Course.Outcome.{value, end}
 use Rattle.km_course.specs.declared.end.End.TheVariants.{NoFile}
-use Rattle.provider_rel.specs.declared.kernel.Kernel.{Kernel}
-use Rattle.provider_rel.specs.declared.kernel.KernelExport.{KernelExport}
+use Rattle.kernel_exports.specs.declared.kernel.Kernel.{Kernel}
+use Rattle.kernel_exports.specs.declared.kernel.KernelExport.{KernelExport}
 use Rattle.provider_rel.specs.Faces.{kernel_of}
-use Rattle.provider_rel.specs.KernelTable.{exports_of_map, exports_of_symvers, exports_with_addresses}
+use Rattle.kernel_exports.specs.KernelTable.{exports_of_map, exports_of_symvers, exports_with_addresses}
 use Rattle.module_region.specs.declared.region.Region.{Region}
 use Rattle.model_loader.specs.Machine.{Machine, new_machine}
 use Rattle.stages_files.specs.KernelTable.{Table, reads_kernel, reads_map, reads_symvers, table_of, table_outcome}

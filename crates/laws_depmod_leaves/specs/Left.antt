@@ -4,7 +4,7 @@ use Rattle.std.specs.FinMap.{insert}
 use Rattle.km_names.specs.Path.{path_below}
 use Rattle.km_outside.specs.Contents.{Contents}
 use Rattle.kmod_words.specs.declared.depmod.DepmodWords.{DepmodWords}
-use Rattle.provider_rel.specs.declared.kernel.Kernel.{Kernel}
+use Rattle.kernel_exports.specs.declared.kernel.Kernel.{Kernel}
 use Rattle.stages_files.specs.KernelTable.{table_of}
 use Rattle.command_depmod.specs.declared.files.DepmodFile.{DepmodFile}
 use Rattle.command_depmod.specs.declared.files.DepmodFiles.{DepmodFiles}

@@ -5,7 +5,7 @@ use Rattle.std.specs.FinMap.{get}
 use Rattle.km_outside.specs.Contents.{Contents}
 use Rattle.kmod_words.specs.declared.depmod.DepmodWords.{DepmodWords}
 use Rattle.kmod_words.specs.declared.modprobe.ModprobeWords.{ModprobeWords}
-use Rattle.provider_rel.specs.declared.kernel.Kernel.{Kernel}
+use Rattle.kernel_exports.specs.declared.kernel.Kernel.{Kernel}
 use Rattle.module_region.specs.declared.region.Region.{Region}
 use Rattle.stages_files.specs.KernelModules.{modules_folder}
 use Rattle.command_depmod.specs.Depmod.{modules_of_request}

@@ -12,8 +12,8 @@ use Rattle.km_course.specs.declared.end.End.TheVariants.{NoFile, TooLarge}
 use Rattle.index_format.specs.Check.{index_fault}
 use Rattle.modprobe_conf.specs.Rules.{rules_of}
 use Rattle.unmet_file.specs.Unmet.{unmet_of}
-use Rattle.provider_rel.specs.declared.kernel.Kernel.{Kernel}
-use Rattle.provider_rel.specs.KernelTable.{exports_of_map}
+use Rattle.kernel_exports.specs.declared.kernel.Kernel.{Kernel}
+use Rattle.kernel_exports.specs.KernelTable.{exports_of_map}
 use Rattle.depmod_core.specs.Files.{content}
 use Rattle.depmod_core.specs.declared.file.OutputFile.TheVariants.{Dep, DepBin, Alias, AliasBin, Softdep, Symbols, SymbolsBin, BuiltinBin, Unmet}
 use Rattle.depmod_core.specs.declared.files.OutputFiles.{OutputFiles}

@@ -11,7 +11,7 @@ use Rattle.km_course.specs.Course.Outcome.{value, end}
 use Rattle.km_course.specs.declared.end.End.TheVariants.{NoFile}
 use Rattle.mod_tree.specs.Search.{search_of}
 use Rattle.mod_tree.specs.Tree.{listing_cmp, name_count, tree_of, tree_paths}
-use Rattle.provider_rel.specs.KernelTable.{exports_of_map}
+use Rattle.kernel_exports.specs.KernelTable.{exports_of_map}
 use Rattle.stages_files.specs.Configuration.{reads_configuration, stated_outcome}
 use Rattle.stages_files.specs.KernelTable.{reads_kernel, table_outcome}
 use Rattle.stages_files.specs.declared.configuration.Tool.TheVariants.{Depmod}

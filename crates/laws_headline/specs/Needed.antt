@@ -8,7 +8,7 @@ use Rattle.km_course.specs.declared.refusal.Refusal.TheVariants.{InstallChosen}
 use Rattle.modprobe_conf.specs.declared.rule.Rule.{Rule}
 use Rattle.modprobe_conf.specs.declared.rule.Rule.TheVariants as rules
 use Rattle.module_facts.specs.Faults.{fact_fault}
-use Rattle.provider_rel.specs.declared.kernel.KernelExport.{KernelExport}
+use Rattle.kernel_exports.specs.declared.kernel.KernelExport.{KernelExport}
 use Rattle.model_loader.specs.declared.fault.LoadFault.TheVariants.{ExportTaken, MissingSymbol}
 use Rattle.model_loader.specs.declared.fault.MachineFault.TheVariants.{KernelWithoutAddress}
 use Rattle.module_region.specs.declared.region.Region.{Region}

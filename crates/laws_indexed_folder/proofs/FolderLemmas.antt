@@ -11,7 +11,7 @@ use Rattle.module_facts.specs.Facts.{facts_of}
 use Rattle.module_facts.specs.Faults.{fact_fault}
 use Rattle.symbol_binding.specs.Unmet.{unmet}
 use Rattle.symbol_binding.specs.declared.unbound.Unbound.{Unbound}
-use Rattle.provider_rel.specs.declared.kernel.Kernel.{Kernel}
+use Rattle.kernel_exports.specs.declared.kernel.Kernel.{Kernel}
 use Rattle.provider_rel.specs.Faces.{modules_of, kernel_of}
 use Rattle.module_region.specs.declared.region.Region.{Region}
 use Rattle.model_loader.specs.Machine.{new_machine}

@@ -16,7 +16,7 @@ use Rattle.relation_order.specs.Cycle.{cycle}
 use Rattle.symbol_binding.specs.Symbols.{Module, Kernel as SeenKernel}
 use Rattle.symbol_binding.specs.Unmet.{unmet}
 use Rattle.unmet_file.specs.Unmet.{file_text, unmet_of}
-use Rattle.provider_rel.specs.declared.kernel.Kernel.{Kernel}
+use Rattle.kernel_exports.specs.declared.kernel.Kernel.{Kernel}
 use Rattle.provider_rel.specs.Faces.{module_of, modules_of, kernel_of}
 use Rattle.provider_rel.specs.Tree.{IsTreeModule}
 use Rattle.provider_rel.specs.Relation.{cycle_fault, dependencies, relation_fault, uses_at}

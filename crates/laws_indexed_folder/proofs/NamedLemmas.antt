@@ -24,7 +24,7 @@ use Rattle.relation_order.proofs.Lists.{range-has}
 use Rattle.relation_order.proofs.LeastLaws.{least-members}
 use Rattle.relation_order.proofs.ReachedLaws.{reached-only}
 use Rattle.module_facts.specs.declared.facts.Facts.{Facts}
-use Rattle.provider_rel.specs.declared.kernel.Kernel.{Kernel}
+use Rattle.kernel_exports.specs.declared.kernel.Kernel.{Kernel}
 use Rattle.provider_rel.specs.Faces.{modules_of, kernel_of}
 use Rattle.provider_rel.specs.Relation.{dependencies, uses_at}
 use Rattle.depmod_core.specs.Dependencies.{dep_map, dependency_line, path_at}

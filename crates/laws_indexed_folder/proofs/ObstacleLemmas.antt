@@ -11,7 +11,7 @@ use Rattle.index_format.specs.Listing.{KeyValue}
 use Rattle.mod_tree.specs.DependencyLine.{line_needs, own_path}
 use Rattle.module_facts.specs.declared.facts.Facts.{Facts}
 use Rattle.symbol_binding.specs.declared.unbound.Unbound.{Unbound}
-use Rattle.provider_rel.specs.declared.kernel.Kernel.{Kernel}
+use Rattle.kernel_exports.specs.declared.kernel.Kernel.{Kernel}
 use Rattle.name_lookup.specs.Maps.{has_value}
 use Rattle.name_lookup.specs.declared.found.Found.{Found}
 use Rattle.plan_builder.specs.Members.{found_for}

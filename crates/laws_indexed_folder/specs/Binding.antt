@@ -5,7 +5,7 @@ use Rattle.relation_order.specs.Cycle.{cycle}
 use Rattle.index_format.specs.Map.{Value, KeyValues, values_of}
 use Rattle.module_facts.specs.declared.facts.Facts.{Facts}
 use Rattle.module_facts.specs.declared.module.Module.{Module}
-use Rattle.provider_rel.specs.declared.kernel.Kernel.{Kernel}
+use Rattle.kernel_exports.specs.declared.kernel.Kernel.{Kernel}
 use Rattle.provider_rel.specs.Faces.{modules_of, kernel_of}
 use Rattle.provider_rel.specs.Relation.{uses_at, dependencies}
 use Rattle.module_region.specs.declared.region.Region.{Region}

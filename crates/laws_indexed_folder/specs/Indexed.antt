@@ -13,7 +13,7 @@ use Rattle.module_facts.specs.Faults.{fact_fault}
 use Rattle.mod_tree.specs.Tree.{is_module_path}
 use Rattle.symbol_binding.specs.Unmet.{unmet}
 use Rattle.unmet_file.specs.Unmet.{unmet_of}
-use Rattle.provider_rel.specs.declared.kernel.Kernel.{Kernel}
+use Rattle.kernel_exports.specs.declared.kernel.Kernel.{Kernel}
 use Rattle.provider_rel.specs.Faces.{modules_of, kernel_of}
 use Rattle.provider_rel.specs.Tree.{IsTree}
 use Rattle.provider_rel.specs.Relation.{relation_fault}

@@ -2,7 +2,7 @@
 use Rattle.std.specs.Prelude.{◌≡◌, ℕ, List, Some, None}
 use Rattle.module_facts.specs.declared.facts.Facts.{Facts}
 use Rattle.symbol_binding.specs.Symbols.{Kernel as SeenKernel}
-use Rattle.provider_rel.specs.declared.kernel.Kernel.{Kernel}
+use Rattle.kernel_exports.specs.declared.kernel.Kernel.{Kernel}
 use Rattle.provider_rel.specs.Tree.{IsTree}
 use Rattle.depmod_core.specs.Files.{StandFor, files, output_fault}
 use Rattle.plan_builder.specs.declared.request.Request.{Request}

@@ -29,10 +29,10 @@ use Rattle.module_facts.specs.Faults.{fact_fault}
 use Rattle.module_facts.specs.FaultText.{module_fault_text}
 use Rattle.modprobe_conf.specs.declared.rule.Rule.{Rule}
 use Rattle.modprobe_conf.specs.Rules.{rules_of}
-use Rattle.provider_rel.specs.declared.kernel.Kernel.{Kernel}
-use Rattle.provider_rel.specs.declared.kernel.KernelExport.{KernelExport}
+use Rattle.kernel_exports.specs.declared.kernel.Kernel.{Kernel}
+use Rattle.kernel_exports.specs.declared.kernel.KernelExport.{KernelExport}
 use Rattle.provider_rel.specs.Faces.{kernel_of}
-use Rattle.provider_rel.specs.KernelTable.{exports_of_map, exports_of_symvers, exports_with_addresses}
+use Rattle.kernel_exports.specs.KernelTable.{exports_of_map, exports_of_symvers, exports_with_addresses}
 use Rattle.model_loader.specs.declared.fault.LoadFault.{LoadFault}
 use Rattle.module_region.specs.declared.region.Region.{Region}
 use Rattle.model_loader.specs.FaultText.{load_fault_text}

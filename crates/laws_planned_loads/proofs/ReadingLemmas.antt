@@ -16,7 +16,7 @@ use Rattle.symbol_binding.specs.declared.unbound.Unbound.{Unbound}
 use Rattle.symbol_binding.specs.Unmet.{unmet}
 use Rattle.unmet_file.specs.Unmet.{unmet_of}
 use Rattle.module_facts.specs.declared.facts.Facts.{Facts}
-use Rattle.provider_rel.specs.declared.kernel.Kernel.{Kernel}
+use Rattle.kernel_exports.specs.declared.kernel.Kernel.{Kernel}
 use Rattle.provider_rel.specs.Faces.{modules_of, kernel_of}
 use Rattle.depmod_core.specs.declared.file.OutputFile.{OutputFile}
 use Rattle.depmod_core.specs.declared.file.OutputFile.TheVariants.{AliasBin, BuiltinBin, DepBin, Softdep, SymbolsBin, Unmet}

@@ -10,7 +10,7 @@ use Rattle.km_course.specs.Course.{Act, Outcome, Run, Stage, ◌>>=◌, act_with
 use Rattle.km_course.specs.Course.Act.{read}
 use Rattle.km_course.specs.Course.Outcome.{value, end}
 use Rattle.km_course.specs.declared.end.End.TheVariants.{NoFile}
-use Rattle.provider_rel.specs.KernelTable.{exports_of_map}
+use Rattle.kernel_exports.specs.KernelTable.{exports_of_map}
 use Rattle.module_region.specs.declared.region.Region.{Region}
 use Rattle.model_loader.specs.Machine.{Machine, new_machine}
 use Rattle.plan_builder.specs.declared.step.PlanStep.{PlanStep}

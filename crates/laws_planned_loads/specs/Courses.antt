@@ -13,7 +13,7 @@ use Rattle.index_format.specs.Map.{KeyValues}
 use Rattle.index_read.specs.Contents.{contents}
 use Rattle.module_facts.specs.declared.facts.Facts.{Facts}
 use Rattle.module_facts.specs.declared.module.Module.{Module}
-use Rattle.provider_rel.specs.declared.kernel.Kernel.{Kernel}
+use Rattle.kernel_exports.specs.declared.kernel.Kernel.{Kernel}
 use Rattle.provider_rel.specs.Faces.{kernel_of}
 use Rattle.module_region.specs.declared.region.Region.{Region}
 use Rattle.model_loader.specs.declared.fault.LoadFault.{LoadFault}

@@ -18,7 +18,7 @@ use Rattle.modprobe_conf.specs.declared.rule.Rule.TheVariants as rules
 use Rattle.modprobe_conf.specs.Rules.{rules_of, words_after}
 use Rattle.module_facts.specs.declared.facts.Facts.{Facts}
 use Rattle.symbol_binding.specs.Unmet.{unmet}
-use Rattle.provider_rel.specs.declared.kernel.Kernel.{Kernel}
+use Rattle.kernel_exports.specs.declared.kernel.Kernel.{Kernel}
 use Rattle.provider_rel.specs.Faces.{modules_of, kernel_of}
 use Rattle.depmod_core.specs.declared.files.OutputFiles.{OutputFiles}
 use Rattle.depmod_core.specs.Files.{StandFor, files}

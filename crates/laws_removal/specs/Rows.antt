@@ -1,6 +1,6 @@
 -- Small machines for worked answers.
 use Rattle.std.specs.Prelude.{ℕ, true, false, List, [], ◌∷◌, map, None, codes}
-use Rattle.provider_rel.specs.declared.kernel.Kernel.{Kernel}
+use Rattle.kernel_exports.specs.declared.kernel.Kernel.{Kernel}
 use Rattle.model_loader.specs.declared.entry.Entry.{Entry}
 use Rattle.module_region.specs.declared.region.Region.{Region}
 use Rattle.model_loader.specs.Machine.{Machine}

@@ -1,6 +1,6 @@
 // The laws.
 ghost use Rattle.std.specs.Prelude.{◌≡◌, ◌∷◌, [], true, false, Some, codes};
-ghost use Rattle.provider_rel.specs.declared.kernel.Kernel.{Kernel};
+ghost use Rattle.kernel_exports.specs.declared.kernel.Kernel.{Kernel};
 ghost use Rattle.modprobe_conf.specs.declared.rule.Rule.TheVariants.{Remove};
 ghost use Rattle.module_region.specs.declared.region.Region.{Region};
 ghost use Rattle.remove_plan.specs.Removal.{left_after};

@@ -13,7 +13,7 @@ use Rattle.km_names.specs.First.{first}
 use Rattle.module_facts.specs.declared.facts.Need.{Need as FactsNeed}
 use Rattle.module_facts.specs.declared.module.Module.{Module}
 use Rattle.symbol_binding.specs.Symbols.{Export, Need}
-use Rattle.provider_rel.specs.declared.kernel.KernelExport.{KernelExport}
+use Rattle.kernel_exports.specs.declared.kernel.KernelExport.{KernelExport}
 use Rattle.symbol_binding.specs.Needs.{is_seen}
 use Rattle.image_layout.specs.Symbols.{address, addresses}
 use Rattle.image_layout.specs.Laid.{laid}

@@ -6,8 +6,8 @@ use Rattle.std.specs.List.{list_any}
 use Rattle.std.specs.Str.{bytes_eq}
 use Rattle.km_names.specs.First.{first}
 use Rattle.symbol_binding.specs.Symbols.{Export, Need, Face}
-use Rattle.provider_rel.specs.declared.kernel.Kernel.{Kernel as KernelTable}
-use Rattle.provider_rel.specs.declared.kernel.KernelExport.{KernelExport}
+use Rattle.kernel_exports.specs.declared.kernel.Kernel.{Kernel as KernelTable}
+use Rattle.kernel_exports.specs.declared.kernel.KernelExport.{KernelExport}
 -- A module that isn't loaded, by its facts, as symbol binding sees it.
 pub use Rattle.provider_rel.specs.Faces.{need_of_facts as facts_need, face_of as facts_face}
 use Rattle.model_loader.specs.declared.fault.MachineFault.{MachineFault}

@@ -4,7 +4,7 @@ ghost use Rattle.std.specs.Prelude.{◌≡◌, ◌<◌, ◌≤◌, ◌⊎◌, �
 ghost use Rattle.std.specs.HashMap.{spare};
 ghost use Rattle.std.specs.Option.{option_or};
 ghost use Rattle.std.specs.Str.{bytes_eq};
-ghost use Rattle.provider_rel.specs.declared.kernel.Kernel.{Kernel};
+ghost use Rattle.kernel_exports.specs.declared.kernel.Kernel.{Kernel};
 ghost use Rattle.module_facts.specs.declared.module.Module.{Module};
 ghost use Rattle.model_loader.specs.Machine.{export_named, kernel_fault, kernel_placed, new_machine, standing};
 ghost use Rattle.model_loader.specs.declared.fault.MachineFault.TheVariants.{KernelWithoutAddress};

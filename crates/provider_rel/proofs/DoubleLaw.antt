@@ -18,7 +18,7 @@ use Rattle.provider_rel.specs.Faces.{export_of_facts, modules_of}
 use Rattle.provider_rel.specs.Tree.{IsTreeModule}
 use Rattle.provider_rel.specs.Relation.{place}
 use Rattle.provider_rel.specs.Items.{Item, item_of, by_kernel, by_module, all_provided, items, is_named, doubles_with, item_doubles}
-use Rattle.provider_rel.proofs.NameSteps.{bytes-same, bytes-turn}
+use Rattle.kernel_exports.proofs.NameSteps.{bytes-same, bytes-turn}
 
 -- an export of this name is among these
 has_name : List Export → List ℕ → Bool

@@ -10,14 +10,13 @@ use Rattle.module_facts.specs.declared.facts.Export.{Export as StatedExport}
 use Rattle.module_facts.specs.declared.facts.Facts.{Facts}
 use Rattle.symbol_binding.specs.Symbols.{Export, Module}
 use Rattle.symbol_binding.specs.Provider.{ByModule, Provided}
-use Rattle.provider_rel.specs.declared.kernel.KernelExport.{KernelExport}
-use Rattle.provider_rel.specs.declared.kernel.Kernel.{Kernel}
-use Rattle.provider_rel.specs.KernelTable.{seen_export}
-use Rattle.provider_rel.specs.Faces.{export_of_facts, module_of, modules_of, kernel_of}
+use Rattle.kernel_exports.specs.declared.kernel.KernelExport.{KernelExport}
+use Rattle.kernel_exports.specs.declared.kernel.Kernel.{Kernel}
+use Rattle.provider_rel.specs.Faces.{export_of_facts, module_of, modules_of, kernel_of, seen_export}
 use Rattle.provider_rel.specs.Tree.{IsTree}
 use Rattle.provider_rel.specs.Relation.{place}
 use Rattle.provider_rel.specs.Items.{Item, kernel_item, module_item, by_kernel, by_module, all_provided, item_of, items}
-use Rattle.provider_rel.proofs.NameSteps.{bytes-refl, bytes-same}
+use Rattle.kernel_exports.proofs.NameSteps.{bytes-refl, bytes-same}
 
 -- a kernel's exports as items
 pub kernel-items : (tree : List Module) (es : List KernelExport) → map kernel_item es ≡ map (item_of tree) (map by_kernel (map seen_export es))

@@ -1,8 +1,3 @@
-pub mod LineSteps
-pub mod NameSteps
-pub mod FieldSteps
-pub mod ExportSteps
-pub mod SymbolSteps
 pub mod ItemSteps
 pub mod BindingSteps
 pub mod LinkSteps

@@ -18,7 +18,7 @@ use Rattle.symbol_binding.specs.declared.unbound.Unbound.{Unbound}
 use Rattle.symbol_binding.specs.declared.unbound.Unbound.TheVariants.{Double}
 use Rattle.provider_rel.specs.Items.{Item, item_name, is_named, doubles_with, item_doubles}
 use Rattle.provider_rel.specs.Sharing.{stands_at, is_of, earlier_at, AreCounts, IsChain, last_of, AreLinked}
-use Rattle.provider_rel.proofs.NameSteps.{table-any, bytes-refl, bytes-same}
+use Rattle.kernel_exports.proofs.NameSteps.{table-any, bytes-refl, bytes-same}
 
 -- an item of a list has a place in the table
 any-at : {X : Type 0} (p : X → Bool) (xs : List X) (k : ℕ) (d : X) → k < length xs → p (get_or xs k d) ≡ true → list_any p xs ≡ true

@@ -33,7 +33,7 @@ use Rattle.provider_rel.specs.declared.fault.RelationFault.TheVariants.{Cycle}
 use Rattle.provider_rel.specs.Faces.{module_of, modules_of}
 use Rattle.provider_rel.specs.Relation.{uses_at, name_at, cycle_fault, deps_fault, doubles_fault, dependencies, relation_fault, provider_of}
 use Rattle.provider_rel.specs.Items.{Item, items, item_name, is_named, item_answer, answer_at, item_doubles}
-use Rattle.provider_rel.proofs.NameSteps.{table-find}
+use Rattle.kernel_exports.proofs.NameSteps.{table-find}
 use Rattle.provider_rel.proofs.ProviderLaw.{answer-is}
 
 slice-map : {X Y : Type 0} (f : X → Y) (xs : List X) (i : ℕ) → slice_get (map f xs) i ≡ option_map f (slice_get xs i)

@@ -20,7 +20,7 @@ use Rattle.provider_rel.specs.Tree.{IsTree}
 use Rattle.provider_rel.specs.Relation.{place, uses_at}
 use Rattle.provider_rel.specs.Items.{Item, item_of, by_kernel, by_module, all_provided, items, item_name, is_named, item_under, owner_under, used_places, bound_of, seen_under, path_under}
 use Rattle.provider_rel.specs.Kinds.{test_of, line_of, line_if, lines_by}
-use Rattle.provider_rel.proofs.NameSteps.{table-find}
+use Rattle.kernel_exports.proofs.NameSteps.{table-find}
 use Rattle.provider_rel.proofs.ItemSteps.{place-at}
 use Rattle.provider_rel.proofs.ProviderLaw.{seen-is, path-is, owner-is}
 

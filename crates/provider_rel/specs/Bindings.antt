@@ -5,7 +5,7 @@ use Rattle.std.specs.Global.{Vec}
 use Rattle.std.specs.Prelude.{List}
 use Rattle.name_table.specs.NameTable.{IsTableOf}
 use Rattle.module_facts.specs.declared.facts.Facts.{Facts}
-use Rattle.provider_rel.specs.declared.kernel.Kernel.{Kernel}
+use Rattle.kernel_exports.specs.declared.kernel.Kernel.{Kernel}
 use Rattle.provider_rel.specs.declared.bindings.Bindings.{Bindings}
 use Rattle.provider_rel.specs.Faces.{modules_of, kernel_of}
 use Rattle.provider_rel.specs.Items.{items, item_name, bound_of}

@@ -4,8 +4,8 @@ use Rattle.module_facts.specs.declared.facts.Export.{Export as StatedExport}
 use Rattle.module_facts.specs.declared.facts.Need.{Need as StatedNeed}
 use Rattle.module_facts.specs.declared.facts.Facts.{Facts}
 use Rattle.symbol_binding.specs.Symbols.{Export, Need, Face, Module, Kernel as SeenKernel}
-use Rattle.provider_rel.specs.declared.kernel.Kernel.{Kernel}
-use Rattle.provider_rel.specs.KernelTable.{seen_export}
+use Rattle.kernel_exports.specs.declared.kernel.KernelExport.{KernelExport}
+use Rattle.kernel_exports.specs.declared.kernel.Kernel.{Kernel}
 
 -- An export of a module, without the number of its symbol.
 abbrev pub export_of_facts : StatedExport → Export
@@ -32,6 +32,10 @@ module_of f = record { path = f.path; face = face_of f }
 -- The modules of a tree, by their facts.
 abbrev pub modules_of : List Facts → List Module
 modules_of tree = map module_of tree
+
+-- An export of a kernel, without its address.
+abbrev pub seen_export : KernelExport → Export
+seen_export e = record { name = e.name; crc = e.crc; gpl = e.gpl; space = e.space }
 
 -- The kernel of a table, without addresses.
 abbrev pub kernel_of : Kernel → SeenKernel

@@ -12,11 +12,10 @@ use Rattle.symbol_binding.specs.declared.unbound.Unbound.TheVariants.{Double}
 use Rattle.name_table.specs.NameTable.{Table, place_of}
 use Rattle.module_facts.specs.declared.facts.Export.{Export as StatedExport}
 use Rattle.module_facts.specs.declared.facts.Need.{Need as StatedNeed}
-use Rattle.provider_rel.specs.declared.kernel.KernelExport.{KernelExport}
+use Rattle.kernel_exports.specs.declared.kernel.KernelExport.{KernelExport}
 use Rattle.provider_rel.specs.declared.provider.Provider.{Provider}
 use Rattle.provider_rel.specs.declared.provider.Provider.TheVariants.{Nobody, Kernel as TheKernel, Module as TheModule}
-use Rattle.provider_rel.specs.KernelTable.{seen_export}
-use Rattle.provider_rel.specs.Faces.{export_of_facts}
+use Rattle.provider_rel.specs.Faces.{export_of_facts, seen_export}
 use Rattle.provider_rel.specs.Relation.{place}
 
 -- All exports with their owners.

@@ -1,7 +1,3 @@
-pub mod TableLines
-pub mod MapLines
-pub mod SymversLines
-pub mod KernelTable
 pub mod Faces
 pub mod Tree
 pub mod Relation

@@ -5,7 +5,8 @@ ghost use Rattle.provider_rel.specs.Items.{owner_under, used_places};
 ghost use Rattle.provider_rel.specs.Bindings.{AreBindings};
 
 use crate::items::{ExportItem, all_bound, all_items, item_at, names_of};
-use crate::{Kernel, RelationFault, TreeFacts};
+use crate::{RelationFault, TreeFacts};
+use kernel_exports::Kernel;
 use name_table::OwnedNameTable;
 use std::alloc::{AllocError, Global};
 

@@ -5,7 +5,8 @@ ghost use Rattle.provider_rel.specs.Faces.{modules_of, kernel_of};
 ghost use Rattle.provider_rel.specs.Tree.{IsTree};
 ghost use Rattle.provider_rel.specs.Items.{kernel_item, module_item, items as items_spec, item_name, bound_of};
 
-use crate::{Kernel, RelationFault, TreeFacts};
+use crate::{RelationFault, TreeFacts};
+use kernel_exports::Kernel;
 use module_facts::{Facts, Needs};
 use name_table::OwnedNameTable;
 use std::alloc::{AllocError, Global};

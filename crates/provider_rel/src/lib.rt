@@ -1,35 +1,28 @@
 //! Who provides a symbol, what depends on what, and every obstacle, over the facts of a whole tree
 //! and the exports of a kernel.
 //!
-//! A kernel's exports come from the tables that its build writes, System.map and Module.symvers.
 //! The relation of a tree has:
 //!
 //! - who provides each name;
 //! - what each module depends on, in an order in which each comes after what it depends on;
 //! - the lines of modules.unmet.
 //!
-//! `symbol_binding` and `relation_order` define what these are, and `module_facts` has the facts of
-//! modules. Exported names are in one table of `name_table`, in the order in which they are first
-//! exported.
+//! `symbol_binding` and `relation_order` define what these are. `kernel_exports` has the exports of
+//! a kernel, and `module_facts` the facts of modules. Exported names are in one table of
+//! `name_table`, in the order in which they are first exported.
 #![tactic(auto)]
 
 mod bindings;
 mod doubles;
-mod exports;
 mod fault;
 mod items;
-mod kernel;
-mod lines;
-mod map;
 mod provider;
 mod relation;
-mod symvers;
 mod unmet;
 
-pub use fault::{KernelFault, RelationFault};
-pub use kernel::{Kernel, KernelExport, KernelExports};
+pub use fault::RelationFault;
+pub use kernel_exports::{Kernel, KernelExport, KernelExports, KernelFault, SystemMap};
 use km_names::List;
-pub use map::SystemMap;
 use module_facts::Facts;
 pub use provider::Provider;
 pub use relation::{Order, Relation};

@@ -2,11 +2,11 @@
 use Rattle.std.proofs.Common.{◌≡◌, ℕ, true, false, List, [], sym, ap, subst, ◌∙◌, inl, inr}
 use Rattle.std.specs.Prelude.{Option, Some, None, option_map, Result, Ok, Err, ◌⊎◌}
 use Rattle.std.specs.Result.{result_err}
-use Rattle.provider_rel.specs.declared.fault.KernelFault.{KernelFault}
-use Rattle.provider_rel.specs.declared.fault.KernelFault.TheVariants.{BadKernelLine, Memory}
-use Rattle.provider_rel.specs.declared.kernel.Kernel.{Kernel}
-use Rattle.provider_rel.specs.declared.kernel.KernelExport.{KernelExport}
-use Rattle.provider_rel.specs.KernelTable.{exports_of_map, exports_of_symvers}
+use Rattle.kernel_exports.specs.declared.fault.KernelFault.{KernelFault}
+use Rattle.kernel_exports.specs.declared.fault.KernelFault.TheVariants.{BadKernelLine, Memory}
+use Rattle.kernel_exports.specs.declared.kernel.Kernel.{Kernel}
+use Rattle.kernel_exports.specs.declared.kernel.KernelExport.{KernelExport}
+use Rattle.kernel_exports.specs.KernelTable.{exports_of_map, exports_of_symvers}
 use Rattle.km_course.specs.Course.{Stage, given, gives}
 use Rattle.km_course.specs.Course.Outcome.{value, end}
 use Rattle.km_course.specs.World.{World}

@@ -2,11 +2,12 @@
 -- depmod(8), `-F` and `-E`.
 use Rattle.std.specs.Prelude.{ℕ, true, false, Bool, List, [], map, Option, Some, None, Result, Ok, Err}
 use Rattle.symbol_binding.specs.Symbols.{Kernel as SeenKernel}
-use Rattle.provider_rel.specs.declared.fault.KernelFault.{KernelFault}
-use Rattle.provider_rel.specs.declared.fault.KernelFault.TheVariants.{BadKernelLine, Memory}
-use Rattle.provider_rel.specs.declared.kernel.Kernel.{Kernel}
-use Rattle.provider_rel.specs.declared.kernel.KernelExport.{KernelExport}
-use Rattle.provider_rel.specs.KernelTable.{exports_of_map, exports_of_symvers, seen_export}
+use Rattle.kernel_exports.specs.declared.fault.KernelFault.{KernelFault}
+use Rattle.kernel_exports.specs.declared.fault.KernelFault.TheVariants.{BadKernelLine, Memory}
+use Rattle.kernel_exports.specs.declared.kernel.Kernel.{Kernel}
+use Rattle.kernel_exports.specs.declared.kernel.KernelExport.{KernelExport}
+use Rattle.kernel_exports.specs.KernelTable.{exports_of_map, exports_of_symvers}
+use Rattle.provider_rel.specs.Faces.{seen_export}
 use Rattle.km_course.specs.Course.{Outcome, Stage, ◌>>=◌, given, gives, reads}
 use Rattle.km_course.specs.Course.Outcome.{value, end}
 use Rattle.km_course.specs.declared.end.End.TheVariants.{Refused}

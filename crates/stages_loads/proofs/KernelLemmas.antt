@@ -3,13 +3,13 @@ use Rattle.std.proofs.Common.{◌≡◌, ℕ, List, ap, subst}
 use Rattle.std.specs.Prelude.{Option, Some, None, Ok, map}
 use Rattle.std.specs.List.{filter_map}
 use Rattle.km_names.specs.Statements.{unless_fault}
-use Rattle.provider_rel.specs.declared.kernel.KernelExport.{KernelExport}
-use Rattle.provider_rel.specs.Faces.{kernel_of}
-use Rattle.provider_rel.specs.KernelTable.{IsTable, first_of_each, with_addresses, export_of_line, export_of_symbol, exports_of_map, exports_of_symvers, exports_with_addresses, seen_export}
-use Rattle.provider_rel.specs.MapLines.{map_line}
-use Rattle.provider_rel.specs.SymversLines.{symvers_line}
-use Rattle.provider_rel.specs.TableLines.{refused_line, stated}
-use Rattle.provider_rel.proofs.ExportSteps.{addresses-apart}
+use Rattle.kernel_exports.specs.declared.kernel.KernelExport.{KernelExport}
+use Rattle.provider_rel.specs.Faces.{kernel_of, seen_export}
+use Rattle.kernel_exports.specs.KernelTable.{IsTable, first_of_each, with_addresses, export_of_line, export_of_symbol, exports_of_map, exports_of_symvers, exports_with_addresses}
+use Rattle.kernel_exports.specs.MapLines.{map_line}
+use Rattle.kernel_exports.specs.SymversLines.{symvers_line}
+use Rattle.kernel_exports.specs.TableLines.{refused_line, stated}
+use Rattle.kernel_exports.proofs.ExportSteps.{addresses-apart}
 use Rattle.stages_files.specs.KernelTable.{Table, seen_kernel}
 use Rattle.stages_loads.specs.Tables.{firsts-apart, kernel_with}
 use Rattle.stages_loads.proofs.TableSteps.{firsts-same}

@@ -4,14 +4,14 @@ use Rattle.std.proofs.Props.{props}
 use Rattle.std.specs.Prelude.{Option, Some, None, option_map, Result, Ok, Err, ◌⊎◌, filter}
 use Rattle.std.specs.Str.{bytes_eq}
 use Rattle.km_names.specs.Statements.{unless_fault}
-use Rattle.provider_rel.specs.declared.fault.KernelFault.{KernelFault}
-use Rattle.provider_rel.specs.declared.fault.KernelFault.TheVariants.{BadKernelLine, Memory}
-use Rattle.provider_rel.specs.declared.kernel.Kernel.{Kernel}
-use Rattle.provider_rel.specs.declared.kernel.KernelExport.{KernelExport}
-use Rattle.provider_rel.specs.KernelTable.{IsTable, first_of_each, exports_of_map, exports_with_addresses, with_addresses}
-use Rattle.provider_rel.specs.MapLines.{MapSymbol, map_line}
-use Rattle.provider_rel.specs.TableLines.{refused_line, stated}
-use Rattle.provider_rel.proofs.NameSteps.{bytes-same}
+use Rattle.kernel_exports.specs.declared.fault.KernelFault.{KernelFault}
+use Rattle.kernel_exports.specs.declared.fault.KernelFault.TheVariants.{BadKernelLine, Memory}
+use Rattle.kernel_exports.specs.declared.kernel.Kernel.{Kernel}
+use Rattle.kernel_exports.specs.declared.kernel.KernelExport.{KernelExport}
+use Rattle.kernel_exports.specs.KernelTable.{IsTable, first_of_each, exports_of_map, exports_with_addresses, with_addresses}
+use Rattle.kernel_exports.specs.MapLines.{MapSymbol, map_line}
+use Rattle.kernel_exports.specs.TableLines.{refused_line, stated}
+use Rattle.kernel_exports.proofs.NameSteps.{bytes-same}
 use Rattle.module_region.specs.declared.region.Region.{Region}
 use Rattle.model_loader.specs.declared.fault.MachineFault.{MachineFault}
 use Rattle.model_loader.specs.declared.fault.MachineFault.TheVariants as faults

@@ -7,11 +7,11 @@ use Rattle.std.proofs.Common.{get_or, ap, sym, ◌∙◌, arith}
 use Rattle.std.proofs.lemmas.Bool.{false≢true}
 use Rattle.std.proofs.lemmas.List.Elements.{filter_passes}
 use Rattle.std.proofs.lemmas.List.Kept.{AllPairs-cons, AllPairs-filter}
-use Rattle.provider_rel.specs.declared.kernel.Kernel.{Kernel}
-use Rattle.provider_rel.specs.declared.kernel.KernelExport.{KernelExport}
-use Rattle.provider_rel.specs.KernelTable.{first_of_each, export_of_symbol, exports_of_map, exports_with_addresses, with_addresses}
-use Rattle.provider_rel.specs.MapLines.{MapSymbol}
-use Rattle.provider_rel.proofs.NameSteps.{bytes-refl}
+use Rattle.kernel_exports.specs.declared.kernel.Kernel.{Kernel}
+use Rattle.kernel_exports.specs.declared.kernel.KernelExport.{KernelExport}
+use Rattle.kernel_exports.specs.KernelTable.{first_of_each, export_of_symbol, exports_of_map, exports_with_addresses, with_addresses}
+use Rattle.kernel_exports.specs.MapLines.{MapSymbol}
+use Rattle.kernel_exports.proofs.NameSteps.{bytes-refl}
 use Rattle.module_region.specs.declared.region.Region.{Region}
 use Rattle.model_loader.specs.Machine.{Machine, new_machine}
 use Rattle.km_course.specs.Course.{Outcome, Stage, ◌>>=◌, given, reads}

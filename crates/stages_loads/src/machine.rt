@@ -3,9 +3,9 @@ ghost use Rattle.std.specs.Prelude.{◌≡◌, ◌≤◌, None, Some, IfOk, OnOk
 ghost use Rattle.km_names.specs.Limit.{file_limit};
 ghost use Rattle.km_course.specs.Follows.{Answers};
 ghost use Rattle.km_course.specs.FollowsOn.{FollowsOnFiles, FollowsOnFilesAs, Returns};
-ghost use Rattle.provider_rel.specs.KernelTable.{exports_of_map};
-ghost use Rattle.provider_rel.specs.MapLines.{map_line};
-ghost use Rattle.provider_rel.specs.TableLines.{refused_line, stated};
+ghost use Rattle.kernel_exports.specs.KernelTable.{exports_of_map};
+ghost use Rattle.kernel_exports.specs.MapLines.{map_line};
+ghost use Rattle.kernel_exports.specs.TableLines.{refused_line, stated};
 ghost use Rattle.stages_files.specs.KernelTable.{table_of, table_outcome};
 ghost use Rattle.stages_loads.specs.Tables.{machine_outcome, reads_addressed, reads_machine, table_of_map, unplaced};
 

@@ -1,8 +1,7 @@
 use Rattle.std.proofs.Common.{◌<◌, ◌^◌, ℕ, List, length, All, Some, None, sym, ap, subst, ◌∙◌, arith}
 use Rattle.std.proofs.lemmas.List.{length-map}
 use Rattle.std.proofs.lemmas.Result.{err_from_is_err_and}
-use Rattle.provider_rel.specs.KernelTable.{seen_export}
-use Rattle.provider_rel.specs.Faces.{module_of, modules_of, kernel_of}
+use Rattle.provider_rel.specs.Faces.{module_of, modules_of, kernel_of, seen_export}
 use Rattle.provider_rel.proofs.DoubleLaw.{apart-map, modules-apart}
 use Rattle.provider_rel.proofs.MakeSteps.{fault-cycle, fault-counts, deps-long, deps-small, right}
 use Rattle.provider_rel.proofs.relation.closures_of.Goals as goal

@@ -1,7 +1,7 @@
 use Rattle.std.proofs.Common.{◌≡◌, ◌++◌, ◌∷◌, [], get_or, sym, ap, ◌∙◌}
+use Rattle.std.proofs.lemmas.List.{map_more}
 use Rattle.provider_rel.specs.Faces.{modules_of}
 use Rattle.provider_rel.specs.Relation.{name_at}
-use Rattle.provider_rel.proofs.NameSteps.{map-more}
 use Rattle.provider_rel.proofs.MakeSteps.{name-some, name-none}
 use Rattle.provider_rel.proofs.relation.names_at.Goals as goal
 use Rattle.provider_rel.proofs.relation.names_at.Goals.{in-Some+in_ok-from_slice-in-Some, in-None}
@@ -19,4 +19,4 @@ loop-place-preserved c =
     c.in_ok-push.ensures.ok
     ∙ ap (λ n. c.loop-place.names ++ n ∷ []) named
     ∙ ap (λ ns. ns ++ name (get_or places i 0) ∷ []) c.loop-place.invariant
-    ∙ sym (map-more name places i 0 c.loop-place-test.true)
+    ∙ sym (map_more name places i 0 c.loop-place-test.true)

@@ -1,5 +1,4 @@
-use Rattle.provider_rel.specs.KernelTable.{seen_export}
-use Rattle.provider_rel.specs.Faces.{kernel_of}
+use Rattle.provider_rel.specs.Faces.{kernel_of, seen_export}
 use Rattle.provider_rel.proofs.DoubleLaw.{apart-map, modules-apart}
 use Rattle.provider_rel.proofs.MakeSteps.{all-lines}
 use Rattle.provider_rel.proofs.relation.obstacles_of.Goals as goal

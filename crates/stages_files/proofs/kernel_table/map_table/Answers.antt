@@ -1,6 +1,6 @@
 use Rattle.std.proofs.Common.{ap, subst, sym, ◌∙◌}
 use Rattle.std.specs.Prelude.{Err}
-use Rattle.provider_rel.specs.KernelTable.{exports_of_map}
+use Rattle.kernel_exports.specs.KernelTable.{exports_of_map}
 use Rattle.km_course.specs.Follows.{Answers}
 use Rattle.stages_files.specs.KernelTable.{table_of, table_outcome}
 use Rattle.stages_files.proofs.TableSteps.{tabled, tabled_not}

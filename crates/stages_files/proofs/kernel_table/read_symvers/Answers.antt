@@ -1,5 +1,5 @@
 use Rattle.std.proofs.lemmas.Result.{err_from_is_err_and}
-use Rattle.provider_rel.specs.KernelTable.{exports_of_symvers}
+use Rattle.kernel_exports.specs.KernelTable.{exports_of_symvers}
 use Rattle.km_course.proofs.Steps.{next, exits, answered}
 use Rattle.stages_files.specs.KernelTable.{table_of, table_outcome}
 use Rattle.stages_files.proofs.TableSteps.{symvers_read}

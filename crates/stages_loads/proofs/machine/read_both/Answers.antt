@@ -1,6 +1,6 @@
 use Rattle.std.specs.Prelude.{Ok, Err}
 use Rattle.std.proofs.lemmas.Result.{err_from_is_err_and}
-use Rattle.provider_rel.specs.KernelTable.{exports_of_map, exports_with_addresses}
+use Rattle.kernel_exports.specs.KernelTable.{exports_of_map, exports_with_addresses}
 use Rattle.km_course.proofs.Steps.{next, exits, answered, wants}
 use Rattle.stages_files.specs.KernelTable.{table_of, table_outcome}
 use Rattle.stages_loads.specs.Tables.{addressed_outcome, table_of_map}

@@ -1,8 +1,8 @@
 use Rattle.std.proofs.Common.{◌≡◌, None, Some, ap, sym, subst, inl, inr, ◌∙◌}
 use Rattle.std.specs.Prelude.{Err}
-use Rattle.provider_rel.specs.KernelTable.{exports_of_map}
-use Rattle.provider_rel.specs.MapLines.{map_line}
-use Rattle.provider_rel.specs.TableLines.{refused_line, stated}
+use Rattle.kernel_exports.specs.KernelTable.{exports_of_map}
+use Rattle.kernel_exports.specs.MapLines.{map_line}
+use Rattle.kernel_exports.specs.TableLines.{refused_line, stated}
 use Rattle.km_course.specs.Follows.{Answers}
 use Rattle.stages_files.specs.KernelTable.{table_outcome}
 use Rattle.stages_loads.specs.Tables.{table_of_map}

@@ -1,0 +1,5 @@
+pub mod LineSteps
+pub mod NameSteps
+pub mod FieldSteps
+pub mod ExportSteps
+pub mod SymbolSteps

@@ -1,0 +1,4 @@
+pub mod TableLines
+pub mod MapLines
+pub mod SymversLines
+pub mod KernelTable
