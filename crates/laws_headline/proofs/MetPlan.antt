@@ -19,10 +19,11 @@ use Rattle.name_lookup.specs.Maps.{has_value, maps_of}
 use Rattle.name_table.specs.FirstSeen.{is_among}
 use Rattle.relation_order.specs.Cycle.{cycle}
 use Rattle.relation_order.specs.Sets.{below}
-use Rattle.plan_builder.specs.Members.{chosen_command, found_for, kind_unless}
+use Rattle.planned_modules.specs.Members.{chosen_command, kind_unless, is_unknown_kind, is_unfound, is_unknown, all_names}
+use Rattle.plan_builder.specs.Requested.{found_for}
 use Rattle.dependency_lines.specs.Modules.{line_places, bad_among, bad_name, by_number, first_value, modules_of, name_at, path_at, place_of, places_of}
-use Rattle.plan_builder.specs.Needs.{Sources, after, before, modules, unloaded}
-use Rattle.plan_builder.specs.Obstacles.{PlanObstacle, bad_dep_line, cycle_obstacle, is_unknown_kind, not_found, obstacle_of, plan_tests, is_unfound, is_unknown, all_names}
+use Rattle.planned_modules.specs.Needs.{Sources, after, before, modules, unloaded}
+use Rattle.plan_builder.specs.Obstacles.{PlanObstacle, bad_dep_line, cycle_obstacle, not_found, obstacle_of, plan_tests}
 use Rattle.plan_builder.specs.Sources.{sources}
 use Rattle.plan_builder.specs.Steps.{found_steps, later, plan_steps, rule_options, step_of_kind, step_unless, module_step}
 use Rattle.plan_builder.specs.declared.request.Request.{Request}

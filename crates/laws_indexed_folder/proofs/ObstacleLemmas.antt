@@ -14,10 +14,11 @@ use Rattle.symbol_binding.specs.declared.unbound.Unbound.{Unbound}
 use Rattle.kernel_exports.specs.declared.kernel.Kernel.{Kernel}
 use Rattle.name_lookup.specs.Maps.{has_value}
 use Rattle.name_lookup.specs.declared.found.Found.{Found}
-use Rattle.plan_builder.specs.Members.{found_for}
+use Rattle.plan_builder.specs.Requested.{found_for}
 use Rattle.dependency_lines.specs.Modules.{bad_name, first_values, is_line_of, module_at, modules_of, name_at}
-use Rattle.plan_builder.specs.Needs.{Sources}
-use Rattle.plan_builder.specs.Obstacles.{PlanObstacle, bad_dep_line, unbound_line, all_names, cycle_obstacle, is_unfound, is_unknown, not_found, obstacle_of, plan_tests}
+use Rattle.planned_modules.specs.Needs.{Sources}
+use Rattle.planned_modules.specs.Members.{all_names, is_unfound, is_unknown}
+use Rattle.plan_builder.specs.Obstacles.{PlanObstacle, bad_dep_line, unbound_line, cycle_obstacle, not_found, obstacle_of, plan_tests}
 use Rattle.dependency_lines.proofs.Firsts.{any-by, modules-are}
 use Rattle.dependency_lines.proofs.Keys.{module-first}
 use Rattle.laws_closed_plans.specs.Members.{Member}

@@ -25,15 +25,16 @@ use Rattle.plan_order.proofs.Complete.{plan-is_planned}
 use Rattle.plan_builder.specs.declared.request.Request.{Request}
 use Rattle.plan_builder.specs.declared.step.PlanStep.{PlanStep}
 use Rattle.dependency_lines.specs.Modules.{bad_name, name_at, line_at, path_at, place_of, places_of, needed_names, line_places}
-use Rattle.plan_builder.specs.Needs.{Sources, modules, before, after, unloaded}
-use Rattle.plan_builder.specs.Members.{found_for, asked, planned}
+use Rattle.planned_modules.specs.Needs.{Sources, modules, before, after, unloaded}
+use Rattle.planned_modules.specs.Members.{asked, planned}
+use Rattle.plan_builder.specs.Requested.{found_for}
 use Rattle.plan_builder.specs.Steps.{plan_steps}
 use Rattle.plan_builder.specs.Obstacles.{is_path_of, stands, plan_tests, obstacle_of}
 use Rattle.plan_builder.specs.Closed.{first_text, step_module, step_modules, is_at_one, is_there, IsClosedPlan}
 use Rattle.plan_builder.proofs.Answering.{unloaded-low}
 use Rattle.plan_builder.proofs.ClearLines.{clear-lines, alone-lines}
 use Rattle.dependency_lines.proofs.Firsts.{has-modules}
-use Rattle.plan_builder.proofs.Inside.{has-append, position-low}
+use Rattle.planned_modules.proofs.Inside.{has-append, position-low}
 use Rattle.dependency_lines.proofs.Keys.{place-own, place-name}
 use Rattle.plan_builder.proofs.PlaceNames.{from-name, to-name, parted, distinct-names}
 use Rattle.plan_builder.proofs.StepModules.{order, plan-names, plan-paths}

@@ -14,18 +14,27 @@ use Rattle.plan_order.specs.declared.plan.GroupedOrder.{GroupedOrder}
 use Rattle.dependency_lines.specs.declared.fault.LineFault.{LineFault}
 use Rattle.dependency_lines.specs.declared.fault.LineFault.TheVariants as faults
 use Rattle.dependency_lines.specs.Modules.{bad_name, places_of}
+use Rattle.planned_modules.specs.declared.fault.ResolveFault.{ResolveFault}
+use Rattle.planned_modules.specs.declared.fault.ResolveFault.TheVariants as unresolved
 use Rattle.plan_builder.specs.declared.request.Request.{Request}
 use Rattle.plan_builder.specs.declared.obstacle.Obstacle.{Obstacle}
 use Rattle.plan_builder.specs.declared.obstacle.Obstacle.TheVariants.{Memory}
-use Rattle.plan_builder.specs.Answers.{line_obstacle}
-use Rattle.plan_builder.specs.Needs.{Sources, modules, before, after, unloaded}
-use Rattle.plan_builder.specs.Members.{found_for, asked}
+use Rattle.plan_builder.specs.Answers.{line_obstacle, name_obstacle}
+use Rattle.planned_modules.specs.Needs.{Sources, modules, before, after, unloaded}
+use Rattle.planned_modules.specs.Members.{unfound, asked, is_unfound, is_unknown, all_names}
+use Rattle.plan_builder.specs.Requested.{found_for}
 use Rattle.plan_builder.specs.Steps.{module_step, later, plan_steps}
 use Rattle.plan_builder.specs.Ends.{steps_by}
-use Rattle.plan_builder.specs.Obstacles.{PlanObstacle, as_obstacle, bad_dep_line, is_unfound, is_unknown, all_names, not_found, plan_tests, obstacle_of}
+use Rattle.plan_builder.specs.Obstacles.{PlanObstacle, as_obstacle, bad_dep_line, not_found, plan_tests, obstacle_of}
 use Rattle.plan_builder.proofs.Answering.{first-here}
 use Rattle.plan_builder.proofs.StepLaws.{steps-groups, plan-front}
 use Rattle.plan_builder.proofs.StepPlaces.{steps_from, plan-placed}
+
+-- a fault of a name is the obstacle of that name
+pub name-fault : (fault : ResolveFault) (name : Option (List ℕ)) → (fault ≡ unresolved.Memory) ⊎ (option_map unfound name ≡ Some fault) → (name_obstacle fault ≡ Memory) ⊎ (option_map as_obstacle (option_map not_found name) ≡ Some (name_obstacle fault))
+name-fault fault name (inl e) = inl (ap name_obstacle e)
+name-fault fault None (inr e) = absurd (let bad = e in cc)
+name-fault fault (Some name) (inr e) = let same : unfound name ≡ fault = cc in inr (ap (λ f. Some (name_obstacle f)) same)
 
 module _ (s : Sources) (request : Request) where
   pub when-bad : (o : Obstacle) → option_map as_obstacle (option_map bad_dep_line (bad_name s.maps.dep)) ≡ Some o → option_map as_obstacle (obstacle_of s request) ≡ Some o

@@ -9,9 +9,10 @@ use Rattle.unmet_file.specs.declared.kind.LineKind.{LineKind}
 use Rattle.unmet_file.specs.declared.kind.LineKind.TheVariants as kinds
 use Rattle.plan_builder.specs.declared.request.Request.{Request}
 use Rattle.dependency_lines.specs.Modules.{bad_name, name_at}
-use Rattle.plan_builder.specs.Needs.{Sources, modules, before}
-use Rattle.plan_builder.specs.Members.{found_for, planned}
-use Rattle.plan_builder.specs.Obstacles.{bad_dep_line, unbound_line, is_unfound, is_unknown, all_names, not_found, is_path_of, stands, is_obstacle, line_of, cycle_obstacle, plan_tests, obstacle_of}
+use Rattle.planned_modules.specs.Needs.{Sources, modules, before}
+use Rattle.planned_modules.specs.Members.{planned, is_unfound, is_unknown, all_names}
+use Rattle.plan_builder.specs.Requested.{found_for}
+use Rattle.plan_builder.specs.Obstacles.{bad_dep_line, unbound_line, not_found, is_path_of, stands, is_obstacle, line_of, cycle_obstacle, plan_tests, obstacle_of}
 use Rattle.dependency_lines.proofs.Finds.{option-none}
 
 first-two : {F : Type 0} (t : Option F) (ts : List (Option F)) → first (t ∷ ts) ≡ None → (t ≡ None) × (first ts ≡ None)

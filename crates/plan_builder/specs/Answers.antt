@@ -9,6 +9,8 @@ use Rattle.unmet_file.specs.declared.kind.LineKind.TheVariants as kinds
 use Rattle.dependency_lines.specs.declared.fault.LineFault.{LineFault}
 use Rattle.dependency_lines.specs.declared.fault.LineFault.TheVariants as faults
 use Rattle.dependency_lines.specs.Modules.{name_at}
+use Rattle.planned_modules.specs.declared.fault.ResolveFault.{ResolveFault}
+use Rattle.planned_modules.specs.declared.fault.ResolveFault.TheVariants as unresolved
 use Rattle.plan_builder.specs.declared.obstacle.Obstacle.{Obstacle}
 use Rattle.plan_builder.specs.declared.obstacle.Obstacle.TheVariants.{BadDepLine, Cycle}
 use Rattle.plan_builder.specs.declared.obstacle.Obstacle.TheVariants as obstacles
@@ -18,6 +20,11 @@ use Rattle.plan_builder.specs.Obstacles.{PlanObstacle, first_line}
 abbrev pub line_obstacle : LineFault → Obstacle
 line_obstacle (faults.BadLine name) = BadDepLine name
 line_obstacle faults.Memory = obstacles.Memory
+
+-- What a fault of names keeps a request from.
+abbrev pub name_obstacle : ResolveFault → Obstacle
+name_obstacle (unresolved.NotFound name) = obstacles.NotFound name
+name_obstacle unresolved.Memory = obstacles.Memory
 
 -- The tests of the lines on needs.
 abbrev pub need_tests : (List ℕ → Bool) → (List ℕ → Bool) → List Unbound → List (Option PlanObstacle)

@@ -1,11 +1,7 @@
 pub mod Tables
 pub mod Text
-pub mod Needs
 pub mod Sources
-pub mod Rules
-pub mod Planner
-pub mod Softdeps
-pub mod Members
+pub mod Requested
 pub mod Steps
 pub mod Ends
 pub mod Obstacles

@@ -1,7 +1,7 @@
 -- Why a request has no plan: the first test that fails. The first line of modules.unmet of each
 -- kind counts, with lines on missing symbols first. modprobe(8).
-use Rattle.std.specs.Prelude.{ℕ, ◌==◌, ◌||◌, Bool, true, false, List, [], ◌∷◌, map, Option, Some, None, option_map}
-use Rattle.std.specs.List.{find, list_any, flat_map}
+use Rattle.std.specs.Prelude.{ℕ, ◌||◌, Bool, false, List, [], ◌∷◌, map, Option, Some, None, option_map}
+use Rattle.std.specs.List.{find, list_any}
 use Rattle.std.specs.Str.{bytes_eq}
 use Rattle.km_names.specs.First.{first}
 use Rattle.km_names.specs.AliasForm.{normal_or_itself}
@@ -10,7 +10,6 @@ use Rattle.symbol_binding.specs.declared.unbound.Unbound.{Unbound}
 use Rattle.symbol_binding.specs.declared.unbound.Unbound.TheVariants as lines
 use Rattle.symbol_binding.specs.Unmet.{vmlinux, collides}
 use Rattle.name_lookup.specs.declared.found.Found.{Found}
-use Rattle.name_lookup.specs.Found.{found}
 use Rattle.relation_order.specs.Cycle.{cycle}
 use Rattle.plan_order.specs.Lists.{among}
 use Rattle.unmet_file.specs.declared.kind.LineKind.{LineKind}
@@ -19,8 +18,9 @@ use Rattle.plan_builder.specs.declared.request.Request.{Request}
 use Rattle.plan_builder.specs.declared.obstacle.Obstacle.{Obstacle}
 use Rattle.plan_builder.specs.declared.obstacle.Obstacle.TheVariants as obstacles
 use Rattle.dependency_lines.specs.Modules.{bad_name, name_at, path_at, places_of}
-use Rattle.plan_builder.specs.Needs.{Sources, modules, before}
-use Rattle.plan_builder.specs.Members.{found_for, planned, ResolvedKind, loadable, installed, inside, unknown, kind_of}
+use Rattle.planned_modules.specs.Needs.{Sources, modules, before}
+use Rattle.planned_modules.specs.Members.{planned, is_unfound, is_unknown, all_names}
+use Rattle.plan_builder.specs.Requested.{found_for}
 
 -- What keeps a request from having a plan: the name of a bad dependency line, a name that isn't
 -- found, a line of modules.unmet, or the names of modules in a cycle.
@@ -33,25 +33,6 @@ pub data PlanObstacle : Type 0 where
 -- A name that isn't found.
 abbrev pub not_found : List ℕ → PlanObstacle
 not_found name = name_not_found (normal_or_itself name)
-
--- Whether all lists of a name are empty.
-abbrev pub is_unfound : Sources → List ℕ → Bool
-is_unfound s name = (found s.rules s.maps s.use_blacklist name).list == 0
-
--- Whether a kind is the unknown one.
-abbrev pub is_unknown_kind : ResolvedKind → Bool
-is_unknown_kind (loadable place) = false
-is_unknown_kind (installed command) = false
-is_unknown_kind inside = false
-is_unknown_kind unknown = true
-
--- Whether the name is unknown.
-abbrev pub is_unknown : Sources → Bool → List ℕ → Bool
-is_unknown s ignored name = is_unknown_kind (kind_of s ignored name)
-
--- The names of all that was found.
-abbrev pub all_names : List Found → List (List ℕ)
-all_names founds = flat_map (λ f. f.names) founds
 
 -- Whether one of some modules has this path.
 abbrev pub is_path_of : List KeyValue → List ℕ → List ℕ → Bool

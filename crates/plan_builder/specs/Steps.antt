@@ -14,9 +14,9 @@ use Rattle.plan_builder.specs.declared.request.Request.{Request}
 use Rattle.plan_builder.specs.declared.step.PlanStep.{PlanStep}
 use Rattle.plan_builder.specs.declared.step.PlanStep.TheVariants.{Insert, Install, Builtin}
 use Rattle.dependency_lines.specs.Modules.{name_at, path_at, places_of}
-use Rattle.plan_builder.specs.Needs.{Sources, modules, before, after, unloaded}
-use Rattle.plan_builder.specs.Members.{found_for, asked, is_member, ResolvedKind, loadable, installed, inside, unknown, kind_of, chosen_command}
-use Rattle.plan_builder.specs.Obstacles.{all_names}
+use Rattle.planned_modules.specs.Needs.{Sources, modules, before, after, unloaded}
+use Rattle.planned_modules.specs.Members.{asked, ResolvedKind, loadable, installed, inside, unknown, kind_of, chosen_command, all_names}
+use Rattle.plan_builder.specs.Requested.{found_for, is_member}
 
 -- The parameters that a rule has for the module of this name.
 abbrev pub rule_options : List ℕ → Rule → List (List ℕ)

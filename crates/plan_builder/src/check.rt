@@ -5,15 +5,15 @@ ghost use Rattle.symbol_binding.specs.Unmet.{collides};
 ghost use Rattle.name_table.specs.FirstSeen.{is_among};
 ghost use Rattle.relation_order.specs.Sets.{marked};
 ghost use Rattle.plan_builder.specs.Obstacles.{is_path_of, is_obstacle, as_obstacle, first_line, stands, unbound_line};
-ghost use Rattle.plan_builder.specs.Needs.{modules as modules_spec};
+ghost use Rattle.planned_modules.specs.Needs.{modules as modules_spec};
 ghost use Rattle.plan_builder.specs.Answers.{need_tests};
-ghost use Rattle.plan_builder.specs.Planner.{sources_of};
+ghost use Rattle.planned_modules.specs.Planner.{sources_of};
 
 use crate::obstacle::Obstacle;
-use crate::planner::Planner;
 use dependency_lines::Modules;
 use km_names::{Name, PathText};
 use name_table::NameSet;
+use planned_modules::Planner;
 use relation_order::marked;
 use std::alloc::{AllocError, Global};
 use symbol_binding::Unbound;
@@ -166,47 +166,83 @@ fn as_obstacle(alloc: Global, line: &Unbound) -> Result<Obstacle, AllocError>
     ensures { IfOk result (λ obstacle. obstacle ≡ as_obstacle (unbound_line line.now)) }
 {
     match line {
-        Unbound::Missing { path, symbol } => Ok(Obstacle::Missing {
-            path: path_copy(alloc, path)?,
-            symbol: name_copy(alloc, symbol)?,
-        }),
+        Unbound::Missing { path, symbol } => {
+            let (path, symbol) = need_copy(alloc, path, symbol)?;
+            Ok(Obstacle::Missing { path, symbol })
+        }
         Unbound::Gpl {
             path,
             symbol,
             provider,
-        } => Ok(Obstacle::Gpl {
-            path: path_copy(alloc, path)?,
-            symbol: name_copy(alloc, symbol)?,
-            provider: path_copy(alloc, provider)?,
-        }),
+        } => {
+            let (path, symbol, provider) = pair_copy(alloc, path, symbol, provider)?;
+            Ok(Obstacle::Gpl {
+                path,
+                symbol,
+                provider,
+            })
+        }
         Unbound::Version {
             path,
             symbol,
             provider,
-        } => Ok(Obstacle::Version {
-            path: path_copy(alloc, path)?,
-            symbol: name_copy(alloc, symbol)?,
-            provider: path_copy(alloc, provider)?,
-        }),
+        } => {
+            let (path, symbol, provider) = pair_copy(alloc, path, symbol, provider)?;
+            Ok(Obstacle::Version {
+                path,
+                symbol,
+                provider,
+            })
+        }
         Unbound::Namespace {
             path,
             symbol,
             provider,
-        } => Ok(Obstacle::Namespace {
-            path: path_copy(alloc, path)?,
-            symbol: name_copy(alloc, symbol)?,
-            provider: path_copy(alloc, provider)?,
-        }),
+        } => {
+            let (path, symbol, provider) = pair_copy(alloc, path, symbol, provider)?;
+            Ok(Obstacle::Namespace {
+                path,
+                symbol,
+                provider,
+            })
+        }
         Unbound::Double {
             symbol,
             first,
             second,
-        } => Ok(Obstacle::Double {
-            symbol: name_copy(alloc, symbol)?,
-            first: path_copy(alloc, first)?,
-            second: path_copy(alloc, second)?,
-        }),
+        } => {
+            let (first, symbol, second) = pair_copy(alloc, first, symbol, second)?;
+            Ok(Obstacle::Double {
+                symbol,
+                first,
+                second,
+            })
+        }
     }
+}
+
+/// Copies a path and a symbol.
+fn need_copy(alloc: Global, path: &PathText, symbol: &Name) -> Result<(PathText, Name), AllocError>
+    ensures path { IfOk result (λ copies. copies.0 ≡ path.now) }
+    ensures symbol { IfOk result (λ copies. copies.1 ≡ symbol.now) }
+{
+    let path = path_copy(alloc, path)?;
+    Ok((path, name_copy(alloc, symbol)?))
+}
+
+/// Copies a path, a symbol and another path.
+fn pair_copy(
+    alloc: Global,
+    path: &PathText,
+    symbol: &Name,
+    other: &PathText,
+) -> Result<(PathText, Name, PathText), AllocError>
+    ensures path { IfOk result (λ copies. copies.0 ≡ path.now) }
+    ensures symbol { IfOk result (λ copies. copies.1 ≡ symbol.now) }
+    ensures other { IfOk result (λ copies. copies.2 ≡ other.now) }
+{
+    let (path, symbol) = need_copy(alloc, path, symbol)?;
+    Ok((path, symbol, path_copy(alloc, other)?))
 }
 
 fn path_copy(alloc: Global, path: &PathText) -> Result<PathText, AllocError>

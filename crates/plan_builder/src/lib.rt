@@ -12,22 +12,17 @@
 //! A plan looks once at each dependency line of the folder and looks up each name of a soft
 //! dependency once; only planned modules are asked for what they need.
 //!
-//! The crate builds on `dependency_lines` for the modules and what their lines name, on
-//! `name_lookup` for what a name stands for, and on `indexmap` for what the names of soft
-//! dependencies stand for. `plan_order` has the order of modules by their places in the tree.
-//! `well_formed` comes from `dependency_lines`, `Loaded` from `loaded_list`, `Unmet` from
-//! `unmet_file`, and `line_path` from `mod_tree`.
+//! The crate builds on `planned_modules` for what names stand for and what is planned for them in
+//! which order, on `dependency_lines` for the modules of a folder, and on `symbol_binding` for the
+//! lines of modules.unmet. `well_formed` comes from `dependency_lines`, `Loaded` from `loaded_list`,
+//! `Unmet` from `unmet_file`, and `line_path` from `mod_tree`.
 #![tactic(auto)]
 
 mod check;
 mod members;
-mod needs;
 mod obstacle;
-mod planner;
 mod planning;
 mod request;
-mod rule_table;
-mod softdeps;
 mod step;
 mod steps;
 mod text;

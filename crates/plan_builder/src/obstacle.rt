@@ -2,6 +2,7 @@ ghost use Rattle.std.specs.Prelude.{◌≡◌};
 
 use dependency_lines::LineFault;
 use km_names::{Name, Names, PathText};
+use planned_modules::ResolveFault;
 use std::alloc::{AllocError, AllocFailed};
 
 /// What keeps a request from having a plan. Paths are as in modules.dep, and the kernel is
@@ -85,6 +86,19 @@ impl From<LineFault> for Obstacle {
         match fault {
             LineFault::BadLine { name } => Obstacle::BadDepLine { name },
             LineFault::Memory => Obstacle::Memory,
+        }
+    }
+}
+
+impl From<ResolveFault> for Obstacle {
+    ghost use Rattle.plan_builder.specs.Answers.{name_obstacle};
+
+    ghost from_gives = { λ fault obstacle. obstacle ≡ name_obstacle fault };
+
+    fn from(fault: ResolveFault) -> Obstacle {
+        match fault {
+            ResolveFault::NotFound { name } => Obstacle::NotFound { name },
+            ResolveFault::Memory => Obstacle::Memory,
         }
     }
 }

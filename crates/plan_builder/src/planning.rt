@@ -1,25 +1,21 @@
 ghost use Rattle.std.specs.Prelude.{◌≡◌, ◌<◌, ◌⊎◌, ℕ, List, Some, None, map, length, All, IfOk, IfErr, OnOk, option_map};
 ghost use Rattle.km_names.specs.First.{first};
 ghost use Rattle.name_table.specs.FirstSeen.{is_among};
-ghost use Rattle.relation_order.specs.Sets.{marked};
 ghost use Rattle.plan_order.specs.Lists.{among};
 ghost use Rattle.plan_order.specs.Answer.{IsPlan, IsAnswer};
 ghost use Rattle.name_lookup.specs.Maps.{maps_of};
 ghost use Rattle.dependency_lines.specs.Modules.{name_at, bad_name, modules_of};
-ghost use Rattle.plan_builder.specs.Needs.{modules as modules_spec, before, after, unloaded};
-ghost use Rattle.plan_builder.specs.Members.{asked, planned as planned_spec};
+ghost use Rattle.planned_modules.specs.Needs.{modules as modules_spec, before, after, unloaded};
+ghost use Rattle.planned_modules.specs.Members.{asked, planned as planned_spec};
 ghost use Rattle.plan_builder.specs.Steps.{plan_steps};
 ghost use Rattle.plan_builder.specs.Closed.{IsClosedPlan};
 ghost use Rattle.plan_builder.specs.Obstacles.{as_obstacle, is_path_of, stands, plan_tests, obstacle_of};
 ghost use Rattle.plan_builder.specs.Answers.{ShortCycle, IsCycleOf};
 ghost use Rattle.plan_builder.specs.Sources.{sources};
-ghost use Rattle.plan_builder.specs.Planner.{sources_of};
+ghost use Rattle.planned_modules.specs.Planner.{sources_of};
 
 use crate::check::{ComparedPaths, check_needs, check_unmet, compared_paths};
-use crate::members::{check_known, find_each, free_marks, requests_of};
-use crate::needs::ModuleNeeds;
 use crate::obstacle::Obstacle;
-use crate::planner::Planner;
 use crate::request::Request;
 use crate::step::PlanSteps;
 use crate::steps::all_steps;
@@ -29,7 +25,8 @@ use km_names::{Name, Names};
 use loaded_list::Loaded;
 use modprobe_conf::Rules;
 use name_lookup::{Found, Indexes};
-use plan_order::{GroupedOrder, PlanOrCycle, Planned, find_planned, plan_or_cycle};
+use plan_order::{GroupedOrder, PlanOrCycle};
+use planned_modules::{Planner, Planning, check_known, find_each, planned_answer};
 use std::alloc::{AllocError, Global};
 use unmet_file::{LineKind, Unmet};
 
@@ -126,32 +123,6 @@ fn planned_steps(
     let plan = checked_plan(alloc, planner, &founds)?;
     let steps = all_steps(alloc, planner, request, &founds, &plan)?;
     Ok(steps)
-}
-
-/// What is planned, with a mark for each module, and the order of it, or a cycle.
-#[derive(Drop)]
-struct Planning {
-    marks: Vec<bool>,
-    answer: PlanOrCycle,
-}
-
-/// Finds what is planned for what was found.
-fn planned_answer(
-    alloc: Global,
-    planner: &Planner<'_>,
-    founds: &[Found],
-) -> Result<Planning, AllocError>
-    ensures marks { IfOk result (λ p. marked p.marks.items ≡ planned_spec (sources_of planner.now) founds.now) }
-    ensures long { IfOk result (λ p. length p.marks.items ≡ length (modules_spec (sources_of planner.now))) }
-    ensures answer { IfOk result (λ p. IsAnswer (among (before (sources_of planner.now))) (unloaded (sources_of planner.now)) (after (sources_of planner.now)) (asked (sources_of planner.now) founds.now) p.answer) }
-{
-    let requests = requests_of(alloc, planner, founds)?;
-    let free = free_marks(alloc, planner)?;
-    let needs = ModuleNeeds::new(alloc, planner)?;
-    let planned = find_planned(alloc, &needs, &free, &requests)?;
-    let answer = plan_or_cycle(alloc, &planned, &free, &requests)?;
-    let Planned { marks, .. } = planned;
-    Ok(Planning { marks, answer })
 }
 
 /// Returns the order, unless there is a cycle.

@@ -3,23 +3,22 @@ ghost use Rattle.std.specs.Prelude.{◌≡◌, ◌<◌, ◌&&◌, ◌++◌, [], 
 ghost use Rattle.std.specs.List.{flat_map};
 ghost use Rattle.name_table.specs.FirstSeen.{is_among};
 ghost use Rattle.dependency_lines.specs.Modules.{name_at, path_at};
-ghost use Rattle.plan_builder.specs.Needs.{modules};
-ghost use Rattle.plan_builder.specs.Members.{found_for, is_member};
-ghost use Rattle.plan_builder.specs.Planner.{sources_of};
+ghost use Rattle.planned_modules.specs.Needs.{modules};
+ghost use Rattle.plan_builder.specs.Requested.{found_for, is_member};
+ghost use Rattle.planned_modules.specs.Planner.{sources_of};
 ghost use Rattle.plan_builder.specs.Tables.{byte_texts};
 ghost use Rattle.plan_builder.specs.Steps.{rule_options, options_of, module_step, own_step, own_step_unless, own_steps};
 ghost use Rattle.plan_builder.specs.Ends.{RisingEnds, steps_by};
 
-use crate::members::{chosen_command, insert_all, member_names};
-use crate::planner::Planner;
+use crate::members::{insert_all, member_names};
 use crate::request::Request;
-use crate::rule_table::RuleTable;
 use crate::step::{PlanStep, PlanSteps};
 use km_names::{Blob, Name, Names, PathText};
 use modprobe_conf::Rule;
 use name_lookup::Found;
 use name_table::NameSet;
 use plan_order::GroupedOrder;
+use planned_modules::{Planner, RuleTable, chosen_command};
 use std::alloc::{AllocError, Global};
 
 /// Returns the parameters that rules have for the module of this name.

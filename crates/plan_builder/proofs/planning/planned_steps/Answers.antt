@@ -9,12 +9,14 @@ use Rattle.plan_order.specs.Plan.{needs, requested}
 use Rattle.plan_order.specs.Lists.{among}
 use Rattle.plan_order.specs.Answer.{IsPlan}
 use Rattle.dependency_lines.proofs.Faults.{right}
-use Rattle.plan_builder.specs.Needs.{modules, before, after, unloaded}
-use Rattle.plan_builder.specs.Members.{found_for, asked}
-use Rattle.plan_builder.specs.Obstacles.{as_obstacle, is_unknown, all_names, not_found, plan_tests}
-use Rattle.plan_builder.specs.Planner.{sources_of}
+use Rattle.planned_modules.specs.Needs.{modules, before, after, unloaded}
+use Rattle.planned_modules.specs.Members.{is_unfound, asked, is_unknown, all_names}
+use Rattle.plan_builder.specs.Requested.{found_for}
+use Rattle.plan_builder.specs.Obstacles.{as_obstacle, not_found, plan_tests}
+use Rattle.planned_modules.specs.Planner.{sources_of}
+use Rattle.plan_builder.specs.Answers.{name_obstacle}
 use Rattle.plan_builder.proofs.Answering.{unloaded-low}
-use Rattle.plan_builder.proofs.Obstacles.{when-unfound, when-unknown, when-known, steps-are}
+use Rattle.plan_builder.proofs.Obstacles.{name-fault, when-unfound, when-unknown, when-known, steps-are}
 use Rattle.plan_builder.proofs.StepLaws.{ends-rising}
 use Rattle.plan_builder.specs.Closed.{IsClosedPlan}
 use Rattle.plan_builder.proofs.ClosedLemmas.{plans-are-closed}
@@ -25,7 +27,9 @@ returns-in_err-founds-clause-err c =
     let s = sources_of c.args.planner.now in
     let request = c.args.request.now in
     let p = err_from_is_err_and c.from_residual.result c.from_residual.ensures.1 in
-    rw (p.1, p.2) (right (λ e. when-unfound s request c.requires c.in_err-founds.field-0.0 e) c.in_err-founds.ensures.err)
+    let fault = c.in_err-founds.field-0.0 in
+    rw (p.1, p.2)
+    (right (λ e. when-unfound s request c.requires (name_obstacle fault) e) (name-fault fault (find (is_unfound s) request.names) c.in_err-founds.ensures.err))
 
 pub returns-in_err-check_known-clause-err : goal.returns-in_err-check_known-clause-err
 returns-in_err-check_known-clause-err c =
@@ -34,9 +38,11 @@ returns-in_err-check_known-clause-err c =
     let are : c.deref.result.now ≡ found_for (sources_of c.args.planner.now) c.args.request.now =
     c.deref.ensures.value ∙ c.in_ok-founds.ensures.found in
     let p = err_from_is_err_and c.from_residual-in_err-check_known.result c.from_residual-in_err-check_known.ensures.1 in
+    let fault = c.in_err-check_known.field-0.0 in
     rw (p.1, p.2)
-    (right (λ e. when-unknown s request c.requires c.in_ok-founds.ensures.passed c.in_err-check_known.field-0.0
-    (ap (λ fs. option_map as_obstacle (option_map not_found (find (is_unknown s request.ignore_install) (all_names fs)))) (sym are) ∙ e)) c.in_err-check_known.ensures.err)
+    (right (λ e. when-unknown s request c.requires c.in_ok-founds.ensures.passed (name_obstacle fault)
+    (ap (λ fs. option_map as_obstacle (option_map not_found (find (is_unknown s request.ignore_install) (all_names fs)))) (sym are) ∙ e))
+    (name-fault fault (find (is_unknown s request.ignore_install) (all_names c.deref.result.now)) c.in_err-check_known.ensures.err))
 
 pub returns-in_err-plan-clause-err : goal.returns-in_err-plan-clause-err
 returns-in_err-plan-clause-err c =

@@ -3,7 +3,7 @@ use Rattle.std.specs.List.{flat_map}
 use Rattle.std.proofs.lemmas.List.{take_all}
 use Rattle.modprobe_conf.specs.declared.rule.Rule.{Rule}
 use Rattle.plan_builder.specs.Steps.{rule_options}
-use Rattle.plan_builder.proofs.RuleLaws.{options-of-own}
+use Rattle.plan_builder.proofs.OptionLaws.{options-of-own}
 use Rattle.plan_builder.proofs.steps.rule_texts.Goals as goal
 
 pub returns : goal.returns

@@ -1,6 +1,0 @@
-use Rattle.std.proofs.Common.{◌≡◌, ◌++◌, take}
-use Rattle.plan_builder.specs.Planner.{texts}
-use Rattle.plan_builder.proofs.needs.push_all.Given as goal
-
-abbrev pub invariant-loop-name : goal.invariant-loop-name
-invariant-loop-name l = texts l.names.items ≡ texts l.fn.names.items ++ take l.name-index l.more

@@ -1,0 +1,147 @@
+// What each module needs.
+ghost use Rattle.std.specs.Prelude.{◌≡◌, ◌<◌, ◌++◌, length, IfOk, OnOk};
+ghost use Rattle.std.specs.List.{flat_map};
+ghost use Rattle.dependency_lines.specs.Modules.{name_at};
+ghost use Rattle.planned_modules.specs.Needs.{modules as modules_spec, soft_places};
+ghost use Rattle.planned_modules.specs.Planner.{sources_of};
+ghost use Rattle.planned_modules.specs.Kept.{names_on, names_of_side, texts};
+ghost use Rattle.planned_modules.specs.Softdeps.{once};
+
+use crate::planner::Planner;
+use crate::rule_table::RuleTable;
+use crate::softdeps::{SoftTable, find_named, soft_table};
+use km_names::{Name, Names};
+use modprobe_conf::Rule;
+use plan_order::{Needed, Needs};
+use std::alloc::{AllocError, Global};
+use std::marker::Model;
+
+/// On which side of a module a soft dependency is.
+#[derive(Clone, Copy)]
+pub(crate) enum Side {
+    Before,
+    After,
+}
+
+/// Returns the names that soft dependencies have on one side of a module.
+fn soft_names<'a>(
+    alloc: Global,
+    rules: &'a RuleTable<'_>,
+    name: &[u8],
+    side: Side,
+) -> Result<Vec<&'a Name>, AllocError>
+    ensures { IfOk result (λ names. texts names.items ≡ flat_map (names_on side name.now) rules.now) }
+{
+    let mut names = Vec::new(alloc);
+    let own = rules.on(name);
+    for rule in own {
+        push_soft_names(&mut names, *rule, name, side)?;
+    }
+    Ok(names)
+}
+
+fn push_soft_names<'a>(
+    names: &mut Vec<&'a Name>,
+    rule: &'a Rule,
+    wanted: &[u8],
+    side: Side,
+) -> Result<(), AllocError>
+    ensures { OnOk result (texts names.new.items ≡ texts names.old.items ++ names_on side wanted.now rule.now) }
+{
+    match rule {
+        Rule::Softdep { name, pre, post } if name.as_bytes() == wanted => {
+            push_all(names, on_side(side, pre, post))
+        }
+        Rule::Softdep { .. }
+        | Rule::Alias { .. }
+        | Rule::Blacklist { .. }
+        | Rule::Options { .. }
+        | Rule::Install { .. }
+        | Rule::Remove { .. } => Ok(()),
+    }
+}
+
+fn on_side<'a>(side: Side, pre: &'a Names, post: &'a Names) -> &'a Names
+    ensures { result.now ≡ names_of_side side pre.now post.now }
+{
+    match side {
+        Side::Before => pre,
+        Side::After => post,
+    }
+}
+
+/// Adds names.
+pub(crate) fn push_all<'a>(names: &mut Vec<&'a Name>, more: &'a Names) -> Result<(), AllocError>
+    ensures { OnOk result (texts names.new.items ≡ texts names.old.items ++ more.now) }
+{
+    for name in more.as_slice() {
+        names.push(name)?;
+    }
+    Ok(())
+}
+
+/// What each module needs, with what the names of soft dependencies stand for. Contracts see what
+/// the planner is made from.
+#[derive(Drop)]
+pub(crate) struct ModuleNeeds<'p, 'a> {
+    planner: &'p Planner<'a>,
+    soft: SoftTable<'a>,
+}
+
+impl<'p, 'a> Model for ModuleNeeds<'p, 'a> {
+    ghost use Rattle.planned_modules.specs.Planner.{Held, sources_of};
+    ghost use Rattle.planned_modules.specs.Softdeps.{IsSoftTable, all_soft_names};
+
+    ghost Value = { Held };
+
+    ghost view = { λ n. n.planner.now };
+
+    ghost invariant = { λ n. IsSoftTable (sources_of n.planner.now) (all_soft_names n.planner.now.rules) n.soft.entries };
+}
+
+impl<'p, 'a> ModuleNeeds<'p, 'a> {
+    /// Makes the needs of a planner's modules.
+    pub(crate) fn new(
+        alloc: Global,
+        planner: &'p Planner<'a>,
+    ) -> Result<ModuleNeeds<'p, 'a>, AllocError>
+        ensures { IfOk result (λ needs. needs ≡ planner.now) }
+    {
+        let soft = soft_table(alloc, planner)?;
+        Ok(ModuleNeeds { planner, soft })
+    }
+
+    /// Returns the modules that soft dependencies name on one side of a module, each once.
+    fn soft_places(&self, alloc: Global, place: usize, side: Side) -> Result<Vec<usize>, AllocError>
+        requires { place < length (modules_spec (sources_of self.now)) }
+        ensures { IfOk result (λ places. places.items ≡ once (soft_places (sources_of self.now) place (flat_map (names_on side (name_at (modules_spec (sources_of self.now)) place)) (sources_of self.now).rules))) }
+    {
+        let modules = self.planner.modules();
+        let names = soft_names(alloc, self.planner.rules(), modules.name(place), side)?;
+        if names.is_empty() {
+            return Ok(Vec::new(alloc));
+        }
+        find_named(alloc, &self.soft, place, &names)
+    }
+}
+
+impl<'p, 'a> Needs for ModuleNeeds<'p, 'a> {
+    ghost use Rattle.std.specs.Prelude.{length};
+    ghost use Rattle.planned_modules.specs.Needs.{modules};
+    ghost use Rattle.planned_modules.specs.Softdeps.{before_once, after_once};
+    ghost use Rattle.planned_modules.specs.Planner.{sources_of};
+
+    ghost count = { λ needs. length (modules (sources_of needs)) };
+
+    ghost before = { λ needs. before_once (sources_of needs) };
+
+    ghost after = { λ needs. after_once (sources_of needs) };
+
+    fn needed(&self, alloc: Global, place: usize) -> Result<Needed, AllocError> {
+        let mut before = self.planner.line_places(alloc, place)?;
+        let soft = self.soft_places(alloc, place, Side::Before)?;
+        before.extend_from_slice(&soft)?;
+        let after = self.soft_places(alloc, place, Side::After)?;
+        Ok(Needed { before, after })
+    }
+}

@@ -1,0 +1,43 @@
+// What is planned for what was found, and in which order.
+ghost use Rattle.std.specs.Prelude.{◌≡◌, length, IfOk};
+ghost use Rattle.relation_order.specs.Sets.{marked};
+ghost use Rattle.plan_order.specs.Lists.{among};
+ghost use Rattle.plan_order.specs.Answer.{IsAnswer};
+ghost use Rattle.planned_modules.specs.Needs.{modules as modules_spec, before, after, unloaded};
+ghost use Rattle.planned_modules.specs.Members.{asked, planned as planned_spec};
+ghost use Rattle.planned_modules.specs.Planner.{sources_of};
+
+use crate::members::{free_marks, requests_of};
+use crate::needs::ModuleNeeds;
+use crate::planner::Planner;
+use name_lookup::Found;
+use plan_order::{PlanOrCycle, Planned, find_planned, plan_or_cycle};
+use std::alloc::{AllocError, Global};
+
+/// What is planned, with a mark for each module, and the order of it, or a cycle.
+#[derive(Drop)]
+pub struct Planning {
+    /// Whether a module is planned, by its place.
+    pub marks: Vec<bool>,
+    /// The order of what is planned, or a cycle in it.
+    pub answer: PlanOrCycle,
+}
+
+/// Finds what is planned for what was found.
+pub fn planned_answer(
+    alloc: Global,
+    planner: &Planner<'_>,
+    founds: &[Found],
+) -> Result<Planning, AllocError>
+    ensures marks { IfOk result (λ p. marked p.marks.items ≡ planned_spec (sources_of planner.now) founds.now) }
+    ensures long { IfOk result (λ p. length p.marks.items ≡ length (modules_spec (sources_of planner.now))) }
+    ensures answer { IfOk result (λ p. IsAnswer (among (before (sources_of planner.now))) (unloaded (sources_of planner.now)) (after (sources_of planner.now)) (asked (sources_of planner.now) founds.now) p.answer) }
+{
+    let requests = requests_of(alloc, planner, founds)?;
+    let free = free_marks(alloc, planner)?;
+    let needs = ModuleNeeds::new(alloc, planner)?;
+    let planned = find_planned(alloc, &needs, &free, &requests)?;
+    let answer = plan_or_cycle(alloc, &planned, &free, &requests)?;
+    let Planned { marks, .. } = planned;
+    Ok(Planning { marks, answer })
+}
