@@ -5,6 +5,7 @@ use Rattle.std.specs.List.{flat_map}
 use Rattle.std.proofs.lemmas.List.{drop_all}
 use Rattle.km_names.specs.First.{first}
 use Rattle.kmod_words.specs.declared.modprobe.ModprobeWords.{ModprobeWords}
+use Rattle.kmod_words.specs.Modprobe.{region_asked}
 use Rattle.module_region.specs.declared.region.Region.{Region}
 use Rattle.model_loader.specs.Machine.{Machine}
 use Rattle.plan_builder.specs.declared.request.Request.{Request}
@@ -26,7 +27,7 @@ use Rattle.stages_known.specs.declared.known.Known.{Known}
 use Rattle.stages_known.specs.Known.{reads_known}
 use Rattle.command_modprobe.specs.Planned.{plan_lines, request_of}
 use Rattle.command_modprobe.specs.Parts.{loads_known}
-use Rattle.command_modprobe.specs.Loaded.{command_owner, images_asked, inserted, inserts_outcome, install_stop, loads_into, loads_request, loads_steps, unless_install}
+use Rattle.command_modprobe.specs.Loaded.{command_owner, images_asked, inserted, inserts_outcome, install_stop, loads_plan, loads_request, loads_steps, unless_install}
 
 -- the stages after each part of a load
 abbrev pub after_loads : Machine → Stage ⊤
@@ -48,13 +49,14 @@ abbrev pub after_machine : List ℕ → Images → Request → Known → Machine
 after_machine folder images request known machine = loads_request folder images request known machine
 
 -- what is asked for, where its folder, its images, its request and its Module.symvers are these
-pub loads-asked : (asked : ModprobeWords) (folder : List ℕ) (images : Images) (request : Request) (system_map : List ℕ) (symvers : Option (List ℕ)) (region : Region) (old new : World) (r : Result ⊤ Stop) → folder ≡ modules_folder asked.dirname asked.version → images ≡ images_asked asked → request ≡ request_of asked → symvers ≡ asked.symvers → Follows (λ x. x) (reads_known asked.config (modules_folder asked.dirname asked.version) asked.loaded >>= loads_known folder images request system_map symvers region) old new r → Follows (λ x. x) (loads_into asked region system_map) old new r
-loads-asked asked folder images request system_map symvers region old new r place shown what table f =
+pub loads-asked : (asked : ModprobeWords) (folder : List ℕ) (images : Images) (request : Request) (system_map : List ℕ) (symvers : Option (List ℕ)) (region : Region) (old new : World) (r : Result ⊤ Stop) → folder ≡ modules_folder asked.dirname asked.version → images ≡ images_asked asked → request ≡ request_of asked → symvers ≡ asked.symvers → region ≡ region_asked asked → Follows (λ x. x) (reads_known asked.config (modules_folder asked.dirname asked.version) asked.loaded >>= loads_known folder images request system_map symvers region) old new r → Follows (λ x. x) (loads_plan asked system_map) old new r
+loads-asked asked folder images request system_map symvers region old new r place shown what table within f =
     let known = reads_known asked.config (modules_folder asked.dirname asked.version) asked.loaded in
-    along (λ p. known >>= loads_known p (images_asked asked) (request_of asked) system_map asked.symvers region) folder (modules_folder asked.dirname asked.version) place
-    (along (λ i. known >>= loads_known folder i (request_of asked) system_map asked.symvers region) images (images_asked asked) shown
-    (along (λ q. known >>= loads_known folder images q system_map asked.symvers region) request (request_of asked) what
-    (along (λ s. known >>= loads_known folder images request system_map s region) symvers asked.symvers table f)))
+    along (λ p. known >>= loads_known p (images_asked asked) (request_of asked) system_map asked.symvers (region_asked asked)) folder (modules_folder asked.dirname asked.version) place
+    (along (λ i. known >>= loads_known folder i (request_of asked) system_map asked.symvers (region_asked asked)) images (images_asked asked) shown
+    (along (λ q. known >>= loads_known folder images q system_map asked.symvers (region_asked asked)) request (request_of asked) what
+    (along (λ s. known >>= loads_known folder images request system_map s (region_asked asked)) symvers asked.symvers table
+    (along (λ g. known >>= loads_known folder images request system_map symvers g) region (region_asked asked) within f))))
 
 -- steps of which none runs a command
 pub insert-more : (steps : List PlanStep) (i : ℕ) (step : PlanStep) (inserts more : List Insertion) → drop i steps ≡ step ∷ drop (i + 1) steps → more ≡ inserts ++ inserted step → inserts ++ flat_map inserted (drop i steps) ≡ flat_map inserted steps → more ++ flat_map inserted (drop (i + 1) steps) ≡ flat_map inserted steps

@@ -19,8 +19,6 @@ use Rattle.stages_loads.specs.Listed.{loads_listed}
 use Rattle.stages_loads.specs.declared.load.Insertion.{Insertion}
 use Rattle.stages_loads.specs.declared.shown.Images.{Images}
 use Rattle.stages_loads.specs.Loads.{loads_all}
-use Rattle.module_region.specs.declared.region.Region.{Region}
-use Rattle.stages_loads.specs.Understood.{if_understood}
 use Rattle.stages_loads.specs.Tables.{reads_machine}
 use Rattle.stages_known.specs.declared.known.Known.{Known}
 use Rattle.stages_known.specs.Known.{reads_known}
@@ -72,13 +70,9 @@ loads_request folder images request known machine = do
   inserts ← given (inserts_outcome steps)
   loads_steps folder images known machine steps inserts
 
--- The course of a load into the machine of a System.map, in a region.
-abbrev pub loads_into : ModprobeWords → Region → List ℕ → Stage ⊤
-loads_into asked region system_map = do
+-- The course of `modprobe` without `-n`, `-D` and `-R`: a load into the machine of a System.map.
+abbrev pub loads_plan : ModprobeWords → List ℕ → Stage ⊤
+loads_plan asked system_map = do
   known ← reads_known asked.config (modules_folder asked.dirname asked.version) asked.loaded
-  machine ← reads_machine system_map asked.symvers region
+  machine ← reads_machine system_map asked.symvers (region_asked asked)
   loads_request (modules_folder asked.dirname asked.version) (images_asked asked) (request_of asked) known machine
-
--- The course of `modprobe` without `-n`, `-D` and `-R`.
-abbrev pub loads_plan : ModprobeWords → Stage ⊤
-loads_plan asked = if_understood asked.system_map (loads_into asked (region_asked asked))

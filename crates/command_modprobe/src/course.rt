@@ -1,5 +1,4 @@
 ghost use Rattle.std.specs.Prelude.{⊤};
-ghost use Rattle.kmod_words.specs.Modprobe.{HasAddresses};
 ghost use Rattle.km_course.specs.FollowsOn.{FollowsOnFilesAndOut};
 ghost use Rattle.command_modprobe.specs.Modprobe.{modprobe_course, modprobe_in_mode};
 
@@ -24,36 +23,32 @@ pub fn modprobe<F: Writes, O: Out>(
         F.seen files.old files.new O.seen out.old out.new result }
 {
     match read_modprobe(alloc, words)? {
-        Some(asked) => in_mode(alloc, asked.mode, asked, files, out),
+        Some(asked) => in_mode(alloc, asked, files, out),
         None => Err(Stop::from(End::NotUnderstood)),
     }
 }
 
-/// Does what is asked for in this mode.
+/// Does what is asked for, in its mode.
 fn in_mode<F: Writes, O: Out>(
     alloc: Global,
-    mode: Mode,
-    mut asked: ModprobeWords,
+    asked: ModprobeWords,
     files: &mut F,
     out: &mut O,
 ) -> Result<(), Stop>
-    requires addresses { HasAddresses mode asked }
-    ensures { FollowsOnFilesAndOut (modprobe_in_mode mode asked)
+    ensures { FollowsOnFilesAndOut (modprobe_in_mode asked.mode asked asked.fits)
         F.seen files.old files.new O.seen out.old out.new result }
 {
-    match mode {
+    match asked.mode {
         Mode::ResolveAlias => resolve_alias(alloc, asked, files, out),
         Mode::Load => {
-            let region = asked.region();
-            let system_map = asked.system_map.take().unwrap();
-            load_plan(alloc, asked, region, system_map, files, out)
+            let system_map = asked.given_map(alloc)?;
+            load_plan(alloc, asked, system_map, files, out)
         }
         Mode::DryRun => show_plan(alloc, asked, files, out),
         Mode::ShowDepends => show_plan(alloc, asked, files, out),
         Mode::Remove { dry_run } => {
-            let region = asked.region();
-            let system_map = asked.system_map.take().unwrap();
-            remove(alloc, dry_run, asked, region, system_map, files, out)
+            let system_map = asked.given_map(alloc)?;
+            remove(alloc, dry_run, asked, system_map, files, out)
         }
     }
 }

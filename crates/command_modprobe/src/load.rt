@@ -2,7 +2,7 @@
 ghost use Rattle.std.specs.Prelude.{◌≡◌, ◌⊎◌, ◌++◌, OnOk, IfErr, None, Some, option_map};
 ghost use Rattle.km_course.specs.FollowsOn.{FollowsOnFilesAndOut, Returns};
 ghost use Rattle.command_modprobe.specs.Loaded.{command_owner, inserted, inserts_outcome, install_stop};
-ghost use Rattle.command_modprobe.specs.Loaded.{loads_into, loads_request, loads_steps};
+ghost use Rattle.command_modprobe.specs.Loaded.{loads_plan, loads_request, loads_steps};
 ghost use Rattle.command_modprobe.specs.Parts.{loads_known};
 
 use crate::basis::{Basis, read_basis};
@@ -17,19 +17,19 @@ use stages_loads::{Images, Insertion, Insertions, load_all, load_listed, read_ma
 use std::alloc::Global;
 
 /// Prints the plan for the requested names. It loads the plan's modules into the modelled machine of
-/// this System.map and region, after those that are listed as loaded. A plan that runs a command is
-/// refused. modprobe(8).
+/// this System.map, after those that are listed as loaded. A plan that runs a command is refused.
+/// modprobe(8).
 pub(crate) fn load_plan<F: Writes, O: Out>(
     alloc: Global,
     mut asked: ModprobeWords,
-    region: Region,
     system_map: PathText,
     files: &mut F,
     out: &mut O,
 ) -> Result<(), Stop>
-    ensures { FollowsOnFilesAndOut (loads_into asked region system_map)
+    ensures { FollowsOnFilesAndOut (loads_plan asked system_map)
         F.seen files.old files.new O.seen out.old out.new result }
 {
+    let region = asked.region();
     let symvers = asked.symvers.take();
     let images = Images {
         folder: asked.image.take(),

@@ -8,13 +8,14 @@ use Rattle.km_course.specs.Course.{Stage, ◌>>=◌, ends, given, gives, says_an
 use Rattle.km_course.specs.Course.Outcome.{value, end}
 use Rattle.km_course.specs.World.{World}
 use Rattle.km_course.specs.Follows.{Answers, Follows}
-use Rattle.km_course.specs.declared.end.End.TheVariants.{NotUnderstood, Refused}
+use Rattle.km_course.specs.declared.end.End.TheVariants.{Refused}
 use Rattle.km_course.specs.declared.refusal.Refusal.TheVariants.{InUse, RemoveChosen}
 use Rattle.km_course.specs.declared.stop.Stop.{Stop}
 use Rattle.km_course.specs.declared.stop.Stop.TheVariants.{Ended}
 use Rattle.km_course.proofs.Steps.{answered}
 use Rattle.km_course.proofs.Following.{along}
 use Rattle.kmod_words.specs.declared.modprobe.ModprobeWords.{ModprobeWords}
+use Rattle.kmod_words.specs.Modprobe.{region_asked}
 use Rattle.modprobe_conf.specs.declared.rule.Rule.{Rule}
 use Rattle.module_region.specs.declared.region.Region.{Region}
 use Rattle.model_loader.specs.Machine.{Machine}
@@ -36,7 +37,7 @@ use Rattle.command_remove.specs.declared.course.Sources.{Sources}
 use Rattle.command_remove.specs.Over.{removes_over}
 use Rattle.command_remove.specs.Listed.{takes_listed}
 use Rattle.command_remove.specs.Lines.{left_lines, step_lines}
-use Rattle.command_remove.specs.Remove.{carries_out, chosen_outcome, command_owner, first_owner, removal_of, removes_from, removes_listed, removes_names, step_name, steps_outcome, steps_unless, unless_owner, unloads_unless, without_named}
+use Rattle.command_remove.specs.Remove.{carries_out, chosen_outcome, command_owner, first_owner, removal_of, removes, removes_listed, removes_names, step_name, steps_outcome, steps_unless, unless_owner, unloads_unless, without_named}
 
 -- ---- the stages after each part of a removal
 
@@ -75,9 +76,10 @@ after_known folder removal system_map symvers region known = reads_machine syste
 abbrev sources_of : ModprobeWords → List ℕ → Sources
 sources_of asked map = record { config = asked.config; loaded = asked.loaded; system_map = map; symvers = asked.symvers }
 
-pub removes-asked : (dry_run : Bool) (asked : ModprobeWords) (folder map : List ℕ) (region : Region) (old new : World) (r : Result ⊤ Stop) → folder ≡ modules_folder asked.dirname asked.version → Follows (λ x. x) (removes_over folder (removal_of dry_run asked) (sources_of asked map) region) old new r → Follows (λ x. x) (removes_from dry_run asked region map) old new r
-removes-asked dry_run asked folder map region old new r place f =
-    along (λ p. removes_over p (removal_of dry_run asked) (sources_of asked map) region) folder (modules_folder asked.dirname asked.version) place f
+pub removes-asked : (dry_run : Bool) (asked : ModprobeWords) (folder map : List ℕ) (region : Region) (old new : World) (r : Result ⊤ Stop) → folder ≡ modules_folder asked.dirname asked.version → region ≡ region_asked asked → Follows (λ x. x) (removes_over folder (removal_of dry_run asked) (sources_of asked map) region) old new r → Follows (λ x. x) (removes dry_run asked map) old new r
+removes-asked dry_run asked folder map region old new r place within f =
+    along (λ p. removes_over p (removal_of dry_run asked) (sources_of asked map) (region_asked asked)) folder (modules_folder asked.dirname asked.version) place
+    (along (removes_over folder (removal_of dry_run asked) (sources_of asked map)) region (region_asked asked) within f)
 
 -- ---- the steps
 

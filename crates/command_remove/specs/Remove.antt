@@ -6,7 +6,6 @@ use Rattle.km_names.specs.First.{first}
 use Rattle.kmod_words.specs.declared.modprobe.ModprobeWords.{ModprobeWords}
 use Rattle.kmod_words.specs.Modprobe.{region_asked}
 use Rattle.modprobe_conf.specs.declared.rule.Rule.{Rule}
-use Rattle.module_region.specs.declared.region.Region.{Region}
 use Rattle.model_loader.specs.Machine.{Machine}
 use Rattle.model_loader.specs.Use.{name_at, without}
 use Rattle.model_unload.specs.Unload.{place_of}
@@ -22,7 +21,6 @@ use Rattle.stages_files.specs.KernelModules.{modules_folder}
 use Rattle.stages_known.specs.declared.known.Known.{Known}
 use Rattle.stages_known.specs.Known.{reads_known}
 use Rattle.stages_known.specs.Named.{names_outcome}
-use Rattle.stages_loads.specs.Understood.{if_understood}
 use Rattle.stages_loads.specs.Tables.{reads_machine}
 use Rattle.command_remove.specs.declared.course.Removal.{Removal}
 use Rattle.command_remove.specs.Listed.{takes_listed}
@@ -121,13 +119,9 @@ removes_listed folder removal known machine = do
   listed ← takes_listed folder known.indexes machine known.loaded
   removes_names removal known listed
 
--- The course of a removal from the machine of a System.map, in a region.
-abbrev pub removes_from : Bool → ModprobeWords → Region → List ℕ → Stage ⊤
-removes_from dry_run asked region system_map = do
+-- The course of `modprobe -r`, with `-n` or without, from the machine of a System.map.
+abbrev pub removes : Bool → ModprobeWords → List ℕ → Stage ⊤
+removes dry_run asked system_map = do
   known ← reads_known asked.config (modules_folder asked.dirname asked.version) asked.loaded
-  machine ← reads_machine system_map asked.symvers region
+  machine ← reads_machine system_map asked.symvers (region_asked asked)
   removes_listed (modules_folder asked.dirname asked.version) (removal_of dry_run asked) known machine
-
--- The course of `modprobe -r`, with `-n` or without.
-abbrev pub removes : Bool → ModprobeWords → Stage ⊤
-removes dry_run asked = if_understood asked.system_map (removes_from dry_run asked (region_asked asked))

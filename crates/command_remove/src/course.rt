@@ -6,7 +6,7 @@ ghost use Rattle.module_region.specs.declared.region.Region.{Region};
 ghost use Rattle.model_loader.specs.Machine.{new_machine};
 ghost use Rattle.laws_closed_plans.specs.Binding.{IsLoaded};
 ghost use Rattle.command_remove.specs.Over.{removes_known, removes_over};
-ghost use Rattle.command_remove.specs.Remove.{carries_out, removes_from, removes_listed, removes_names};
+ghost use Rattle.command_remove.specs.Remove.{carries_out, removes, removes_listed, removes_names};
 ghost use Rattle.command_remove.specs.Taken.{CanBeTakenOut};
 
 use crate::lines::step_lines;
@@ -38,21 +38,21 @@ pub struct Removal {
 }
 
 /// Prints the steps that take the modules of the requested names out of the modelled machine of the
-/// listed modules, with the symbols of this System.map and in this region. Unless it is a dry run,
-/// it takes them out, and then prints a line for each module that is left. A removal that runs a
-/// command is refused. modprobe(8), `-r`.
+/// listed modules, with the symbols of this System.map. Unless it is a dry run, it takes them out,
+/// and then prints a line for each module that is left. A removal that runs a command is refused.
+/// modprobe(8), `-r`.
 pub fn remove<F: Reads, O: Out>(
     alloc: Global,
     dry_run: bool,
     asked: ModprobeWords,
-    region: Region,
     system_map: PathText,
     files: &mut F,
     out: &mut O,
 ) -> Result<(), Stop>
-    ensures { FollowsOnFilesAndOut (removes_from dry_run asked region system_map)
+    ensures { FollowsOnFilesAndOut (removes dry_run asked system_map)
         F.seen files.old files.new O.seen out.old out.new result }
 {
+    let region = asked.region();
     let folder = modules_folder(alloc, &asked.dirname, &asked.version)?;
     let ModprobeWords {
         use_blacklist,

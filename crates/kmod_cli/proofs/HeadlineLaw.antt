@@ -21,8 +21,8 @@ use Rattle.laws_closed_plans.proofs.LoadLemmas.{load-append}
 use Rattle.stages_loads.specs.declared.load.Insertion.{Insertion}
 use Rattle.stages_loads.specs.Loads.{ShownImage, loads_all}
 use Rattle.command_modprobe.specs.Loaded.{images_asked, loads_plan}
-use Rattle.stages_loads.specs.Understood.{if_understood}
-use Rattle.command_modprobe.specs.Modprobe.{modprobe_course, modprobe_in_mode}
+use Rattle.command_modprobe.specs.Modprobe.{modprobe_asked_for, modprobe_course}
+use Rattle.command_modprobe.proofs.CourseSteps.{is-map, loads-in}
 use Rattle.command_modprobe.specs.Planned.{plan_lines}
 use Rattle.laws_planned_loads.specs.Acts.{is_reading, said}
 use Rattle.laws_planned_loads.specs.Courses.{CourseBinds, IsLoadingCourse, Loading, ended, inputs_of}
@@ -37,8 +37,10 @@ use Rattle.kmod_cli.proofs.CameLemmas.{came-to}
 use Rattle.kmod_cli.proofs.LoadsLeft.{AreOfLoads, Doing, doings, doings-acts, doings-shown, loads-left, loads-part, shown_of}
 
 -- the course of words that ask for a load
-load-course : (held : Contents) (words : List (List ℕ)) (asked : ModprobeWords) (l : Loading) → modprobe_request words ≡ Some asked → IsIndexedLoad held asked l → modprobe_course words ≡ loads_plan asked
-load-course held words asked l is s = ap (λ request. if_understood request (λ (words : ModprobeWords). modprobe_in_mode words.mode words)) is ∙ ap (λ mode. modprobe_in_mode mode asked) s.mode
+load-course : (held : Contents) (words : List (List ℕ)) (asked : ModprobeWords) (l : Loading) → modprobe_request words ≡ Some asked → (s : IsIndexedLoad held asked l) → modprobe_course words ≡ loads_plan asked s.machine.map
+load-course held words asked l is s =
+    let has = s.machine in
+    ap modprobe_asked_for is ∙ loads-in asked has.map asked.mode s.mode (is-map asked.system_map has.map has.mapped) asked.fits
 
 abbrev Bound : Contents → ModprobeWords → Loading → Type 0
 Bound held asked l = CourseBinds held (folder_asked asked) l

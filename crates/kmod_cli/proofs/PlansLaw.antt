@@ -14,7 +14,7 @@ use Rattle.km_course.specs.declared.refusal.Refusal.TheVariants.{Obstacle as Unp
 use Rattle.kmod_words.specs.declared.modprobe.Mode.{Mode}
 use Rattle.kmod_words.specs.declared.modprobe.Mode.TheVariants.{Load, DryRun, ShowDepends, ResolveAlias, Remove}
 use Rattle.kmod_words.specs.declared.modprobe.ModprobeWords.{ModprobeWords}
-use Rattle.kmod_words.specs.Modprobe.{modprobe_request, region_asked}
+use Rattle.kmod_words.specs.Modprobe.{modprobe_request}
 use Rattle.kernel_exports.specs.declared.kernel.Kernel.{Kernel}
 use Rattle.module_region.specs.declared.region.Region.{Region}
 use Rattle.model_loader.specs.Machine.{new_machine}
@@ -24,9 +24,9 @@ use Rattle.plan_builder.specs.Text.{first_obstacle_text}
 use Rattle.stages_loads.specs.Tables.{reads_machine}
 use Rattle.stages_known.specs.declared.known.Known.{Known}
 use Rattle.stages_known.specs.Known.{reads_known}
-use Rattle.stages_loads.specs.Understood.{if_understood}
-use Rattle.command_modprobe.specs.Loaded.{images_asked, loads_into, loads_plan}
-use Rattle.command_modprobe.specs.Modprobe.{modprobe_course, modprobe_in_mode}
+use Rattle.command_modprobe.specs.Loaded.{images_asked, loads_plan}
+use Rattle.command_modprobe.specs.Modprobe.{modprobe_asked_for, modprobe_course, modprobe_in_mode}
+use Rattle.command_modprobe.proofs.CourseSteps.{Fits, is-map, loads-in, of-mode}
 use Rattle.command_modprobe.specs.Parts.{loads_known, prints_plan}
 use Rattle.command_modprobe.specs.Planned.{loaded_in, plan_lines, plan_outcome, plan_unless, request_of, shows_plan}
 use Rattle.command_modprobe.proofs.LoadSteps.{after_machine, after_steps}
@@ -88,7 +88,7 @@ shown-not held asked known knows e met =
     }
 
 -- and where a load is asked for
-loaded-not : (held : Contents) (asked : ModprobeWords) (known : Known) (kernel : Kernel) (region : Region) → HasMachine held asked kernel region → ((reads_known asked.config (folder_asked asked) asked.loaded).run held).outcome ≡ value known → (e : End) → plan_outcome known known.loaded (request_of asked) ≡ end e → Prints [] (end e) ((loads_plan asked).run held)
+loaded-not : (held : Contents) (asked : ModprobeWords) (known : Known) (kernel : Kernel) (region : Region) → (has : HasMachine held asked kernel region) → ((reads_known asked.config (folder_asked asked) asked.loaded).run held).outcome ≡ value known → (e : End) → plan_outcome known known.loaded (request_of asked) ≡ end e → Prints [] (end e) ((loads_plan asked has.map).run held)
 loaded-not held asked known kernel region has knows e met =
     let folder = folder_asked asked in
     let request = request_of asked in
@@ -103,8 +103,7 @@ loaded-not held asked known kernel region has knows e met =
       before = a ++ b;
       reads = both-read a b only only';
       is =
-          ap (λ o. (if_understood o (loads_into asked (region_asked asked))).run held) has.mapped
-          ∙ ap (λ r. (reading >>= loads_known folder (images_asked asked) request has.map asked.symvers r).run held) has.in_region
+          ap (λ r. (reading >>= loads_known folder (images_asked asked) request has.map asked.symvers r).run held) has.in_region
           ∙ run-on reading (loads_known folder (images_asked asked) request has.map asked.symvers region) held known only knows
           ∙ ap (joined a)
           (run-on making (after_machine folder (images_asked asked) request known) held start only' has.made
@@ -112,22 +111,22 @@ loaded-not held asked known kernel region has knows e met =
           ∙ ap (λ acts. run_of acts (end e)) (ap (λ x. a ++ x) (append-nil b) ∙ sym (append-nil (a ++ b)));
     }
 
--- words that ask for this mode
-in-mode : (words : List (List ℕ)) (asked : ModprobeWords) (mode : Mode) → modprobe_request words ≡ Some asked → asked.mode ≡ mode → modprobe_course words ≡ modprobe_in_mode mode asked
-in-mode words asked mode is m = ap (λ request. if_understood request (λ (words : ModprobeWords). modprobe_in_mode words.mode words)) is ∙ ap (λ x. modprobe_in_mode x asked) m
-
 module _ (held : Contents) (words : List (List ℕ)) (asked : ModprobeWords) (known : Known) (is : modprobe_request words ≡ Some asked) (came : CameToPlan held asked known) where
-  of-words : (mode : Mode) → asked.mode ≡ mode → (lines : List ℕ) (outcome : Outcome ⊤) → Prints lines outcome ((modprobe_in_mode mode asked).run held) → Prints lines outcome ((modprobe_course words).run held)
-  of-words mode m lines outcome p =
-      subst (λ (course : Stage ⊤). Prints lines outcome (course.run held)) (sym (in-mode words asked mode is m)) p
+  of-words : (course : Stage ⊤) → modprobe_in_mode asked.mode asked asked.fits ≡ course → (lines : List ℕ) (outcome : Outcome ⊤) → Prints lines outcome (course.run held) → Prints lines outcome ((modprobe_course words).run held)
+  of-words course same lines outcome p =
+      subst (λ (course : Stage ⊤). Prints lines outcome (course.run held)) (sym (ap modprobe_asked_for is ∙ same)) p
+
+  -- the course where no load is asked for
+  shows : (mode : Mode) → asked.mode ≡ mode → ((fits : Fits mode asked) → modprobe_in_mode mode asked fits ≡ shows_plan asked) → modprobe_in_mode asked.mode asked asked.fits ≡ shows_plan asked
+  shows mode m so = of-mode asked (shows_plan asked) mode asked.mode m so asked.fits
 
   plan-printed : ¬ (asked.mode ≡ Load) → first_obstacle_text (sources_asked asked known) (request_of asked) ≡ None → Prints (lines_asked asked known) (value tt) ((modprobe_course words).run held)
   plan-printed other none = by_mode asked.mode refl came.ready
     where
       by_mode : (mode : Mode) → asked.mode ≡ mode → IsReady held asked mode → Prints (lines_asked asked known) (value tt) ((modprobe_course words).run held)
       by_mode Load m ready = absurd (other m)
-      by_mode DryRun m ready = of-words DryRun m _ _ (shown-so held asked known came.knows _ (outcome-is known asked None none))
-      by_mode ShowDepends m ready = of-words ShowDepends m _ _ (shown-so held asked known came.knows _ (outcome-is known asked None none))
+      by_mode DryRun m ready = of-words (shows_plan asked) (shows DryRun m (λ fits. refl)) _ _ (shown-so held asked known came.knows _ (outcome-is known asked None none))
+      by_mode ShowDepends m ready = of-words (shows_plan asked) (shows ShowDepends m (λ fits. refl)) _ _ (shown-so held asked known came.knows _ (outcome-is known asked None none))
       by_mode ResolveAlias m ready = absurd ready
       by_mode (Remove dry_run) m ready = absurd ready
 
@@ -139,11 +138,12 @@ module _ (held : Contents) (words : List (List ℕ)) (asked : ModprobeWords) (kn
 
       by_mode : (mode : Mode) → asked.mode ≡ mode → IsReady held asked mode → Prints [] (end (Refused (Unplanned text))) ((modprobe_course words).run held)
       by_mode Load m ready =
-          of-words Load m _ _
+          let has = ready.2 in
+          of-words (loads_plan asked has.map) (loads-in asked has.map asked.mode m (is-map asked.system_map has.map has.mapped) asked.fits) _ _
           (loaded-not held asked known ready.0 ready.1 ready.2 came.knows _
           (ap (λ mode. plan_outcome known (loaded_in mode known.loaded) (request_of asked)) (sym m) ∙ met))
-      by_mode DryRun m ready = of-words DryRun m _ _ (shown-not held asked known came.knows _ met)
-      by_mode ShowDepends m ready = of-words ShowDepends m _ _ (shown-not held asked known came.knows _ met)
+      by_mode DryRun m ready = of-words (shows_plan asked) (shows DryRun m (λ fits. refl)) _ _ (shown-not held asked known came.knows _ met)
+      by_mode ShowDepends m ready = of-words (shows_plan asked) (shows ShowDepends m (λ fits. refl)) _ _ (shown-not held asked known came.knows _ met)
       by_mode ResolveAlias m ready = absurd ready
       by_mode (Remove dry_run) m ready = absurd ready
 

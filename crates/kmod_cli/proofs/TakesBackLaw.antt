@@ -18,8 +18,8 @@ use Rattle.laws_planned_removals.specs.Courses.{IsRemovalCourse, Removing, SaysL
 use Rattle.laws_planned_removals.proofs.CourseLemmas.{courses-remove}
 use Rattle.laws_planned_removals.proofs.ListedLemmas.{listed-are-taken}
 use Rattle.command_remove.specs.Remove.{removes}
-use Rattle.stages_loads.specs.Understood.{if_understood}
-use Rattle.command_modprobe.specs.Modprobe.{modprobe_course, modprobe_in_mode}
+use Rattle.command_modprobe.specs.Modprobe.{modprobe_asked_for, modprobe_course}
+use Rattle.command_modprobe.proofs.CourseSteps.{is-map, removes-in}
 use Rattle.kmod_cli.specs.CameTo.{CameTo}
 use Rattle.kmod_cli.specs.Headline.{folder_asked}
 use Rattle.kmod_cli.specs.Plans.{IsPrintedPart}
@@ -29,8 +29,10 @@ use Rattle.kmod_cli.proofs.CameLemmas.{came-to}
 use Rattle.kmod_cli.proofs.SaidLeft.{lines-part, lines-told}
 
 -- the course of words that ask for a removal
-removal-course : (held : Contents) (words : List (List ℕ)) (asked : ModprobeWords) (dry_run : Bool) (r : Removing) → modprobe_request words ≡ Some asked → CanRemove held asked dry_run r → modprobe_course words ≡ removes dry_run asked
-removal-course held words asked dry_run r is can = ap (λ request. if_understood request (λ (words : ModprobeWords). modprobe_in_mode words.mode words)) is ∙ ap (λ mode. modprobe_in_mode mode asked) can.mode
+removal-course : (held : Contents) (words : List (List ℕ)) (asked : ModprobeWords) (dry_run : Bool) (r : Removing) → modprobe_request words ≡ Some asked → (can : CanRemove held asked dry_run r) → modprobe_course words ≡ removes dry_run asked can.came.tables.map
+removal-course held words asked dry_run r is can =
+    let tables = can.came.tables in
+    ap modprobe_asked_for is ∙ removes-in dry_run asked tables.map asked.mode can.mode (is-map asked.system_map tables.map tables.mapped) asked.fits
 
 -- what a call came to whose course says lines
 module _ (course : Stage ⊤) (old new : World) (status : ℕ) (c : Carries course old new status) (shown : Shown) (tells : Tells old shown) where

@@ -1,4 +1,4 @@
-pub mod AddressLemmas
+pub mod WordsLemmas
 pub mod ArgumentLemmas
 pub mod DecimalLemmas
 pub mod MatchLemmas

@@ -3,6 +3,7 @@ pub mod Rules
 pub mod Understood
 pub mod Numbers
 pub mod Depmod
+pub mod Modes
 pub mod Modprobe
 pub mod Modinfo
 pub mod Trial

@@ -1,7 +1,8 @@
 -- What the words of `modprobe` ask for. modprobe(8).
-use Rattle.std.specs.Prelude.{◌≡◌, ◌&&◌, IsSome, List, [], ◌∷◌, Bool, true, false, Option, Some, None, is_some, not, if◌then◌else◌, option_and_then, option_map, unwrap_or, codes}
+use Rattle.std.specs.Prelude.{List, [], ◌∷◌, Bool, true, false, Option, Some, None, T, if◌then◌else◌, option_and_then, unwrap_or, codes}
 use Rattle.clap.specs.Words.{App, Row, Text}
 use Rattle.kmod_words.specs.Arguments.{command, flag, required, valued, words}
+use Rattle.kmod_words.specs.Modes.{goes_with}
 use Rattle.kmod_words.specs.Numbers.{region_or_usual}
 use Rattle.kmod_words.specs.Understood.{understood, is_given, value_of, words_of, is_version}
 use Rattle.kmod_words.specs.declared.modprobe_request.Choice.{Choice}
@@ -46,18 +47,13 @@ mode_by_flags _ _ _ _ = None
 abbrev pub mode_asked : List Row → Option Mode
 mode_asked rows = mode_by_flags (is_given (codes "dry-run") rows) (is_given (codes "show-depends") rows) (is_given (codes "resolve-alias") rows) (is_given (codes "remove") rows)
 
--- Whether the other options go with a mode. A load and a removal need the addresses of a
--- System.map, `--params` is for a load, and a removal has no `--image`.
-abbrev pub goes_with : List Row → Mode → Bool
-goes_with rows Load = is_some (value_of (codes "system-map") rows)
-goes_with rows DryRun = not (is_given (codes "params") rows)
-goes_with rows ShowDepends = not (is_given (codes "params") rows)
-goes_with rows ResolveAlias = not (is_given (codes "params") rows)
-goes_with rows (Remove dry_run) = is_some (value_of (codes "system-map") rows) && not (is_some (value_of (codes "image") rows)) && not (is_given (codes "params") rows)
+-- Whether the options that only some modes have go with a mode.
+abbrev pub options_go : List Row → Mode → Bool
+options_go rows mode = goes_with mode (value_of (codes "system-map") rows) (value_of (codes "image") rows) (is_given (codes "params") rows)
 
 -- What is asked for in this mode, of this version and in this region.
-abbrev pub modprobe_of : List Row → Mode → Text → Region → ModprobeWords
-modprobe_of rows mode version region = record {
+abbrev pub modprobe_of : (rows : List Row) (mode : Mode) → Text → Region → T (options_go rows mode) → ModprobeWords
+modprobe_of rows mode version region fits = record {
   mode = mode;
   all = is_given (codes "all") rows;
   use_blacklist = is_given (codes "use-blacklist") rows;
@@ -74,25 +70,31 @@ modprobe_of rows mode version region = record {
   params = is_given (codes "params") rows;
   words = words_of (codes "words") rows;
   pages = region.pages;
+  fits = fits;
 }
 
 -- The region of addresses in which modules are placed.
 abbrev pub region_asked : ModprobeWords → Region
 region_asked asked = record { base = asked.region_base; size = asked.region_size; pages = asked.pages }
 
--- The mode, the version and the region that the matches choose: a mode with which the other options
--- go, a version without `/`, and a region of modules.
+-- The mode, the version and the region that the matches choose: a version without `/`, and a region
+-- of modules.
 unfoldable pub chosen : List Row → Option (Mode × Text × Region)
 chosen rows =
     option_and_then (λ mode. option_and_then (λ version. option_and_then (λ region.
-    if is_version version && goes_with rows mode then Some (mode, version, region) else None)
+    if is_version version then Some (mode, version, region) else None)
     (region_or_usual (value_of (codes "region") rows)))
     (value_of (codes "set-version") rows))
     (mode_asked rows)
 
--- What the matches ask for.
+-- what is made of a test that passes
+abbrev pub if_passed : {X : Type 0} (test : Bool) → (T test → X) → Option X
+if_passed true make = Some (make tt)
+if_passed false make = None
+
+-- What the matches ask for: a mode with which the other options go.
 abbrev pub modprobe_asked : List Row → Option ModprobeWords
-modprobe_asked rows = option_map (λ choice. modprobe_of rows choice.0 choice.1 choice.2) (chosen rows)
+modprobe_asked rows = option_and_then (λ choice. if_passed (options_go rows choice.0) (modprobe_of rows choice.0 choice.1 choice.2)) (chosen rows)
 
 -- what a choice of the code says
 abbrev pub choice_parts : Choice → Mode × Text × Region
@@ -101,15 +103,3 @@ choice_parts choice = (choice.mode, choice.version.now, choice.region)
 -- What the words ask `modprobe` for, or nothing if they aren't understood.
 abbrev pub modprobe_request : List Text → Option ModprobeWords
 modprobe_request words = option_and_then modprobe_asked (understood modprobe_command words)
-
--- Whether a mode needs the addresses of a System.map: a load and a removal do.
-abbrev pub needs_map : Mode → Bool
-needs_map Load = true
-needs_map DryRun = false
-needs_map ShowDepends = false
-needs_map ResolveAlias = false
-needs_map (Remove dry_run) = true
-
--- What is always given: a System.map, in a mode that needs it.
-pub record HasAddresses (mode : Mode) (asked : ModprobeWords) : Type 0 where
-  pub mapped : needs_map mode ≡ true → IsSome asked.system_map

@@ -1,3 +1,5 @@
+ghost use Rattle.std.specs.Prelude.{T};
+ghost use Rattle.kmod_words.specs.Modes.{goes_with};
 ghost use Rattle.module_region.specs.Regions.{IsRegion};
 
 use km_names::{Name, Names, PathText};
@@ -52,4 +54,5 @@ pub struct ModprobeWords {
     /// The name and all further words, at least one.
     pub words: Names,
     ghost pages: { IsRegion region_base region_size },
+    pub ghost fits: { T (goes_with mode system_map image params) },
 }

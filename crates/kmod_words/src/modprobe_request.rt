@@ -1,9 +1,9 @@
 // What the words after `modprobe` ask for.
-ghost use Rattle.std.specs.Prelude.{◌≡◌, IfOk, Option, codes, option_map, unwrap_or};
-ghost use Rattle.std.specs.Option.{ForSome};
+ghost use Rattle.std.specs.Prelude.{◌≡◌, IfOk, Option, T, codes, is_some, option_map, unwrap_or};
 ghost use Rattle.clap.specs.Words.{found_of, rows_of};
 ghost use Rattle.kmod_words.specs.Understood.{value_of};
-ghost use Rattle.kmod_words.specs.Modprobe.{HasAddresses, modprobe_request, modprobe_asked, modprobe_of, mode_asked, mode_by_flags, goes_with, chosen, choice_parts, region_asked};
+ghost use Rattle.kmod_words.specs.Modes.{given_map};
+ghost use Rattle.kmod_words.specs.Modprobe.{modprobe_request, modprobe_asked, modprobe_of, mode_asked, mode_by_flags, options_go, if_passed, chosen, choice_parts, region_asked};
 
 use crate::arguments::{Argument, command};
 use crate::matches::{
@@ -46,13 +46,22 @@ impl ModprobeWords {
             size: self.region_size,
         }
     }
+
+    /// Copies the path of the System.map, which a load or a removal has.
+    pub fn given_map(&self, alloc: Global) -> Result<PathText, AllocError>
+        requires given { T (is_some self.now.system_map) }
+        ensures { IfOk result (λ path. (given : T (is_some self.now.system_map))
+            → path ≡ given_map self.now.system_map given) }
+    {
+        let path = self.system_map.as_ref().unwrap();
+        PathText::from_slice(alloc, path.as_bytes())
+    }
 }
 
 /// Reads what the words after `modprobe` ask for. It is `None` exactly if they aren't understood.
-/// There is always a region of modules and, for a load or a removal, a System.map. modprobe(8).
+/// modprobe(8).
 pub fn read_modprobe(alloc: Global, words: &[Word]) -> Result<Option<ModprobeWords>, AllocError>
-    ensures request { IfOk result (λ asked. asked ≡ modprobe_request words.now) }
-    ensures addresses { IfOk result (λ asked. ForSome asked (λ words. HasAddresses words.mode words)) }
+    ensures { IfOk result (λ asked. asked ≡ modprobe_request words.now) }
 {
     let command = command(alloc, "modprobe", &ARGUMENTS)?;
     let texts = texts_of(alloc, words)?;
@@ -67,8 +76,24 @@ fn asked(alloc: Global, matches: &ArgMatches<'_>) -> Result<Option<ModprobeWords
     ensures { IfOk result (λ asked. asked ≡ modprobe_asked (rows_of (found_of matches.now))) }
 {
     match choice_of(matches) {
-        Some(choice) => Ok(Some(words_for(alloc, matches, &choice)?)),
+        Some(choice) => asked_by(alloc, matches, &choice),
         None => Ok(None),
+    }
+}
+
+// Returns what is asked for by this choice, if the options go with its mode.
+fn asked_by(
+    alloc: Global,
+    matches: &ArgMatches<'_>,
+    choice: &Choice<'_>,
+) -> Result<Option<ModprobeWords>, AllocError>
+    ensures { IfOk result (λ asked. asked ≡ if_passed (options_go (rows_of (found_of matches.now)) choice.now.mode)
+        (modprobe_of (rows_of (found_of matches.now)) choice.now.mode choice.now.version.now choice.now.region)) }
+{
+    if options_go(matches, choice.mode) {
+        Ok(Some(words_for(alloc, matches, choice)?))
+    } else {
+        Ok(None)
     }
 }
 
@@ -88,7 +113,7 @@ fn choice_of<'a>(matches: &ArgMatches<'a>) -> Option<Choice<'a>>
     let mode = mode_asked(matches)?;
     let version = value_of(matches, "set-version")?;
     let region = region_or_usual(value_of(matches, "region"))?;
-    if is_version(version) && goes_with(matches, mode) {
+    if is_version(version) {
         Some(Choice {
             mode,
             version,
@@ -130,8 +155,8 @@ fn mode_by_flags(
 }
 
 // Returns whether the mode has the addresses that it needs, and no option that isn't for it.
-fn goes_with(matches: &ArgMatches<'_>, mode: Mode) -> bool
-    ensures { result ≡ goes_with (rows_of (found_of matches.now)) mode }
+fn options_go(matches: &ArgMatches<'_>, mode: Mode) -> bool
+    ensures { result ≡ options_go (rows_of (found_of matches.now)) mode }
 {
     let has_map = value_of(matches, "system-map").is_some();
     let has_image = value_of(matches, "image").is_some();
@@ -139,7 +164,7 @@ fn goes_with(matches: &ArgMatches<'_>, mode: Mode) -> bool
     match mode {
         Mode::Load => has_map,
         Mode::DryRun | Mode::ShowDepends | Mode::ResolveAlias => !params,
-        Mode::Remove { .. } => has_map && !has_image && !params,
+        Mode::Remove { .. } => has_map && !(has_image || params),
     }
 }
 
@@ -149,8 +174,9 @@ fn words_for(
     matches: &ArgMatches<'_>,
     choice: &Choice<'_>,
 ) -> Result<ModprobeWords, AllocError>
-    ensures { IfOk result (λ words. words
-        ≡ modprobe_of (rows_of (found_of matches.now)) choice.now.mode choice.now.version.now choice.now.region) }
+    requires fits { T (options_go (rows_of (found_of matches.now)) choice.now.mode) }
+    ensures { IfOk result (λ words. (fits : T (options_go (rows_of (found_of matches.now)) choice.now.mode))
+        → words ≡ modprobe_of (rows_of (found_of matches.now)) choice.now.mode choice.now.version.now choice.now.region fits) }
 {
     let version = Name::from_slice(alloc, choice.version.as_bytes())?;
     let words = words_of(alloc, matches, "words")?;

@@ -71,6 +71,7 @@ load_asked = record {
   params = false;
   words = codes "m" ∷ [];
   pages = region-by 65536 65536 refl;
+  fits = tt;
 }
 
 -- ---- the result

@@ -1,7 +1,7 @@
 -- The courses of modprobe over a folder that is as it was indexed end for no file that depmod
 -- wrote.
 use Rattle.std.proofs.Common.{◌≡◌, ◌∙◌, ℕ, Bool, true, false, List, [], ◌∷◌, ◌++◌, find, get_or, map, reverse, flat_map, take, None, refl, sym, ap, subst, arith}
-use Rattle.std.specs.Prelude.{Option, Some, Result, Ok, Err, codes, nat_eq, option_map, ⊤}
+use Rattle.std.specs.Prelude.{Option, Some, Result, Ok, Err, T, codes, is_some, nat_eq, option_map, ⊤}
 use Rattle.std.specs.List.{ends_with}
 use Rattle.km_names.specs.AliasForm.{normal_or_itself}
 use Rattle.km_names.specs.First.{first}
@@ -12,11 +12,12 @@ use Rattle.km_outside.specs.Contents.{Contents}
 use Rattle.kmod_words.specs.declared.modprobe.Mode.{Mode}
 use Rattle.kmod_words.specs.declared.modprobe.Mode.TheVariants.{Load, DryRun, ShowDepends, ResolveAlias, Remove}
 use Rattle.kmod_words.specs.declared.modprobe.ModprobeWords.{ModprobeWords}
+use Rattle.kmod_words.specs.Modes.{given_map}
 use Rattle.kmod_words.specs.Modprobe.{region_asked}
-use Rattle.km_course.specs.Course.{Outcome, Stage, ◌>>=◌, each_from, ends, given, lists_any_conf, lists_conf, reads, says, says_any}
+use Rattle.km_course.specs.Course.{Outcome, Stage, ◌>>=◌, each_from, given, lists_any_conf, lists_conf, reads, says, says_any}
 use Rattle.km_course.specs.Course.Outcome.{value, end}
 use Rattle.km_course.specs.declared.end.End.{End}
-use Rattle.km_course.specs.declared.end.End.TheVariants.{NoFile, NotUnderstood, Refused}
+use Rattle.km_course.specs.declared.end.End.TheVariants.{NoFile, Refused}
 use Rattle.km_course.specs.declared.refusal.Refusal.TheVariants.{BadLine, BadModule, Compressed, InstallChosen, KernelWithoutAddress, ListedNotFound, ListedRefused, LoadRefused, NotFound, ParamsRefused, InUse, RemoveChosen}
 use Rattle.km_course.specs.declared.refusal.Refusal.TheVariants.{Obstacle as Unplanned}
 use Rattle.index_read.specs.Contents.{contents}
@@ -78,18 +79,18 @@ use Rattle.stages_loads.proofs.TableSteps.{both_added, both_read, both_understoo
 use Rattle.model_loader.specs.declared.entry.Entry.{Entry}
 use Rattle.stages_known.specs.declared.known.Known.{Known}
 use Rattle.stages_known.specs.Known.{reads_known, reads_loaded}
-use Rattle.stages_loads.specs.Understood.{if_understood}
-use Rattle.command_modprobe.specs.Loaded.{command_owner, images_asked, inserted, inserts_outcome, loads_into, loads_steps, unless_install}
+use Rattle.command_modprobe.specs.Loaded.{command_owner, images_asked, inserted, inserts_outcome, loads_plan, loads_steps, unless_install}
 use Rattle.remove_plan.specs.declared.step.RemoveStep.{RemoveStep}
 use Rattle.remove_plan.specs.Removal.{in_use, is_asked}
 use Rattle.remove_plan.specs.Steps.{removal_steps}
 use Rattle.command_remove.specs.declared.course.Removal.{Removal}
 use Rattle.command_remove.specs.Listed.{takes_listed, takes_listed_one, well_formed_path}
 use Rattle.command_remove.specs.Lines.{left_lines, step_lines, unloaded_line}
-use Rattle.command_remove.specs.Remove.{chosen_outcome, first_owner, removal_of, removes_from, removes_listed, step_name, steps_outcome, steps_unless, unless_owner, unloads_one, unloads_unless}
+use Rattle.command_remove.specs.Remove.{chosen_outcome, first_owner, removal_of, removes, removes_listed, step_name, steps_outcome, steps_unless, unless_owner, unloads_one, unloads_unless}
 use Rattle.command_remove.proofs.RemoveSteps as removals
 use Rattle.command_remove.proofs.RemoveSteps.{after_left, one_unloaded}
 use Rattle.command_modprobe.specs.Modprobe.{modprobe_in_mode}
+use Rattle.command_modprobe.proofs.CourseSteps.{Fits, map-given, removal-has}
 use Rattle.command_modprobe.specs.Parts.{loads_known}
 use Rattle.command_modprobe.specs.Planned.{loaded_in, plan_lines, plan_outcome, plan_unless, request_of, sources_with}
 use Rattle.command_modprobe.specs.Resolved.{lines_of_names, names_asked}
@@ -441,24 +442,22 @@ module _ (held : Contents) (asked : ModprobeWords) where
     pass next later e at =
         other-after next later (knowing.run held).outcome (reading-ends held folder tree kernel builtin indexed asked.config asked.loaded) refl e at
 
-    not-understood : (e : End) → ((ends {X = ⊤} NotUnderstood).run held).outcome ≡ end e → Other e
-    not-understood e at =
-        (ends-given {X = ⊤} Other (end NotUnderstood) (λ d is. so-ends Other NotUnderstood d tt is)).ends held e at
+    loading : (given : T (is_some asked.system_map)) (e : End) → ((loads_plan asked (given_map asked.system_map given)).run held).outcome ≡ end e → Other e
+    loading given e at =
+        let map = given_map asked.system_map given in
+        pass (loads_after map (region_asked asked)) (other-loads map (region_asked asked) (map-given asked.system_map given)) e at
 
-    loading : (map : Option (List ℕ)) → asked.system_map ≡ map → (e : End) → ((if_understood map (loads_into asked (region_asked asked))).run held).outcome ≡ end e → Other e
-    loading None mapped e at = not-understood e at
-    loading (Some map) mapped e at = pass (loads_after map (region_asked asked)) (other-loads map (region_asked asked) mapped) e at
+    removing : (dry_run : Bool) (given : T (is_some asked.system_map)) (e : End) → ((removes dry_run asked (given_map asked.system_map given)).run held).outcome ≡ end e → Other e
+    removing dry_run given e at =
+        let map = given_map asked.system_map given in
+        pass (removes_after dry_run map (region_asked asked)) (λ known fine. other-removal dry_run map (region_asked asked) (map-given asked.system_map given) known) e at
 
-    removing : (dry_run : Bool) (map : Option (List ℕ)) → asked.system_map ≡ map → (e : End) → ((if_understood map (removes_from dry_run asked (region_asked asked))).run held).outcome ≡ end e → Other e
-    removing dry_run None mapped e at = not-understood e at
-    removing dry_run (Some map) mapped e at = pass (removes_after dry_run map (region_asked asked)) (λ known fine. other-removal dry_run map (region_asked asked) mapped known) e at
-
-    in-mode : (mode : Mode) (e : End) → ((modprobe_in_mode mode asked).run held).outcome ≡ end e → Other e
-    in-mode ResolveAlias e at = pass resolves (λ known fine. other-resolves known) e at
-    in-mode Load e at = loading asked.system_map refl e at
-    in-mode DryRun e at = pass plans other-plans e at
-    in-mode ShowDepends e at = pass plans other-plans e at
-    in-mode (Remove dry_run) e at = removing dry_run asked.system_map refl e at
+    in-mode : (mode : Mode) (fits : Fits mode asked) (e : End) → ((modprobe_in_mode mode asked fits).run held).outcome ≡ end e → Other e
+    in-mode ResolveAlias fits e at = pass resolves (λ known fine. other-resolves known) e at
+    in-mode Load fits e at = loading fits e at
+    in-mode DryRun fits e at = pass plans other-plans e at
+    in-mode ShowDepends fits e at = pass plans other-plans e at
+    in-mode (Remove dry_run) fits e at = removing dry_run (removal-has dry_run asked fits) e at
 
 pub courses-pass : CoursesPass
-courses-pass held asked tree kernel builtin indexed mode e at = in-mode held asked tree kernel builtin indexed mode e at
+courses-pass held asked tree kernel builtin indexed e at = in-mode held asked tree kernel builtin indexed asked.mode asked.fits e at

@@ -5,7 +5,6 @@ use Rattle.std.specs.List.{list_all}
 use Rattle.km_names.specs.Path.{path_below}
 use Rattle.km_outside.specs.Contents.{Contents}
 use Rattle.kmod_words.specs.declared.modprobe.ModprobeWords.{ModprobeWords}
-use Rattle.kmod_words.specs.Modprobe.{region_asked}
 use Rattle.km_course.specs.Course.{Act, Outcome, Run, Stage, ◌>>=◌, act_with, after, continued, given, reads, says_any}
 use Rattle.km_course.specs.Course.Act.{read}
 use Rattle.km_course.specs.Course.Outcome.{value, end}
@@ -27,8 +26,7 @@ use Rattle.stages_known.specs.declared.known.Known.{Known}
 use Rattle.stages_known.specs.Known.{reads_known}
 use Rattle.command_modprobe.specs.Parts.{loads_known}
 use Rattle.command_modprobe.specs.Planned.{plan_lines, plan_outcome, request_of}
-use Rattle.stages_loads.specs.Understood.{if_understood}
-use Rattle.command_modprobe.specs.Loaded.{images_asked, inserts_outcome, loads_into, loads_plan}
+use Rattle.command_modprobe.specs.Loaded.{images_asked, inserts_outcome, loads_plan}
 use Rattle.command_modprobe.proofs.LoadSteps.{after_lines, after_listed, after_loads, after_machine, after_inserts, after_steps}
 use Rattle.laws_planned_loads.specs.Acts.{is_reading, said}
 use Rattle.laws_planned_loads.specs.Courses.{CoursesLoad, HasMachine, IsLoadingCourse, CameToLoads, Loading, ended, inputs_of}
@@ -142,14 +140,13 @@ module _ (held : Contents) (asked : ModprobeWords) (l : Loading) (has : HasMachi
       run-on making (after_machine folder (images_asked asked) (request_of asked) known) held start (only-machine has.map asked.symvers region held) has.made
       ∙ ap (joined (making.run held).acts) from-steps
 
-  whole : (loads_plan asked).run held ≡ joined (knowing.run held).acts (joined (making.run held).acts (joined (listing.run held).acts rest))
+  whole : (loads_plan asked has.map).run held ≡ joined (knowing.run held).acts (joined (making.run held).acts (joined (listing.run held).acts rest))
   whole =
-      ap (λ o. (if_understood o (loads_into asked (region_asked asked))).run held) has.mapped
-      ∙ ap (λ r. (knowing >>= loads_known folder (images_asked asked) (request_of asked) has.map asked.symvers r).run held) has.in_region
+      ap (λ r. (knowing >>= loads_known folder (images_asked asked) (request_of asked) has.map asked.symvers r).run held) has.in_region
       ∙ run-on knowing (loads_known folder (images_asked asked) (request_of asked) has.map asked.symvers region) held known (only-known asked.config folder asked.loaded held) came.knows
       ∙ ap (joined (knowing.run held).acts) from-machine
 
-  pub is-loading : IsLoadingCourse held folder (images_asked asked) l ((loads_plan asked).run held)
+  pub is-loading : IsLoadingCourse held folder (images_asked asked) l ((loads_plan asked has.map).run held)
   is-loading =
       let a = (knowing.run held).acts in
       let b = (making.run held).acts in

@@ -121,9 +121,9 @@ pub record HasMachine (held : Contents) (asked : ModprobeWords) (addressed : Ker
 abbrev pub CoursesLoad : Type 0
 CoursesLoad =
     (held : Contents) (asked : ModprobeWords) (l : Loading)
-    → HasMachine held asked l.kernel l.region
+    → (has : HasMachine held asked l.kernel l.region)
     → CameToLoads held (inputs_of asked) l
-    → IsLoadingCourse held (modules_folder asked.dirname asked.version) (images_asked asked) l ((loads_plan asked).run held)
+    → IsLoadingCourse held (modules_folder asked.dirname asked.version) (images_asked asked) l ((loads_plan asked has.map).run held)
 
 -- The loads of such a course bind.
 pub record CourseBinds (held : Contents) (folder : List ℕ) (l : Loading) : Type 0 where
@@ -166,6 +166,6 @@ abbrev pub CoursesEnd : Type 0
 CoursesEnd =
     (held : Contents) (asked : ModprobeWords) (l : Loading)
     → IsIndexedFor held (modules_folder asked.dirname asked.version) l.tree l.indexed l.builtin l.kernel
-    → HasMachine held asked l.kernel l.region
+    → (has : HasMachine held asked l.kernel l.region)
     → CameToLoads held (inputs_of asked) l
-    → IsEndOfLoads asked.params ((loads_plan asked).run held).outcome
+    → IsEndOfLoads asked.params ((loads_plan asked has.map).run held).outcome

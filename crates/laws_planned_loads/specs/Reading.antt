@@ -4,7 +4,6 @@ use Rattle.km_names.specs.Path.{underscored}
 use Rattle.km_names.specs.Space.{words}
 use Rattle.km_names.specs.declared.conf.ConfFile.{ConfFile}
 use Rattle.km_outside.specs.Contents.{Contents}
-use Rattle.kmod_words.specs.declared.modprobe.Mode.{Mode}
 use Rattle.kmod_words.specs.declared.modprobe.ModprobeWords.{ModprobeWords}
 use Rattle.km_course.specs.Course.{Outcome}
 use Rattle.km_course.specs.Course.Outcome.{value, end}
@@ -110,12 +109,12 @@ IsOtherEnd held asked (Refused (Unplanned text)) = (name : List ℕ) → text �
 IsOtherEnd held asked (Refused (BadLine file number)) = IsOtherLine held asked file number
 IsOtherEnd held asked _ = ⊤
 
--- So ends the whole course of a modprobe in each mode over such a folder, if it ends before its
--- last act.
+-- So ends the whole course of a modprobe over such a folder, in the mode that is asked for, if it
+-- ends before its last act.
 abbrev pub CoursesPass : Type 0
 CoursesPass =
     (held : Contents) (asked : ModprobeWords) (tree : List Facts) (kernel : Kernel) (builtin : List ℕ)
     → Indexed held (modules_folder asked.dirname asked.version) tree kernel builtin
-    → (mode : Mode) (e : End)
-    → ((modprobe_in_mode mode asked).run held).outcome ≡ end e
+    → (e : End)
+    → ((modprobe_in_mode asked.mode asked asked.fits).run held).outcome ≡ end e
     → IsOtherEnd held asked e

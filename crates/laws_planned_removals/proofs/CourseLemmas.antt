@@ -3,7 +3,6 @@ use Rattle.std.proofs.Common.{◌≡◌, ◌∙◌, ℕ, Bool, true, false, List
 use Rattle.std.specs.Prelude.{flat_map, reverse, codes, Some, None, Ok, ⊤}
 use Rattle.km_outside.specs.Contents.{Contents}
 use Rattle.kmod_words.specs.declared.modprobe.ModprobeWords.{ModprobeWords}
-use Rattle.kmod_words.specs.Modprobe.{region_asked}
 use Rattle.km_course.specs.Course.{Act, Outcome, Run, Stage, ◌>>=◌, each_from, given, says_any}
 use Rattle.km_course.specs.Course.Outcome.{value, end}
 use Rattle.km_course.specs.declared.end.End.{End}
@@ -17,7 +16,6 @@ use Rattle.model_unload.specs.Unload.{unload_all}
 use Rattle.remove_plan.specs.declared.step.RemoveStep.{RemoveStep}
 use Rattle.remove_plan.specs.Removal.{in_use, is_asked, left_after, removed_by}
 use Rattle.stages_files.specs.KernelModules.{modules_folder}
-use Rattle.stages_loads.specs.Understood.{if_understood}
 use Rattle.stages_loads.specs.Tables.{reads_machine}
 use Rattle.stages_known.specs.declared.known.Known.{Known}
 use Rattle.stages_known.specs.Known.{reads_known}
@@ -29,7 +27,7 @@ use Rattle.laws_planned_loads.proofs.WholeLemmas.{lines-said, only-machine}
 use Rattle.command_remove.specs.declared.course.Removal.{Removal}
 use Rattle.command_remove.specs.Listed.{takes_listed}
 use Rattle.command_remove.specs.Lines.{left_lines, line_of_two, step_lines, unloaded_line}
-use Rattle.command_remove.specs.Remove.{carries_out, chosen_outcome, first_owner, removal_of, removes, removes_from, removes_names, step_name, steps_outcome, steps_unless, unloads_one, unloads_unless}
+use Rattle.command_remove.specs.Remove.{carries_out, chosen_outcome, first_owner, removal_of, removes, removes_names, step_name, steps_outcome, steps_unless, unloads_one, unloads_unless}
 use Rattle.command_remove.proofs.RemoveSteps.{after_check, after_known, after_left, after_lines, after_listed, after_machine, after_names, after_steps, passes-dry, passes-none, refuses-chosen}
 use Rattle.command_remove.proofs.TakenLemmas.{step-names, steps-unload}
 use Rattle.laws_planned_removals.specs.Listed.{AreTaken}
@@ -92,15 +90,14 @@ module _ (held : Contents) (dry_run : Bool) (asked : ModprobeWords) (r : Removin
       run-on making (after_machine folder removal known) held start (only-machine came.tables.map asked.symvers region held) came.tables.made
       ∙ ap (joined (making.run held).acts) (run-on listing (after_listed removal known) held machine (only-taken folder known.indexes start known.loaded held) came.listed)
 
-  whole : (removes dry_run asked).run held ≡ joined (knowing.run held).acts (joined (making.run held).acts (joined (listing.run held).acts rest))
+  whole : (removes dry_run asked came.tables.map).run held ≡ joined (knowing.run held).acts (joined (making.run held).acts (joined (listing.run held).acts rest))
   whole =
-      ap (λ o. (if_understood o (removes_from dry_run asked (region_asked asked))).run held) came.tables.mapped
-      ∙ ap (λ r. (knowing >>= after_known folder removal came.tables.map asked.symvers r).run held) came.tables.in_region
+      ap (λ r. (knowing >>= after_known folder removal came.tables.map asked.symvers r).run held) came.tables.in_region
       ∙ run-on knowing (after_known folder removal came.tables.map asked.symvers region) held known (only-known asked.config folder asked.loaded held) came.knows
       ∙ ap (joined (knowing.run held).acts) from-machine
 
   -- what the course says, by what it says after the listed modules were loaded
-  says-so : (lines : List ℕ) (outcome : Outcome ⊤) (saying : List Act) → AreSaying saying lines → rest ≡ run_of saying outcome → SaysLines lines outcome ((removes dry_run asked).run held)
+  says-so : (lines : List ℕ) (outcome : Outcome ⊤) (saying : List Act) → AreSaying saying lines → rest ≡ run_of saying outcome → SaysLines lines outcome ((removes dry_run asked came.tables.map).run held)
   says-so lines outcome saying are is =
       let a = (knowing.run held).acts in
       let b = (making.run held).acts in
@@ -174,7 +171,7 @@ module _ (held : Contents) (dry_run : Bool) (asked : ModprobeWords) (r : Removin
         ap (λ lines. lines ++ (flat_map unloaded_line (map step_name steps) ++ left_lines (left_after machine names).entries)) (no-commands steps none)
         ∙ ap (λ ns. flat_map (line_of_two (codes "rmmod ")) ns ++ (flat_map unloaded_line ns ++ left_lines (left_after machine names).entries)) names-of
 
-  pub is-removal : IsRemovalCourse dry_run asked r ((removes dry_run asked).run held)
+  pub is-removal : IsRemovalCourse dry_run asked r ((removes dry_run asked came.tables.map).run held)
   is-removal = record {
     used = λ j k is. says-so [] _ [] refl (used j k is);
     chosen = λ free dry name is. says-so [] _ [] refl (refused free _ (refuses-chosen dry_run steps name dry is));

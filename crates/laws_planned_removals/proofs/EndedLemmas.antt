@@ -237,7 +237,7 @@ module _ (held : Contents) (asked : ModprobeWords) (l : Loading) (has : HasMachi
   folder = modules_folder asked.dirname asked.version
 
   abbrev acts : List Act
-  acts = ((loads_plan asked).run held).acts
+  acts = ((loads_plan asked has.map).run held).acts
 
   abbrev loading : List Act
   loading = ((loads_all folder (images_asked asked) l.listed l.inserts).run held).acts

@@ -98,5 +98,5 @@ pub record IsRemovalCourse (dry_run : Bool) (asked : ModprobeWords) (r : Removin
 abbrev pub CoursesRemove : Type 0
 CoursesRemove =
     (held : Contents) (dry_run : Bool) (asked : ModprobeWords) (r : Removing)
-    → CameToRemoval held asked r
-    → IsRemovalCourse dry_run asked r ((removes dry_run asked).run held)
+    → (came : CameToRemoval held asked r)
+    → IsRemovalCourse dry_run asked r ((removes dry_run asked came.tables.map).run held)

@@ -46,9 +46,9 @@ pub record CameToLast (held : Contents) (folder : List ℕ) (l : Loaded) : Type 
 abbrev pub LoadsComeToLast : Type 0
 LoadsComeToLast =
     (held : Contents) (asked : ModprobeWords) (l : Loading)
-    → HasMachine held asked l.kernel l.region
+    → (has : HasMachine held asked l.kernel l.region)
     → CameToLoads held (inputs_of asked) l
-    → ((loads_plan asked).run held).outcome ≡ value tt
+    → ((loads_plan asked has.map).run held).outcome ≡ value tt
     → (plan : List Module) × (last : Machine) × CameToLast held (modules_folder asked.dirname asked.version) (record { loading = l; plan = plan; last = last })
 
 -- The dependency lines of a folder are as they were, and so are its files of modules that aren't
@@ -62,9 +62,9 @@ pub record FolderStays (held later : Contents) (folder : List ℕ) : Type 0 wher
 abbrev pub LoadsLeaveFolder : Type 0
 LoadsLeaveFolder =
     (held : Contents) (asked : ModprobeWords) (l : Loading)
-    → HasMachine held asked l.kernel l.region
+    → (has : HasMachine held asked l.kernel l.region)
     → CameToLoads held (inputs_of asked) l
-    → FolderStays held (after ((loads_plan asked).run held).acts held) (modules_folder asked.dirname asked.version)
+    → FolderStays held (after ((loads_plan asked has.map).run held).acts held) (modules_folder asked.dirname asked.version)
 
 -- What a removal knows follows such a load. The folder is as it was for the load. The list of
 -- loaded modules reads as the names of the plan, the newest first, before the load's own list.

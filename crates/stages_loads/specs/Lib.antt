@@ -3,4 +3,3 @@ pub mod Modules
 pub mod Loads
 pub mod Listed
 pub mod Read
-pub mod Understood

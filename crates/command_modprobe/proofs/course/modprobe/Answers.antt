@@ -6,13 +6,8 @@ use Rattle.km_course.specs.Course.Outcome.{end}
 use Rattle.km_course.specs.Follows.{Answers, Follows}
 use Rattle.km_course.specs.declared.end.End.TheVariants.{NotUnderstood}
 use Rattle.km_course.proofs.Steps.{wants, answered}
-use Rattle.kmod_words.specs.declared.modprobe.ModprobeWords.{ModprobeWords}
-use Rattle.stages_loads.specs.Understood.{if_understood}
-use Rattle.command_modprobe.specs.Modprobe.{modprobe_in_mode}
+use Rattle.command_modprobe.specs.Modprobe.{modprobe_asked_for}
 use Rattle.command_modprobe.proofs.course.modprobe.Goals as goal
-
-pub in_mode-requires : goal.in_mode-requires
-in_mode-requires g c = record { addresses = c.in_ok-asked.ensures.addresses c.in-Some.asked c.in-Some.is }
 
 pub returns-in_err-asked : goal.returns-in_err-asked
 returns-in_err-asked g c = λ err.
@@ -21,13 +16,13 @@ returns-in_err-asked g c = λ err.
 
 pub returns-in-Some : goal.returns-in-Some
 returns-in-Some g c = λ err.
-    subst (λ asked. Follows (λ (x : ⊤). x) (if_understood asked (λ (words : ModprobeWords). modprobe_in_mode words.mode words)) (world (g.F.Reads.seen c.args.files.now) (g.O.Out.seen c.args.out.now) err) (world (g.F.Reads.seen c.in_mode.new.files) (g.O.Out.seen c.in_mode.new.out) err) c.in_mode.result)
-    (sym c.in-Some.is ∙ c.in_ok-asked.ensures.request)
+    subst (λ asked. Follows (λ (x : ⊤). x) (modprobe_asked_for asked) (world (g.F.Reads.seen c.args.files.now) (g.O.Out.seen c.args.out.now) err) (world (g.F.Reads.seen c.in_mode.new.files) (g.O.Out.seen c.in_mode.new.out) err) c.in_mode.result)
+    (sym c.in-Some.is ∙ c.in_ok-asked.ensures)
     (c.in_mode.ensures err)
 
 pub returns-in-None : goal.returns-in-None
 returns-in-None g c = λ err.
-    subst (λ asked. Follows (λ (x : ⊤). x) (if_understood asked (λ (words : ModprobeWords). modprobe_in_mode words.mode words)) (world (g.F.Reads.seen c.args.files.now) (g.O.Out.seen c.args.out.now) err) (world (g.F.Reads.seen c.args.files.now) (g.O.Out.seen c.args.out.now) err) (Err c.from.result))
-    (sym c.in-None.is ∙ c.in_ok-asked.ensures.request)
+    subst (λ asked. Follows (λ (x : ⊤). x) (modprobe_asked_for asked) (world (g.F.Reads.seen c.args.files.now) (g.O.Out.seen c.args.out.now) err) (world (g.F.Reads.seen c.args.files.now) (g.O.Out.seen c.args.out.now) err) (Err c.from.result))
+    (sym c.in-None.is ∙ c.in_ok-asked.ensures)
     (answered (λ (x : ⊤). x) (end NotUnderstood) _ (Err c.from.result)
     (subst (λ stop. Answers (λ (x : ⊤). x) (end NotUnderstood) (Err stop)) (sym c.from.ensures) refl))

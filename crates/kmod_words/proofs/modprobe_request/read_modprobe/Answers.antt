@@ -1,15 +1,14 @@
-use Rattle.std.proofs.Common.{List, Bor, map, option_map, ap, sym, ◌∙◌}
+use Rattle.std.proofs.Common.{List, Bor, map, option_map, ap, ◌∙◌}
 use Rattle.std.proofs.lemmas.Result.{IfOk-weaker}
 use Rattle.clap.specs.Words.{Text, app_of, found_of, rows_of}
 use Rattle.clap.specs.declared.parser.matches.ArgMatches.{ArgMatches}
 use Rattle.kmod_words.specs.Modprobe.{modprobe_asked, modprobe_command}
-use Rattle.kmod_words.proofs.AddressLemmas.{has-addresses}
 use Rattle.kmod_words.proofs.RequestLemmas.{asked-some, asked-none}
 use Rattle.kmod_words.proofs.modprobe_request.read_modprobe.Goals as goal
 
-pub returns-in-Some-clause-request : goal.returns-in-Some-clause-request
+pub returns-in-Some : goal.returns-in-Some
 unfolding modprobe_command
-returns-in-Some-clause-request c =
+returns-in-Some c =
     let given : List Text = map (λ (t : Bor Text). t.now) c.as_slice.result.now in
     let rows = option_map (λ (m : ArgMatches). rows_of (found_of m)) in
     let words = ap (map (λ (t : Bor Text). t.now)) c.as_slice.ensures.value ∙ c.in_ok-texts.ensures in
@@ -17,13 +16,9 @@ returns-in-Some-clause-request c =
     (rows c.in_ok-matches.field-0) (rows_of (found_of c.in-Some.matches)) c.in_ok-matches.ensures (ap rows c.in-Some.is) in
     IfOk-weaker c.asked.result _ _ (λ asked is. is ∙ same) c.asked.ensures
 
-pub returns-in-Some-clause-addresses : goal.returns-in-Some-clause-addresses
-returns-in-Some-clause-addresses c =
-    IfOk-weaker c.asked.result _ _ (λ asked is words some. has-addresses c.args.words.now words (sym is ∙ some)) (returns-in-Some-clause-request c)
-
-pub returns-clause-request : goal.returns-clause-request
+pub returns : goal.returns
 unfolding modprobe_command
-returns-clause-request c =
+returns c =
     let given : List Text = map (λ (t : Bor Text). t.now) c.as_slice.result.now in
     let rows = option_map (λ (m : ArgMatches). rows_of (found_of m)) in
     let words = ap (map (λ (t : Bor Text). t.now)) c.as_slice.ensures.value ∙ c.in_ok-texts.ensures in
