@@ -23,8 +23,7 @@ use crate::planner::Planner;
 use crate::request::Request;
 use crate::step::PlanSteps;
 use crate::steps::all_steps;
-use dependency_lines::Modules;
-use index_read::first_values;
+use dependency_lines::{DependencyLines, Modules};
 use km_names::{Name, Names};
 use loaded_list::Loaded;
 use modprobe_conf::Rules;
@@ -75,8 +74,8 @@ pub fn plan(
     ensures closed { IfOk result (IsClosedPlan (sources rules.now indexes.now unmet.now loaded.now request.now)) }
     ensures err { IfErr result (λ o. (o ≡ Obstacle.Memory) ⊎ (option_map as_obstacle (obstacle_of (sources rules.now indexes.now unmet.now loaded.now request.now) request.now) ≡ Some o)) }
 {
-    let values = first_values(alloc, &indexes.dep)?;
-    let modules = Modules::new(alloc, &values)?;
+    let lines = DependencyLines::read(alloc, &indexes.dep)?;
+    let modules = Modules::new(alloc, &lines)?;
     planned_over(alloc, request, rules, indexes, unmet, loaded, &modules)
 }
 
