@@ -9,7 +9,7 @@ pub returns-in_err-lines-clause-err : goal.returns-in_err-lines-clause-err
 returns-in_err-lines-clause-err c =
     let s = sources c.args.rules.now c.args.indexes.now c.args.unmet.now c.args.loaded.now c.args.request.now in
     let request = c.args.request.now in
-    let p = err_from_is_err_and c.from_residual-in_err-lines.result c.from_residual-in_err-lines.ensures.1 in
+    let p = err_from_is_err_and c.from_residual.result c.from_residual.ensures.1 in
     rw (p.1, p.2)
     (when-fault s request c.in_err-lines.field-0.0 c.in_err-lines.ensures.err)
 
