@@ -91,67 +91,64 @@ twice : (names : List (List ℕ)) (n : List ℕ) (rest : List (List ℕ)) → is
 twice [] n rest a = absurd (true≢false (sym a))
 twice (x ∷ xs) n rest a = twice-by (bytes_eq n x) x n xs rest refl a (twice xs n rest)
 
-module _ (keys : List (Bor (List ℕ))) (i : ℕ) (k : Bor (List ℕ)) (within : i < length keys) (is : k ≡ get_or keys i k) where
-  pub names-more : names_of (take (i + 1) keys) ≡ names_of (take i keys) ++ k.now ∷ []
+module _ {X : Type 0} (f : X → List ℕ) (items : List X) (i : ℕ) (x : X) (within : i < length items) (is : x ≡ get_or items i x) where
+  pub names-more : map f (take (i + 1) items) ≡ map f (take i items) ++ f x ∷ []
   names-more =
-      ap names_of (take_more keys i k within ∙ ap (λ x. take i keys ++ x ∷ []) (sym is))
-      ∙ map-append (λ (x : Bor (List ℕ)). x.now) (take i keys) (k ∷ [])
+      ap (map f) (take_more items i x within ∙ ap (λ y. take i items ++ y ∷ []) (sym is))
+      ∙ map-append f (take i items) (x ∷ [])
 
-  names-split : names_of keys ≡ names_of (take i keys) ++ k.now ∷ names_of (drop (i + 1) keys)
+  names-split : map f items ≡ map f (take i items) ++ f x ∷ map f (drop (i + 1) items)
   names-split =
-      ap names_of (sym (take-append-drop i keys))
-      ∙ map-append (λ (x : Bor (List ℕ)). x.now) (take i keys) (drop i keys)
-      ∙ ap (λ r. names_of (take i keys) ++ names_of r) (drop_more keys i k within)
-      ∙ ap (λ (x : Bor (List ℕ)). names_of (take i keys) ++ x.now ∷ names_of (drop (i + 1) keys)) (sym is)
-
-  -- the end of a loop at a name that was there before
-  pub distinct-stop : is_among (names_of (take i keys)) k.now ≡ true → are_distinct (names_of keys) ≡ false
-  distinct-stop there = ap are_distinct names-split ∙ twice (names_of (take i keys)) k.now (names_of (drop (i + 1) keys)) there
-
-  -- and its step at one that wasn't
-  pub distinct-next : are_distinct (names_of (take i keys)) ≡ true → is_among (names_of (take i keys)) k.now ≡ false → are_distinct (names_of (take (i + 1) keys)) ≡ true
-  distinct-next d none = ap are_distinct names-more ∙ distinct-push (names_of (take i keys)) k.now d none
-
-module _ (keys : List (Bor (List ℕ))) (i : ℕ) (d : Bor (List ℕ)) (within : i < length keys) where
-  itself : get_or keys i d ≡ get_or keys i (get_or keys i d)
-  itself = get_or_default keys i d (get_or keys i d) within
+      ap (map f) (sym (take-append-drop i items))
+      ∙ map-append f (take i items) (drop i items)
+      ∙ ap (λ r. map f (take i items) ++ map f r) (drop_more items i x within)
+      ∙ ap (λ (y : X). map f (take i items) ++ f y ∷ map f (drop (i + 1) items)) (sym is)
 
   -- the table of the names so far, with one more
-  pub table-more : (t : Table) → IsTableOf t (map (λ n. Some n) (names_of (take i keys)) ++ Some (get_or keys i d).now ∷ []) → IsTableOf t (map (λ n. Some n) (names_of (take (i + 1) keys)))
-  table-more t is =
+  pub table-more : (t : Table) (name : List ℕ) → name ≡ f x → IsTableOf t (map (λ n. Some n) (map f (take i items)) ++ Some name ∷ []) → IsTableOf t (map (λ n. Some n) (map f (take (i + 1) items)))
+  table-more t name same is =
       subst (IsTableOf t)
-      (sym (ap (map (λ n. Some n)) (names-more keys i (get_or keys i d) within itself) ∙ map-append (λ n. Some n) (names_of (take i keys)) ((get_or keys i d).now ∷ [])))
+      (ap (λ n. map (λ n. Some n) (map f (take i items)) ++ Some n ∷ []) same
+      ∙ sym (ap (map (λ n. Some n)) names-more ∙ map-append (λ n. Some n) (map f (take i items)) (f x ∷ [])))
       is
 
-  module _ (t : Table) (found : Option ℕ) (place : found ≡ place_of t (get_or keys i d).now) where
-    among : (names : List (List ℕ)) → IsTableOf t (map (λ n. Some n) names) → is_some found ≡ is_among names (get_or keys i d).now
-    among names is = ap is_some (place ∙ is.places (get_or keys i d).now) ∙ is_among-first_place names (get_or keys i d).now
+  module _ (t : Table) (name : List ℕ) (found : Option ℕ) (none : Bool) (same : name ≡ f x) (place : found ≡ place_of t name) (some : is_some found ≡ not none) where
+    there : (others : List (List ℕ)) → IsTableOf t (map (λ n. Some n) others) → is_among others (f (get_or items i x)) ≡ not none
+    there others table =
+        ap (λ (y : X). is_among others (f y)) (sym is)
+        ∙ ap (is_among others) (sym same)
+        ∙ sym (ap is_some (place ∙ table.places name) ∙ is_among-first_place others name)
+        ∙ some
+
+    -- an item whose name is one of the others
+    pub known-more : (others : List (List ℕ)) → IsTableOf t (map (λ n. Some n) others) → none ≡ false
+        → list_all (is_among others) (map f (take i items)) ≡ true → list_all (is_among others) (map f (take (i + 1) items)) ≡ true
+    known-more others table was all =
+        list_all-map (is_among others) f (take (i + 1) items)
+        ∙ list_all_more (λ (y : X). is_among others (f y)) items i x within
+        ∙ and_from _ _ (sym (list_all-map (is_among others) f (take i items)) ∙ all) (there others table ∙ ap not was)
+
+    -- and one whose name isn't
+    pub known-not : (others : List (List ℕ)) → IsTableOf t (map (λ n. Some n) others) → none ≡ true
+        → false ≡ list_all (is_among others) (map f items)
+    known-not others table was =
+        sym
+        (list_all-map (is_among others) f items
+        ∙ list_all_at (λ (y : X). is_among others (f y)) items i x within (there others table ∙ ap not was))
+
+  module _ (t : Table) (name : List ℕ) (found : Option ℕ) (seen : Bool) (same : name ≡ f x) (place : found ≡ place_of t name) (some : seen ≡ is_some found) (so_far : IsTableOf t (map (λ n. Some n) (map f (take i items)))) where
+    before : is_among (map f (take i items)) (f x) ≡ seen
+    before =
+        ap (is_among (map f (take i items))) (sym same)
+        ∙ sym (ap is_some (place ∙ so_far.places name) ∙ is_among-first_place (map f (take i items)) name)
+        ∙ sym some
 
     -- a name that was seen
-    pub seen-twice : (there : Bool) → IsTableOf t (map (λ n. Some n) (names_of (take i keys))) → there ≡ is_some found → there ≡ true → false ≡ are_distinct (names_of keys)
-    seen-twice there is some was =
-        sym (distinct-stop keys i (get_or keys i d) within itself (sym (among (names_of (take i keys)) is) ∙ sym some ∙ was))
+    pub seen-twice : seen ≡ true → false ≡ are_distinct (map f items)
+    seen-twice was =
+        sym (ap are_distinct names-split ∙ twice (map f (take i items)) (f x) (map f (drop (i + 1) items)) (before ∙ was))
 
     -- and one that wasn't
-    pub seen-once : (there : Bool) → IsTableOf t (map (λ n. Some n) (names_of (take i keys))) → there ≡ is_some found → there ≡ false → are_distinct (names_of (take i keys)) ≡ true
-        → are_distinct (names_of (take (i + 1) keys)) ≡ true
-    seen-once there is some was distinct =
-        distinct-next keys i (get_or keys i d) within itself distinct (sym (among (names_of (take i keys)) is) ∙ sym some ∙ was)
-
-    -- a name that is one of the others
-    pub known-more : (others : List (Bor (List ℕ))) (none : Bool) → IsTableOf t (map (λ n. Some n) (names_of others)) → is_some found ≡ not none → none ≡ false
-        → list_all (is_among (names_of others)) (names_of (take i keys)) ≡ true → list_all (is_among (names_of others)) (names_of (take (i + 1) keys)) ≡ true
-    known-more others none is some was all =
-        let here : is_among (names_of others) (get_or keys i d).now ≡ true = sym (among (names_of others) is) ∙ some ∙ ap not was in
-        list_all-map (is_among (names_of others)) (λ (k : Bor (List ℕ)). k.now) (take (i + 1) keys)
-        ∙ list_all_more (λ (k : Bor (List ℕ)). is_among (names_of others) k.now) keys i d within
-        ∙ and_from _ _ (sym (list_all-map (is_among (names_of others)) (λ (k : Bor (List ℕ)). k.now) (take i keys)) ∙ all) here
-
-    -- and one that isn't
-    pub known-not : (others : List (Bor (List ℕ))) (none : Bool) → IsTableOf t (map (λ n. Some n) (names_of others)) → is_some found ≡ not none → none ≡ true
-        → false ≡ list_all (is_among (names_of others)) (names_of keys)
-    known-not others none is some was =
-        let here : is_among (names_of others) (get_or keys i d).now ≡ false = sym (among (names_of others) is) ∙ some ∙ ap not was in
-        sym
-        (list_all-map (is_among (names_of others)) (λ (k : Bor (List ℕ)). k.now) keys
-        ∙ list_all_at (λ (k : Bor (List ℕ)). is_among (names_of others) k.now) keys i d within here)
+    pub seen-once : seen ≡ false → are_distinct (map f (take i items)) ≡ true → are_distinct (map f (take (i + 1) items)) ≡ true
+    seen-once was distinct =
+        ap are_distinct names-more ∙ distinct-push (map f (take i items)) (f x) distinct (before ∙ was)

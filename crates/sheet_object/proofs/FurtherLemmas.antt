@@ -4,11 +4,11 @@ use Rattle.std.proofs.lemmas.List.{append-nil, append_assoc, length-append, take
 use Rattle.std.proofs.lemmas.List.Concat.{flat_map-append}
 use Rattle.std.specs.List.{range_with_len, slice_get}
 use Rattle.name_table.specs.NameTable.{first_place}
-use Rattle.sheet_object.specs.declared.part.Part.{Part}
-use Rattle.sheet_object.specs.declared.part.TheConstants.{TEXT}
+use Rattle.elf_write.specs.declared.part.Part.{Part}
+use Rattle.sheet_object.specs.declared.section.TheConstants.{TEXT}
 use Rattle.sheet_object.specs.declared.sheet.SheetMore.{SheetMore}
 use Rattle.sheet_object.specs.declared.sheet.SheetSpace.{SheetSpace}
-use Rattle.sheet_object.specs.Number.{with_nul}
+use Rattle.elf_write.specs.Number.{with_nul}
 use Rattle.sheet_object.specs.Sheet.{is_among, spaced_names}
 use Rattle.sheet_object.specs.Further.{unless_empty, gpl_section, space_bytes, space_place, text_place}
 use Rattle.sheet_object.specs.Symbols.{table_section}

@@ -1,8 +1,6 @@
-pub mod FileLemmas
 pub mod FurtherLemmas
 pub mod NameLemmas
 pub mod PartLemmas
 pub mod DistinctLemmas
 pub mod SheetLemmas
 pub mod SymbolLemmas
-pub mod ParamLemmas

@@ -5,13 +5,14 @@ use Rattle.std.proofs.lemmas.List.{append_assoc, length-append}
 use Rattle.std.proofs.lemmas.List.Concat.{flat_map-append}
 use Rattle.std.proofs.lemmas.List.Folds.{flat_map-map, list_all-append}
 use Rattle.std.specs.List.{flat_map, list_all}
-use Rattle.sheet_object.specs.declared.part.Attributes.{Attributes}
-use Rattle.sheet_object.specs.declared.part.Part.{Part}
+use Rattle.elf_write.specs.declared.part.Attributes.{Attributes}
+use Rattle.elf_write.specs.declared.part.Part.{Part}
 use Rattle.sheet_object.specs.declared.sheet.Sheet.{Sheet}
 use Rattle.sheet_object.specs.declared.sheet.SheetMore.{SheetMore}
 use Rattle.sheet_object.specs.Further.{unless_empty, version_parts, gpl_parts, space_parts, further_parts}
-use Rattle.sheet_object.specs.Number.{with_nul}
-use Rattle.sheet_object.specs.Object.{loaded_parts, linked_parts, section_names, parts_of}
+use Rattle.elf_write.specs.Number.{with_nul}
+use Rattle.elf_write.specs.Part.{section_names}
+use Rattle.sheet_object.specs.Object.{loaded_parts, linked_parts, parts_of}
 use Rattle.sheet_object.proofs.FurtherLemmas.{two-more}
 use Rattle.sheet_object.proofs.SheetLemmas.{All-from_test}
 
@@ -64,16 +65,3 @@ three-more old a b c p q r first second third =
 pub four-more : (old a b c d : List Part) (p q r s : Part) → a ≡ old ++ p ∷ [] → b ≡ a ++ q ∷ [] → c ≡ b ++ r ∷ [] → d ≡ c ++ s ∷ [] → d ≡ old ++ p ∷ q ∷ r ∷ s ∷ []
 four-more old a b c d p q r s first second third fourth =
     fourth ∙ ap (λ l. l ++ s ∷ []) (three-more old a b c p q r first second third) ∙ append_assoc old (p ∷ q ∷ r ∷ []) (s ∷ [])
-
--- the names of sections, put one after the other
-pub names-put : (before after : List Part) (name a b c d e : List ℕ) → a ≡ 0 ∷ [] → b ≡ a ++ flat_map (λ (p : Part). with_nul p.name) before → c ≡ b ++ name → d ≡ c ++ 0 ∷ []
-    → e ≡ d ++ flat_map (λ (p : Part). with_nul p.name) after
-    → e ≡ section_names (map (λ (p : Part). p.name) before ++ name ∷ map (λ (p : Part). p.name) after)
-names-put before after name a b c d e first second third fourth fifth =
-    let f : List Part → List ℕ = flat_map (λ (p : Part). with_nul p.name) in
-    fifth
-    ∙ ap (λ l. l ++ f after) (fourth ∙ ap (λ l. l ++ 0 ∷ []) third ∙ append_assoc b name (0 ∷ []) ∙ ap (λ l. l ++ with_nul name) (second ∙ ap (λ l. l ++ f before) first))
-    ∙ append_assoc (0 ∷ f before) (with_nul name) (f after)
-    ∙ ap (λ l. 0 ∷ l)
-    (sym (λ i. flat_map-map with_nul (λ (p : Part). p.name) before i ++ (with_nul name ++ flat_map-map with_nul (λ (p : Part). p.name) after i))
-    ∙ sym (flat_map-append with_nul (map (λ (p : Part). p.name) before) (name ∷ map (λ (p : Part). p.name) after)))

@@ -5,7 +5,7 @@ use Rattle.std.proofs.lemmas.List.{append-nil, append_assoc, length-append, leng
 use Rattle.std.proofs.lemmas.List.Concat.{flat_map-append}
 use Rattle.std.specs.List.{flat_map}
 use Rattle.elf_format.specs.declared.symbol.TheConstants.{SHN_ABS, SHN_UNDEF}
-use Rattle.sheet_object.specs.declared.part.TheConstants.{TEXT}
+use Rattle.sheet_object.specs.declared.section.TheConstants.{TEXT}
 use Rattle.sheet_object.specs.declared.sheet.Sheet.{Sheet}
 use Rattle.sheet_object.specs.declared.sheet.SheetExport.{SheetExport}
 use Rattle.sheet_object.specs.declared.sheet.SheetMore.{SheetMore}
@@ -14,7 +14,7 @@ use Rattle.sheet_object.specs.declared.sheet.SheetPlace.{SheetPlace}
 use Rattle.sheet_object.specs.declared.symbols.SymbolTable.{SymbolTable}
 use Rattle.name_table.specs.NameTable.{first_place}
 use Rattle.sheet_object.specs.Sheet.{symbol_names}
-use Rattle.sheet_object.specs.Number.{with_nul, zeros}
+use Rattle.elf_write.specs.Number.{with_nul, zeros}
 use Rattle.sheet_object.specs.Further.{space_place, strings_section}
 use Rattle.sheet_object.specs.Symbols.{SymbolEntry, table_section, local_symbol, version_symbols, space_symbols, local_symbols, export_symbols, need_info, need_symbol, locals, symbols, symbol_number, names_bytes, symbol_bytes, entries_bytes}
 use Rattle.sheet_object.specs.Contents.{place_bytes, places_bytes, rela_bytes, symtab_bytes, strtab_bytes}

@@ -7,7 +7,7 @@ use Rattle.sheet_object.specs.declared.sheet.Sheet.{Sheet}
 use Rattle.sheet_object.specs.declared.sheet.SheetMore.{SheetMore}
 use Rattle.sheet_object.specs.declared.sheet.SheetPlace.{SheetPlace}
 use Rattle.sheet_object.specs.declared.sheet.SheetVersion.{SheetVersion}
-use Rattle.sheet_object.specs.Number.{word, xword, zeros, with_nul}
+use Rattle.elf_write.specs.Number.{word, xword, zeros, with_nul}
 use Rattle.sheet_object.specs.Symbols.{symbols, symbol_number, names_bytes, entries_bytes}
 
 -- The content of `.text`: 16 bytes for each export.

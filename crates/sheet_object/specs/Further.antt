@@ -4,13 +4,13 @@ use Rattle.std.specs.Prelude.{ℕ, ◌+◌, ◌*◌, List, [], ◌∷◌, ◌++�
 use Rattle.std.specs.List.{flat_map}
 use Rattle.std.specs.Str.{bytes_eq}
 use Rattle.elf_format.specs.declared.section.TheConstants.{SHT_PROGBITS, SHF_ALLOC}
-use Rattle.sheet_object.specs.declared.part.Attributes.{Attributes}
-use Rattle.sheet_object.specs.declared.part.Part.{Part}
-use Rattle.sheet_object.specs.declared.part.TheConstants.{FURTHER}
+use Rattle.elf_write.specs.declared.part.Attributes.{Attributes}
+use Rattle.elf_write.specs.declared.part.Part.{Part}
+use Rattle.sheet_object.specs.declared.section.TheConstants.{FURTHER}
 use Rattle.sheet_object.specs.declared.sheet.SheetMore.{SheetMore}
 use Rattle.sheet_object.specs.declared.sheet.SheetSpace.{SheetSpace}
 use Rattle.sheet_object.specs.declared.sheet.SheetVersion.{SheetVersion}
-use Rattle.sheet_object.specs.Number.{word, zeros, with_nul}
+use Rattle.elf_write.specs.Number.{word, zeros, with_nul}
 
 -- The content of `__version_ext_crcs`: the numbers of extended versions, 4 bytes each. The kernel's
 -- scripts/mod/modpost.c.

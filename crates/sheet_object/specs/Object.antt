@@ -3,26 +3,18 @@
 use Rattle.std.specs.Prelude.{ℕ, ◌+◌, List, [], ◌∷◌, ◌++◌, map, codes}
 use Rattle.std.specs.List.{flat_map}
 use Rattle.elf_format.specs.declared.section.TheConstants.{SHT_PROGBITS, SHT_RELA, SHT_SYMTAB, SHT_STRTAB, SHF_WRITE, SHF_ALLOC, SHF_EXECINSTR, SHF_INFO_LINK}
-use Rattle.sheet_object.specs.declared.part.Attributes.{Attributes}
-use Rattle.sheet_object.specs.declared.part.Part.{Part}
-use Rattle.sheet_object.specs.declared.part.TheConstants.{DATA, SECTION_NAMES, SYMTAB, STRTAB}
+use Rattle.elf_write.specs.declared.part.Attributes.{Attributes}
+use Rattle.elf_write.specs.declared.part.Part.{Part}
+use Rattle.sheet_object.specs.declared.section.TheConstants.{DATA, SECTION_NAMES, SYMTAB, STRTAB}
 use Rattle.sheet_object.specs.declared.sheet.Sheet.{Sheet}
 use Rattle.sheet_object.specs.declared.sheet.SheetMore.{SheetMore}
 use Rattle.sheet_object.specs.Sheet.{no_more}
-use Rattle.sheet_object.specs.Number.{with_nul}
-use Rattle.sheet_object.specs.File.{file_of}
+use Rattle.elf_write.specs.Number.{with_nul}
+use Rattle.elf_write.specs.File.{file_of}
+use Rattle.elf_write.specs.Part.{plain, table, with_names}
 use Rattle.sheet_object.specs.Further.{further_parts}
 use Rattle.sheet_object.specs.Symbols.{local_count}
 use Rattle.sheet_object.specs.Contents.{text_bytes, data_bytes, modinfo_bytes, versions_bytes, rela_bytes, symtab_bytes, strtab_bytes}
-
--- The attributes of a section of bytes, by its type, flags and alignment.
-abbrev pub plain : ℕ → ℕ → ℕ → Attributes
-plain kind flags align = record { kind = kind; flags = flags; link = 0; info = 0; align = align; entry_size = 0 }
-
--- The attributes of a section of entries of 24 bytes, by its type and flags, the section that
--- belongs to it, and its further number.
-abbrev pub table : ℕ → ℕ → ℕ → ℕ → Attributes
-table kind flags link info = record { kind = kind; flags = flags; link = link; info = info; align = 8; entry_size = 24 }
 
 -- The sections 1 to 4, which are loaded: code, words, texts and versions.
 unfoldable pub loaded_parts : Sheet → List Part
@@ -41,17 +33,6 @@ linked_parts s m =
     ∷ record { name = codes ".symtab"; attributes = table SHT_SYMTAB 0 STRTAB (local_count s m); content = symtab_bytes s m }
     ∷ record { name = codes ".strtab"; attributes = plain SHT_STRTAB 0 1; content = strtab_bytes s m }
     ∷ []
-
--- The names of sections, each with its NUL, after an empty one.
-abbrev pub section_names : List (List ℕ) → List ℕ
-section_names names = 0 ∷ flat_map with_nul names
-
--- The sections with section 8, which has the names of all of them, between the sections before it
--- and those from 9 on.
-abbrev pub with_names : List Part → List Part → List Part
-with_names before after =
-    let names = map (λ (p : Part). p.name) before ++ codes ".shstrtab" ∷ map (λ (p : Part). p.name) after in
-    before ++ record { name = codes ".shstrtab"; attributes = plain SHT_STRTAB 0 1; content = section_names names } ∷ after
 
 -- The sections of a sheet with its additions.
 unfoldable pub parts_of : Sheet → SheetMore → List Part

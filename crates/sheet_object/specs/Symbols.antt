@@ -3,13 +3,13 @@ use Rattle.std.specs.Prelude.{ℕ, Bool, ◌+◌, ◌*◌, if◌then◌else◌, 
 use Rattle.std.specs.List.{flat_map}
 use Rattle.std.specs.Str.{bytes_eq}
 use Rattle.elf_format.specs.declared.symbol.TheConstants.{SHN_ABS, SHN_UNDEF, STB_LOCAL, STB_GLOBAL, STB_WEAK, STT_NOTYPE, STT_FUNC}
-use Rattle.sheet_object.specs.declared.part.TheConstants.{TEXT}
+use Rattle.sheet_object.specs.declared.section.TheConstants.{TEXT}
 use Rattle.sheet_object.specs.declared.sheet.Sheet.{Sheet}
 use Rattle.sheet_object.specs.declared.sheet.SheetExport.{SheetExport}
 use Rattle.sheet_object.specs.declared.sheet.SheetMore.{SheetMore}
 use Rattle.sheet_object.specs.declared.sheet.SheetNeed.{SheetNeed}
 use Rattle.sheet_object.specs.Sheet.{is_among, symbol_names}
-use Rattle.sheet_object.specs.Number.{half, word, xword, with_nul}
+use Rattle.elf_write.specs.Number.{half, word, xword, with_nul}
 use Rattle.sheet_object.specs.Further.{gpl_section, strings_section, space_place}
 
 -- A symbol, by its name and its numbers.

@@ -4,16 +4,7 @@ use Rattle.std.specs.Prelude.{◌≡◌, ℕ, List, ◌++◌, length, map}
 use Rattle.std.specs.Borrow.{Bor}
 use Rattle.sheet_object.specs.declared.symbols.Symbol.{Symbol}
 use Rattle.sheet_object.specs.declared.symbols.SymbolTable.{SymbolTable}
-use Rattle.sheet_object.specs.declared.file.ObjectFile.{ObjectFile}
-use Rattle.sheet_object.specs.File.{Laid, header}
 use Rattle.sheet_object.specs.Symbols.{SymbolEntry, names_bytes, entries_bytes}
-
--- The file holds these sections, with 0 for the place of the section header table. It is for so
--- many sections, and the section of the number `named` has their names.
-pub record IsFileOf (f : ObjectFile) (l : Laid) (count named : ℕ) : Type 0 where
-  pub bytes : f.bytes.items ≡ header 0 count named ++ l.contents
-  pub headers : f.headers.items ≡ l.headers
-  pub names : f.names ≡ length l.names
 
 -- The names that a list of slices has, in their order.
 abbrev pub names_of : List (Bor (List ℕ)) → List (List ℕ)

@@ -1,10 +1,11 @@
 // The conditions of a sheet, as a test.
-ghost use Rattle.std.specs.Prelude.{◌≡◌, ◌≤◌, ◌&&◌, true, length, IfOk};
+ghost use Rattle.std.specs.Prelude.{◌≡◌, ◌≤◌, ◌&&◌, ℕ, List, [], true, length, map, Some, IfOk};
 ghost use Rattle.std.specs.List.{list_all};
+ghost use Rattle.name_table.specs.NameTable.{IsTableOf};
 ghost use Rattle.sheet_object.specs.Sheet.{has_no_nul, is_few, is_text, is_version, is_extended, is_space, is_among, are_distinct, are_chosen, are_few, are_texts, are_known, symbol_names, is_sheet};
 ghost use Rattle.sheet_object.specs.Writing.{names_of};
 
-use crate::names::{names, symbol_names, table_of};
+use crate::names::{Named, symbol_names, table_of};
 use crate::sheet::{Sheet, SheetMore, SheetSpace, SheetVersion};
 use km_names::{Blob, List};
 use name_table::NameTable;
@@ -126,45 +127,65 @@ fn are_texts(sheet: &Sheet, more: &SheetMore, symbols: &[&[u8]]) -> bool
         && spaces_are(more.spaces.as_slice())
 }
 
-/// Returns whether no name occurs twice.
-fn are_distinct(alloc: Global, names: &[&[u8]]) -> Result<bool, AllocError>
-    requires { length names.now ≤ 131070 }
-    ensures { IfOk result (λ b. b ≡ are_distinct (names_of names.now)) }
+/// Returns whether no name of an item occurs twice, and puts those before the first one that does
+/// into a table that has none.
+fn are_new<'a, T: Named>(seen: &mut NameTable<'a>, items: &'a [T]) -> Result<bool, AllocError>
+    requires few { length items.now ≤ 131070 }
+    requires none { IsTableOf seen.old [] }
+    requires count { seen.old.count ≡ 0 }
+    ensures { IfOk result (λ b. b ≡ are_distinct (map T.name items.now)) }
 {
-    let mut seen = NameTable::new(alloc);
-    for name in names {
+    for item in items {
+        let name = item.name();
         if seen.place(name).is_some() {
             return Ok(false);
         }
-        seen.push(Some(*name))?;
+        seen.push(Some(name))?;
     }
     Ok(true)
 }
 
-/// Returns whether each of the names is one of the others.
-fn are_among(alloc: Global, others: &[&[u8]], names: &[&[u8]]) -> Result<bool, AllocError>
-    requires { length others.now ≤ 131070 }
-    ensures { IfOk result (λ b. b ≡ list_all (is_among (names_of others.now)) (names_of names.now)) }
+/// Returns whether no name of an item occurs twice.
+fn are_distinct<T: Named>(alloc: Global, items: &[T]) -> Result<bool, AllocError>
+    requires { length items.now ≤ 131070 }
+    ensures { IfOk result (λ b. b ≡ are_distinct (map T.name items.now)) }
 {
-    let table = table_of(alloc, others)?;
-    for name in names {
-        if table.place(name).is_none() {
-            return Ok(false);
+    let mut seen = NameTable::new(alloc);
+    are_new(&mut seen, items)
+}
+
+/// Returns whether a table has the name of each item.
+fn has_each<T: Named>(table: &NameTable, items: &[T]) -> bool
+    ensures { (others : List (List ℕ)) → IsTableOf table.now (map (λ n. Some n) others) →
+        result ≡ list_all (is_among others) (map T.name items.now) }
+{
+    for item in items {
+        if table.place(item.name()).is_none() {
+            return false;
         }
     }
-    Ok(true)
+    true
 }
 
-/// Returns whether names are distinct, and each is one of the others.
-fn are_chosen(alloc: Global, others: &[&[u8]], names: &[&[u8]]) -> Result<bool, AllocError>
+/// Returns whether the name of each item is one of the names of others.
+fn are_among<S: Named, T: Named>(alloc: Global, others: &[S], items: &[T]) -> Result<bool, AllocError>
     requires { length others.now ≤ 131070 }
-    ensures { IfOk result (λ b. b ≡ are_chosen (names_of others.now) (names_of names.now)) }
+    ensures { IfOk result (λ b. b ≡ list_all (is_among (map S.name others.now)) (map T.name items.now)) }
 {
-    if names.len() > others.len() {
+    let table = table_of(alloc, others)?;
+    Ok(has_each(&table, items))
+}
+
+/// Returns whether the names of items are distinct, and each is one of the names of others.
+fn are_chosen<S: Named, T: Named>(alloc: Global, others: &[S], items: &[T]) -> Result<bool, AllocError>
+    requires { length others.now ≤ 131070 }
+    ensures { IfOk result (λ b. b ≡ are_chosen (map S.name others.now) (map T.name items.now)) }
+{
+    if items.len() > others.len() {
         return Ok(false);
     }
-    let distinct = are_distinct(alloc, names)?;
-    let among = are_among(alloc, others, names)?;
+    let distinct = are_distinct(alloc, items)?;
+    let among = are_among(alloc, others, items)?;
     Ok(distinct && among)
 }
 
@@ -188,14 +209,11 @@ fn are_known(
     requires symbols { names_of symbols.now ≡ symbol_names sheet.now }
     ensures { IfOk result (λ b. b ≡ are_known sheet.now more.now) }
 {
-    let exports = names(alloc, sheet.exports.as_slice())?;
-    let places = names(alloc, sheet.places.as_slice())?;
-    let gpl = names(alloc, more.gpl.as_slice())?;
-    let spaces = names(alloc, more.spaces.as_slice())?;
     let distinct = are_distinct(alloc, symbols)?;
-    let placed = are_among(alloc, symbols, &places)?;
-    let gpl = are_chosen(alloc, &exports, &gpl)?;
-    let spaced = are_chosen(alloc, &exports, &spaces)?;
+    let placed = are_among(alloc, symbols, sheet.places.as_slice())?;
+    let exports = sheet.exports.as_slice();
+    let gpl = are_chosen(alloc, exports, more.gpl.as_slice())?;
+    let spaced = are_chosen(alloc, exports, more.spaces.as_slice())?;
     Ok(all_of(distinct, placed, gpl, spaced))
 }
 

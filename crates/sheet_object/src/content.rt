@@ -1,11 +1,11 @@
 // The contents of the sections that are loaded.
 ghost use Rattle.std.specs.Prelude.{◌≡◌, ◌≤◌, ◌++◌, length, All, OnOk, IfOk};
 ghost use Rattle.std.specs.List.{flat_map};
-ghost use Rattle.sheet_object.specs.Number.{with_nul};
+ghost use Rattle.elf_write.specs.Number.{with_nul};
 ghost use Rattle.sheet_object.specs.Contents.{version_bytes};
 
-use crate::bytes::{push_xword, push_zeros};
 use crate::sheet::SheetVersion;
+use elf_write::{push_xword, push_zeros};
 use km_names::Blob;
 use std::alloc::{AllocError, Global};
 

@@ -6,11 +6,11 @@ ghost use Rattle.sheet_object.specs.Further.{crc_bytes, name_bytes, space_bytes,
 ghost use Rattle.sheet_object.specs.Sheet.{spaced_names};
 ghost use Rattle.sheet_object.specs.Symbols.{table_section};
 
-use crate::bytes::{push_word, zeros};
-use crate::names::{names, table_of};
-use crate::part::{Attributes, FURTHER, Part, TEXT};
+use crate::names::table_of;
+use crate::section::{FURTHER, TEXT};
 use crate::sheet::{SheetMore, SheetSpace, SheetVersion};
 use elf_format::{SHF_ALLOC, SHT_PROGBITS};
+use elf_write::{Attributes, Part, push_word, zeros};
 use km_names::List;
 use name_table::NameTable;
 use std::alloc::{AllocError, Global};
@@ -185,11 +185,9 @@ impl<'a> Further<'a> {
         requires spaces { length more.now.spaces ≤ 65535 }
         ensures { IfOk result (λ f. f.more.now ≡ more.now) }
     {
-        let gpl = names(alloc, more.gpl.as_slice())?;
-        let gpl = table_of(alloc, &gpl)?;
-        let spaces = names(alloc, more.spaces.as_slice())?;
-        let spaces = table_of(alloc, &spaces)?;
         let places = text_places(alloc, more.spaces.as_slice())?;
+        let gpl = table_of(alloc, more.gpl.as_slice())?;
+        let spaces = table_of(alloc, more.spaces.as_slice())?;
         Ok(Further {
             more,
             gpl,

@@ -1,5 +1,5 @@
 // The names in a sheet.
-ghost use Rattle.std.specs.Prelude.{◌≡◌, ◌≤◌, ℕ, List, length, map, Some, IfOk};
+ghost use Rattle.std.specs.Prelude.{◌≡◌, ◌≤◌, ◌++◌, ℕ, List, [], length, map, Some, OnOk, IfOk};
 ghost use Rattle.name_table.specs.NameTable.{IsTableOf};
 ghost use Rattle.sheet_object.specs.Sheet.{symbol_names};
 ghost use Rattle.sheet_object.specs.Writing.{names_of};
@@ -57,35 +57,56 @@ impl Named for Name {
     }
 }
 
-/// Returns the names of items, in their order.
-pub(crate) fn names<T: Named>(alloc: Global, items: &[T]) -> Result<Vec<&[u8]>, AllocError>
-    ensures { IfOk result (λ v. names_of v.items ≡ map T.name items.now) }
+impl<'a> Named for &'a [u8] {
+    ghost name = { λ n. n.now };
+
+    fn name(&self) -> &[u8] {
+        self
+    }
+}
+
+/// Puts the names of items at the end, in their order.
+fn push_names<'a, T: Named>(names: &mut Vec<&'a [u8]>, items: &'a [T]) -> Result<(), AllocError>
+    ensures { OnOk result (names_of names.new.items ≡ names_of names.old.items ++ map T.name items.now) }
 {
-    let mut names = Vec::with_capacity(alloc, items.len())?;
     for item in items {
         names.push(item.name())?;
     }
-    Ok(names)
+    Ok(())
 }
 
 /// Returns the names of the exported symbols, and then of the undefined symbols.
 pub(crate) fn symbol_names(alloc: Global, sheet: &Sheet) -> Result<Vec<&[u8]>, AllocError>
     ensures { IfOk result (λ v. names_of v.items ≡ symbol_names sheet.now) }
 {
-    let mut symbols = names(alloc, sheet.exports.as_slice())?;
-    let needs = names(alloc, sheet.needs.as_slice())?;
-    symbols.extend_from_slice(&needs)?;
+    let mut symbols = Vec::new(alloc);
+    push_names(&mut symbols, sheet.exports.as_slice())?;
+    push_names(&mut symbols, sheet.needs.as_slice())?;
     Ok(symbols)
 }
 
-/// Returns a table of names.
-pub(crate) fn table_of<'a>(alloc: Global, names: &[&'a [u8]]) -> Result<NameTable<'a>, AllocError>
-    requires { length names.now ≤ 131070 }
-    ensures { IfOk result (λ t. IsTableOf t (map (λ n. Some n) (names_of names.now))) }
+/// Puts the names of items into a table that has none.
+fn fill_table<'a, T: Named>(table: &mut NameTable<'a>, items: &'a [T]) -> Result<(), AllocError>
+    requires few { length items.now ≤ 131070 }
+    requires none { IsTableOf table.old [] }
+    requires count { table.old.count ≡ 0 }
+    ensures { OnOk result (IsTableOf table.new (map (λ n. Some n) (map T.name items.now))) }
+{
+    for item in items {
+        table.push(Some(item.name()))?;
+    }
+    Ok(())
+}
+
+/// Returns the table of the names of items.
+pub(crate) fn table_of<'a, T: Named>(
+    alloc: Global,
+    items: &'a [T],
+) -> Result<NameTable<'a>, AllocError>
+    requires { length items.now ≤ 131070 }
+    ensures { IfOk result (λ t. IsTableOf t (map (λ n. Some n) (map T.name items.now))) }
 {
     let mut table = NameTable::new(alloc);
-    for name in names {
-        table.push(Some(*name))?;
-    }
+    fill_table(&mut table, items)?;
     Ok(table)
 }

@@ -2,10 +2,10 @@ ghost use Rattle.std.specs.Prelude.{◌≡◌, IsTrue, IfOk};
 ghost use Rattle.sheet_object.specs.Sheet.{is_sheet, no_more};
 ghost use Rattle.sheet_object.specs.Object.{object_of, object_more_of};
 
-use crate::file::file_of;
-use crate::part::SECTION_NAMES;
 use crate::parts::parts_of;
+use crate::section::SECTION_NAMES;
 use crate::sheet::{Sheet, SheetMore};
+use elf_write::file_of;
 use km_names::Blob;
 use std::alloc::{AllocError, Global};
 

@@ -2,38 +2,22 @@
 ghost use Rattle.std.specs.Prelude.{◌≡◌, ◌≤◌, [], ◌∷◌, ◌++◌, length, All, IsTrue, OnOk, IfOk};
 ghost use Rattle.std.specs.List.{flat_map};
 ghost use Rattle.sheet_object.specs.Sheet.{is_sheet};
-ghost use Rattle.sheet_object.specs.Number.{with_nul};
-ghost use Rattle.sheet_object.specs.Object.{loaded_parts, linked_parts, with_names, parts_of};
+ghost use Rattle.elf_write.specs.Number.{with_nul};
+ghost use Rattle.elf_write.specs.Part.{with_names};
+ghost use Rattle.sheet_object.specs.Object.{loaded_parts, linked_parts, parts_of};
 
-use crate::bytes::zeros;
 use crate::content::{modinfo, versions};
 use crate::further::{Further, further_parts};
-use crate::part::{Attributes, DATA, Part, STRTAB, SYMTAB};
 use crate::relocations::{WORD_SIZE, local_count, relocations};
+use crate::section::{DATA, STRTAB, SYMTAB};
 use crate::sheet::{Sheet, SheetMore};
 use crate::symbols::{CODE_SIZE, symbol_table};
 use elf_format::{
     SHF_ALLOC, SHF_EXECINSTR, SHF_INFO_LINK, SHF_WRITE, SHT_PROGBITS, SHT_RELA, SHT_STRTAB,
     SHT_SYMTAB,
 };
+use elf_write::{Attributes, Part, push_further, push_part, zeros};
 use std::alloc::{AllocError, Global};
-
-/// The name of the section that has the names of all sections.
-const SECTION_NAMES_NAME: &[u8] = b".shstrtab";
-
-/// Puts a section at the end.
-pub(crate) fn push_part(
-    alloc: Global,
-    parts: &mut Vec<Part>,
-    name: &[u8],
-    attributes: Attributes,
-    content: Vec<u8>,
-) -> Result<(), AllocError>
-    ensures { OnOk result (parts.new.items ≡ parts.old.items ++ record { name = name.now; attributes = attributes; content = content.items } ∷ []) }
-{
-    parts.push(Part::new(alloc, name, attributes, content)?)?;
-    Ok(())
-}
 
 /// Puts the loaded sections at the end.
 fn push_loaded(alloc: Global, parts: &mut Vec<Part>, sheet: &Sheet) -> Result<(), AllocError>
@@ -91,37 +75,6 @@ fn push_linked_of(
 {
     let further = Further::new(alloc, more)?;
     push_linked(alloc, parts, sheet, &further)
-}
-
-/// Puts the names of sections at the end, each with its NUL.
-fn push_names(out: &mut Vec<u8>, parts: &[Part]) -> Result<(), AllocError>
-    ensures { OnOk result (out.new.items ≡ out.old.items ++ flat_map (λ p. with_nul p.name) parts.now) }
-{
-    for part in parts {
-        out.extend_from_slice(part.name.as_bytes())?;
-        out.push(0)?;
-    }
-    Ok(())
-}
-
-/// Puts the section with the names of all sections at the end, and then the further sections.
-pub(crate) fn push_further(
-    alloc: Global,
-    parts: &mut Vec<Part>,
-    mut further: Vec<Part>,
-) -> Result<(), AllocError>
-    ensures { OnOk result (parts.new.items ≡ with_names parts.old.items further.items) }
-{
-    let mut names = Vec::new(alloc);
-    names.push(0)?;
-    push_names(&mut names, parts)?;
-    names.extend_from_slice(SECTION_NAMES_NAME)?;
-    names.push(0)?;
-    push_names(&mut names, &further)?;
-    let attributes = Attributes::plain(SHT_STRTAB, 0, 1);
-    push_part(alloc, parts, SECTION_NAMES_NAME, attributes, names)?;
-    parts.append(&mut further)?;
-    Ok(())
 }
 
 /// Returns the sections of a sheet with its additions.

@@ -4,14 +4,14 @@ ghost use Rattle.std.specs.List.{flat_map};
 ghost use Rattle.std.specs.Int.{w64, cast_unsigned};
 ghost use Rattle.name_table.specs.NameTable.{place_of};
 ghost use Rattle.sheet_object.specs.Sheet.{is_sheet};
-ghost use Rattle.sheet_object.specs.Number.{word, xword};
+ghost use Rattle.elf_write.specs.Number.{word, xword};
 ghost use Rattle.sheet_object.specs.Symbols.{local_symbols};
 ghost use Rattle.sheet_object.specs.Contents.{rela_bytes};
 
-use crate::bytes::{push_word, push_xword};
 use crate::further::Further;
 use crate::names::{symbol_names, table_of};
 use crate::sheet::{Sheet, SheetExport, SheetPlace};
+use elf_write::{push_word, push_xword};
 use name_table::NameTable;
 use std::alloc::{AllocError, Global};
 

@@ -2,18 +2,18 @@
 ghost use Rattle.std.specs.Prelude.{◌≡◌, ◌≤◌, ◌<◌, ◌+◌, ◌*◌, ◌^◌, [], ◌∷◌, ◌++◌, length, map, All, IsTrue, OnOk, IfOk};
 ghost use Rattle.std.specs.List.{flat_map};
 ghost use Rattle.sheet_object.specs.Sheet.{is_sheet};
-ghost use Rattle.sheet_object.specs.Number.{zeros};
+ghost use Rattle.elf_write.specs.Number.{zeros};
 ghost use Rattle.sheet_object.specs.Symbols.{local_symbols, version_symbols, space_symbols, export_symbols, need_info, need_symbol};
 ghost use Rattle.sheet_object.specs.Contents.{symtab_bytes, strtab_bytes};
 ghost use Rattle.sheet_object.specs.Writing.{named, Adds};
 
-use crate::bytes::{push_half, push_word, push_xword, push_zeros};
 use crate::further::{Further, strings_section};
-use crate::part::TEXT;
+use crate::section::TEXT;
 use crate::sheet::{Sheet, SheetExport, SheetNeed};
 use elf_format::{
     SHN_ABS, SHN_UNDEF, STB_GLOBAL, STB_LOCAL, STB_WEAK, STT_FUNC, STT_NOTYPE, SYM_SIZE,
 };
+use elf_write::{push_half, push_word, push_xword, push_zeros};
 use std::alloc::{AllocError, Global};
 
 /// The info of a local symbol of no type, of a global function, and of global and weak symbols of

@@ -1,11 +1,10 @@
-use Rattle.std.proofs.Common.{sym, arith}
-use Rattle.sheet_object.specs.Writing.{names_of}
+use Rattle.std.proofs.Common.{◌≤◌, length, map, sym, arith}
+use Rattle.std.proofs.lemmas.List.{length-map}
 use Rattle.sheet_object.proofs.DistinctLemmas.{chosen-not}
-use Rattle.sheet_object.proofs.SymbolLemmas.{length-names_of}
 use Rattle.sheet_object.proofs.conditions.are_chosen.Goals as goal
 
-pub returns-then-names-others : goal.returns-then-names-others
-returns-then-names-others c =
-    let names = c.args.names.now in
+pub returns-then-items-others : goal.returns-then-items-others
+returns-then-items-others g c =
+    let items = c.args.items.now in
     let others = c.args.others.now in
-    sym (chosen-not (names_of others) (names_of names) (omega (arith, length-names_of names, length-names_of others, c.if-names-others.true)))
+    sym (chosen-not (map g.S.Named.name others) (map g.T.Named.name items) (omega (arith, length-map items g.T.Named.name, length-map others g.S.Named.name, c.if-items-others.true)))

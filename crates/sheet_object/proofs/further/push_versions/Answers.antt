@@ -1,5 +1,5 @@
 use Rattle.std.proofs.Common.{◌≡◌, ◌++◌, ◌∷◌, [], codes, ap, ◌∙◌}
-use Rattle.sheet_object.specs.declared.part.Part.{Part}
+use Rattle.elf_write.specs.declared.part.Part.{Part}
 use Rattle.sheet_object.specs.Further.{further_part, crc_bytes, name_bytes}
 use Rattle.sheet_object.proofs.FurtherLemmas.{some-parts, two-more}
 use Rattle.sheet_object.proofs.further.push_versions.Goals as goal

@@ -1,7 +1,8 @@
 use Rattle.std.proofs.Common.{◌≡◌, ◌+◌, ◌++◌, ◌∷◌, [], codes, length, ap, ◌∙◌, arith}
 use Rattle.std.specs.List.{flat_map}
 use Rattle.sheet_object.specs.Symbols.{local_symbols, local_count, locals}
-use Rattle.sheet_object.specs.Object.{linked_parts, table}
+use Rattle.elf_write.specs.Part.{table}
+use Rattle.sheet_object.specs.Object.{linked_parts}
 use Rattle.sheet_object.proofs.PartLemmas.{part, three-more}
 use Rattle.sheet_object.proofs.SheetLemmas.{fits}
 use Rattle.sheet_object.proofs.parts.push_linked.Goals as goal

@@ -1,6 +1,6 @@
 use Rattle.std.proofs.Common.{◌*◌, ◌++◌, ◌∷◌, [], codes, ap, ◌∙◌}
 use Rattle.std.specs.List.{flat_map}
-use Rattle.sheet_object.specs.Number.{zeros, with_nul}
+use Rattle.elf_write.specs.Number.{zeros, with_nul}
 use Rattle.sheet_object.specs.Contents.{version_bytes}
 use Rattle.sheet_object.specs.Object.{loaded_parts}
 use Rattle.sheet_object.proofs.PartLemmas.{part, four-more}

@@ -4,7 +4,7 @@ use Rattle.std.specs.List.{flat_map}
 use Rattle.std.specs.Int.{w64, cast_unsigned}
 use Rattle.name_table.specs.NameTable.{IsTableOf, place_of}
 use Rattle.sheet_object.specs.Sheet.{symbol_names}
-use Rattle.sheet_object.specs.Number.{word, xword}
+use Rattle.elf_write.specs.Number.{word, xword}
 use Rattle.sheet_object.specs.Symbols.{local_symbols, symbol_number}
 use Rattle.sheet_object.specs.Contents.{places_bytes}
 use Rattle.sheet_object.specs.Writing.{names_of}

@@ -1,5 +1,5 @@
 use Rattle.std.proofs.Common.{◌*◌, ◌≡◌, [], ◌∷◌, arith, ap, ◌≤◌, length}
-use Rattle.sheet_object.specs.declared.part.TheConstants.{TEXT}
+use Rattle.sheet_object.specs.declared.section.TheConstants.{TEXT}
 use Rattle.sheet_object.specs.Symbols.{SymbolEntry}
 use Rattle.sheet_object.proofs.SymbolLemmas.{exports-next, Adds-length, length-names_bytes-one, short-at}
 use Rattle.sheet_object.proofs.symbols.SymbolTable.push_exports.Goals as goal

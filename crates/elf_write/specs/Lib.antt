@@ -1,0 +1,5 @@
+pub mod Number
+pub mod Part
+pub mod File
+pub mod Params
+pub mod Writing

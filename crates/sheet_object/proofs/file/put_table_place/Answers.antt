@@ -1,7 +1,0 @@
-use Rattle.sheet_object.specs.Number.{xword}
-use Rattle.sheet_object.proofs.FileLemmas.{put-at}
-use Rattle.sheet_object.proofs.file.put_table_place.Goals as goal
-
-pub returns : goal.returns
-unfolding xword
-returns c = put-at 40 8 c.args.file.now c.write_u64.new.buf (xword c.args.place) c.write_u64.ensures

@@ -1,7 +1,0 @@
-use Rattle.std.proofs.Common.{◌≡◌, take}
-use Rattle.std.specs.List.{flat_map}
-use Rattle.sheet_object.specs.Params.{type_text}
-use Rattle.sheet_object.proofs.params.type_texts.Given as goal
-
-abbrev pub invariant-loop-param : goal.invariant-loop-param
-invariant-loop-param l = l.texts.items ≡ flat_map type_text (take l.param-index l.params)
