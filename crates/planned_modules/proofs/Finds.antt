@@ -1,9 +1,15 @@
--- What a function gives for some items, an item more at a time: the first of it, or all.
+-- What a function gives for some items, an item more at a time: the first of it, or all. Whether a
+-- name is among some.
 use Rattle.std.proofs.Common.{◌≡◌, ℕ, zero, suc, ◌+◌, ◌<◌, List, [], ◌∷◌, ◌++◌, length, take, map, get_or, Option, Some, None, sym, ap, ◌∙◌, arith}
+use Rattle.std.specs.Prelude.{◌||◌}
 use Rattle.std.specs.List.{flat_map}
+use Rattle.std.specs.Str.{bytes_eq}
 use Rattle.std.proofs.lemmas.List.{take_more, map-append, append-nil}
+use Rattle.std.proofs.lemmas.List.Folds.{list_any-append}
 use Rattle.std.proofs.lemmas.Grind.{flat_map-append}
 use Rattle.km_names.specs.First.{first}
+use Rattle.name_table.specs.FirstSeen.{is_among}
+use Rattle.planned_modules.proofs.Troubled.{or-false}
 
 module _ {X Y : Type 0} (f : X → Option Y) where
   pub first-here : (xs : List X) (i : ℕ) (x : X) (y : Y) → i < length xs → x ≡ get_or xs i x → first (map f (take i xs)) ≡ None → f x ≡ Some y → first (map f xs) ≡ Some y
@@ -40,3 +46,10 @@ flat-more f xs i x l is =
     ap (flat_map f) (take_more xs i x l) ∙ flat_map-append f (take i xs) (get_or xs i x ∷ [])
     ∙ ap (λ ys. flat_map f (take i xs) ++ ys) (append-nil (f (get_or xs i x)))
     ∙ ap (λ y. flat_map f (take i xs) ++ f y) (sym is)
+
+pub among-next : (names : List (List ℕ)) (i : ℕ) (name other : List ℕ) → i < length names → name ≡ get_or names i name → is_among (take (i + 1) names) other ≡ (is_among (take i names) other || bytes_eq other name)
+among-next names i name other l is =
+    ap (λ ns. is_among ns other) (take_more names i name l)
+    ∙ list_any-append (bytes_eq other) (take i names) (get_or names i name ∷ [])
+    ∙ ap (λ b. is_among (take i names) other || b) (or-false (bytes_eq other (get_or names i name)))
+    ∙ ap (λ n. is_among (take i names) other || bytes_eq other n) (sym is)

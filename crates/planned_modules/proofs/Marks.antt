@@ -1,10 +1,15 @@
--- Marks of places that pass a test, and paths of places.
-use Rattle.std.proofs.Common.{◌≡◌, ℕ, ◌+◌, Bool, false, List, [], ◌∷◌, ◌++◌, length, map, sym, ap, ◌∙◌, arith}
-use Rattle.std.specs.Prelude.{filter, slice_index_or}
+-- Marks of places that pass a test.
+use Rattle.std.proofs.Common.{◌≡◌, ℕ, ◌+◌, Bool, false, List, [], ◌∷◌, ◌++◌, length, map, Ok, Err, sym, ap, ◌∙◌, arith}
+use Rattle.std.specs.Prelude.{filter, slice_index_or, Result, IfOk}
 use Rattle.std.proofs.lemmas.List.FromFn.{length-map-range_with_len, get_or-map-range_with_len, map-range_with_len_more}
 use Rattle.relation_order.specs.Sets.{below, marked}
 use Rattle.relation_order.proofs.Lists.{range-has}
 use Rattle.relation_order.proofs.Saturation.{filter-same}
+
+-- what follows from what a result promises
+pub then-ok : {A E : Type 0} (r : Result A E) (P Q : A → Type 0) → ((a : A) → P a → Q a) → IfOk r P → IfOk r Q
+then-ok (Ok a) P Q f p = f a p
+then-ok (Err e) P Q f p = tt
 
 pub marked-map : (p : ℕ → Bool) (n : ℕ) (marks : List Bool) → marks ≡ map p (below n) → marked marks ≡ filter p (below n)
 marked-map p n marks e =

@@ -113,8 +113,7 @@ pub(crate) fn free_marks(alloc: Global, planner: &Planner<'_>) -> Result<Vec<boo
     ensures marks { IfOk result (λ free. marked free.items ≡ unloaded (sources_of planner.now)) }
 {
     let loaded = name_set(alloc, planner.loaded())?;
-    let marks = marks_but(alloc, planner.modules(), &loaded)?;
-    Ok(marks)
+    marks_but(alloc, planner.modules(), &loaded)
 }
 
 /// Makes a mark for each module whose name isn't among some.

@@ -1,7 +1,9 @@
 // What is planned for what was found, and in which order.
 ghost use Rattle.std.specs.Prelude.{◌≡◌, length, IfOk};
 ghost use Rattle.relation_order.specs.Sets.{marked};
-ghost use Rattle.plan_order.specs.Lists.{among};
+ghost use Rattle.relation_order.specs.Search.{Inside};
+ghost use Rattle.plan_order.specs.Plan.{planned as planned_for};
+ghost use Rattle.plan_order.specs.Lists.{among, items_of};
 ghost use Rattle.plan_order.specs.Answer.{IsAnswer};
 ghost use Rattle.planned_modules.specs.Needs.{modules as modules_spec, before, after, unloaded};
 ghost use Rattle.planned_modules.specs.Members.{asked, planned as planned_spec};
@@ -35,9 +37,25 @@ pub fn planned_answer(
 {
     let requests = requests_of(alloc, planner, founds)?;
     let free = free_marks(alloc, planner)?;
+    planned_among(alloc, planner, &free, &requests)
+}
+
+/// Finds what is planned for some requests among the modules that are marked as free.
+fn planned_among(
+    alloc: Global,
+    planner: &Planner<'_>,
+    free: &[bool],
+    requests: &[Vec<usize>],
+) -> Result<Planning, AllocError>
+    requires free { length free.now ≡ length (modules_spec (sources_of planner.now)) }
+    requires requests { Inside (length (modules_spec (sources_of planner.now))) requests.now }
+    ensures marks { IfOk result (λ p. marked p.marks.items ≡ planned_for (among (before (sources_of planner.now))) (marked free.now) (after (sources_of planner.now)) (items_of requests.now)) }
+    ensures long { IfOk result (λ p. length p.marks.items ≡ length (modules_spec (sources_of planner.now))) }
+    ensures answer { IfOk result (λ p. IsAnswer (among (before (sources_of planner.now))) (marked free.now) (after (sources_of planner.now)) (items_of requests.now) p.answer) }
+{
     let needs = ModuleNeeds::new(alloc, planner)?;
-    let planned = find_planned(alloc, &needs, &free, &requests)?;
-    let answer = plan_or_cycle(alloc, &planned, &free, &requests)?;
+    let planned = find_planned(alloc, &needs, free, requests)?;
+    let answer = plan_or_cycle(alloc, &planned, free, requests)?;
     let Planned { marks, .. } = planned;
     Ok(Planning { marks, answer })
 }

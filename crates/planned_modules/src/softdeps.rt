@@ -193,22 +193,22 @@ pub(crate) fn find_named(
 {
     let mut found = PlaceSet::with_hasher(alloc, BuildHasherDefault::new());
     let mut looked_up = NameSet::new(alloc);
-    find_all(&mut found, &mut looked_up, table, place, names)?;
-    Vec::from_slice(alloc, found.as_slice())
+    find_all(alloc, &mut found, &mut looked_up, table, place, names)
 }
 
-/// Finds the modules that names stand for. A repeated name is skipped, unless it stands for so few
-/// modules that they are found again as fast.
+/// Finds the modules that names stand for, over empty sets. A repeated name is skipped, unless it
+/// stands for so few modules that they are found again as fast.
 fn find_all<'n>(
+    alloc: Global,
     found: &mut PlaceSet,
     looked_up: &mut NameSet<'n>,
     table: &SoftTable<'_>,
     place: usize,
     names: &[&'n Name],
-) -> Result<(), AllocError>
+) -> Result<Vec<usize>, AllocError>
     requires found { found.old.keys ≡ [] }
     requires looked_up { looked_up.old ≡ [] }
-    ensures { OnOk result (found.new.keys ≡ once (filter (λ y. not (y == place)) (flat_map (λ name. unwrap_or (kept_places table.now.entries name) []) (texts names.now)))) }
+    ensures { IfOk result (λ places. places.items ≡ once (filter (λ y. not (y == place)) (flat_map (λ name. unwrap_or (kept_places table.now.entries name) []) (texts names.now)))) }
 {
     let mut next = 0;
     for name in names {
@@ -222,7 +222,7 @@ fn find_all<'n>(
             find_others(found, place, places)?;
         }
     }
-    Ok(())
+    Vec::from_slice(alloc, found.as_slice())
 }
 
 /// Returns the modules under a name, none if the table doesn't have it, and where the table goes on

@@ -1,7 +1,7 @@
-use Rattle.std.proofs.Common.{◌≡◌, ◌==◌, ◌+◌, ◌++◌, ◌∷◌, [], true, false, Some, None, ap, sym, ◌∙◌, inr, take, arith}
+use Rattle.std.proofs.Common.{◌≡◌, ◌==◌, ◌+◌, ◌++◌, ◌∷◌, [], true, false, Some, None, ap, sym, ◌∙◌, inr, take}
 use Rattle.std.specs.List.{find}
 use Rattle.std.specs.Option.{option_map}
-use Rattle.std.proofs.lemmas.Bool.Decides.{nat_tests}
+use Rattle.std.proofs.lemmas.Bool.{eq-eqb, eqb-true, false_from_ne_true}
 use Rattle.name_lookup.specs.Found.{found}
 use Rattle.planned_modules.specs.Members.{unfound, founds_of, is_unfound}
 use Rattle.planned_modules.specs.Planner.{sources_of}
@@ -14,7 +14,7 @@ returns-then-found-eq0-clause-err c =
     let p = is_unfound (sources_of c.args.planner.now) in
     let e = c.as_slice-name-items.ensures in
     let none : find (is_unfound (sources_of c.args.planner.now)) (take c.loop-name.name-index c.as_slice-name-items.result.now) ≡ None = ap (λ ys. find (is_unfound (sources_of c.args.planner.now)) (take c.loop-name.name-index ys)) e ∙ c.loop-name.invariant.passed in
-    let zero : (c.in_ok-found.found.list == 0) ≡ true = grind (arith, nat_tests) in
+    let zero : (c.in_ok-found.found.list == 0) ≡ true = eq-eqb c.in_ok-found.found.list 0 c.if-found-eq0.true in
     inr (ap (option_map unfound)
     (ap (find p) (sym e) ∙ plain-here p c.as_slice-name-items.result.now c.loop-name.name-index c.name-item.result c.loop-name-test.true c.name-item.is none (ap (λ f. f.list == 0) (sym c.in_ok-found.ensures) ∙ zero))
     ∙ ap (λ o. Some o) (sym c.in_ok-not_found.ensures))
@@ -26,7 +26,7 @@ loop-name-preserved c =
     let i = c.loop-name.name-index in
     let e = c.as_slice-name-items.ensures in
     let none : find (is_unfound (sources_of c.args.planner.now)) (take c.loop-name.name-index c.as_slice-name-items.result.now) ≡ None = ap (λ ys. find (is_unfound (sources_of c.args.planner.now)) (take c.loop-name.name-index ys)) e ∙ c.loop-name.invariant.passed in
-    let some : (c.in_ok-found.found.list == 0) ≡ false = grind (arith, nat_tests) in
+    let some : (c.in_ok-found.found.list == 0) ≡ false = false_from_ne_true _ (λ t. c.if-found-eq0.false (eqb-true c.in_ok-found.found.list 0 t)) in
     record {
       founds =
           c.in_ok-push.ensures.items

@@ -78,5 +78,7 @@ pub returns : goal.returns
 returns c =
     let f = λ (y : ℕ). not (y == c.args.place) in
     let g = λ (name : List ℕ). unwrap_or (kept_places c.args.table.now.entries name) [] in
+    let all : c.loop-name.found.keys ≡ found_for f g (texts c.args.names.now) =
     c.loop-name.invariant.found
-    ∙ ap (λ names. found_for f g (texts names)) (take_all c.loop-name.name-index c.args.names.now (omega (arith, c.loop-name-test.false)))
+    ∙ ap (λ names. found_for f g (texts names)) (take_all c.loop-name.name-index c.args.names.now (omega (arith, c.loop-name-test.false))) in
+    subst (λ places. IfOk c.from_slice.result (λ v. v.items ≡ places)) (c.as_slice.ensures.keys ∙ all) c.from_slice.ensures.items
