@@ -1,17 +1,14 @@
 -- The sections of a sheet.
-use Rattle.std.proofs.Common.{◌≡◌, ℕ, ◌≤◌, Bool, true, nat_le, List, [], ◌∷◌, ◌++◌, length, map, All, refl, sym, ap, ◌∙◌, arith}
+use Rattle.std.proofs.Common.{◌≡◌, ℕ, ◌≤◌, Bool, true, nat_le, List, [], ◌∷◌, ◌++◌, length, All, refl, ap, ◌∙◌, arith}
 use Rattle.std.proofs.lemmas.Bool.{leb-true, and_from}
 use Rattle.std.proofs.lemmas.List.{append_assoc, length-append}
-use Rattle.std.proofs.lemmas.List.Concat.{flat_map-append}
-use Rattle.std.proofs.lemmas.List.Folds.{flat_map-map, list_all-append}
-use Rattle.std.specs.List.{flat_map, list_all}
+use Rattle.std.proofs.lemmas.List.Folds.{list_all-append}
+use Rattle.std.specs.List.{list_all}
 use Rattle.elf_write.specs.declared.part.Attributes.{Attributes}
 use Rattle.elf_write.specs.declared.part.Part.{Part}
 use Rattle.sheet_object.specs.declared.sheet.Sheet.{Sheet}
 use Rattle.sheet_object.specs.declared.sheet.SheetMore.{SheetMore}
 use Rattle.sheet_object.specs.Further.{unless_empty, version_parts, gpl_parts, space_parts, further_parts}
-use Rattle.elf_write.specs.Number.{with_nul}
-use Rattle.elf_write.specs.Part.{section_names}
 use Rattle.sheet_object.specs.Object.{loaded_parts, linked_parts, parts_of}
 use Rattle.sheet_object.proofs.FurtherLemmas.{two-more}
 use Rattle.sheet_object.proofs.SheetLemmas.{All-from_test}

@@ -1,15 +1,12 @@
 -- The object of a sheet: its sections, and the file of the sections. gABI 4, "Sections", "Special
 -- Sections".
-use Rattle.std.specs.Prelude.{ℕ, ◌+◌, List, [], ◌∷◌, ◌++◌, map, codes}
-use Rattle.std.specs.List.{flat_map}
+use Rattle.std.specs.Prelude.{ℕ, ◌+◌, List, [], ◌∷◌, ◌++◌, codes}
 use Rattle.elf_format.specs.declared.section.TheConstants.{SHT_PROGBITS, SHT_RELA, SHT_SYMTAB, SHT_STRTAB, SHF_WRITE, SHF_ALLOC, SHF_EXECINSTR, SHF_INFO_LINK}
-use Rattle.elf_write.specs.declared.part.Attributes.{Attributes}
 use Rattle.elf_write.specs.declared.part.Part.{Part}
 use Rattle.sheet_object.specs.declared.section.TheConstants.{DATA, SECTION_NAMES, SYMTAB, STRTAB}
 use Rattle.sheet_object.specs.declared.sheet.Sheet.{Sheet}
 use Rattle.sheet_object.specs.declared.sheet.SheetMore.{SheetMore}
 use Rattle.sheet_object.specs.Sheet.{no_more}
-use Rattle.elf_write.specs.Number.{with_nul}
 use Rattle.elf_write.specs.File.{file_of}
 use Rattle.elf_write.specs.Part.{plain, table, with_names}
 use Rattle.sheet_object.specs.Further.{further_parts}

@@ -168,7 +168,11 @@ fn has_each<T: Named>(table: &NameTable, items: &[T]) -> bool
 }
 
 /// Returns whether the name of each item is one of the names of others.
-fn are_among<S: Named, T: Named>(alloc: Global, others: &[S], items: &[T]) -> Result<bool, AllocError>
+fn are_among<S: Named, T: Named>(
+    alloc: Global,
+    others: &[S],
+    items: &[T],
+) -> Result<bool, AllocError>
     requires { length others.now ≤ 131070 }
     ensures { IfOk result (λ b. b ≡ list_all (is_among (map S.name others.now)) (map T.name items.now)) }
 {
@@ -177,7 +181,11 @@ fn are_among<S: Named, T: Named>(alloc: Global, others: &[S], items: &[T]) -> Re
 }
 
 /// Returns whether the names of items are distinct, and each is one of the names of others.
-fn are_chosen<S: Named, T: Named>(alloc: Global, others: &[S], items: &[T]) -> Result<bool, AllocError>
+fn are_chosen<S: Named, T: Named>(
+    alloc: Global,
+    others: &[S],
+    items: &[T],
+) -> Result<bool, AllocError>
     requires { length others.now ≤ 131070 }
     ensures { IfOk result (λ b. b ≡ are_chosen (map S.name others.now) (map T.name items.now)) }
 {

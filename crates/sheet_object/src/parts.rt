@@ -1,9 +1,6 @@
 // The sections of a sheet.
-ghost use Rattle.std.specs.Prelude.{◌≡◌, ◌≤◌, [], ◌∷◌, ◌++◌, length, All, IsTrue, OnOk, IfOk};
-ghost use Rattle.std.specs.List.{flat_map};
+ghost use Rattle.std.specs.Prelude.{◌≡◌, ◌≤◌, ◌++◌, length, All, IsTrue, OnOk, IfOk};
 ghost use Rattle.sheet_object.specs.Sheet.{is_sheet};
-ghost use Rattle.elf_write.specs.Number.{with_nul};
-ghost use Rattle.elf_write.specs.Part.{with_names};
 ghost use Rattle.sheet_object.specs.Object.{loaded_parts, linked_parts, parts_of};
 
 use crate::content::{modinfo, versions};

@@ -1,4 +1,4 @@
-use Rattle.std.proofs.Common.{◌≤◌, length, map, sym, arith}
+use Rattle.std.proofs.Common.{map, sym, arith}
 use Rattle.std.proofs.lemmas.List.{length-map}
 use Rattle.sheet_object.proofs.DistinctLemmas.{chosen-not}
 use Rattle.sheet_object.proofs.conditions.are_chosen.Goals as goal
