@@ -14,7 +14,7 @@ use Rattle.kmod_words.specs.declared.modprobe.Mode.TheVariants.{Load, DryRun, Sh
 use Rattle.kmod_words.specs.declared.modprobe.ModprobeWords.{ModprobeWords}
 use Rattle.kmod_words.specs.Modes.{given_map}
 use Rattle.kmod_words.specs.Modprobe.{region_asked}
-use Rattle.km_course.specs.Course.{Outcome, Stage, ◌>>=◌, each_from, given, lists_any_conf, lists_conf, reads, says, says_any}
+use Rattle.km_course.specs.Course.{Outcome, Stage, ◌>>=◌, each_from, ends, given, lists_any_conf, lists_conf, reads, says, says_any}
 use Rattle.km_course.specs.Course.Outcome.{value, end}
 use Rattle.km_course.specs.declared.end.End.{End}
 use Rattle.km_course.specs.declared.end.End.TheVariants.{NoFile, Refused}
